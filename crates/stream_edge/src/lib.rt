@@ -1,0 +1,18 @@
+//! Where bytes come into the system and leave it: sources and sinks that count their faults, in memory and over std's
+//! readers and writers.
+#![tactic(auto)]
+
+mod memory;
+mod reading;
+mod sink;
+mod source;
+mod standard;
+
+pub use memory::{MemorySink, MemorySource};
+pub use reading::{ReadStop, read_all};
+pub use sink::{Sink, SinkFault};
+pub use source::{Source, SourceFault};
+pub use standard::{ReadSource, WriteSink};
+
+#[cfg(test)]
+mod tests;
