@@ -1,0 +1,23 @@
+use Rattle.std.proofs.Common.{ap, refl, arith}
+use Rattle.frame_table.proofs.Kept.{residents, absent_key, sound_placed, pages_placed}
+use Rattle.frame_table.proofs.Frames.place.Goals as goal
+
+pub insert_reserved-key-requires : goal.insert_reserved-key-requires
+insert_reserved-key-requires c =
+    let room = rw (← c.self.view_is) at c.requires.room in
+    omega (arith, residents _ _ _ c.self.invariant)
+
+pub invariant_of-self : goal.invariant_of-self
+invariant_of-self c =
+    let room = rw (← c.self.view_is) at c.requires.room in
+    let absent = absent_key _ _ _ c.self.invariant c.args.page (omega arith) (rw (← c.self.view_is) at c.requires.absent) in
+    let placed = c.insert_reserved-key.ensures in
+    sound_placed _ _ _ c.self.invariant _ c.args.page _ _ (omega arith) absent placed.was_vacant refl c.told-words placed.updates placed.len placed.capacity (omega (arith, residents _ _ _ c.self.invariant))
+
+pub returns : goal.returns
+returns c =
+    let absent = absent_key _ _ _ c.self.invariant c.args.page (omega arith) (rw (← c.self.view_is) at c.requires.absent) in
+    let placed = c.insert_reserved-key.ensures in
+    rw (← c.self.view_is)
+    (ap (λ pages. record { frames = c.self.inside.frames; pages = pages })
+    (pages_placed _ _ _ c.self.invariant _ c.args.page _ _ (omega arith) absent placed.was_vacant refl c.told-words placed.updates))

@@ -1,0 +1,16 @@
+use Rattle.std.proofs.Common.{ap, ◌∙◌, sym, refl, set, true, arith}
+use Rattle.std.proofs.lemmas.List.{length-set}
+use Rattle.frame_table.specs.FrameTable.{with_resident}
+use Rattle.frame_table.specs.Held.{table_of}
+use Rattle.frame_table.proofs.Kept.{sound_set, table_set, words_seen}
+use Rattle.frame_table.proofs.Frames.set.Goals as goal
+
+pub invariant_of-self : goal.invariant_of-self
+invariant_of-self c =
+    sound_set _ _ _ c.self.invariant c.args.page c.in-Some.key c.index_mut-frame.result.now _ (omega arith) c.in-Some.is c.index_mut-frame.ensures.value refl (length-set _ _ _)
+
+pub returns : goal.returns
+returns c =
+    let written = table_set _ _ _ c.self.invariant c.args.page c.in-Some.key c.index_mut-frame.result.now _ (omega arith) c.in-Some.is c.index_mut-frame.ensures.value refl (length-set _ _ _) in
+    let words = words_seen _ _ _ c.self.invariant c.args.page c.in-Some.key c.index_mut-frame.result.now (omega arith) c.in-Some.is c.index_mut-frame.ensures.value in
+    rw (← c.self.view_is) (written ∙ ap (λ w. with_resident (table_of c.self.inside.frames c.self.inside.table c.self.inside.held) c.args.page (set w c.args.place c.args.word) true) (sym words))
