@@ -1,0 +1,2 @@
+pub use Rattle.byteorder.specs.Endian
+pub mod Fields

@@ -1,0 +1,144 @@
+//! Numbers in blocks of bytes: fields of 1, 2, 4 or 8 bytes at a place, the lowest byte first.
+#![tactic(auto)]
+
+ghost use Rattle.std.specs.Prelude.{◌≡◌, ◌≤◌, ◌+◌, length, drop, IfOk, IfErr, OnOk, OnErr};
+ghost use Rattle.block_code.specs.Fields.{HasNumber, PutsNumber, EndsPast};
+
+use byteorder::{ByteOrder, LittleEndian};
+
+/// A field that ends past the bytes: where it begins, and how many bytes it has.
+#[derive(Clone, Copy, Debug, PartialEq, Eq)]
+pub struct Past {
+    pub at: usize,
+    pub width: usize,
+}
+
+/// Reads the byte at `at`.
+pub fn get_u8(bytes: &[u8], at: usize) -> Result<u8, Past>
+    ensures ok { IfOk result (HasNumber at 1 bytes.now) }
+    ensures past { IfErr result (EndsPast at 1 (length bytes.now)) }
+{
+    Ok(field(bytes, at, 1)?[0])
+}
+
+/// Reads a number of 16 bits.
+pub fn get_u16(bytes: &[u8], at: usize) -> Result<u16, Past>
+    ensures ok { IfOk result (HasNumber at 2 bytes.now) }
+    ensures past { IfErr result (EndsPast at 2 (length bytes.now)) }
+{
+    Ok(LittleEndian::read_u16(field(bytes, at, 2)?))
+}
+
+/// Reads a number of 32 bits.
+pub fn get_u32(bytes: &[u8], at: usize) -> Result<u32, Past>
+    ensures ok { IfOk result (HasNumber at 4 bytes.now) }
+    ensures past { IfErr result (EndsPast at 4 (length bytes.now)) }
+{
+    Ok(LittleEndian::read_u32(field(bytes, at, 4)?))
+}
+
+/// Reads a number of 64 bits.
+pub fn get_u64(bytes: &[u8], at: usize) -> Result<u64, Past>
+    ensures ok { IfOk result (HasNumber at 8 bytes.now) }
+    ensures past { IfErr result (EndsPast at 8 (length bytes.now)) }
+{
+    Ok(LittleEndian::read_u64(field(bytes, at, 8)?))
+}
+
+/// Writes the byte at `at`.
+pub fn put_u8(bytes: &mut [u8], at: usize, value: u8) -> Result<(), Past>
+    ensures ok { OnOk result (PutsNumber at 1 value bytes.old bytes.new) }
+    ensures past { IfErr result (EndsPast at 1 (length bytes.old)) }
+    ensures err { OnErr result (bytes.new ≡ bytes.old) }
+{
+    within(bytes.len(), at, 1)?;
+    bytes[at] = value;
+    Ok(())
+}
+
+/// Writes a number of 16 bits.
+pub fn put_u16(bytes: &mut [u8], at: usize, value: u16) -> Result<(), Past>
+    ensures ok { OnOk result (PutsNumber at 2 value bytes.old bytes.new) }
+    ensures past { IfErr result (EndsPast at 2 (length bytes.old)) }
+    ensures err { OnErr result (bytes.new ≡ bytes.old) }
+{
+    within(bytes.len(), at, 2)?;
+    LittleEndian::write_u16(&mut bytes[at..], value);
+    Ok(())
+}
+
+/// Writes a number of 32 bits.
+pub fn put_u32(bytes: &mut [u8], at: usize, value: u32) -> Result<(), Past>
+    ensures ok { OnOk result (PutsNumber at 4 value bytes.old bytes.new) }
+    ensures past { IfErr result (EndsPast at 4 (length bytes.old)) }
+    ensures err { OnErr result (bytes.new ≡ bytes.old) }
+{
+    within(bytes.len(), at, 4)?;
+    LittleEndian::write_u32(&mut bytes[at..], value);
+    Ok(())
+}
+
+/// Writes a number of 64 bits.
+pub fn put_u64(bytes: &mut [u8], at: usize, value: u64) -> Result<(), Past>
+    ensures ok { OnOk result (PutsNumber at 8 value bytes.old bytes.new) }
+    ensures past { IfErr result (EndsPast at 8 (length bytes.old)) }
+    ensures err { OnErr result (bytes.new ≡ bytes.old) }
+{
+    within(bytes.len(), at, 8)?;
+    LittleEndian::write_u64(&mut bytes[at..], value);
+    Ok(())
+}
+
+// Whether a field ends within `len` bytes.
+fn within(len: usize, at: usize, width: usize) -> Result<(), Past>
+    ensures ok { OnOk result (at + width ≤ len) }
+    ensures past { IfErr result (EndsPast at width len) }
+{
+    if at <= len && width <= len - at {
+        Ok(())
+    } else {
+        Err(Past { at, width })
+    }
+}
+
+// The bytes from a field's first on, where the field is within them.
+fn field(bytes: &[u8], at: usize, width: usize) -> Result<&[u8], Past>
+    ensures ok { IfOk result (λ rest. rest.now ≡ drop at bytes.now) }
+    ensures room { OnOk result (at + width ≤ length bytes.now) }
+    ensures past { IfErr result (EndsPast at width (length bytes.now)) }
+{
+    within(bytes.len(), at, width)?;
+    Ok(&bytes[at..])
+}
+
+#[cfg(test)]
+mod tests {
+    use super::*;
+
+    #[test]
+    fn a_field_past_the_end_is_refused(rt: HostRuntime) {
+        let mut bytes = [1, 2, 3, 4];
+        assert_eq!(rt; get_u32(&bytes, 1), Err(Past { at: 1, width: 4 }));
+        assert_eq!(rt; put_u32(&mut bytes, 1, 0), Err(Past { at: 1, width: 4 }));
+        let far = usize::MAX;
+        assert_eq!(rt; get_u64(&bytes, far), Err(Past { at: far, width: 8 }));
+        assert_eq!(rt; bytes, [1, 2, 3, 4]);
+    }
+
+    #[test]
+    fn each_width_is_written_and_read(rt: HostRuntime) {
+        let mut bytes = [0xff; 17];
+        assert_eq!(rt; put_u8(&mut bytes, 0, 0x01), Ok(()));
+        assert_eq!(rt; put_u16(&mut bytes, 1, 0x0203), Ok(()));
+        assert_eq!(rt; put_u32(&mut bytes, 3, 0x0405_0607), Ok(()));
+        assert_eq!(rt; put_u64(&mut bytes, 7, 0x0809_0a0b_0c0d_0e0f), Ok(()));
+        let low_first = [
+            1, 3, 2, 7, 6, 5, 4, 15, 14, 13, 12, 11, 10, 9, 8, 0xff, 0xff,
+        ];
+        assert_eq!(rt; bytes, low_first);
+        assert_eq!(rt; get_u8(&bytes, 0), Ok(0x01));
+        assert_eq!(rt; get_u16(&bytes, 1), Ok(0x0203));
+        assert_eq!(rt; get_u32(&bytes, 3), Ok(0x0405_0607));
+        assert_eq!(rt; get_u64(&bytes, 7), Ok(0x0809_0a0b_0c0d_0e0f));
+    }
+}
