@@ -14,4 +14,5 @@ pub mod Vectors
 pub mod Choices
 pub mod Histories
 pub mod Serial
+pub mod Soundness
 pub mod Examples

@@ -1,0 +1,5 @@
+pub mod Plains
+pub mod Events
+pub mod FiveActs
+pub mod Lists
+pub mod Entries

@@ -1,0 +1,22 @@
+-- Loci in their list.
+use Rattle.std.specs.Prelude.{◌≡◌, ℕ, ◌+◌, ◌-◌, ◌<◌, ◌≤◌, List, length, Option, Some, None, slice_get}
+use Rattle.hop_base.specs.declared.instructions.Condition.TheVariants.{Running}
+use Rattle.hop_model.specs.Steps.{running}
+use Rattle.history_model.specs.FiveActs.{WantsLook}
+use Rattle.history_model.specs.Plains.{locus_cell, locus_of}
+use Rattle.history_model.specs.declared.plain.PlainLocus.{PlainLocus}
+
+-- the locus of this number stands at this place, and is running
+pub record IsRunningAt (loci : List PlainLocus) (number place : ℕ) : Type 0 where
+  pub at : place + 41 ≡ number
+  pub locus : PlainLocus
+  pub is : slice_get loci place ≡ Some locus
+  pub runs : locus.condition ≡ Running
+
+-- the number is no locus's, or the locus is not born, stopped or halted
+abbrev pub IsIdleIn : List PlainLocus → ℕ → Type 0
+IsIdleIn loci number = 41 ≤ number → running (locus_cell (slice_get loci (number - 41))) ≡ None
+
+-- the locus at this place wants a look
+abbrev pub WantsLookAt : List PlainLocus → ℕ → Type 0
+WantsLookAt loci place = (l : PlainLocus) → slice_get loci place ≡ Some l → WantsLook (locus_of l)
