@@ -1,0 +1,36 @@
+-- What a contract sees of a pool: a range of block numbers, and which of them are free.
+use Rattle.std.specs.Prelude.{ℕ, ◌-◌, ◌<◌, ◌≤◌, ◌==◌, not, nat_lt, if◌then◌else◌, List, [], ◌∷◌, Contains, filter}
+use Rattle.std.specs.List.{range_with_len}
+use Rattle.std.specs.List.Sorted.{IsStrictlyIncreasing}
+
+-- the range, and the free blocks of it, ascending
+pub record Pool : Type 0 where
+  pub first : ℕ
+  pub end : ℕ
+  pub blocks : List ℕ
+
+-- all blocks from the first up to the end are free
+abbrev pub full_pool : ℕ → ℕ → Pool
+full_pool first end = record { first = first; end = end; blocks = range_with_len first (end - first) }
+
+abbrev pub IsFree : Pool → ℕ → Type 0
+IsFree p block = Contains p.blocks block
+
+abbrev pub IsInRange : Pool → ℕ → Type 0
+IsInRange p block = (p.first ≤ block) × (block < p.end)
+
+-- the block among ascending blocks, in its place
+abbrev pub with_block : ℕ → List ℕ → List ℕ
+with_block block [] = block ∷ []
+with_block block (x ∷ xs) = if nat_lt block x then block ∷ (x ∷ xs) else x ∷ with_block block xs
+
+-- the blocks but for this one
+abbrev pub without_block : ℕ → List ℕ → List ℕ
+without_block block xs = filter (λ x. not (x == block)) xs
+
+-- what holds of every pool
+pub record IsOrdered (p : Pool) : Type 0 where
+  pub range : p.first ≤ p.end
+  pub few : p.end ≤ 65536
+  pub ascending : IsStrictlyIncreasing p.blocks
+  pub within : (block : ℕ) → IsFree p block → IsInRange p block
