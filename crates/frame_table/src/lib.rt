@@ -154,6 +154,16 @@ impl Frames {
         (words, frame.changed)
     }
 
+    /// Whether the page is resident and marked as changed.
+    pub fn is_changed(&self, page: u8) -> bool
+        ensures { result ≡ changed_at self.now page }
+    {
+        match self.table[page as usize] {
+            Some(key) => self.held[key].changed,
+            None => false,
+        }
+    }
+
     /// Takes the changed mark from a resident page.
     pub fn clean(&mut self, page: u8)
         requires { IsResident self.old page }
@@ -163,6 +173,16 @@ impl Frames {
             unreachable!()
         };
         self.held[key].changed = false;
+    }
+
+    /// Empties all frames. The memory stays reserved.
+    pub fn clear(&mut self)
+        ensures { self.new ≡ empty_table self.old.frames }
+    {
+        self.held.clear();
+        let table = [None; 256];
+        self.table = table;
+        self.hand = 0;
     }
 }
 

@@ -39,10 +39,12 @@ fn a_page_keeps_its_words_and_its_mark(rt: HostRuntime) -> Result<(), Fail> {
     assert_eq!(rt; read(&rt, &mut frames, 7, 127), 70);
     let resident = frames.find(7);
     assert!(rt; resident.is_some());
-    assert_eq!(rt; frames.copy_out(7).1, false);
+    assert!(rt; !frames.copy_out(7).1 && !frames.is_changed(7));
     frames.set(7, 127, 71);
     let (words, changed) = frames.copy_out(7);
-    assert!(rt; changed);
+    assert!(rt;
+        changed && frames.is_changed(7) && !frames.is_changed(255) && !frames.is_changed(0)
+    );
     assert_eq!(rt; (words[126], words[127]), (70, 71));
     frames.clean(7);
     assert_eq!(rt;
@@ -55,6 +57,9 @@ fn a_page_keeps_its_words_and_its_mark(rt: HostRuntime) -> Result<(), Fail> {
         Some((71, false))
     );
     assert_eq!(rt; frames.find(7), None);
+    place_filled(&rt, &mut frames, 7, 1);
+    frames.clear();
+    assert_eq!(rt; (frames.find(7), frames.frames()), (None, 2));
     Ok(())
 }
 
