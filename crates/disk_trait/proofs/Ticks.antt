@@ -1,0 +1,18 @@
+-- Counts that go up by one.
+use Rattle.std.proofs.Common.{◌≤◌, ◌-◌, ◌+◌, ◌^◌, ℕ, inl, inr, arith}
+use Rattle.std.proofs.lemmas.Bool.{cases_lt}
+use Rattle.disk_trait.specs.Disk.{Ticks}
+
+-- a count that goes up doesn't fall
+pub Ticks-later : (before now : ℕ) → Ticks before now → before ≤ now
+Ticks-later before now ticks = elim (cases_lt before (2 ^ 64 - 1)) [
+  | inl more ↦ omega (arith, ticks.one_more more)
+  | inr end ↦ omega (arith, ticks.at_end end)
+]
+
+-- nor does it skip a number
+pub Ticks-one : (before now : ℕ) → Ticks before now → now ≤ before + 1
+Ticks-one before now ticks = elim (cases_lt before (2 ^ 64 - 1)) [
+  | inl more ↦ omega (arith, ticks.one_more more)
+  | inr end ↦ omega (arith, ticks.at_end end)
+]
