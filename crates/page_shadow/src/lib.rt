@@ -12,15 +12,9 @@ ghost use Rattle.page_shadow.specs.ShadowTable.{block_of};
 mod bits;
 
 use bits::{clear_bit, has_bit, lowest_bit, set_bit};
+pub use disk_trait::NoBlocks;
 use std::alloc::{AllocError as Memory, Global};
 use std::marker::Model;
-
-/// Too few blocks are free.
-#[derive(Clone, Copy, Debug, PartialEq, Eq)]
-pub struct NoBlocks {
-    pub need: u32,
-    pub free: u32,
-}
 
 /// The blocks of a range of a disk, each free or in use.
 #[derive(Drop)]
