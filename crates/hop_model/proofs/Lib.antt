@@ -1,0 +1,12 @@
+pub mod Basics
+pub mod Carried
+pub mod Locality
+pub mod Replay
+pub mod PartStates
+pub mod Covering
+pub mod PastVectors
+pub mod Lowering
+pub mod LegalRuns
+pub mod ChosenVectors
+pub mod StableCuts
+pub mod Unwritten

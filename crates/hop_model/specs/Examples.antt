@@ -7,7 +7,7 @@ use Rattle.hop_base.specs.declared.histories.Entry.{Entry}
 use Rattle.hop_base.specs.declared.histories.Event.TheVariants.{Birth, Step, Stable}
 use Rattle.hop_base.specs.declared.histories.Touch.{Touch}
 use Rattle.hop_base.specs.declared.instructions.Instr.{Instr}
-use Rattle.hop_base.specs.declared.instructions.Instr.TheVariants.{Set, Load, Store, Invoke, Return, Map, Lmap, Lunmap, Print, Halt}
+use Rattle.hop_base.specs.declared.instructions.Instr.TheVariants.{Set, Load, Store, Invoke, Return, Map, Lmap, Print, Halt}
 use Rattle.hop_base.specs.declared.instructions.Reply.TheVariants.{Ok, Denied}
 use Rattle.hop_model.specs.State.{Supply, Text, empty_state}
 use Rattle.hop_model.specs.Refusals.{rights_with}

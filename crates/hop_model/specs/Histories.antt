@@ -10,7 +10,7 @@ use Rattle.hop_base.specs.declared.histories.Event.TheVariants.{Birth, Step, Sna
 use Rattle.hop_base.specs.declared.instructions.Instr.{Instr}
 use Rattle.hop_base.specs.declared.instructions.Instr.TheVariants.{Snap, Stabilise}
 use Rattle.hop_base.specs.declared.instructions.Reply.TheVariants.{Ok}
-use Rattle.hop_model.specs.State.{Supply, AtlasState, LocusState, Cell, NotBorn, AtlasCell, ContainerCell, LocusCell, KernelState}
+use Rattle.hop_model.specs.State.{Supply, LocusState, Cell, NotBorn, AtlasCell, ContainerCell, LocusCell, KernelState}
 use Rattle.hop_model.specs.Words.{put}
 use Rattle.hop_model.specs.Refusals.{instr_at, entity_of}
 use Rattle.hop_model.specs.Steps.{atlas_in, step}

@@ -12,11 +12,11 @@ use Rattle.hop_base.specs.declared.instructions.Call.{Call}
 use Rattle.hop_base.specs.declared.instructions.Condition.{Condition}
 use Rattle.hop_base.specs.declared.instructions.Condition.TheVariants.{Running, Stopped, Halted}
 use Rattle.hop_base.specs.declared.instructions.Instr.{Instr}
-use Rattle.hop_base.specs.declared.instructions.Instr.TheVariants.{Set, Copy, Add, Sub, Jump, Jz, Load, Store, Invoke, Leave, Return, Map, Unmap, Lmap, Lunmap, Take, Give, Drop, Make, Spawn, Stop, Go, Snap, Stabilise, Print, Halt}
+use Rattle.hop_base.specs.declared.instructions.Instr.TheVariants.{Set, Copy, Add, Sub, Jump, Jz, Load, Store, Invoke, Leave, Return, Map, Unmap, Lmap, Lunmap, Take, Give, Drop, Make, Spawn, Stop, Go, Snap, Stabilise, Print}
 use Rattle.hop_base.specs.declared.instructions.Reply.{Reply}
 use Rattle.hop_base.specs.declared.instructions.Reply.TheVariants.{Ok, NoSlot, WrongKind, NoPage, Circle, Overlap, ListFull, NoCaller, NoEntry, Deep, NoNumber, NoRegion}
 use Rattle.hop_base.specs.declared.instructions.Walk.{Walk}
-use Rattle.hop_model.specs.State.{Supply, Text, AtlasState, ContainerState, LocusState, Cell, AtlasCell, ContainerCell, LocusCell, no_atlas}
+use Rattle.hop_model.specs.State.{Supply, Text, AtlasState, ContainerState, LocusState, Cell, ContainerCell, LocusCell, no_atlas}
 use Rattle.hop_model.specs.Words.{unless, first, denied, cap_at, free_slot, covers, overlaps, insert_region, last_call, but_last, put}
 use Rattle.hop_model.specs.Refusals.{reg, rights_with, entity_of, rights_of, private_at, new_region}
 use Rattle.hop_model.specs.Acts.{Act}

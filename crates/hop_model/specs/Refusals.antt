@@ -1,5 +1,5 @@
 -- What a locus wants to do, and the refusals that it alone decides.
-use Rattle.std.specs.Prelude.{ℕ, ◌+◌, ◌/◌, Bool, not, ◌&&◌, ◌==◌, nat_lt, nat_le, List, [], ◌∷◌, length, Option, Some, None, is_some, unwrap_or, slice_index, slice_get, find}
+use Rattle.std.specs.Prelude.{ℕ, ◌+◌, ◌/◌, Bool, not, ◌&&◌, ◌==◌, nat_lt, nat_le, [], ◌∷◌, length, Option, Some, None, is_some, unwrap_or, slice_index, slice_get, find}
 use Rattle.std.specs.List.{list_any}
 use Rattle.hop_base.specs.declared.capabilities.Cap.{Cap}
 use Rattle.hop_base.specs.declared.capabilities.Private.{Private}

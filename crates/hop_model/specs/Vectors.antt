@@ -1,5 +1,5 @@
 -- Stamps against closed parts.
-use Rattle.std.specs.Prelude.{◌≡◌, ℕ, ◌≤◌, ◌<◌, ◌↔◌, ◌==◌, if◌then◌else◌, Bool, true, false, List, [], ◌∷◌, Option, Some, None}
+use Rattle.std.specs.Prelude.{◌≡◌, ℕ, ◌≤◌, ◌==◌, if◌then◌else◌, true, List, [], ◌∷◌, Option, Some}
 use Rattle.hop_base.specs.declared.histories.Touch.{Touch}
 use Rattle.hop_base.specs.declared.histories.Entry.{Entry}
 use Rattle.hop_base.specs.Touches.{AllTouches, IsRising}

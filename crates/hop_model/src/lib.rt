@@ -5,6 +5,10 @@
 ghost use Rattle.std.specs.Prelude.{◌≡◌, [], ◌∷◌};
 ghost use Rattle.hop_model.specs.Examples.{played, prints, five_instructions, five_entries, two_regions, two_regions_entries, closing_circles, private_in_one_host};
 
+mod laws;
+
+pub use laws::{greatest_choice_law, locality_law, replay_law, stable_law, vector_law};
+
 /// What runs of small scripts give, computed from the definitions: entries with their versions, and printed values.
 pub fn examples_hold()
     ensures a_store_a_load_and_a_print { played five_instructions 6 ≡ five_entries }

@@ -1,0 +1,102 @@
+-- A legal run is played by its events.
+use Rattle.std.proofs.Common.{◌≡◌, ℕ, List, [], ◌∷◌, Some, None, option_map, MatchBool, ◌↔◌, refl, ap, subst, ◌∙◌}
+use Rattle.hop_base.specs.declared.histories.Entry.{Entry}
+use Rattle.hop_base.specs.declared.histories.Event.{Event}
+use Rattle.hop_base.specs.declared.histories.Event.TheVariants.{Birth, Step, Snap as SnapEvent, Stable, Tried}
+use Rattle.hop_model.specs.State.{Supply, EntityState, KernelState}
+use Rattle.hop_model.specs.Scripts.{Script}
+use Rattle.hop_model.specs.Steps.{step_change}
+use Rattle.hop_model.specs.Births.{next_birth_change}
+use Rattle.hop_model.specs.LocalEvents.{IsLocal}
+use Rattle.hop_model.specs.Parts.{is_event, IsClosed, part_of, after_entry, after, IsNext, IsPlayed}
+use Rattle.hop_model.specs.Histories.{Policy, Run, event_of, by_event, may, May, goes_on, went_on, IsLegalFrom, IsLegalRun, start_run, run_after}
+use Rattle.hop_model.specs.Vectors.{IsStamped, CoversAt, Covers}
+use Rattle.hop_model.specs.Pasts.{past_vector}
+use Rattle.hop_model.proofs.Carried.{acts_stamped}
+use Rattle.hop_model.proofs.Covering.{closed_of_covers, covers_of_closed}
+use Rattle.hop_model.proofs.PastVectors.{stamp_is}
+use Rattle.hop_model.proofs.Locality.{step_local, next_birth_local}
+use Rattle.hop_model.proofs.Replay.{Follows, replay_law}
+
+module _ (s : Supply) (policy : Policy) (script : Script) where
+  -- no event is local
+  none_local : IsLocal (λ (b : EntityState). b.version) (λ (_ : KernelState). None)
+  none_local = record {
+    same = λ w v r is. cc;
+    stays = λ w r is. cc;
+    reads = λ w r is. cc;
+    writes = λ w r is. cc;
+    moves = λ w r is. cc;
+  }
+
+  by_event_local : (ev : Event) (actor : ℕ) → IsLocal (λ (b : EntityState). b.version) (by_event s script ev actor)
+  by_event_local Birth actor = next_birth_local s script
+  by_event_local Step actor = step_local s actor
+  by_event_local SnapEvent actor = none_local
+  by_event_local Stable actor = none_local
+  by_event_local Tried actor = none_local
+
+  pub event_of_local : (e : Entry) → IsLocal (λ (b : EntityState). b.version) (event_of s script e)
+  event_of_local e = by_event_local e.event e.actor
+
+  pub state_goes_on : (r : Run) (e : Entry) → (goes_on s script r e).state ≡ after_entry (event_of s script) r.state e
+  state_goes_on r e =
+      elim e.event as (λ ev. e.event ≡ ev → (went_on s script r e ev).state ≡ after_entry (event_of s script) r.state e) [
+        | Birth ↦ λ is. refl
+        | Step ↦ λ is. refl
+        | SnapEvent ↦ λ is. rw is refl
+        | Stable ↦ λ is. rw is refl
+        | Tried ↦ λ is. rw is refl
+      ] refl
+
+  -- what the rules look at has the state that the events leave
+  pub state_after : (r : Run) (es : List Entry) → (run_after s script r es).state ≡ after (event_of s script) r.state es
+  state_after r [] = refl
+  state_after r (e ∷ es) = state_after (goes_on s script r e) es ∙ ap (λ (w : KernelState). after (event_of s script) w es) (state_goes_on r e)
+
+  pub next_legal : (r : Run) (e : Entry) → May s policy script r e → IsNext (event_of s script) r.state e
+  next_legal r e m =
+      elim e.event as (λ ev. may s policy script r e ev → MatchBool (is_event ev) (option_map (λ (r : Entry × KernelState). r.0) (by_event s script ev e.actor r.state) ≡ Some e) (e.touched ≡ [])) [
+        | Birth ↦ λ m. m.1
+        | Step ↦ λ m. m.4
+        | SnapEvent ↦ λ m. ap (λ (e : Entry). e.touched) m.0
+        | Stable ↦ λ m. ap (λ (e : Entry). e.touched) m.2
+        | Tried ↦ λ m. ap (λ (e : Entry). e.touched) m.0
+      ] m.1
+
+  pub legal_played : (r : Run) (es : List Entry) → IsLegalFrom s policy script r es → IsPlayed (event_of s script) r.state es
+  legal_played r [] legal = tt
+  legal_played r (e ∷ es) legal =
+      (next_legal r e legal.0, subst (λ (w : KernelState). IsPlayed (event_of s script) w es) (state_goes_on r e) (legal_played (goes_on s script r e) es legal.1))
+
+  same : (p : ℕ → ℕ) (w : KernelState) → Follows (λ (b : EntityState). b.version) p w w
+  unfolding Follows
+  same p w x h = refl
+
+  pub legal_replay : (w : KernelState) (es : List Entry) (p : ℕ → ℕ) → IsLegalRun s policy w script es → IsClosed p es → IsPlayed (event_of s script) w (part_of p es)
+  legal_replay w es p legal closed = (replay_law (λ (b : EntityState). b.version) p (event_of s script) event_of_local es w w (legal_played (start_run w) es legal) closed (same p w)).0
+
+  none_stamped : IsStamped (λ (_ : KernelState). None)
+  none_stamped = record {
+    rising = λ w r is. cc;
+    carries = λ w r is. cc;
+    joins = λ w r is. cc;
+  }
+
+  by_event_stamped : (ev : Event) (actor : ℕ) → IsStamped (by_event s script ev actor)
+  by_event_stamped Birth actor = acts_stamped Birth (next_birth_change s script)
+  by_event_stamped Step actor = acts_stamped Step (step_change s actor)
+  by_event_stamped SnapEvent actor = none_stamped
+  by_event_stamped Stable actor = none_stamped
+  by_event_stamped Tried actor = none_stamped
+
+  pub event_of_stamped : (e : Entry) → IsStamped (event_of s script e)
+  event_of_stamped e = by_event_stamped e.event e.actor
+
+  pub legal_vector : (w : KernelState) (es : List Entry) (p : ℕ → ℕ) → IsLegalRun s policy w script es → CoversAt p w → IsClosed p es ↔ Covers (event_of s script) p w es
+  legal_vector w es p legal c =
+      let played = legal_played (start_run w) es legal in
+      (λ closed. covers_of_closed p (event_of s script) event_of_local event_of_stamped w es played closed c, closed_of_covers p (event_of s script) event_of_local event_of_stamped w es played)
+
+  pub legal_past : (w : KernelState) (es : List Entry) (x y : ℕ) → IsLegalRun s policy w script es → (after (event_of s script) w es x).stamp y ≡ past_vector w es x y
+  legal_past w es x y legal = stamp_is (event_of s script) event_of_local event_of_stamped es w x y (legal_played (start_run w) es legal)
