@@ -1,0 +1,91 @@
+-- How far a search for the greatest closed choice has come.
+use Rattle.std.specs.Prelude.{◌≡◌, ◌≢◌, ℕ, ◌+◌, ◌<◌, Bool, false, nat_lt, List, [], Option, Some, None, length, slice_index, slice_index_or, sum_by, IfSome, MatchBool}
+use Rattle.hop_base.specs.declared.records.Rec.{Rec}
+use Rattle.hop_model.specs.Choices.{IsBelow, IsClosedChoice}
+use Rattle.cut_finder.specs.Records.{commits_of}
+
+-- RECORDS AND THEIR PLACES
+
+abbrev pub no_record : Rec
+no_record = record { entity = 0; version = 0; stamp = []; length = 0; blocks = [] }
+
+abbrev pub record_at : List Rec → ℕ → Rec
+record_at recs i = slice_index_or recs i no_record
+
+abbrev pub entity_at : List Rec → ℕ → ℕ
+entity_at recs i = (record_at recs i).entity
+
+abbrev pub stamp_at : List Rec → ℕ → ℕ → ℕ
+stamp_at recs i = slice_index (record_at recs i).stamp
+
+-- the version of the record at a place, 0 for none
+abbrev pub version_at : List Rec → Option ℕ → ℕ
+version_at recs None = 0
+version_at recs (Some i) = (record_at recs i).version
+
+abbrev pub place_at : List (Option ℕ) → ℕ → Option ℕ
+place_at places x = slice_index_or places x None
+
+abbrev pub mark_at : List Bool → ℕ → Bool
+mark_at marks x = slice_index_or marks x false
+
+abbrev pub IsWithin : List Rec → Option ℕ → Type 0
+IsWithin recs o = IfSome o (λ i. i < length recs)
+
+-- the place is a later one
+abbrev pub IsAfter : Option ℕ → ℕ → Type 0
+IsAfter None i = Unit {0}
+IsAfter (Some k) i = k < i
+
+-- CHAINS
+
+-- of the first n records the last one of the entity x
+pub record IsLastOf (recs : List Rec) (n x : ℕ) (o : Option ℕ) : Type 0 where
+  pub one : IfSome o (λ k. (k < n) × (entity_at recs k ≡ x))
+  pub last : (j : ℕ) → j < n → IsAfter o j → entity_at recs j ≢ x
+
+-- each of the first n records is linked to the one before it of the same entity
+abbrev pub IsChain : List Rec → ℕ → List (Option ℕ) → Type 0
+IsChain recs n before = (i : ℕ) → i < n → IsLastOf recs i (entity_at recs i) (place_at before i)
+
+-- COVERING
+
+-- the record at the place asks for no more than p
+abbrev pub IsCovered : List Rec → (ℕ → ℕ) → Option ℕ → Type 0
+IsCovered recs p None = Unit {0}
+IsCovered recs p (Some i) = IsBelow (stamp_at recs i) p
+
+-- it asks for a later version of x than n
+abbrev pub needs_more : List Rec → Option ℕ → ℕ → ℕ → Bool
+needs_more recs None x n = false
+needs_more recs (Some i) x n = nat_lt n (stamp_at recs i x)
+
+-- the newest record before k, of the same entity, that is covered
+pub record IsLoweredTo (recs : List Rec) (k : ℕ) (p : ℕ → ℕ) (o : Option ℕ) : Type 0 where
+  pub one : IfSome o (λ j. (j < k) × (entity_at recs j ≡ entity_at recs k))
+  pub covered : IsCovered recs p o
+  pub newest : (j : ℕ) → j < k → IsAfter o j → entity_at recs j ≡ entity_at recs k → IsCovered recs p (Some j) → ⊥
+
+-- the mark says whether the record asks for more
+abbrev pub IsMarked : List Rec → (ℕ → ℕ) → Option ℕ → Bool → Type 0
+IsMarked recs p o mark = MatchBool mark (IsCovered recs p o → ⊥) (IsCovered recs p o)
+
+-- SEARCHES
+
+-- `chosen`, `p` and `lacking` give per entity the place of the chosen record, its version, and its mark
+pub record IsSearch (recs : List Rec) (chosen : ℕ → Option ℕ) (p : ℕ → ℕ) (lacking : ℕ → Bool) : Type 0 where
+  pub one : (x : ℕ) → IfSome (chosen x) (λ k. (k < length recs) × (entity_at recs k ≡ x))
+  pub versions : (x : ℕ) → p x ≡ version_at recs (chosen x)
+  -- no later record is covered
+  pub passed : (x i : ℕ) → i < length recs → IsAfter (chosen x) i → entity_at recs i ≡ x → IsCovered recs p (Some i) → ⊥
+  pub marked : (x : ℕ) → IsMarked recs p (chosen x) (lacking x)
+  -- no closed choice is lost
+  pub above : (q : ℕ → ℕ) → IsClosedChoice (λ _. 0) (commits_of recs) q → IsBelow q p
+
+abbrev pub count_to : Option ℕ → ℕ
+count_to None = 0
+count_to (Some k) = k + 1
+
+-- at most so many falls are left
+abbrev pub falls_left : List (Option ℕ) → ℕ
+falls_left chosen = sum_by count_to chosen
