@@ -4,14 +4,14 @@ use Rattle.hop_base.specs.declared.histories.Entry.{Entry}
 use Rattle.hop_model.specs.State.{EntityState, KernelState}
 use Rattle.hop_model.specs.LocalEvents.{touch_at, IsLocal}
 use Rattle.hop_model.specs.Parts.{after_entry, IsNext, IsPlayed}
-use Rattle.hop_model.specs.Vectors.{IsStamped, Covers, vector_at, IsPart, CoversChosen}
+use Rattle.hop_model.specs.Vectors.{IsStamped, Covers, vector_at, CoversChosen}
 use Rattle.hop_model.proofs.Covering.{Is_next, is_next}
 use Rattle.hop_model.proofs.PastVectors.{touched_stamp}
 use Rattle.hop_model.proofs.Basics.{lt_of_ne}
 
 module _ (act : Entry → KernelState → Option (Entry × KernelState)) (local : (e : Entry) → IsLocal (λ (b : EntityState). b.version) (act e)) (stamped : (e : Entry) → IsStamped (act e)) where
   -- an entity stays, or rises by one with a stamp that is no less
-  Moves : KernelState → KernelState → ℕ → Type 0
+  unfoldable pub Moves : KernelState → KernelState → ℕ → Type 0
   Moves w v x = (v x ≡ w x) ⊎ (((v x).version ≡ (w x).version + 1) × ((y : ℕ) → (w x).stamp y ≤ (v x).stamp y))
 
   moves_by : (e : Entry) (w : KernelState) (r : Entry × KernelState) → act e w ≡ Some r → (x : ℕ) → Moves w r.1 x
@@ -26,7 +26,7 @@ module _ (act : Entry → KernelState → Option (Entry × KernelState)) (local 
         ] refl
       ] refl
 
-  moves : (w : KernelState) (e : Entry) → IsNext act w e → (x : ℕ) → Moves w (after_entry act w e) x
+  pub moves : (w : KernelState) (e : Entry) → IsNext act w e → (x : ℕ) → Moves w (after_entry act w e) x
   unfolding Moves Is_next
   moves w e next x =
       elim (is_next (λ _. 0) act local stamped w e next) as (λ _. Moves w (after_entry act w e) x) [
@@ -48,7 +48,7 @@ module _ (act : Entry → KernelState → Option (Entry × KernelState)) (local 
       ]
 
   -- an entity that has its chosen version keeps it while that version is not passed
-  same_vector : (es : List Entry) (v : KernelState) (x n : ℕ) → (v x).version ≡ n → vector_at act v es x n ≡ (v x).stamp
+  pub same_vector : (es : List Entry) (v : KernelState) (x n : ℕ) → (v x).version ≡ n → vector_at act v es x n ≡ (v x).stamp
   same_vector [] v x n e = refl
   same_vector (d ∷ es) v x n e = let t : ((v x).version == n) ≡ true = eq-eqb _ _ e in rw t refl
 
@@ -97,5 +97,5 @@ module _ (act : Entry → KernelState → Option (Entry × KernelState)) (local 
             ]) c.1
       ] refl
 
-  pub chosen_of_covers : (es : List Entry) (w : KernelState) (p : ℕ → ℕ) → IsPlayed act w es → IsPart act w es p → Covers act p w es → CoversChosen act p w es
-  chosen_of_covers es w p played part c x y = chosen_at es w p x y played (part x).0 c
+  pub chosen_of_covers : (es : List Entry) (w : KernelState) (p : ℕ → ℕ) → IsPlayed act w es → ((x : ℕ) → (w x).version ≤ p x) → Covers act p w es → CoversChosen act p w es
+  chosen_of_covers es w p played low c x y = chosen_at es w p x y played (low x) c

@@ -1,5 +1,5 @@
 -- A legal run is played by its events.
-use Rattle.std.proofs.Common.{◌≡◌, ℕ, List, [], ◌∷◌, Some, None, option_map, MatchBool, ◌↔◌, refl, ap, subst, ◌∙◌}
+use Rattle.std.proofs.Common.{◌≡◌, ℕ, ◌≤◌, arith, List, [], ◌∷◌, Some, None, option_map, MatchBool, ◌↔◌, refl, ap, subst, ◌∙◌}
 use Rattle.hop_base.specs.declared.histories.Entry.{Entry}
 use Rattle.hop_base.specs.declared.histories.Event.{Event}
 use Rattle.hop_base.specs.declared.histories.Event.TheVariants.{Birth, Step, Snap as SnapEvent, Stable, Tried}
@@ -10,11 +10,13 @@ use Rattle.hop_model.specs.Births.{next_birth_change}
 use Rattle.hop_model.specs.LocalEvents.{IsLocal}
 use Rattle.hop_model.specs.Parts.{is_event, IsClosed, part_of, after_entry, after, IsNext, IsPlayed}
 use Rattle.hop_model.specs.Histories.{Policy, Run, event_of, by_event, may, May, goes_on, went_on, IsLegalFrom, IsLegalRun, start_run, run_after}
-use Rattle.hop_model.specs.Vectors.{IsStamped, CoversAt, Covers}
+use Rattle.hop_model.specs.Vectors.{IsStamped, CoversAt, CoversChosen, StampsBelow, vector_at}
+use Rattle.hop_model.specs.Fronts.{version_vector}
 use Rattle.hop_model.specs.Pasts.{past_vector}
 use Rattle.hop_model.proofs.Carried.{acts_stamped}
 use Rattle.hop_model.proofs.Covering.{closed_of_covers, covers_of_closed}
-use Rattle.hop_model.proofs.PastVectors.{stamp_is}
+use Rattle.hop_model.proofs.PastVectors.{stamp_is, vector_is}
+use Rattle.hop_model.proofs.ChosenVectors.{chosen_of_covers, covers_of_chosen}
 use Rattle.hop_model.proofs.Locality.{step_local, next_birth_local}
 use Rattle.hop_model.proofs.Replay.{Follows, replay_law}
 
@@ -93,10 +95,28 @@ module _ (s : Supply) (policy : Policy) (script : Script) where
   pub event_of_stamped : (e : Entry) → IsStamped (event_of s script e)
   event_of_stamped e = by_event_stamped e.event e.actor
 
-  pub legal_vector : (w : KernelState) (es : List Entry) (p : ℕ → ℕ) → IsLegalRun s policy w script es → CoversAt p w → IsClosed p es ↔ Covers (event_of s script) p w es
-  legal_vector w es p legal c =
-      let played = legal_played (start_run w) es legal in
-      (λ closed. covers_of_closed p (event_of s script) event_of_local event_of_stamped w es played closed c, closed_of_covers p (event_of s script) event_of_local event_of_stamped w es played)
-
   pub legal_past : (w : KernelState) (es : List Entry) (x y : ℕ) → IsLegalRun s policy w script es → (after (event_of s script) w es x).stamp y ≡ past_vector w es x y
   legal_past w es x y legal = stamp_is (event_of s script) event_of_local event_of_stamped es w x y (legal_played (start_run w) es legal)
+
+  -- a part is closed where the stamps of what it chooses are within
+  pub legal_chosen : (w : KernelState) (es : List Entry) (p : ℕ → ℕ) → IsLegalRun s policy w script es → StampsBelow w → ((x : ℕ) → (w x).version ≤ p x) → IsClosed p es ↔ CoversChosen (event_of s script) p w es
+  legal_chosen w es p legal below low =
+      let played = legal_played (start_run w) es legal in
+      let a = event_of_local in
+      let b = event_of_stamped in
+      let here : CoversAt p w = λ x y h. let m = below x y in let n = low y in omega arith in (
+        λ closed. chosen_of_covers (event_of s script) a b es w p played low (covers_of_closed p (event_of s script) a b w es played closed here),
+        λ c. closed_of_covers p (event_of s script) a b w es played (covers_of_chosen (event_of s script) a b es w p played (λ x y _. c x y)),
+      )
+
+  -- the stamps are the vectors
+  pub legal_vectors : (w : KernelState) (es : List Entry) (x n y : ℕ) → IsLegalRun s policy w script es → vector_at (event_of s script) w es x n y ≡ version_vector (event_of s script) w es x n y
+  legal_vectors w es x n y legal = vector_is (event_of s script) event_of_local event_of_stamped es w x n y (legal_played (start_run w) es legal)
+
+  -- so a part is closed where the vectors are
+  pub legal_part : (w : KernelState) (es : List Entry) (p : ℕ → ℕ) → IsLegalRun s policy w script es → StampsBelow w → ((x : ℕ) → (w x).version ≤ p x) → IsClosed p es ↔ ((x y : ℕ) → version_vector (event_of s script) w es x (p x) y ≤ p y)
+  legal_part w es p legal below low =
+      let both = legal_chosen w es p legal below low in (
+        λ closed x y. (let e = legal_vectors w es x (p x) y legal in let h = both.0 closed x y in omega arith),
+        λ c. both.1 (λ x y. let e = legal_vectors w es x (p x) y legal in let h = c x y in omega arith),
+      )

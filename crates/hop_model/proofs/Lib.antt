@@ -10,3 +10,4 @@ pub mod LegalRuns
 pub mod ChosenVectors
 pub mod StableCuts
 pub mod Unwritten
+pub mod CommitStamps

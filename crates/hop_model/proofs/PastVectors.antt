@@ -9,7 +9,8 @@ use Rattle.hop_model.specs.State.{EntityState, KernelState}
 use Rattle.hop_model.specs.Changes.{joined}
 use Rattle.hop_model.specs.LocalEvents.{touch_at, IsLocal}
 use Rattle.hop_model.specs.Parts.{after_entry, after, IsPlayed}
-use Rattle.hop_model.specs.Vectors.{IsStamped}
+use Rattle.hop_model.specs.Vectors.{IsStamped, vector_at}
+use Rattle.hop_model.specs.Fronts.{front_to, version_vector}
 use Rattle.hop_model.specs.Pasts.{entities, has, writes_one, rests_on, sources, past, version_in, versions_in, stamps_of, past_vector}
 use Rattle.hop_model.proofs.Basics.{and_left, and_right, both, or_left, or_right}
 use Rattle.hop_model.proofs.Replay.{at_entity, any_at}
@@ -154,3 +155,23 @@ module _ (act : Entry → KernelState → Option (Entry × KernelState)) (local 
   -- the stamp of an entity after a history is the vector of its past
   pub stamp_is : (es : List Entry) (w : KernelState) (x y : ℕ) → IsPlayed act w es → (after act w es x).stamp y ≡ past_vector w es x y
   stamp_is es w x y played = let r = stamps_are es w (x ∷ []) y played in omega arith
+
+  -- the stamp at the first place of a version is the one after the entries up to there
+  stamp_at_front : (es : List Entry) (w : KernelState) (x n : ℕ) → vector_at act w es x n ≡ (after act w (front_to act w es x n) x).stamp
+  stamp_at_front [] w x n = refl
+  stamp_at_front (e ∷ es) w x n =
+      elim ((w x).version == n) as (λ b. (if◌then◌else◌ {A = ℕ → ℕ} b (w x).stamp (vector_at act (after_entry act w e) es x n)) ≡ (after act w (if b then [] else e ∷ front_to act (after_entry act w e) es x n) x).stamp) [
+        | true ↦ refl
+        | false ↦ stamp_at_front es (after_entry act w e) x n
+      ]
+
+  front_played : (es : List Entry) (w : KernelState) (x n : ℕ) → IsPlayed act w es → IsPlayed act w (front_to act w es x n)
+  front_played [] w x n played = tt
+  front_played (e ∷ es) w x n played =
+      elim ((w x).version == n) as (λ b. IsPlayed act w (if b then [] else e ∷ front_to act (after_entry act w e) es x n)) [
+        | true ↦ tt
+        | false ↦ (played.0, front_played es (after_entry act w e) x n played.1)
+      ]
+
+  pub vector_is : (es : List Entry) (w : KernelState) (x n y : ℕ) → IsPlayed act w es → vector_at act w es x n y ≡ version_vector act w es x n y
+  vector_is es w x n y played = ap (λ (f : ℕ → ℕ). f y) (stamp_at_front es w x n) ∙ stamp_is (front_to act w es x n) w x y (front_played es w x n played)

@@ -1,5 +1,5 @@
 -- The stable law: all that stood at a Stable entry is within each later cut.
-use Rattle.std.proofs.Common.{◌≡◌, ℕ, zero, suc, ◌+◌, ◌≤◌, ◌<◌, Bool, true, false, ◌&&◌, ◌==◌, if◌then◌else◌, cond, List, [], ◌∷◌, ◌++◌, filter, Option, Some, None, refl, sym, ap, subst, ◌∙◌, arith, eqb-true, eq-eqb, ◌⊎◌, ◌↔◌, inl, inr, append_assoc}
+use Rattle.std.proofs.Common.{◌≡◌, ℕ, zero, suc, ◌+◌, ◌≤◌, ◌<◌, Bool, true, false, ◌&&◌, ◌==◌, if◌then◌else◌, cond, List, [], ◌∷◌, ◌++◌, filter, Option, Some, None, refl, sym, ap, subst, ◌∙◌, arith, eqb-true, eq-eqb, ◌⊎◌, inl, inr, append_assoc}
 use Rattle.std.proofs.lemmas.List.{append-nil}
 use Rattle.std.proofs.lemmas.Bool.{le-leb, lt-ltb, cases_lt, false≢true}
 use Rattle.hop_base.specs.declared.histories.Touch.{Touch}
@@ -10,17 +10,16 @@ use Rattle.hop_base.specs.Edges.{upto}
 use Rattle.hop_model.specs.Words.{put}
 use Rattle.hop_model.specs.Scripts.{Script}
 use Rattle.hop_model.specs.LocalEvents.{touch_at, IsLocal}
-use Rattle.hop_model.specs.Parts.{is_event, IsClosed, all_within, writes_within, within, part_of, after_entry, after, IsNext, IsPlayed}
+use Rattle.hop_model.specs.Parts.{is_event, all_within, writes_within, within, part_of, after_entry, after, IsNext, IsPlayed}
 use Rattle.hop_base.specs.Touches.{AllTouches, IsRising}
-use Rattle.hop_model.specs.Vectors.{IsStamped, CoversAt, CoversChosen, IsPart, StampsBelow}
+use Rattle.hop_model.specs.Vectors.{IsStamped, StampsBelow}
 use Rattle.hop_model.specs.Choices.{Commit, IsBelow, Among, IsClosedChoice, IsGreatest}
 use Rattle.hop_model.specs.Histories.{Policy, Run, event_of, has_changed, May, goes_on, went_on, commit_of, commits_of, version_of, IsLegalFrom, IsLegalRun, start_run, run_after, AllBelow64}
 use Rattle.hop_model.proofs.Basics.{both}
 use Rattle.hop_model.proofs.Replay.{at_entity, weaker}
-use Rattle.hop_model.proofs.Covering.{Is_next, is_next, kept_inside, all_touch_at, covers_of_closed, closed_of_covers}
+use Rattle.hop_model.proofs.Covering.{Is_next, is_next, kept_inside, all_touch_at}
 use Rattle.hop_model.proofs.Lowering.{among_map, among_more}
 use Rattle.hop_model.proofs.LegalRuns.{event_of_local, event_of_stamped, next_legal, legal_played, state_after}
-use Rattle.hop_model.proofs.ChosenVectors.{chosen_of_covers, covers_of_chosen}
 
 -- what holds of each touch that is looked up holds of all
 all_looked_up : (P : Touch → Type 0) (ts : List Touch) → IsRising ts → ((x : ℕ) (t : Touch) → touch_at ts x ≡ Some t → P t) → AllTouches P ts
@@ -68,14 +67,14 @@ module _ (act : KernelState → Option (Entry × KernelState)) (local : IsLocal 
 
 -- where no version is above q at the end, each event is within q
 module _ (act : Entry → KernelState → Option (Entry × KernelState)) (local : (e : Entry) → IsLocal (λ (b : EntityState). b.version) (act e)) (stamped : (e : Entry) → IsStamped (act e)) where
-  versions_rise : (w : KernelState) (e : Entry) → IsNext act w e → (x : ℕ) → (w x).version ≤ (after_entry act w e x).version
+  pub versions_rise : (w : KernelState) (e : Entry) → IsNext act w e → (x : ℕ) → (w x).version ≤ (after_entry act w e x).version
   unfolding Is_next
   versions_rise w e next x = elim (is_next (λ _. 0) act local stamped w e next) as (λ _. (w x).version ≤ (after_entry act w e x).version) [
     | inl r ↦ subst (λ (v : KernelState). (w x).version ≤ (v x).version) (sym r.3) (no_fall (act e) (local e) (stamped e) w r.0 r.1 x)
     | inr r ↦ subst (λ (v : KernelState). (w x).version ≤ (v x).version) (sym r.1) (omega arith)
   ]
 
-  versions_rise_over : (es : List Entry) (w : KernelState) → IsPlayed act w es → (x : ℕ) → (w x).version ≤ (after act w es x).version
+  pub versions_rise_over : (es : List Entry) (w : KernelState) → IsPlayed act w es → (x : ℕ) → (w x).version ≤ (after act w es x).version
   versions_rise_over [] w played x = omega arith
   versions_rise_over (e ∷ es) w played x = (let a = versions_rise w e played.0 x in let b = versions_rise_over es (after_entry act w e) played.1 x in omega arith)
 
@@ -297,13 +296,3 @@ module _ (s : Supply) (policy : Policy) (script : Script) where
       let g = grows r e in
       let later = commits_grow (goes_on s script r e) fs in
       (g.0 ++ later.0, later.1 ∙ ap (λ cs. cs ++ later.0) g.1 ∙ append_assoc r.commits g.0 later.0)
-
-  pub legal_chosen : (w : KernelState) (es : List Entry) (p : ℕ → ℕ) → IsLegalRun s policy w script es → StampsBelow w → IsPart (event_of s script) w es p → IsClosed p es ↔ CoversChosen (event_of s script) p w es
-  legal_chosen w es p legal below part =
-      let played = legal_played s policy script (start_run w) es legal in
-      let a = event_of_local s policy script in
-      let b = event_of_stamped s policy script in
-      let here : CoversAt p w = λ x y h. let m = below x y in let n = (part y).0 in omega arith in (
-        λ closed. chosen_of_covers (event_of s script) a b es w p played part (covers_of_closed p (event_of s script) a b w es played closed here),
-        λ c. closed_of_covers p (event_of s script) a b w es played (covers_of_chosen (event_of s script) a b es w p played (λ x y _. c x y)),
-      )

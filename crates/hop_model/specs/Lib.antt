@@ -16,3 +16,4 @@ pub mod Histories
 pub mod Serial
 pub mod Soundness
 pub mod Examples
+pub mod Fronts

@@ -9,9 +9,10 @@ ghost use Rattle.hop_model.specs.Scripts.{Script};
 ghost use Rattle.hop_model.specs.Births.{birth, next_birth};
 ghost use Rattle.hop_model.specs.LocalEvents.{IsLocal};
 ghost use Rattle.hop_model.specs.Parts.{IsClosed, IsPlayed, is_event, part_of, after, thing_at};
-ghost use Rattle.hop_model.specs.Vectors.{CoversAt, Covers, CoversChosen, IsPart, StampsBelow};
+ghost use Rattle.hop_model.specs.Vectors.{StampsBelow};
 ghost use Rattle.hop_model.specs.Pasts.{past_vector};
-ghost use Rattle.hop_model.specs.Choices.{Commit, IsBelow, IsNarrow, IsGreatest, greatest};
+ghost use Rattle.hop_model.specs.Fronts.{version_vector, tried_commits, IsChoice};
+ghost use Rattle.hop_model.specs.Choices.{Commit, IsBelow, IsClosedChoice, IsNarrow, IsGreatest, greatest};
 ghost use Rattle.hop_model.specs.Histories.{Policy, IsLegalRun, AllBelow64, commits_in, event_of, writes};
 
 /// Locality: a step reads and writes the entities that its entry names, and no other, and so does a birth. What no later
@@ -47,15 +48,28 @@ pub fn greatest_choice_law()
         → IsGreatest start cs p → IsGreatest start (cs ++ ds) q → IsBelow p q }
 {}
 
-/// Vectors: a part is closed exactly where it covers the vectors of what it chooses, and the stamps are those vectors.
+/// Vectors: a part is closed exactly where the vector of each chosen version is at most the choice in each component. The
+/// stamps that events join are those vectors.
 pub fn vector_law()
     ensures closed { (s : Supply) (policy : Policy) (script : Script) (w : KernelState) (es : List Line) (p : ℕ → ℕ)
-        → IsLegalRun s policy w script es → CoversAt p w → IsClosed p es ↔ Covers (event_of s script) p w es }
-    ensures chosen { (s : Supply) (policy : Policy) (script : Script) (w : KernelState) (es : List Line) (p : ℕ → ℕ)
-        → IsLegalRun s policy w script es → StampsBelow w → IsPart (event_of s script) w es p
-        → IsClosed p es ↔ CoversChosen (event_of s script) p w es }
-    ensures past { (s : Supply) (policy : Policy) (script : Script) (w : KernelState) (es : List Line) (x y : ℕ)
+        → IsLegalRun s policy w script es → StampsBelow w → ((x : ℕ) → (w x).version ≤ p x)
+        → IsClosed p es ↔ ((x y : ℕ) → version_vector (event_of s script) w es x (p x) y ≤ p y) }
+    ensures stamps { (s : Supply) (policy : Policy) (script : Script) (w : KernelState) (es : List Line) (x y : ℕ)
         → IsLegalRun s policy w script es → (after (event_of s script) w es x).stamp y ≡ past_vector w es x y }
+{}
+
+/// Cuts: over the first commits of a legal run, a choice is closed by their stamps exactly where it is closed as a part. So
+/// the greatest closed choice is a closed part, which contains each other that a choice over these commits makes.
+pub fn cut_law()
+    ensures closed { (s : Supply) (policy : Policy) (script : Script) (w : KernelState) (es : List Line)
+        (cs later : List Commit) (p : ℕ → ℕ) → IsLegalRun s policy w script es → StampsBelow w
+        → tried_commits s script w es ≡ cs ++ later → IsChoice (λ x. (w x).version) cs p
+        → IsClosedChoice (λ x. (w x).version) cs p ↔ IsClosed p es }
+    ensures greatest { (s : Supply) (policy : Policy) (script : Script) (w : KernelState) (es : List Line)
+        (cs later : List Commit) (q : ℕ → ℕ) → IsLegalRun s policy w script es → StampsBelow w
+        → tried_commits s script w es ≡ cs ++ later → IsGreatest (λ x. (w x).version) cs q
+        → IsClosed q es
+        × ((p : ℕ → ℕ) → IsChoice (λ x. (w x).version) cs p → IsClosed p es → IsBelow p q) }
 {}
 
 /// What is stable stays: whatever commits follow those of a Stable entry, each event before it is within the part that the
