@@ -11,3 +11,9 @@ pub mod ChosenVectors
 pub mod StableCuts
 pub mod Unwritten
 pub mod CommitStamps
+pub mod Faithful
+pub mod Writes
+pub mod Tallies
+pub mod StepTallies
+pub mod BirthTallies
+pub mod PrintedCounts

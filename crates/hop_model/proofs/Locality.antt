@@ -73,7 +73,7 @@ step_local s me = acts_local Step (step_change s me) (step_of_touched s me) (ste
 -- BIRTHS
 
 -- a value that is given under a test
-some_if : {A : Type 0} (b : Bool) (x y : A) → (if b then Some x else None) ≡ Some y → x ≡ y
+pub some_if : {A : Type 0} (b : Bool) (x y : A) → (if b then Some x else None) ≡ Some y → x ≡ y
 some_if true x y e = cc
 some_if false x y e = cc
 

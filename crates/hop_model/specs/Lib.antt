@@ -17,3 +17,4 @@ pub mod Serial
 pub mod Soundness
 pub mod Examples
 pub mod Fronts
+pub mod Printing

@@ -309,7 +309,7 @@ on_cell s l a x (Give d k r rights) (ContainerCell c) = give l c d (given_cap l 
 on_cell s l a x (Stop c) (LocusCell m) = with_other l Ok (LocusCell (record m { condition = stopped m.condition }))
 on_cell s l a x (Go c) (LocusCell m) = with_other l Ok (LocusCell (record m { condition = going m.condition }))
 on_cell s l a x (Snap c) cell = with_other l Ok cell
-on_cell s l a x i cell = with_other l WrongKind cell
+on_cell s l a x i cell = with_atlas l WrongKind a (Some cell)
 
 unfoldable pub with_newborn : Supply → LocusState → AtlasState → Instr → Outcome
 with_newborn s l a (Make d n t e) = make s l a d (reg l n) (reg l t) e

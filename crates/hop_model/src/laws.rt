@@ -1,5 +1,5 @@
 //! The laws of steps, parts, cuts and stamps. The functions do nothing: the contract of each is the law.
-ghost use Rattle.std.specs.Prelude.{◌≡◌, ◌≤◌, ◌↔◌, ◌++◌, [], ◌∷◌, ℕ, List, filter, false};
+ghost use Rattle.std.specs.Prelude.{◌≡◌, ◌≤◌, ◌↔◌, ◌+◌, ◌^◌, ◌++◌, [], ◌∷◌, ℕ, List, filter, count_by, min, false};
 ghost use Rattle.std.specs.List.{list_any};
 ghost use Rattle.hop_base.specs.declared.histories.Entry.{Entry as Line};
 ghost use Rattle.hop_base.specs.declared.histories.Event.TheVariants.{Stable};
@@ -13,6 +13,7 @@ ghost use Rattle.hop_model.specs.Vectors.{StampsBelow};
 ghost use Rattle.hop_model.specs.Pasts.{past_vector};
 ghost use Rattle.hop_model.specs.Fronts.{version_vector, tried_commits, IsChoice};
 ghost use Rattle.hop_model.specs.Choices.{Commit, IsBelow, IsClosedChoice, IsNarrow, IsGreatest, greatest};
+ghost use Rattle.hop_model.specs.Printing.{printed_in, prints, NamesLoci};
 ghost use Rattle.hop_model.specs.Histories.{Policy, IsLegalRun, AllBelow64, commits_in, event_of, writes};
 
 /// Locality: a step reads and writes the entities that its entry names, and no other, and so does a birth. What no later
@@ -87,4 +88,13 @@ pub fn stable_law()
         → part_of q es ≡ filter (λ f. is_event f.event) es }
     ensures commits_follow { (s : Supply) (script : Script) (w : KernelState) (es fs : List Line)
         → (later : List Commit) × (commits_in s script w (es ++ fs) ≡ commits_in s script w es ++ later) }
+{}
+
+/// Printed counts: after the part, a locus counts what it counted at the start and each value that it prints within the
+/// part, or 2^62 where that is more. One that is born in the part counts from 0.
+pub fn printed_law()
+    ensures { (s : Supply) (policy : Policy) (script : Script) (w : KernelState) (es : List Line) (p : ℕ → ℕ) (x : ℕ)
+        → IsLegalRun s policy w script es → IsClosed p es → NamesLoci w
+        → printed_in (after (event_of s script) w (part_of p es) x).cell
+        ≡ min (2 ^ 62) (printed_in (w x).cell + count_by (prints x) (part_of p es)) }
 {}

@@ -7,7 +7,9 @@ ghost use Rattle.hop_model.specs.Examples.{played, prints, five_instructions, fi
 
 mod laws;
 
-pub use laws::{cut_law, greatest_choice_law, locality_law, replay_law, stable_law, vector_law};
+pub use laws::{
+    cut_law, greatest_choice_law, locality_law, printed_law, replay_law, stable_law, vector_law,
+};
 
 /// What runs of small scripts give, computed from the definitions: entries with their versions, and printed values.
 pub fn examples_hold()
