@@ -128,6 +128,7 @@ module _ (s : Supply) (w : KernelState) (names : NamesLoci w) where
         | false ↦ λ is. cc
       ] is
 
+  -- each birth of a script counts
   pub birth_counts : (script : Script) (c : ℕ × Change) → next_birth_change s script w ≡ Some c → Counts w names.atlas c.0 c.1.answer c.1.accesses
   unfolding next_birth_change Goal
   birth_counts script c is = by_next (next_name names.atlas script) (subst (λ a. option_and_then (λ name. birth_named s script name w a) (next_name a script) ≡ Some c) (ap atlas_in names.there) is)

@@ -30,6 +30,7 @@ AgreeAccesses w v (m ∷ accesses) = (w m.entity ≡ v m.entity) × AgreeAccesse
 eqb_same : (x : ℕ) → (x == x) ≡ true
 eqb_same x = eq-eqb x x refl
 
+-- states that agree in the touched entities agree in the accesses
 pub agree_accesses : (w v : KernelState) (accesses : List Access) → Agrees w v (touches_of w accesses) → AgreeAccesses w v accesses
 agree_accesses w v [] h = tt
 agree_accesses w v (m ∷ accesses) h =
@@ -42,6 +43,7 @@ agree_accesses w v (m ∷ accesses) h =
 touch_of_same : (w v : KernelState) (m : Access) → w m.entity ≡ v m.entity → touch_of w m ≡ touch_of v m
 touch_of_same w v m p = let f : EntityState → Touch = λ b. record { version = if is_some m.new then b.version + 1 else b.version; entity = m.entity; wrote = is_some m.new } in ap f p
 
+-- then the entries carry the same versions
 pub touches_of_same : (w v : KernelState) (accesses : List Access) → AgreeAccesses w v accesses → touches_of w accesses ≡ touches_of v accesses
 touches_of_same w v [] h = refl
 touches_of_same w v (m ∷ accesses) h = λ i. touch_of_same w v m h.0 i ∷ touches_of_same w v accesses h.1 i
@@ -51,10 +53,12 @@ joined_by w v [] u h y = refl
 joined_by w v (m ∷ accesses) u h y =
     λ i. max (max ((h.0 i).stamp y) (if m.entity == y then (touch_of u m).version else 0)) (joined_by w v accesses u h.1 y i)
 
+-- and the joined clocks are the same
 pub joined_same : (w v : KernelState) (accesses : List Access) → AgreeAccesses w v accesses → joined w (touches_of w accesses) ≡ joined v (touches_of v accesses)
 joined_same w v accesses h = let here : joined w (touches_of w accesses) ≡ joined v (touches_of w accesses) = λ i y. joined_by w v accesses w h y i in
     here ∙ ap (joined v) (touches_of_same w v accesses h)
 
+-- so an entity that was the same is the same afterwards
 pub changed_at : (w v : KernelState) (accesses : List Access) → AgreeAccesses w v accesses → (x : ℕ) → w x ≡ v x → changed w accesses x ≡ changed v accesses x
 unfolding changed
 changed_at w v accesses h x p = λ i. accessed (p i) (joined_same w v accesses h i) (access_at accesses x)
@@ -71,6 +75,7 @@ access_at_entity (n ∷ accesses) x m e =
       | false ↦ λ is h. access_at_entity accesses x m h
     ] refl e
 
+-- what is not touched stays
 pub changed-stays : (w : KernelState) (accesses : List Access) (x : ℕ) → touch_at (touches_of w accesses) x ≡ None → changed w accesses x ≡ w x
 unfolding changed
 changed-stays w accesses x e = ap (accessed (w x) (joined w (touches_of w accesses))) (none_of_map (touch_of w) (access_at accesses x) (sym (touch_at-touches_of w accesses x) ∙ e))
@@ -86,6 +91,7 @@ write_access : (w : KernelState) (x : ℕ) (stamp : ℕ → ℕ) (m : Access) (o
 write_access w x stamp m (Some c) is at e = (rw (is, at) refl, rw (is, at) refl)
 write_access w x stamp m None is at e = let bad : false ≡ true = rw is at e in cc
 
+-- what is read stays, with its version
 pub changed-reads : (w : KernelState) (accesses : List Access) (x : ℕ) (t : Touch) → touch_at (touches_of w accesses) x ≡ Some t → t.wrote ≡ false
     → (changed w accesses x ≡ w x) × ((w x).version ≡ t.version)
 unfolding changed
@@ -95,6 +101,7 @@ changed-reads w accesses x t e r =
     let q = read_access w x stamp f.0 f.0.new refl (access_at_entity accesses x f.0 f.1) (ap (λ k. k.wrote) f.2 ∙ r) in
     (ap (accessed (w x) stamp) f.1 ∙ q.0, q.1 ∙ ap (λ k. k.version) f.2)
 
+-- what is written has the next version
 pub changed-writes : (w : KernelState) (accesses : List Access) (x : ℕ) (t : Touch) → touch_at (touches_of w accesses) x ≡ Some t → t.wrote ≡ true
     → ((changed w accesses x).version ≡ t.version) × ((w x).version + 1 ≡ t.version)
 unfolding changed
@@ -110,10 +117,12 @@ changed-writes w accesses x t e r =
 abbrev pub IsOfTouched : (KernelState → Option (ℕ × Change)) → Type 0
 IsOfTouched f = (w v : KernelState) (c : ℕ × Change) → f w ≡ Some c → AgreeAccesses w v c.1.accesses → f v ≡ Some c
 
+-- an access that writes
 abbrev pub some_write : List Access → Bool
 some_write [] = false
 some_write (m ∷ accesses) = is_some m.new || some_write accesses
 
+-- it shows in the entry
 pub any_touch : (w : KernelState) (accesses : List Access) → some_write accesses ≡ true → list_any (λ t. t.wrote) (touches_of w accesses) ≡ true
 any_touch w [] h = h
 any_touch w (m ∷ accesses) h = elim (is_some m.new) as (λ b. (b || some_write accesses) ≡ true → (b || list_any (λ t. t.wrote) (touches_of w accesses)) ≡ true) [ true ↦ λ _. refl | false ↦ any_touch w accesses ] h
@@ -141,6 +150,7 @@ module _ (w v : KernelState) where
         ] refl
       ] h
 
+  -- states that agree in the ordered accesses agree in all
   pub agree_ordered : (accesses : List Access) → AgreeAccesses w v (ordered accesses) → AgreeAccesses w v accesses
   agree_ordered [] h = tt
   agree_ordered (m ∷ accesses) h = let r = inserted m (ordered accesses) h in (r.0, agree_ordered accesses r.1)
@@ -171,6 +181,7 @@ inserted_writes m (n ∷ accesses) h =
     later true b c d h f = refl
     later false b c d h f = f h
 
+-- ordering loses no write
 pub ordered_writes : (accesses : List Access) → some_write accesses ≡ true → some_write (ordered accesses) ≡ true
 ordered_writes [] h = h
 ordered_writes (m ∷ accesses) h = inserted_writes m (ordered accesses) (or_more (is_some m.new) _ _ (ordered_writes accesses) h)
@@ -191,6 +202,7 @@ module _ (event : Event) (f : KernelState → Option (ℕ × Change)) (of : IsOf
   made : (w : KernelState) (r : Entry × KernelState) → acts event f w ≡ Some r → (c : ℕ × Change) × (f w ≡ Some c) × (carried w event c.0 c.1 ≡ r)
   made w r is = some_of_map (λ (c : ℕ × Change). carried w event c.0 c.1) (f w) r is
 
+  -- an event whose change depends on what it touches is local
   pub acts_local : IsLocal (λ b. b.version) (acts event f)
   acts_local = record {
     same = λ w v r is agree.
@@ -248,6 +260,7 @@ inserted_rising w m (n ∷ accesses) h =
     greater : (a b : ℕ) → nat_lt a b ≡ false → (a == b) ≡ false → b < a
     greater a b p q = grind (arith, nat_tests)
 
+-- ordered accesses ascend
 pub ordered_rising : (w : KernelState) (accesses : List Access) → IsRising (touches_of w (ordered accesses))
 ordered_rising w [] = tt
 ordered_rising w (m ∷ accesses) = inserted_rising w m (ordered accesses) (ordered_rising w accesses)
@@ -268,6 +281,7 @@ changed-joins w accesses x t e r y =
     let stamp = joined w (touches_of w accesses) in
     ap (λ (b : EntityState). b.stamp y) (ap (accessed (w x) stamp) f.1) ∙ ap (λ (s : ℕ → ℕ). s y) (written_stamp w x stamp f.0 f.0.new refl (ap (λ k. k.wrote) f.2 ∙ r))
 
+-- each event joins the clocks
 pub acts_stamped : (event : Event) (f : KernelState → Option (ℕ × Change)) → IsStamped (acts event f)
 acts_stamped event f = record {
   rising = λ w r is.

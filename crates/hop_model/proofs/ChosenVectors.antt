@@ -26,6 +26,7 @@ module _ (act : Entry → KernelState → Option (Entry × KernelState)) (local 
         ] refl
       ] refl
 
+  -- so it is over an entry
   pub moves : (w : KernelState) (e : Entry) → IsNext act w e → (x : ℕ) → Moves w (after_entry act w e) x
   unfolding Moves Is_next
   moves w e next x =
@@ -73,6 +74,7 @@ module _ (act : Entry → KernelState → Option (Entry × KernelState)) (local 
     | inr k ↦ (let f = k.0 in omega arith)
   ]
 
+  -- where the chosen stamps are within, all stamps within are
   pub covers_of_chosen : (es : List Entry) (w : KernelState) (p : ℕ → ℕ) → IsPlayed act w es → ((x y : ℕ) → (w x).version ≤ p x → vector_at act w es x (p x) y ≤ p y) → Covers act p w es
   covers_of_chosen [] w p played h = h
   covers_of_chosen (e ∷ es) w p played h = (
@@ -97,5 +99,6 @@ module _ (act : Entry → KernelState → Option (Entry × KernelState)) (local 
             ]) c.1
       ] refl
 
+  -- and the other way round
   pub chosen_of_covers : (es : List Entry) (w : KernelState) (p : ℕ → ℕ) → IsPlayed act w es → ((x : ℕ) → (w x).version ≤ p x) → Covers act p w es → CoversChosen act p w es
   chosen_of_covers es w p played low c x y = chosen_at es w p x y played (low x) c

@@ -12,11 +12,12 @@ use Rattle.hop_model.specs.Vectors.{IsStamped, StampsBelow, vector_at, CoversCho
 use Rattle.hop_model.specs.Choices.{Commit, IsBelow, Among, IsClosedChoice, IsGreatest}
 use Rattle.hop_model.specs.Histories.{Policy, Run, IsLegalRun, event_of, commit_of, commits_of, chosen_commits, has_changed, goes_on, went_on, run_after, start_run}
 use Rattle.hop_model.specs.Fronts.{IsChoice, tried_commits}
-use Rattle.hop_model.proofs.Lowering.{among_map}
+use Rattle.hop_model.proofs.Among.{among_map, among_some}
 use Rattle.hop_model.proofs.LegalRuns.{event_of_local, event_of_stamped, legal_played, legal_chosen, state_goes_on}
 use Rattle.hop_model.proofs.ChosenVectors.{Moves, moves, same_vector}
 use Rattle.hop_model.proofs.StableCuts.{versions_rise_over}
 
+-- each of the commits
 abbrev pub AllCommits : (Commit → Type 0) → List Commit → Type 0
 AllCommits P [] = Unit {0}
 AllCommits P (c ∷ cs) = P c × AllCommits P cs
@@ -38,10 +39,6 @@ among_both : (P Q : Commit → Type 0) (cs : List Commit) → AllCommits P cs �
 among_both P Q [] a h = h
 among_both P Q (c ∷ cs) a h = elim h as (λ _. Among (c ∷ cs) (λ c. P c × Q c)) [ inl k ↦ inl (a.0, k) | inr k ↦ inr (among_both P Q cs a.1 k) ]
 
-among_some : (P : Commit → Type 0) (A : Type 0) (cs : List Commit) → ((c : Commit) → P c → A) → Among cs P → A
-among_some P A [] f a = absurd a
-among_some P A (c ∷ cs) f a = elim a as (λ _. A) [ inl k ↦ f c k | inr k ↦ among_some P A cs f k ]
-
 -- a commit of an entity as it stands after a front of the history
 pub record IsMadeIn (act : Entry → KernelState → Option (Entry × KernelState)) (w : KernelState) (es : List Entry) (c : Commit) : Type 0 where
   pub front : List Entry
@@ -62,6 +59,11 @@ made_before act w es fs c m = record {
 -- STAMPS AND VERSIONS
 
 module _ (act : Entry → KernelState → Option (Entry × KernelState)) (local : (e : Entry) → IsLocal (λ (b : EntityState). b.version) (act e)) (stamped : (e : Entry) → IsStamped (act e)) where
+  -- the front of a played history is played
+  front_played : (front rest : List Entry) (w : KernelState) → IsPlayed act w (front ++ rest) → IsPlayed act w front
+  front_played [] rest w played = tt
+  front_played (d ∷ front) rest w played = (played.0, front_played front rest (after_entry act w d) played.1)
+
   -- what has the same version is the same
   same_between : (es : List Entry) (w : KernelState) (x : ℕ) → IsPlayed act w es → (w x).version ≡ (after act w es x).version → after act w es x ≡ w x
   unfolding Moves
@@ -81,13 +83,9 @@ module _ (act : Entry → KernelState → Option (Entry × KernelState)) (local 
   vector_at_front (d ∷ front) rest w x played =
       let n = (after act (after_entry act w d) front x).version in
       elim ((w x).version == n) as (λ b. ((w x).version == n) ≡ b → (if◌then◌else◌ {A = ℕ → ℕ} b (w x).stamp (vector_at act (after_entry act w d) (front ++ rest) x n)) ≡ (after act (after_entry act w d) front x).stamp) [
-        | true ↦ λ is. ap (λ (b : EntityState). b.stamp) (sym (same_between (d ∷ front) w x (front_is_played (d ∷ front) w played) (eqb-true _ _ is)))
+        | true ↦ λ is. ap (λ (b : EntityState). b.stamp) (sym (same_between (d ∷ front) w x (front_played (d ∷ front) rest w played) (eqb-true _ _ is)))
         | false ↦ λ is. vector_at_front front rest (after_entry act w d) x played.1
       ] refl
-    where
-      front_is_played : (fs : List Entry) (v : KernelState) → IsPlayed act v (fs ++ rest) → IsPlayed act v fs
-      front_is_played [] v p = tt
-      front_is_played (f ∷ fs) v p = (p.0, front_is_played fs (after_entry act v f) p.1)
 
   vector_of_made : (w : KernelState) (es : List Entry) (c : Commit) → IsPlayed act w es → IsMadeIn act w es c → vector_at act w es c.entity c.version ≡ c.stamp
   vector_of_made w es c played m =
@@ -97,14 +95,10 @@ module _ (act : Entry → KernelState → Option (Entry × KernelState)) (local 
   -- it is not below the start
   version_of_made : (w : KernelState) (es : List Entry) (c : Commit) → IsPlayed act w es → IsMadeIn act w es c → (w c.entity).version ≤ c.version
   version_of_made w es c played m =
-      let front : IsPlayed act w m.front = front_is_played m.front w (subst (IsPlayed act w) m.split played) in
+      let front : IsPlayed act w m.front = front_played m.front m.rest w (subst (IsPlayed act w) m.split played) in
       let low = versions_rise_over act local stamped m.front w front c.entity in
       let e = m.version in
       omega arith
-    where
-      front_is_played : (fs : List Entry) (v : KernelState) → IsPlayed act v (fs ++ m.rest) → IsPlayed act v fs
-      front_is_played [] v p = tt
-      front_is_played (f ∷ fs) v p = (p.0, front_is_played fs (after_entry act v f) p.1)
 
   -- CHOICES
 
@@ -149,6 +143,7 @@ module _ (act : Entry → KernelState → Option (Entry × KernelState)) (local 
 -- THE COMMITS OF A RUN
 
 module _ (s : Supply) (policy : Policy) (script : Script) (w : KernelState) where
+  -- made in this history of the run
   abbrev pub Made : List Entry → Commit → Type 0
   Made es c = IsMadeIn (event_of s script) w es c
 
@@ -170,6 +165,7 @@ module _ (s : Supply) (policy : Policy) (script : Script) (w : KernelState) wher
   made_at_start [] = tt
   made_at_start (x ∷ xs) = (record { front = []; rest = []; split = refl; version = refl; stamp = refl }, made_at_start xs)
 
+  -- the commit that was tried, if any
   abbrev pub tried_of : Run → List Commit
   tried_of r = option_to_list r.tried
 
@@ -199,6 +195,7 @@ module _ (s : Supply) (policy : Policy) (script : Script) (w : KernelState) wher
       subst (λ gs. AllCommits (Made gs) ((run_after s script r' fs).commits ++ tried_of (run_after s script r' fs))) (append_assoc es (e ∷ []) fs)
       (all_made_from fs (es ++ e ∷ []) r' now' (all_map (Made es) (Made (es ++ e ∷ [])) more r'.commits one.0) (all_map (Made es) (Made (es ++ e ∷ [])) more (tried_of r') one.1))
 
+  -- each commit of a run was made in its history
   pub all_made : (es : List Entry) → AllCommits (Made es) (tried_commits s script w es)
   all_made es = all_made_from es [] (start_run w) refl (made_at_start _) tt
 
@@ -215,6 +212,7 @@ module _ (s : Supply) (policy : Policy) (script : Script) (w : KernelState) wher
         λ closed. choice_of_covers (event_of s script) a b w es played below cs made p choice (part.0 closed),
       )
 
+-- the same for any run
 pub legal_choice : (s : Supply) (policy : Policy) (script : Script) (w : KernelState) (es : List Entry) (cs later : List Commit) (p : ℕ → ℕ) → IsLegalRun s policy w script es → StampsBelow w → tried_commits s script w es ≡ cs ++ later
     → IsChoice (λ x. (w x).version) cs p → IsClosedChoice (λ x. (w x).version) cs p ↔ IsClosed p es
 legal_choice s policy script w = legal_choice_from s policy script w

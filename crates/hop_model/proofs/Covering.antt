@@ -14,6 +14,7 @@ use Rattle.hop_model.specs.Vectors.{IsStamped, CoversAt, Covers}
 use Rattle.hop_model.proofs.Basics.{some_of_map, and_left, and_right, both}
 use Rattle.hop_model.proofs.Replay.{at_entity, any_at}
 
+-- what holds of all touches holds of the one at x
 pub all_touch_at : (P : Touch → Type 0) (ts : List Touch) (x : ℕ) (t : Touch) → AllTouches P ts → touch_at ts x ≡ Some t → P t
 all_touch_at P [] x t a e = cc
 all_touch_at P (u ∷ ts) x t a e =
@@ -116,6 +117,7 @@ module _ (p : ℕ → ℕ) (act : Entry → KernelState → Option (Entry × Ker
   after_event : (w : KernelState) (e : Entry) → is_event e.event ≡ true → (r : Entry × KernelState) → act e w ≡ Some r → after_entry act w e ≡ r.1
   after_event w e ev r is = rw (ev, is) refl
 
+  -- each played entry is one of the two
   pub is_next : (w : KernelState) (e : Entry) → IsNext act w e → Is_next w e
   unfolding Is_next
   is_next w e next =
@@ -131,6 +133,7 @@ module _ (p : ℕ → ℕ) (act : Entry → KernelState → Option (Entry × Ker
   covers_at w [] c = c
   covers_at w (e ∷ es) c = c.0
 
+  -- a part that covers the stamps within it is closed
   pub closed_of_covers : (w : KernelState) (es : List Entry) → IsPlayed act w es → Covers act p w es → IsClosed p es
   unfolding Is_next
   closed_of_covers w [] played c = tt
@@ -145,6 +148,7 @@ module _ (p : ℕ → ℕ) (act : Entry → KernelState → Option (Entry × Ker
     closed_of_covers (after_entry act w e) es played.1 c.1,
   )
 
+  -- a closed part covers the stamps within it
   pub covers_of_closed : (w : KernelState) (es : List Entry) → IsPlayed act w es → IsClosed p es → CoversAt p w → Covers act p w es
   unfolding Is_next
   covers_of_closed w [] played closed c = c

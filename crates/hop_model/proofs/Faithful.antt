@@ -23,6 +23,7 @@ tally NotBorn = None
 tally (AtlasCell a) = None
 tally (ContainerCell c) = None
 
+-- the atlas, and nothing for others
 abbrev pub atlas_of : Cell → Option AtlasState
 atlas_of (AtlasCell a) = Some a
 atlas_of NotBorn = None
@@ -68,9 +69,11 @@ module _ (l : LocusState) (other : Option ℕ) (a : AtlasState) (cell : Cell) wh
   reply_is : (m : LocusState) (r : Reply) → m.printed ≡ l.printed → Plain (own_reply m r)
   reply_is m r e = record { printed = e; other_keeps = tt; bears = λ h. cc }
 
+  -- a refusal
   pub refused_is : (r : Reply) → Plain (own_reply l r)
   refused_is r = reply_is l r refl
 
+  -- an act on the locus alone
   pub local_is : (i : Instr) → Plain (local_act l i)
   unfolding local_act
   local_is (Set d n) = own_is _ Quiet refl
@@ -91,6 +94,7 @@ module _ (l : LocusState) (other : Option ℕ) (a : AtlasState) (cell : Cell) wh
 
 -- acts on a container
 module _ (l : LocusState) (x : ℕ) (a : AtlasState) (c : ContainerState) where
+  -- acts that leave the atlas, with a container
   abbrev pub OnContainer : Outcome → Type 0
   OnContainer o = IsFaithful l false (Some x) a (ContainerCell c) o
 
@@ -205,6 +209,7 @@ one_more_name : (a : AtlasState) (n : ℕ) → length (a.loci ++ made_name n ∷
 one_more_name a n = (let e = length-append a.loci (made_name n ∷ []) in e ∙ add-one (length a.loci))
 
 module _ (s : Supply) (l : LocusState) (a : AtlasState) (cell : Cell) where
+  -- acts that bear something
   abbrev pub Bearing : Outcome → Type 0
   Bearing o = IsFaithful l true None a cell o
 
@@ -252,6 +257,7 @@ module _ (s : Supply) (me : ℕ) (l : LocusState) (a : AtlasState) (cell : Cell)
   act_by_is i (Some r) = refused_is l None a cell r
   act_by_is i None = allowed_is i
 
+  -- the wanted act is faithful
   pub wanted_is : FaithfulAct s l a cell (wanted me l)
   unfolding wanted
   wanted_is = act_by_is (instr_at l) (refusal l (instr_at l))

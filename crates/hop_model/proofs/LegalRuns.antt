@@ -38,9 +38,11 @@ module _ (s : Supply) (policy : Policy) (script : Script) where
   by_event_local Stable actor = none_local
   by_event_local Tried actor = none_local
 
+  -- the event of each entry is local
   pub event_of_local : (e : Entry) → IsLocal (λ (b : EntityState). b.version) (event_of s script e)
   event_of_local e = by_event_local e.event e.actor
 
+  -- the rules look at the state that the entry leaves
   pub state_goes_on : (r : Run) (e : Entry) → (goes_on s script r e).state ≡ after_entry (event_of s script) r.state e
   state_goes_on r e =
       elim e.event as (λ ev. e.event ≡ ev → (went_on s script r e ev).state ≡ after_entry (event_of s script) r.state e) [
@@ -56,6 +58,7 @@ module _ (s : Supply) (policy : Policy) (script : Script) where
   state_after r [] = refl
   state_after r (e ∷ es) = state_after (goes_on s script r e) es ∙ ap (λ (w : KernelState). after (event_of s script) w es) (state_goes_on r e)
 
+  -- an entry that may follow is played
   pub next_legal : (r : Run) (e : Entry) → May s policy script r e → IsNext (event_of s script) r.state e
   next_legal r e m =
       elim e.event as (λ ev. may s policy script r e ev → MatchBool (is_event ev) (option_map (λ (r : Entry × KernelState). r.0) (by_event s script ev e.actor r.state) ≡ Some e) (e.touched ≡ [])) [
@@ -66,6 +69,7 @@ module _ (s : Supply) (policy : Policy) (script : Script) where
         | Tried ↦ λ m. ap (λ (e : Entry). e.touched) m.0
       ] m.1
 
+  -- so a legal run is
   pub legal_played : (r : Run) (es : List Entry) → IsLegalFrom s policy script r es → IsPlayed (event_of s script) r.state es
   legal_played r [] legal = tt
   legal_played r (e ∷ es) legal =
@@ -75,6 +79,7 @@ module _ (s : Supply) (policy : Policy) (script : Script) where
   unfolding Follows
   same p w x h = refl
 
+  -- and so is each closed part of it
   pub legal_replay : (w : KernelState) (es : List Entry) (p : ℕ → ℕ) → IsLegalRun s policy w script es → IsClosed p es → IsPlayed (event_of s script) w (part_of p es)
   legal_replay w es p legal closed = (replay_law (λ (b : EntityState). b.version) p (event_of s script) event_of_local es w w (legal_played (start_run w) es legal) closed (same p w)).0
 
@@ -92,9 +97,11 @@ module _ (s : Supply) (policy : Policy) (script : Script) where
   by_event_stamped Stable actor = none_stamped
   by_event_stamped Tried actor = none_stamped
 
+  -- the event of each entry joins the clocks
   pub event_of_stamped : (e : Entry) → IsStamped (event_of s script e)
   event_of_stamped e = by_event_stamped e.event e.actor
 
+  -- the stamp of an entity is the vector of its past
   pub legal_past : (w : KernelState) (es : List Entry) (x y : ℕ) → IsLegalRun s policy w script es → (after (event_of s script) w es x).stamp y ≡ past_vector w es x y
   legal_past w es x y legal = stamp_is (event_of s script) event_of_local event_of_stamped es w x y (legal_played (start_run w) es legal)
 

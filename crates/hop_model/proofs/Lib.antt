@@ -1,4 +1,5 @@
 pub mod Basics
+pub mod Among
 pub mod Carried
 pub mod Locality
 pub mod Replay

@@ -67,6 +67,7 @@ step_writes s me w c is =
     let o = outcome_in s g.0 act w in
     subst (λ (c : ℕ × Change). some_write c.1.accesses ≡ true) g.2 (atlas_writes act.atlas o.atlas _ (other_writes act.other o.other _ (newborn_writes o.newborn (record { entity = me; new = Some (LocusCell o.locus) } ∷ []) refl)))
 
+-- so a step is local
 pub step_local : (s : Supply) (me : ℕ) → IsLocal (λ b. b.version) (step s me)
 step_local s me = acts_local Step (step_change s me) (step_of_touched s me) (step_writes s me)
 
@@ -110,12 +111,14 @@ of_name s script name w v a c is h =
       | false ↦ λ is. cc
     ] is
 
+-- the birth of a name depends on what it touches
 pub birth_of_touched : (s : Supply) (script : Script) (name : Text) → IsOfTouched (birth_change s script name)
 unfolding birth_change
 birth_of_touched s script name w v c is h =
     let r = of_name s script name w v (atlas_in (w 0).cell) c is h in
     subst (λ (b : EntityState). birth_named s script name v (atlas_in b.cell) ≡ Some c) r.0 r.1
 
+-- so does the next birth of a script
 pub next_birth_of_touched : (s : Supply) (script : Script) → IsOfTouched (next_birth_change s script)
 unfolding next_birth_change
 next_birth_of_touched s script w v c is h = by_name (next_name (atlas_in (w 0).cell) script) refl is
@@ -169,8 +172,10 @@ next_birth_writes s script w c is = by_name (next_name (atlas_in (w 0).cell) scr
     by_name None is = cc
     by_name (Some name) is = name_writes s w (atlas_in (w 0).cell) script name c is
 
+-- so births are local
 pub birth_local : (s : Supply) (script : Script) (name : Text) → IsLocal (λ b. b.version) (birth s script name)
 birth_local s script name = acts_local Birth (birth_change s script name) (birth_of_touched s script name) (birth_writes s script name)
 
+-- the next one too
 pub next_birth_local : (s : Supply) (script : Script) → IsLocal (λ b. b.version) (next_birth s script)
 next_birth_local s script = acts_local Birth (next_birth_change s script) (next_birth_of_touched s script) (next_birth_writes s script)

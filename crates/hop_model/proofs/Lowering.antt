@@ -5,11 +5,8 @@ use Rattle.std.proofs.lemmas.Bool.{leb-true, le-leb, cases_lt, false≢true}
 use Rattle.std.proofs.lemmas.Bool.Decides.{nat_tests}
 use Rattle.std.specs.List.{list_all}
 use Rattle.hop_model.specs.Choices.{Commit, IsBelow, Among, IsClosedChoice, IsGreatest, IsNarrow, all_below, covered, lowered, top, lower, greatest}
+use Rattle.hop_model.proofs.Among.{among_map, among_some, among_more}
 use Rattle.hop_model.proofs.Basics.{and_left, and_right, both, lt_of_ne}
-
-pub among_map : (cs : List Commit) (P Q : Commit → Type 0) → ((c : Commit) → P c → Q c) → Among cs P → Among cs Q
-among_map [] P Q f a = a
-among_map (c ∷ cs) P Q f a = elim a as (λ _. Q c ⊎ Among cs Q) [ inl h ↦ inl (f c h) | inr h ↦ inr (among_map cs P Q f h) ]
 
 max_cases : (a b : ℕ) → (max a b ≡ a) ⊎ (max a b ≡ b)
 max_cases a b = elim (cases_lt a b) as (λ _. (max a b ≡ a) ⊎ (max a b ≡ b)) [ inl h ↦ inr (omega arith) | inr h ↦ inl (omega arith) ]
@@ -95,6 +92,7 @@ module _ (start : ℕ → ℕ) where
 
   -- A CHOICE, CLOSED OR NOT
 
+  -- a version at the start, or that of some commit
   abbrev pub IsAny : List Commit → (ℕ → ℕ) → ℕ → Type 0
   IsAny cs p x = (p x ≡ start x) ⊎ Among cs (λ c. (c.entity ≡ x) × (c.version ≡ p x))
 
@@ -159,7 +157,7 @@ module _ (start : ℕ → ℕ) where
   kept_rounds zero cs p q closed below = below
   kept_rounds (suc n) cs p q closed below = kept_rounds n cs (lowered start cs p) q closed (kept_choice cs p q closed below)
 
-  -- what falls no rests_on is closed
+  -- what falls no more is closed
   pub fixed_closed : (cs : List Commit) (p : ℕ → ℕ) → IsNarrow cs → ((x : ℕ) → lowered start cs p x ≡ p x) → IsClosedChoice start cs p
   fixed_closed cs p narrow fixed x =
       elim (lowered_cases cs p x) as (λ _. (p x ≡ start x) ⊎ Among cs (λ c. (c.entity ≡ x) × (c.version ≡ p x) × IsBelow c.stamp p)) [
@@ -225,10 +223,6 @@ module _ (start : ℕ → ℕ) where
     | inl k ↦ inl (and_left (f c) (list_all f cs) h, k)
     | inr k ↦ inr (among_all f P cs (and_right (f c) (list_all f cs) h) k)
   ]
-
-  among_some : (P : Commit → Type 0) (A : Type 0) (cs : List Commit) → ((c : Commit) → P c → A) → Among cs P → A
-  among_some P A [] f a = absurd a
-  among_some P A (c ∷ cs) f a = elim a as (λ _. A) [ inl k ↦ f c k | inr k ↦ among_some P A cs f k ]
 
   module _ (cs : List Commit) where
     Good : (ℕ → ℕ) → Type 0
@@ -304,11 +298,8 @@ module _ (start : ℕ → ℕ) where
 pub greatest_one : (start : ℕ → ℕ) (cs : List Commit) (p q : ℕ → ℕ) → IsGreatest start cs p → IsGreatest start cs q → p ≡ q
 greatest_one start cs p q a b = λ i x. (let e : p x ≡ q x = (let l = a.greatest q b.closed x in let m = b.greatest p a.closed x in omega arith) in e) i
 
--- rests_on commits, no lower choice
-pub among_more : (cs ds : List Commit) (P : Commit → Type 0) → Among cs P → Among (cs ++ ds) P
-among_more [] ds P a = absurd a
-among_more (c ∷ cs) ds P a = elim a as (λ _. P c ⊎ Among (cs ++ ds) P) [ inl h ↦ inl h | inr h ↦ inr (among_more cs ds P h) ]
-
+-- more commits, no lower choice
+-- the greatest choice does not fall
 pub rising_cut : (start : ℕ → ℕ) (cs ds : List Commit) (p q : ℕ → ℕ) → IsGreatest start cs p → IsGreatest start (cs ++ ds) q → IsBelow p q
 rising_cut start cs ds p q a b = b.greatest p (λ x. elim (a.closed x) as (λ _. (p x ≡ start x) ⊎ Among (cs ++ ds) (λ c. (c.entity ≡ x) × (c.version ≡ p x) × IsBelow c.stamp p)) [
   | inl e ↦ inl e

@@ -138,6 +138,7 @@ module _ {X : Type 0} (version : X → ℕ) (p : ℕ → ℕ) (act : Entry → (
               (λ high. elim (no_less version p (act e) (local e) w r is x) as (λ _. (p x < version (r.1 x)) × (v x ≡ v x)) [ inl k ↦ (let g = ap version k in (omega arith, refl)) | inr k ↦ (omega arith, refl) ])
         ] refl
 
+  -- over a whole history
   pub state_of_part : (es : List Entry) (w v : ℕ → X) → IsPlayed act w es → IsClosed p es → Follows version p w v → (x : ℕ) → Chosen w v es x
   unfolding Follows
   state_of_part [] w v played closed f x = (λ low. sym (f x low), λ high. refl)

@@ -27,6 +27,7 @@ stamps_append : (w : KernelState) (xs ys : List ℕ) (y : ℕ) → stamps_of w (
 stamps_append w [] ys y = omega arith
 stamps_append w (x ∷ xs) ys y = let r = stamps_append w xs ys y in omega arith
 
+-- a touched entity's clock is joined
 pub touched_stamp : (w : KernelState) (ts : List Touch) (x : ℕ) (t : Touch) (y : ℕ) → touch_at ts x ≡ Some t → (w x).stamp y ≤ joined w ts y
 touched_stamp w [] x t y e = cc
 touched_stamp w (u ∷ ts) x t y e =
@@ -54,7 +55,7 @@ module _ (act : KernelState → Option (Entry × KernelState)) (local : IsLocal 
         ] refl
       ] refl
 
-  -- no rests_on than the joined stamps and those before
+  -- no more than the joined stamps and those before
   at_most : (zs : List ℕ) (y n : ℕ) → joined w r.0.touched y ≤ n → stamps_of w zs y ≤ n → stamps_of r.1 zs y ≤ n
   unfolding Kept Joined
   at_most [] y n j s = omega arith
@@ -144,6 +145,7 @@ module _ (act : Entry → KernelState → Option (Entry × KernelState)) (local 
   past_more e es zs y =
       elim (writes_one (sources es zs) e) as (λ b. versions_in (if b then e ∷ past es zs else past es zs) y ≡ max (if b then version_in e.touched y else 0) (versions_in (past es zs) y)) [ true ↦ refl | false ↦ omega arith ]
 
+  -- over a whole history
   pub stamps_are : (es : List Entry) (w : KernelState) (zs : List ℕ) (y : ℕ) → IsPlayed act w es → stamps_of (after act w es) zs y ≡ max (versions_in (past es zs) y) (stamps_of w (sources es zs) y)
   stamps_are [] w zs y played = omega arith
   stamps_are (e ∷ es) w zs y played =
@@ -173,5 +175,6 @@ module _ (act : Entry → KernelState → Option (Entry × KernelState)) (local 
         | false ↦ (played.0, front_played es (after_entry act w e) x n played.1)
       ]
 
+  -- so the stamp of a version is its vector
   pub vector_is : (es : List Entry) (w : KernelState) (x n y : ℕ) → IsPlayed act w es → vector_at act w es x n y ≡ version_vector act w es x n y
   vector_is es w x n y played = ap (λ (f : ℕ → ℕ). f y) (stamp_at_front es w x n) ∙ stamp_is (front_to act w es x n) w x y (front_played es w x n played)

@@ -71,6 +71,7 @@ module _ (s : Supply) (script : Script) where
   capped m n k true h = grind (arith, nat_tests)
   capped m n k false h = grind arith
 
+  -- over a history of events
   pub printed_over : (es : List Entry) (w : KernelState) → AllEvents es → NamesLoci w → IsPlayed (event_of s script) w es → (x : ℕ)
       → printed_in (after (event_of s script) w es x).cell ≡ min (2 ^ 62) (printed_in (w x).cell + count_by (prints x) es)
   printed_over [] w events names played x = (let low = names.small x in omega arith)
@@ -91,6 +92,7 @@ part_events s script p (e ∷ es) =
       | false ↦ λ is. rest
     ] refl
 
+-- over a closed part of a legal run
 pub legal_printed : (s : Supply) (policy : Policy) (script : Script) (w : KernelState) (es : List Entry) (p : ℕ → ℕ) (x : ℕ) → IsLegalRun s policy w script es → IsClosed p es → NamesLoci w
     → printed_in (after (event_of s script) w (part_of p es) x).cell ≡ min (2 ^ 62) (printed_in (w x).cell + count_by (prints x) (part_of p es))
 legal_printed s policy script w es p x legal closed names = printed_over s script (part_of p es) w (part_events s script p es) names (legal_replay s policy script w es p legal closed) x

@@ -26,6 +26,7 @@ any_at f (u ∷ ts) x t e h =
       | false ↦ λ e. or_right _ _ (any_at f ts x t e h)
     ] e
 
+-- the touch at x is of x
 pub at_entity : (ts : List Touch) (x : ℕ) (t : Touch) → touch_at ts x ≡ Some t → t.entity ≡ x
 at_entity ts x t e = (all_at (λ _. true) ts x t (trivial ts) e).1
   where
@@ -136,6 +137,7 @@ module _ {X : Type 0} (version : X → ℕ) (p : ℕ → ℕ) (act : Entry → (
               skip w r.1 v next (not_false (within p e) (λ h. let some : some_within p e.touched ≡ true = no_write_within p e.touched moved (and_right _ _ h) in cc)) played' f'
         ] refl
 
+  -- the events within a closed part are played again
   pub replay_law : (es : List Entry) (w v : ℕ → X) → IsPlayed act w es → IsClosed p es → Follows version p w v → Replayed w v es
   replay_law [] w v played closed f = (tt, f)
   replay_law (e ∷ es) w v played closed f =

@@ -18,7 +18,7 @@ use Rattle.hop_model.specs.Histories.{Policy, Run, event_of, has_changed, May, g
 use Rattle.hop_model.proofs.Basics.{both}
 use Rattle.hop_model.proofs.Replay.{at_entity, weaker}
 use Rattle.hop_model.proofs.Covering.{Is_next, is_next, kept_inside, all_touch_at}
-use Rattle.hop_model.proofs.Lowering.{among_map, among_more}
+use Rattle.hop_model.proofs.Among.{among_map, among_more, among_right}
 use Rattle.hop_model.proofs.LegalRuns.{event_of_local, event_of_stamped, next_legal, legal_played, state_after}
 
 -- what holds of each touch that is looked up holds of all
@@ -67,6 +67,7 @@ module _ (act : KernelState → Option (Entry × KernelState)) (local : IsLocal 
 
 -- where no version is above q at the end, each event is within q
 module _ (act : Entry → KernelState → Option (Entry × KernelState)) (local : (e : Entry) → IsLocal (λ (b : EntityState). b.version) (act e)) (stamped : (e : Entry) → IsStamped (act e)) where
+  -- no version falls
   pub versions_rise : (w : KernelState) (e : Entry) → IsNext act w e → (x : ℕ) → (w x).version ≤ (after_entry act w e x).version
   unfolding Is_next
   versions_rise w e next x = elim (is_next (λ _. 0) act local stamped w e next) as (λ _. (w x).version ≤ (after_entry act w e x).version) [
@@ -74,6 +75,7 @@ module _ (act : Entry → KernelState → Option (Entry × KernelState)) (local 
     | inr r ↦ subst (λ (v : KernelState). (w x).version ≤ (v x).version) (sym r.1) (omega arith)
   ]
 
+  -- over a whole history
   pub versions_rise_over : (es : List Entry) (w : KernelState) → IsPlayed act w es → (x : ℕ) → (w x).version ≤ (after act w es x).version
   versions_rise_over [] w played x = omega arith
   versions_rise_over (e ∷ es) w played x = (let a = versions_rise w e played.0 x in let b = versions_rise_over es (after_entry act w e) played.1 x in omega arith)
@@ -89,6 +91,7 @@ module _ (act : Entry → KernelState → Option (Entry × KernelState)) (local 
     | inr r ↦ subst (λ (ts : List Touch). writes_within q ts ≡ true) (sym r.0) refl
   ]
 
+  -- so is each of a history
   pub all_in : (es : List Entry) (w : KernelState) (q : ℕ → ℕ) → IsPlayed act w es → ((x : ℕ) → (after act w es x).version ≤ q x) → part_of q es ≡ filter (λ f. is_event f.event) es
   all_in [] w q played low = refl
   all_in (e ∷ es) w q played low =
@@ -101,12 +104,14 @@ module _ (act : Entry → KernelState → Option (Entry × KernelState)) (local 
 abbrev pub OnRecord : (ℕ → ℕ) → List Commit → ℕ → EntityState → Type 0
 OnRecord start cs x b = (b.version ≡ start x) ⊎ Among cs (λ c. (c.entity ≡ x) × (c.version ≡ b.version) × (c.stamp ≡ b.stamp))
 
+-- what each legal run keeps: versions that are not on record are above the newest commit
 pub record KeptBy (start newest : ℕ → ℕ) (cs : List Commit) (w : KernelState) : Type 0 where
   pub stamps : StampsBelow w
   pub newest_low : (x : ℕ) → newest x ≤ (w x).version
   pub record_of : (x : ℕ) → (newest x < (w x).version) ⊎ OnRecord start cs x (w x)
   pub beyond : (x : ℕ) → 64 ≤ x → (w x).version ≡ start x
 
+-- of what the rules look at
 abbrev pub IsKept : Run → Type 0
 IsKept r = KeptBy r.start r.newest r.commits r.state
 
@@ -119,10 +124,6 @@ closed_now start cs w below h x =
       | inl e ↦ inl e
       | inr a ↦ inr (among_map cs _ _ (λ c k. (k.0, k.1, λ y. let f = ap (λ (s : ℕ → ℕ). s y) k.2 in let g = below x y in omega arith)) a)
     ]
-
-among_right : (cs ds : List Commit) (P : Commit → Type 0) → Among ds P → Among (cs ++ ds) P
-among_right [] ds P a = a
-among_right (c ∷ cs) ds P a = inr (among_right cs ds P a)
 
 commits_append : (r : Run) (f : ℕ → Bool) (xs ys : List ℕ) → commits_of r (filter f (xs ++ ys)) ≡ commits_of r (filter f xs) ++ commits_of r (filter f ys)
 commits_append r f [] ys = refl
@@ -197,6 +198,7 @@ module _ (s : Supply) (policy : Policy) (script : Script) where
     beyond = k.beyond;
   }
 
+  -- the commits of a Stable
   abbrev pub stable_commits : Run → List Commit
   stable_commits r = commits_of r (filter (has_changed r) (upto 64))
 
@@ -214,6 +216,7 @@ module _ (s : Supply) (policy : Policy) (script : Script) where
   kept_stable : (r : Run) → IsKept r → KeptBy r.start (version_of r) (r.commits ++ stable_commits r) r.state
   kept_stable r k = record { stamps = k.stamps; newest_low = λ x. omega arith; record_of = λ x. inr (all_recorded r k x); beyond = k.beyond }
 
+  -- each entry that may follow keeps it
   pub kept_goes_on : (r : Run) (e : Entry) → IsKept r → May s policy script r e → ((x : ℕ) → 64 ≤ x → touch_at e.touched x ≡ None) → IsKept (goes_on s script r e)
   kept_goes_on r e k m low =
       let event = kept_event r.start r.newest r.commits r.state e k (next_legal s policy script r e m) low in

@@ -14,14 +14,17 @@ use Rattle.hop_model.proofs.Tallies.{counted_at, IsTallied, Counts, not_named, a
 
 -- THE CELLS THAT A STEP LEAVES
 
+-- the cell of x after the atlas is written
 abbrev pub put_atlas : Bool → AtlasState → ℕ → Cell → Cell
 put_atlas true a x c = if 0 == x then AtlasCell a else c
 put_atlas false a x c = c
 
+-- after the other entity is
 abbrev pub put_other : Option ℕ → Option Cell → ℕ → Cell → Cell
 put_other None new x c = c
 put_other (Some y) new x c = if y == x then unwrap_or new c else c
 
+-- and after what is born is
 abbrev pub put_newborn : Option (ℕ × Cell) → ℕ → Cell → Cell
 put_newborn None x c = c
 put_newborn (Some b) x c = if b.0 == x then b.1 else c
@@ -196,6 +199,7 @@ module _ (w : KernelState) (names : NamesLoci w) (me : ℕ) (l : LocusState) (at
         ] refl
       ] refl
 
+  -- a faithful outcome counts
   pub faithful_counts : Counts w names.atlas me o.answer (accesses_of me act o)
   unfolding Goal
   faithful_counts = by_newborn o.newborn refl f.bears
@@ -216,6 +220,7 @@ running_is (LocusCell m) l e = by_condition m.condition e
     by_condition Stopped e = cc
     by_condition Halted e = cc
 
+-- so each step does
 pub step_counts : (s : Supply) (me : ℕ) (w : KernelState) (names : NamesLoci w) (l : LocusState) → running (w me).cell ≡ Some l → Counts w names.atlas me (change_of s w me l).answer (change_of s w me l).accesses
 unfolding change_of
 step_counts s me w names l runs =

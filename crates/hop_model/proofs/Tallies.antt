@@ -21,6 +21,7 @@ IsTallied a a' me answer x old new =
 
 -- what an event does to counts
 pub record Counts (w : KernelState) (a : AtlasState) (me : ℕ) (answer : Answer) (accesses : List Access) : Type 0 where
+  -- the atlas afterwards
   pub atlas : AtlasState
   pub there : cell_with accesses 0 (w 0).cell ≡ AtlasCell atlas
   pub grows : length a.loci ≤ length atlas.loci
@@ -47,6 +48,7 @@ locus_of_tally (AtlasCell a) n e = cc
 locus_of_tally (ContainerCell c) n e = cc
 locus_of_tally (LocusCell l) n e = (l, refl)
 
+-- a cell with an atlas is the atlas's
 pub atlas_of_is : (c : Cell) (a : AtlasState) → atlas_of c ≡ Some a → c ≡ AtlasCell a
 atlas_of_is NotBorn a e = cc
 atlas_of_is (AtlasCell b) a e = cc
@@ -144,5 +146,6 @@ module _ (w : KernelState) (names : NamesLoci w) (me : ℕ) (answer : Answer) (a
         subst (λ n. n ≤ 2 ^ 62) (sym now) most);
   }
 
+  -- the count in the next state
   pub printed_next : (x : ℕ) → printed_in (changed w (ordered accesses) x).cell ≡ (if me == x && is_print answer then one_more (printed_in (w x).cell) else printed_in (w x).cell)
   printed_next x = ap printed_in (changed_cell w accesses x) ∙ printed_after x

@@ -1,5 +1,5 @@
 -- What no entry writes stays.
-use Rattle.std.proofs.Common.{◌≡◌, ℕ, Bool, true, false, ◌||◌, ◌&&◌, ◌==◌, List, [], ◌∷◌, ◌++◌, Option, Some, None, refl, sym, ap, subst, ◌∙◌, eq-eqb, inl, inr}
+use Rattle.std.proofs.Common.{◌≡◌, ℕ, true, false, ◌&&◌, ◌==◌, List, [], ◌∷◌, ◌++◌, Option, Some, None, refl, sym, ap, subst, ◌∙◌, eq-eqb, inl, inr}
 use Rattle.std.specs.List.{list_any}
 use Rattle.std.proofs.lemmas.Bool.{false≢true}
 use Rattle.hop_base.specs.declared.histories.Entry.{Entry}
@@ -9,19 +9,10 @@ use Rattle.hop_model.specs.LocalEvents.{touch_at, IsLocal}
 use Rattle.hop_model.specs.Parts.{after_entry, after, IsNext, IsPlayed}
 use Rattle.hop_model.specs.Vectors.{IsStamped}
 use Rattle.hop_model.specs.Histories.{Policy, IsLegalRun, event_of, writes, start_run}
-use Rattle.hop_model.proofs.Basics.{both}
+use Rattle.hop_model.proofs.Basics.{both, or_false_left, or_false_right}
 use Rattle.hop_model.proofs.Replay.{at_entity, any_at}
 use Rattle.hop_model.proofs.Covering.{Is_next, is_next}
 use Rattle.hop_model.proofs.LegalRuns.{event_of_local, event_of_stamped, legal_played}
-
--- neither of two
-or_false_left : (a b : Bool) → (a || b) ≡ false → a ≡ false
-or_false_left true b h = h
-or_false_left false b h = refl
-
-or_false_right : (a b : Bool) → (a || b) ≡ false → b ≡ false
-or_false_right true b h = cc
-or_false_right false b h = h
 
 module _ (act : Entry → KernelState → Option (Entry × KernelState)) (local : (e : Entry) → IsLocal (λ (b : EntityState). b.version) (act e)) (stamped : (e : Entry) → IsStamped (act e)) where
   stays_by : (e : Entry) (w : KernelState) (r : Entry × KernelState) → act e w ≡ Some r → (x : ℕ) → writes r.0 x ≡ false → r.1 x ≡ w x
@@ -48,10 +39,12 @@ module _ (act : Entry → KernelState → Option (Entry × KernelState)) (local 
   stays_over [] w played x none = refl
   stays_over (e ∷ fs) w played x none = stays_over fs (after_entry act w e) played.1 x (or_false_right _ _ none) ∙ stays w e played.0 x (or_false_left _ _ none)
 
+  -- over the end of a history
   pub stays_after : (es fs : List Entry) (w : KernelState) → IsPlayed act w (es ++ fs) → (x : ℕ) → list_any (λ e. writes e x) fs ≡ false → after act w (es ++ fs) x ≡ after act w es x
   stays_after [] fs w played x none = stays_over fs w played x none
   stays_after (e ∷ es) fs w played x none = stays_after es fs (after_entry act w e) played.1 x none
 
+-- of a legal run
 pub legal_stays : (s : Supply) (policy : Policy) (script : Script) (w : KernelState) (es fs : List Entry) (x : ℕ) → IsLegalRun s policy w script (es ++ fs) → list_any (λ e. writes e x) fs ≡ false
     → after (event_of s script) w (es ++ fs) x ≡ after (event_of s script) w es x
 legal_stays s policy script w es fs x legal none = stays_after (event_of s script) (event_of_local s policy script) (event_of_stamped s policy script) es fs w (legal_played s policy script (start_run w) (es ++ fs) legal) x none

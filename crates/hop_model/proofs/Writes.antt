@@ -116,6 +116,7 @@ accessed_cell e stamp (Some m) = by_new m.new
     by_new None = refl
     by_new (Some d) = refl
 
+-- the cell after a change
 pub changed_cell : (w : KernelState) (accesses : List Access) (x : ℕ) → (changed w (ordered accesses) x).cell ≡ cell_with accesses x (w x).cell
 unfolding changed
 changed_cell w accesses x =
