@@ -18,3 +18,4 @@ pub mod Tallies
 pub mod StepTallies
 pub mod BirthTallies
 pub mod PrintedCounts
+pub mod SoundNames

@@ -15,6 +15,7 @@ pub mod Choices
 pub mod Histories
 pub mod Serial
 pub mod Soundness
+pub mod Output
 pub mod Examples
 pub mod Fronts
 pub mod Printing

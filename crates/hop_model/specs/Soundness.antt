@@ -1,7 +1,7 @@
 -- Sound states: the limits, ranges and ties that each state of a run keeps. Numbers also keep the ranges of their types, which aren't repeated here.
-use Rattle.std.specs.Prelude.{◌≡◌, ◌≢◌, ℕ, ◌+◌, ◌<◌, ◌≤◌, ◌^◌, Bool, true, false, ◌&&◌, ◌||◌, ◌==◌, nat_lt, nat_le, IsTrue, List, [], ◌∷◌, length, count_by, slice_get, Option, Some, None, All}
+use Rattle.std.specs.Prelude.{◌≡◌, ℕ, ◌+◌, ◌<◌, ◌≤◌, ◌^◌, Bool, true, false, ◌&&◌, ◌||◌, ◌==◌, nat_lt, nat_le, IsTrue, List, [], ◌∷◌, length, count_by, slice_get, Option, Some, All}
 use Rattle.std.specs.Option.{ForSome}
-use Rattle.std.specs.List.{list_all, list_any}
+use Rattle.std.specs.List.{list_all}
 use Rattle.hop_base.specs.Edges.{Edges, IsPath}
 use Rattle.hop_base.specs.Instructions.{IsInstruction, IsPlace}
 use Rattle.hop_base.specs.declared.capabilities.Cap.{Cap}
@@ -12,7 +12,6 @@ use Rattle.hop_base.specs.declared.instructions.Instr.{Instr}
 use Rattle.hop_base.specs.declared.instructions.Instr.TheVariants.{Load, Store}
 use Rattle.hop_base.specs.declared.instructions.Walk.{Walk}
 use Rattle.hop_model.specs.State.{Text, AtlasState, ContainerState, LocusState, Cell, NotBorn, AtlasCell, ContainerCell, LocusCell}
-use Rattle.hop_model.specs.Words.{overlaps}
 use Rattle.hop_model.specs.Refusals.{instr_at}
 use Rattle.hop_model.specs.Outcomes.{made_name}
 use Rattle.hop_model.specs.Scripts.{text_eq, atlas_name}

@@ -14,6 +14,7 @@ ghost use Rattle.hop_model.specs.Pasts.{past_vector};
 ghost use Rattle.hop_model.specs.Fronts.{version_vector, tried_commits, IsChoice};
 ghost use Rattle.hop_model.specs.Choices.{Commit, IsBelow, IsClosedChoice, IsNarrow, IsGreatest, greatest};
 ghost use Rattle.hop_model.specs.Printing.{printed_in, prints, NamesLoci};
+ghost use Rattle.hop_model.specs.Soundness.{IsSound};
 ghost use Rattle.hop_model.specs.Histories.{Policy, IsLegalRun, AllBelow64, commits_in, event_of, writes};
 
 /// Locality: a step reads and writes the entities that its entry names, and no other, and so does a birth. What no later
@@ -93,8 +94,9 @@ pub fn stable_law()
 /// Printed counts: after the part, a locus counts what it counted at the start and each value that it prints within the
 /// part, or 2^62 where that is more. One that is born in the part counts from 0.
 pub fn printed_law()
-    ensures { (s : Supply) (policy : Policy) (script : Script) (w : KernelState) (es : List Line) (p : ℕ → ℕ) (x : ℕ)
+    ensures printed { (s : Supply) (policy : Policy) (script : Script) (w : KernelState) (es : List Line) (p : ℕ → ℕ) (x : ℕ)
         → IsLegalRun s policy w script es → IsClosed p es → NamesLoci w
         → printed_in (after (event_of s script) w (part_of p es) x).cell
         ≡ min (2 ^ 62) (printed_in (w x).cell + count_by (prints x) (part_of p es)) }
+    ensures sound_states_name_loci { (w : KernelState) → IsSound (λ x. (w x).cell) → NamesLoci w }
 {}
