@@ -13,7 +13,7 @@ use chains::Chains;
 use hop_base::{Cut, Rec};
 use search::Search;
 
-/// Whether the versions of each entity ascend in the list.
+/// Whether no version of an entity is below an earlier one of it in the list.
 pub fn is_ascending(recs: &[Rec]) -> bool
     ensures { IsTrue result ↔ IsAscending recs.now }
 {
@@ -31,9 +31,9 @@ pub fn is_ascending(recs: &[Rec]) -> bool
 /// Per entity the version of the record that the greatest closed choice takes, and 0 where it takes none. A choice is
 /// closed where the stamp of each chosen record asks for no later version of any entity than the choice has.
 ///
-/// Each record is met once at the start, and its stamp is compared with the choice at most once more: when its entity's
-/// choice falls to it. One component of a chosen stamp is looked at again only when that entity has fallen. So there are
-/// at most `recs.len()` falls, each with one glance at 64 chosen records.
+/// One pass links the records of each entity. Then a record is looked at only when its entity's choice falls to it, and
+/// once at the start if it is its entity's newest: so each stamp is compared with the choice at most once. After each fall
+/// of an entity, of which there are at most as many as records, its component is looked at in each chosen stamp.
 pub fn greatest(recs: &[Rec]) -> Cut
     requires few { length recs.now ≤ 640 }
     requires ascending { IsAscending recs.now }

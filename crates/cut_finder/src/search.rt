@@ -1,4 +1,4 @@
-ghost use Rattle.std.specs.Prelude.{◌≡◌, ◌≢◌, ℕ, ◌<◌, ◌≤◌, ◌||◌, false, true, length, if◌then◌else◌, ◌==◌, MatchOption, MatchBool, IfSome};
+ghost use Rattle.std.specs.Prelude.{◌≡◌, ℕ, ◌<◌, ◌≤◌, ◌||◌, false, true, length, MatchOption};
 ghost use Rattle.vector_stamps.specs.Stamps.{component};
 ghost use Rattle.cut_finder.specs.Records.{IsAscending};
 ghost use Rattle.cut_finder.specs.Searches.{place_at, entity_at, mark_at, version_at, needs_more, falls_left, IsLastOf, IsChain, IsWithin, IsCovered, IsLoweredTo, IsMarked, IsSearch};
