@@ -54,3 +54,11 @@ impl Stamp {
             .all(|(mine, theirs)| theirs <= mine)
     }
 }
+
+impl Default for Stamp {
+    ghost is_default = { λ s. (y : ℕ) → component s y ≡ 0 };
+
+    fn default() -> Stamp {
+        Stamp::new()
+    }
+}
