@@ -1,0 +1,17 @@
+use Rattle.std.proofs.Common.{ap, sym, ◌∙◌}
+use Rattle.std.specs.Prelude.{insert}
+use Rattle.std.specs.List.{list_any}
+use Rattle.region_map.specs.Regions.{overlaps}
+use Rattle.region_map.proofs.RegionLemmas.{added}
+use Rattle.region_map.proofs.RegionMap.add.Goals as goal
+
+pub invariant_of-self : goal.invariant_of-self
+invariant_of-self g c =
+    let rs = c.self.inside.regions.items in
+    added c.args.region rs c.place_behind-place.result c.insert.new.self.items c.requires c.self.invariant
+    (ap (list_any (overlaps c.args.region)) (sym c.as_slice.ensures.value) ∙ sym c.overlaps_any.ensures ∙ c.if-overlaps_any.false)
+    (rw c.as_slice-2.ensures.value at c.place_behind-place.ensures.place)
+    (c.insert.ensures.items ∙ ap (insert rs c.place_behind-place.result) c.new.ensures)
+
+pub returns-clause-regions : goal.returns-clause-regions
+returns-clause-regions g c = invariant_of-self g c

@@ -1,0 +1,193 @@
+//! The regions of a container, in a list of fixed room.
+#![tactic(auto)]
+
+ghost use Rattle.std.specs.Prelude.{◌≡◌, ◌≤◌, ◌<◌, [], length, take, drop, not, find, filter, OnOk, OnErr, IfSome, IfNone, None, IsSomeAnd, IsTrue, insert, slice_get};
+ghost use Rattle.std.specs.Option.{ok_or};
+ghost use Rattle.std.specs.List.{list_any};
+ghost use Rattle.arrayvec.specs.ArrayVec.{array_vec_len};
+ghost use Rattle.region_map.specs.Regions.{IsRegion, AreRegions, covers, overlaps, insert_region, begins_at, add_answer};
+
+mod kept;
+
+use arrayvec::ArrayVec;
+use hop_base::{Region, Reply};
+use kept::Kept;
+use std::marker::Model;
+
+/// At most `N` regions, ascending by their first page, none of which overlap.
+#[derive(Drop, Debug)]
+pub struct RegionMap<const N: usize> {
+    regions: ArrayVec<Kept, N>,
+}
+
+impl<const N: usize> Model for RegionMap<N> {
+    ghost use Rattle.std.specs.Prelude.{List};
+    ghost use Rattle.hop_base.specs.declared.capabilities.Region.{Region};
+
+    ghost Value = { List Region };
+
+    ghost use Rattle.region_map.specs.Regions.{AreRegions};
+
+    ghost view = { λ map. map.regions.items };
+
+    ghost invariant = { λ map. AreRegions map.regions.items };
+}
+
+/// Whether the region covers the page.
+fn is_covered(region: &Region, page: u64) -> bool
+    ensures { result ≡ covers region.now page }
+{
+    let at = u64::from(region.at);
+    at <= page && page < at + u64::from(region.count)
+}
+
+/// Whether some page is covered by both.
+fn overlap(a: &Region, b: &Region) -> bool
+    ensures { result ≡ overlaps a.now b.now }
+{
+    let a_at = u32::from(a.at);
+    let b_at = u32::from(b.at);
+    a_at < b_at + u32::from(b.count) && b_at < a_at + u32::from(a.count)
+}
+
+fn overlaps_any(region: &Region, regions: &[Kept]) -> bool
+    ensures { result ≡ list_any (overlaps region.now) regions.now }
+{
+    for kept in regions {
+        if overlap(region, &kept.region()) {
+            return true;
+        }
+    }
+    false
+}
+
+/// The place of the first region that begins after the page, or their number.
+fn place_behind(region: &Region, regions: &[Kept]) -> usize
+    ensures within { result ≤ length regions.now }
+    ensures place { insert_region region.now regions.now ≡ insert regions.now result region.now }
+{
+    for (place, kept) in regions.iter().enumerate() {
+        if region.at < kept.region().at {
+            return place;
+        }
+    }
+    regions.len()
+}
+
+/// The place of the region that begins at the page.
+fn place_at(at: u64, regions: &[Kept]) -> Option<usize>
+    ensures some { IfSome result
+        (λ place. IsSomeAnd (slice_get regions.now place) (λ region. IsTrue (begins_at at region))) }
+    ensures none { IfNone result (find (begins_at at) regions.now ≡ None) }
+{
+    for (place, kept) in regions.iter().enumerate() {
+        if u64::from(kept.region().at) == at {
+            return Some(place);
+        }
+    }
+    None
+}
+
+/// The region that covers the page.
+fn find_covering(page: u64, regions: &[Kept]) -> Option<Region>
+    ensures { result ≡ find (λ region. covers region page) regions.now }
+{
+    for kept in regions {
+        let region = kept.region();
+        if is_covered(&region, page) {
+            return Some(region);
+        }
+    }
+    None
+}
+
+impl<const N: usize> RegionMap<N> {
+    /// A map without regions.
+    pub fn new() -> RegionMap<N>
+        ensures { result ≡ [] }
+    {
+        RegionMap {
+            regions: ArrayVec::new(),
+        }
+    }
+
+    /// Adds the region in its order. Overlap where it overlaps one that is there, else ListFull where there are
+    /// `N` of them.
+    pub fn add(&mut self, region: Region) -> Result<(), Reply>
+        requires { IsRegion region }
+        ensures answer { result ≡ add_answer N region self.old }
+        ensures ok { OnOk result (self.new ≡ insert_region region self.old) }
+        ensures refused { OnErr result (self.new ≡ self.old) }
+        ensures regions { AreRegions self.new }
+    {
+        if overlaps_any(&region, self.regions.as_slice()) {
+            return Err(Reply::Overlap);
+        }
+        if self.regions.is_full() {
+            return Err(Reply::ListFull);
+        }
+        let place = place_behind(&region, self.regions.as_slice());
+        self.regions.insert(place, Kept::new(region));
+        Ok(())
+    }
+
+    /// Takes out the region that begins at the page. NoRegion where none begins there.
+    pub fn remove(&mut self, at: u64) -> Result<Region, Reply>
+        ensures answer { result ≡ ok_or (find (begins_at at) self.old) Reply.NoRegion }
+        ensures ok { OnOk result (self.new ≡ filter (λ region. not (begins_at at region)) self.old) }
+        ensures refused { OnErr result (self.new ≡ self.old) }
+        ensures regions { AreRegions self.new }
+    {
+        match place_at(at, self.regions.as_slice()) {
+            Some(place) => Ok(self.regions.remove(place).region()),
+            None => Err(Reply::NoRegion),
+        }
+    }
+
+    /// The region that covers the page.
+    pub fn covering(&self, page: u64) -> Option<Region>
+        ensures covering { result ≡ find (λ region. covers region page) self.now }
+        ensures regions { AreRegions self.now }
+    {
+        find_covering(page, self.regions.as_slice())
+    }
+}
+
+#[cfg(test)]
+mod tests {
+    use super::*;
+    use hop_base::{Entity, Rights};
+
+    fn region(at: u8, count: u16) -> Region
+        ensures at { result.at ≡ at }
+        ensures count { result.count ≡ count }
+        ensures from { result.from ≡ 0 }
+    {
+        Region {
+            at,
+            count,
+            target: Entity::ATLAS,
+            from: 0,
+            rights: Rights(3),
+        }
+    }
+
+    #[test]
+    fn a_region_bars_the_pages_that_it_covers_and_no_others(rt: HostRuntime) {
+        let mut map = RegionMap::<2>::new();
+        assert_eq!(rt; map.add(region(4, 2)), Ok(()));
+        assert_eq!(rt; map.add(region(5, 2)), Err(Reply::Overlap));
+        assert_eq!(rt; map.covering(3), None);
+        assert_eq!(rt; map.covering(5), Some(region(4, 2)));
+        assert_eq!(rt; map.covering(6), None);
+        assert_eq!(rt; map.remove(5), Err(Reply::NoRegion));
+        assert_eq!(rt; map.add(region(3, 1)), Ok(()));
+        assert_eq!(rt; map.add(region(3, 2)), Err(Reply::Overlap));
+        assert_eq!(rt; map.add(region(6, 250)), Err(Reply::ListFull));
+        assert_eq!(rt; map.covering(3), Some(region(3, 1)));
+        assert_eq!(rt; map.remove(4), Ok(region(4, 2)));
+        assert_eq!(rt; map.add(region(4, 252)), Ok(()));
+        assert_eq!(rt; map.covering(255), Some(region(4, 252)));
+        assert_eq!(rt; map.covering(u64::MAX), None);
+    }
+}
