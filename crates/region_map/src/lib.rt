@@ -144,6 +144,16 @@ impl<const N: usize> RegionMap<N> {
         }
     }
 
+    /// The region at a place of the list.
+    pub fn get(&self, place: usize) -> Option<Region>
+        ensures { result ≡ slice_get self.now place }
+    {
+        match self.regions.as_slice().get(place) {
+            Some(kept) => Some(kept.region()),
+            None => None,
+        }
+    }
+
     /// The region that covers the page.
     pub fn covering(&self, page: u64) -> Option<Region>
         ensures covering { result ≡ find (λ region. covers region page) self.now }
@@ -185,6 +195,8 @@ mod tests {
         assert_eq!(rt; map.add(region(3, 2)), Err(Reply::Overlap));
         assert_eq!(rt; map.add(region(6, 250)), Err(Reply::ListFull));
         assert_eq!(rt; map.covering(3), Some(region(3, 1)));
+        assert_eq!(rt; map.get(1), Some(region(4, 2)));
+        assert_eq!(rt; map.get(2), None);
         assert_eq!(rt; map.remove(4), Ok(region(4, 2)));
         assert_eq!(rt; map.add(region(4, 252)), Ok(()));
         assert_eq!(rt; map.covering(255), Some(region(4, 252)));
