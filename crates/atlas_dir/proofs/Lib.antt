@@ -1,0 +1,3 @@
+pub mod Paths
+pub mod Digits
+pub mod Circles

@@ -1,0 +1,6 @@
+use Rattle.std.proofs.Common.{◌≡◌, ℕ, ◌<◌, true, get_or}
+use Rattle.atlas_dir.specs.Reached.{is_marked}
+use Rattle.atlas_dir.proofs.reached.new_in_row.Given as goal
+
+abbrev pub invariant-loop-y : goal.invariant-loop-y
+invariant-loop-y l = (k : ℕ) → k < l.y → 0 < get_or l.row k 0 → is_marked l.marks k ≡ true

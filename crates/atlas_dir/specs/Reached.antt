@@ -1,0 +1,26 @@
+-- Counted edges in rows, and which containers are reached over them.
+use Rattle.std.specs.Prelude.{◌&&◌, ◌==◌, if◌then◌else◌, ◌≡◌, ◌↔◌, IsTrue, ℕ, ◌<◌, ◌≤◌, Bool, true, false, List, [], slice_index, slice_index_or}
+use Rattle.hop_base.specs.Edges.{Edges, ClosesCircle, leads}
+
+-- the count at a row and a column, 0 where there is none
+abbrev pub edges_in : List (List ℕ) → Edges
+edges_in rows c d = slice_index (slice_index_or rows c []) d
+
+-- the same edges but for one count
+abbrev pub with_edge : Edges → ℕ → ℕ → ℕ → Edges
+with_edge edges c d n x y = if x == c && y == d then n else edges x y
+
+abbrev pub is_marked : List Bool → ℕ → Bool
+is_marked marks n = slice_index_or marks n false
+
+-- no edge leads from a marked number to one that isn't
+abbrev pub IsClosed : List (List ℕ) → List Bool → Type 0
+IsClosed rows marks = (x y : ℕ) → is_marked marks x ≡ true → 0 < edges_in rows x y → is_marked marks y ≡ true
+
+-- edges lead from containers to containers alone
+abbrev pub IsAmongContainers : Edges → Type 0
+IsAmongContainers edges = (x y : ℕ) → 0 < edges x y → (1 ≤ x) × (x < 41) × (1 ≤ y) × (y < 41)
+
+-- a search of at least 40 steps from d to c tells whether an edge from c to d would close a circle
+abbrev pub FindsCircles : Type 0
+FindsCircles = (edges : Edges) (c d n : ℕ) → IsAmongContainers edges → 40 ≤ n → IsTrue (leads n edges d c) ↔ ClosesCircle edges c d

@@ -1,0 +1,238 @@
+//! The directory of an image: the names of its containers and loci, and the counts of the edges between
+//! containers that show regions of each other.
+#![tactic(auto)]
+
+ghost use Rattle.std.specs.Prelude.{◌≡◌, ◌≢◌, ◌+◌, ◌-◌, ◌<◌, [], replicate, Ok, Err, MatchOption, IfErr, OnOk, OnErr, IsTrue, None, codes};
+ghost use Rattle.std.specs.Option.{ForSome};
+ghost use Rattle.std.specs.Option.{option_map};
+ghost use Rattle.hop_base.specs.Edges.{ClosesCircle};
+ghost use Rattle.atlas_dir.specs.Reached.{IsAmongContainers, FindsCircles, with_edge};
+ghost use Rattle.atlas_dir.specs.Directory.{edges_of, with_count, name_of, is_born, entity_named, free_number, given_or_made, with_entity, IsName, IsBornContainer};
+
+mod names;
+mod reached;
+
+use arrayvec::{ArrayString, ArrayVec};
+use hop_base::{Entity, Kind, Reply};
+use names::{Name, number_of};
+use reached::{SIDE, leads};
+use std::marker::Model;
+
+/// The most containers.
+pub const CONTAINERS: usize = 40;
+
+/// The most loci.
+pub const LOCI: usize = 23;
+
+/// The directory: names of containers and loci in the order of their numbers, and a count for each pair of
+/// containers.
+#[derive(Drop, Debug)]
+pub struct Atlas {
+    containers: ArrayVec<Name, CONTAINERS>,
+    loci: ArrayVec<Name, LOCI>,
+    edges: [[u8; SIDE]; SIDE],
+}
+
+impl Model for Atlas {
+    ghost use Rattle.atlas_dir.specs.Directory.{Directory};
+
+    ghost Value = { Directory };
+
+    ghost use Rattle.atlas_dir.specs.Reached.{edges_in, IsAmongContainers};
+
+    ghost view = { λ a. record { containers = a.containers.items; loci = a.loci.items; edges = a.edges } };
+
+    ghost invariant = { λ a. IsAmongContainers (edges_in a.edges) };
+}
+
+fn entity(number: u8) -> Entity
+    requires { number < 64 }
+    ensures { result ≡ number }
+{
+    Entity::new(number).unwrap()
+}
+
+fn atlas_name() -> ArrayString<24>
+    ensures { result.bytes ≡ codes "atlas" }
+{
+    let mut name = ArrayString::new();
+    name.push_str("atlas");
+    name
+}
+
+impl Atlas {
+    /// A directory in which nothing but the atlas is born.
+    pub fn new() -> Atlas
+        ensures { result ≡ record { containers = []; loci = []; edges = replicate 41 (replicate 41 0) } }
+    {
+        Atlas {
+            containers: ArrayVec::new(),
+            loci: ArrayVec::new(),
+            edges: [[0; SIDE]; SIDE],
+        }
+    }
+
+    /// Counts one region more of `d` that `c` shows. Circle where `d` reaches `c` over edges, also over none.
+    pub fn link(&mut self, c: Entity, d: Entity) -> Result<(), Reply>
+        requires c_container { IsBornContainer self.old c }
+        requires d_container { IsBornContainer self.old d }
+        requires few { edges_of self.old c d < 255 }
+        ensures circle { IfErr result (λ why. (why ≡ Reply.Circle) × ClosesCircle (edges_of self.old) c d) }
+        ensures open { OnOk result (ClosesCircle (edges_of self.old) c d → ⊥) }
+        ensures ok { OnOk result (self.new ≡ with_count self.old c d (edges_of self.old c d + 1)) }
+        ensures edge { OnOk result
+            (edges_of self.new ≡ with_edge (edges_of self.old) c d (edges_of self.old c d + 1)) }
+        ensures refused { OnErr result (self.new ≡ self.old) }
+        ensures inside { IsAmongContainers (edges_of self.new) }
+    {
+        let c = c.number() as usize;
+        let d = d.number() as usize;
+        if leads(&self.edges, d, c) {
+            return Err(Reply::Circle);
+        }
+        let row = &mut self.edges[c];
+        row[d] += 1;
+        Ok(())
+    }
+
+    /// How many regions of `d` the container `c` shows.
+    pub fn count(&self, c: Entity, d: Entity) -> u8
+        ensures { result ≡ edges_of self.now c d }
+    {
+        let c = c.number() as usize;
+        let d = d.number() as usize;
+        if c < SIDE && d < SIDE {
+            self.edges[c][d]
+        } else {
+            0
+        }
+    }
+
+    /// Counts one region less of `d` that `c` shows.
+    pub fn unlink(&mut self, c: Entity, d: Entity)
+        requires { 0 < edges_of self.old c d }
+        ensures count { self.new ≡ with_count self.old c d (edges_of self.old c d - 1) }
+        ensures edge { edges_of self.new ≡ with_edge (edges_of self.old) c d (edges_of self.old c d - 1) }
+        ensures inside { IsAmongContainers (edges_of self.new) }
+    {
+        let row = &mut self.edges[c.number() as usize];
+        row[d.number() as usize] -= 1;
+    }
+
+    /// Gives birth to an entity of the kind under its lowest free number. Without a name it has the made name.
+    /// NoNumber where no number is free.
+    pub fn birth(&mut self, name: Option<&str>, kind: Kind) -> Result<Entity, Reply>
+        requires kind { kind ≢ Kind.Atlas }
+        requires name { ForSome name (λ text. IsName text.now × (entity_named self.old text.now ≡ None)) }
+        ensures born { MatchOption (free_number self.old kind)
+            ((result ≡ Err Reply.NoNumber) × (self.new ≡ self.old))
+            (λ n. (result ≡ Ok n)
+            × (self.new ≡ with_entity self.old kind (given_or_made (option_map (λ text. text.now) name.entry) n))) }
+        ensures edges { self.new.edges ≡ self.old.edges }
+    {
+        let free = match kind {
+            Kind::Container if !self.containers.is_full() => self.containers.len() as u8 + 1,
+            Kind::Locus if !self.loci.is_full() => self.loci.len() as u8 + 41,
+            _ => return Err(Reply::NoNumber),
+        };
+        let name = match name {
+            Some(text) => Name::new(text),
+            None => Name::made(free),
+        };
+        match kind {
+            Kind::Locus => self.loci.push(name),
+            _ => self.containers.push(name),
+        }
+        Ok(entity(free))
+    }
+
+    /// The entity with this name, which for `atlas` is the atlas.
+    pub fn find(&self, name: &str) -> Option<Entity>
+        ensures { result ≡ entity_named self.now name.now }
+    {
+        if name == "atlas" {
+            return Some(Entity::ATLAS);
+        }
+        if let Some(number) = number_of(name, 1, self.containers.as_slice()) {
+            return Some(entity(number));
+        }
+        match number_of(name, 41, self.loci.as_slice()) {
+            Some(number) => Some(entity(number)),
+            None => None,
+        }
+    }
+
+    /// The name of the entity, if it is born.
+    pub fn name(&self, entity: Entity) -> Option<ArrayString<24>>
+        ensures { option_map (λ text. text.bytes) result ≡ name_of self.now entity }
+    {
+        let number = entity.number() as usize;
+        if number == 0 {
+            return Some(atlas_name());
+        }
+        let name = if number <= CONTAINERS {
+            self.containers.as_slice().get(number - 1)
+        } else {
+            self.loci.as_slice().get(number - 41)
+        };
+        match name {
+            Some(name) => Some(name.text()),
+            None => None,
+        }
+    }
+
+    /// Whether the entity is born. The atlas always is.
+    pub fn born(&self, entity: Entity) -> bool
+        ensures { result ≡ is_born self.now entity }
+    {
+        self.name(entity).is_some()
+    }
+}
+
+/// Over edges between containers a search of 40 steps and more finds each circle, and nothing else.
+pub fn circles_are_found()
+    ensures { FindsCircles }
+{}
+
+#[cfg(test)]
+mod tests {
+    use super::*;
+    use std::test::Fail;
+
+    #[test]
+    fn an_edge_that_closes_a_circle_is_refused(rt: HostRuntime) -> Result<(), Fail> {
+        let mut atlas = Atlas::new();
+        let one = atlas.birth(None, Kind::Container)?;
+        let two = atlas.birth(None, Kind::Container)?;
+        let three = atlas.birth(None, Kind::Container)?;
+        assert_eq!(rt; atlas.link(one, two), Ok(()));
+        assert_eq!(rt; atlas.link(two, three), Ok(()));
+        assert_eq!(rt; atlas.link(three, one), Err(Reply::Circle));
+        assert_eq!(rt; atlas.link(one, one), Err(Reply::Circle));
+        assert_eq!(rt; atlas.count(two, three), 1);
+        atlas.unlink(two, three);
+        assert_eq!(rt; atlas.count(two, three), 0);
+        assert_eq!(rt; atlas.link(three, one), Ok(()));
+        Ok(())
+    }
+
+    #[test]
+    fn names_are_found_and_made(rt: HostRuntime) -> Result<(), Fail> {
+        let mut atlas = Atlas::new();
+        let made = atlas.birth(None, Kind::Container)?;
+        assert_eq!(rt; made.number(), 1);
+        let locus = atlas.birth(None, Kind::Locus)?;
+        assert_eq!(rt; locus.number(), 41);
+        assert_eq!(rt; atlas.find("atlas"), Some(Entity::ATLAS));
+        assert_eq!(rt; atlas.find("#1"), Some(made));
+        assert_eq!(rt; atlas.find("#41"), Some(locus));
+        assert_eq!(rt; atlas.find("#2"), None);
+        let name = atlas.name(locus).ok_or("a name")?;
+        assert_eq!(rt; name.as_str(), "#41");
+        assert!(rt; atlas.born(made));
+        let next = Entity::new(2).ok_or("an entity")?;
+        assert!(rt; !atlas.born(next));
+        assert!(rt; atlas.name(next).is_none());
+        Ok(())
+    }
+}
