@@ -4,4 +4,13 @@ pub mod CellLemmas
 pub mod StepLemmas
 pub mod SoundLemmas
 pub mod KeptLemmas
+pub mod NameLemmas
+pub mod TableLemmas
+pub mod BirthLemmas
+pub mod EdgeLemmas
+pub mod BornLemmas
+pub mod GrownLemmas
+pub mod PlainBirths
+pub mod ScriptLemmas
 pub mod PlainSteps
+pub mod EmptyLemmas

@@ -3,3 +3,4 @@ pub mod Events
 pub mod FiveActs
 pub mod Lists
 pub mod Entries
+pub mod Born

@@ -5,7 +5,7 @@ ghost use Rattle.hop_model.specs.Steps.{running};
 ghost use Rattle.history_model.specs.Events.{StepsTo, Stays, AreFewVersions};
 ghost use Rattle.history_model.specs.FiveActs.{HasFiveActs};
 ghost use Rattle.history_model.specs.Lists.{IsRunningAt, IsIdleIn, WantsLookAt};
-ghost use Rattle.history_model.specs.Plains.{cells_of};
+ghost use Rattle.history_model.specs.Plains.{atlas_of, cells_of};
 ghost use Rattle.history_model.specs.Entries.{entry_alone as alone_entry, entry_beside as beside_entry, versions_beside};
 
 use crate::acts::{act_alone, look, look_container};
@@ -114,6 +114,7 @@ fn step_look<S: Fn(u64, u32, u16) -> u64>(
     ensures err { OnErr result (Stays (cells_of s state.old) versions.old (cells_of s state.new) versions.new) }
     ensures sound { IsSound (cells_of s state.new) }
     ensures five { HasFiveActs (cells_of s state.new) }
+    ensures names { atlas_of state.new.atlas ≡ atlas_of state.old.atlas }
 {
     let container = look_container(&state.loci[place]);
     let at = container.number() as usize - 1;
@@ -143,9 +144,10 @@ pub fn plain_step<S: Fn(u64, u32, u16) -> u64>(
     ensures none { IfOk result (λ r. IfNone r (Stays (cells_of s state.old) versions.old (cells_of s state.new) versions.new)) }
     ensures err { OnErr result (Stays (cells_of s state.old) versions.old (cells_of s state.new) versions.new) }
 
-    // The state stays one that steps may be made from.
+    // The state stays one that steps may be made from. None of the five acts names anything.
     ensures sound { IsSound (cells_of s state.new) }
     ensures five { HasFiveActs (cells_of s state.new) }
+    ensures names { atlas_of state.new.atlas ≡ atlas_of state.old.atlas }
 {
     let Some(place) = running_place(&state.loci, locus) else {
         return Ok(None);

@@ -1,7 +1,10 @@
 //! Scripts: the containers and loci, with their programs, that a run gives birth to.
 #![tactic(auto)]
 
+mod refusals;
+
 use hop_base::{Instr, Rights};
+pub use refusals::{Refusal, ScriptFault, Why};
 
 /// A script. Ranges and rules of its parts are those of `IsScript` in specs/.
 #[derive(Drop, Debug)]

@@ -1,0 +1,14 @@
+use Rattle.std.proofs.Common.{◌≡◌, ◌-◌, string_bytes, ap, ◌∙◌, arith}
+use Rattle.hop_model.specs.Births.{number_or_0}
+use Rattle.hop_model.specs.Scripts.{number_in}
+use Rattle.script_read.specs.Scripts.{region_of}
+use Rattle.history_model.specs.Plains.{atlas_of}
+use Rattle.history_model.proofs.TableLemmas.{regions_more}
+use Rattle.history_model.proofs.tables.regions_from.Goals as goal
+
+pub loop-i-preserved : goal.loop-i-preserved
+loop-i-preserved c =
+    let number = number_in (atlas_of c.args.atlas.now) c.args.own.now c.args.newborn in
+    let more = regions_more number region_of c.args.tables.now c.loop-i.i (c.loop-i.i - 1) c.index-tables-i.result (omega arith) (omega arith) c.index-tables-i.is in
+    let target : c.known_number-target.result ≡ number_or_0 number (string_bytes c.index-tables-i.result.target) = c.known_number-target.ensures ∙ ap (number_or_0 number) c.deref.ensures in
+    cc (c.in_ok-insert_region.ensures)
