@@ -1,0 +1,4 @@
+pub mod Ascii
+pub mod FirstLines
+pub mod FirstScripts
+pub mod Ends

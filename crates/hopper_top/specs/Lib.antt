@@ -1,0 +1,6 @@
+pub mod Faults
+pub mod FirstForm
+pub mod Lines
+pub mod Sources
+pub mod Runs
+pub mod Statuses

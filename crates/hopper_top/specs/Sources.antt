@@ -1,0 +1,61 @@
+-- Which sources are accepted, and why the others are refused.
+use Rattle.std.specs.Prelude.{◌≡◌, ℕ, ◌<◌, ◌≤◌, length, codes, string_bytes, Option, IfSome, ⊤}
+use Rattle.stream_edge.specs.declared.reading.ReadStop.{ReadStop}
+use Rattle.stream_edge.specs.declared.reading.ReadStop.TheVariants.{Source as FromSource, Memory as NoRoom, Long as TooMuch}
+use Rattle.hop_model.specs.Scripts.{Script as Tables}
+use Rattle.hop_model.specs.State.{Text}
+use Rattle.script_read.specs.declared.refusals.Refusal.{Refusal}
+use Rattle.script_read.specs.declared.refusals.Why.{Why}
+use Rattle.script_read.specs.declared.refusals.Why.TheVariants.{Long}
+use Rattle.hopper_top.specs.FirstForm.{IsRefusedFor, StandsFor, lines_of}
+use Rattle.hopper_top.specs.declared.faults.RunFault.{RunFault}
+use Rattle.hopper_top.specs.declared.faults.RunFault.TheVariants.{Usage, Script, Source, Memory}
+
+-- how many bytes a source may have
+abbrev pub most_bytes : ℕ
+most_bytes = 1048576
+
+-- the source is too long, and no key is to blame
+pub record IsTooLong (bytes key : Text) : Type 0 where
+  pub long : most_bytes < length bytes
+  pub named : key ≡ codes "-"
+
+-- the source is short enough, and refused for its lines
+pub record HasBadLines (bytes : Text) (why : Why) (key : Text) : Type 0 where
+  pub short : length bytes ≤ most_bytes
+  pub lines : IsRefusedFor bytes why key
+
+-- the source is refused so
+abbrev pub IsRefusal : Text → Why → Text → Type 0
+IsRefusal bytes Long key = IsTooLong bytes key
+IsRefusal bytes why key = HasBadLines bytes why key
+
+-- the source is refused as the refusal says, where its bytes are told
+abbrev pub IsRefusalOf : Option Text → Refusal → Type 0
+IsRefusalOf left refusal = IfSome left (λ bytes. IsRefusal bytes refusal.why (string_bytes refusal.key))
+
+-- the source is not refused, and stands for this script
+pub record IsAccepted (bytes : Text) (script : Tables) : Type 0 where
+  pub short : length bytes ≤ most_bytes
+  pub few : length (lines_of bytes) ≤ 128
+  pub stands : StandsFor bytes script
+
+-- why no script was read: the source is refused so, its count of faults rose, or memory ran out
+abbrev pub IsReadFault : Option Text → Type 0 → RunFault → Type 0
+IsReadFault left rose Usage = ⊥
+IsReadFault left rose (Script refusal) = IsRefusalOf left refusal
+IsReadFault left rose Source = rose
+IsReadFault left rose Memory = ⊤
+
+-- the fault is that of a source that is too long, unless memory ran out
+abbrev pub IsLongFault : RunFault → Type 0
+IsLongFault Usage = ⊥
+IsLongFault (Script refusal) = (refusal.why ≡ Long) × (string_bytes refusal.key ≡ codes "-")
+IsLongFault Source = ⊥
+IsLongFault Memory = ⊤
+
+-- the fault of a source whose reading stopped so
+abbrev pub IsFaultOfStop : ReadStop → RunFault → Type 0
+IsFaultOfStop (FromSource fault) f = f ≡ Source
+IsFaultOfStop NoRoom f = f ≡ Memory
+IsFaultOfStop TooMuch f = IsLongFault f
