@@ -1,21 +1,20 @@
 -- What the ends of a call leave.
-use Rattle.std.proofs.Common.{◌≡◌, ℕ, ◌≤◌, ◌<◌, ◌++◌, IsTrue, List, [], ◌∷◌, length, All, nat_lt, true, false, codes, string_bytes, Option, Some, None, Result, Ok, Err, OnErr, IfSome, is_ok, map, get_or, inl, inr, ◌⊎◌, refl, sym, ap, subst, ◌∙◌, arith}
+use Rattle.std.proofs.Common.{◌≡◌, ◌≤◌, ◌<◌, IsTrue, List, [], ◌∷◌, length, All, nat_lt, true, false, codes, string_bytes, Option, Some, None, Result, Ok, Err, OnErr, IfSome, is_ok, map, get_or, inl, inr, refl, sym, subst, ◌∙◌, arith}
 use Rattle.std.specs.Io.KnownBytes.{Appends}
 use Rattle.std.proofs.lemmas.Bool.Decides.{nat_tests}
 use Rattle.std.proofs.lemmas.List.Elements.{All-head}
-use Rattle.stream_edge.specs.Streams.{AppendsPart, Puts}
+use Rattle.stream_edge.specs.Streams.{Puts}
 use Rattle.stream_edge.proofs.Streams.{AppendsPart-whole}
-use Rattle.hop_base.specs.declared.instructions.Instr.{Instr}
 use Rattle.hop_model.specs.Scripts.{ContainerTable, Script as Tables}
 use Rattle.hop_model.specs.State.{Text}
 use Rattle.history_model.specs.FiveActs.{has_five}
-use Rattle.plain_run.specs.Opening.{HasFirstForm, IsOneLocus}
+use Rattle.plain_run.specs.Opening.{HasFirstForm}
 use Rattle.script_read.specs.declared.refusals.Why.{Why}
 use Rattle.script_read.specs.declared.refusals.Why.TheVariants.{TooMany}
-use Rattle.hopper_top.specs.FirstForm.{IsRefusedFor, StandsFor, first_tables, lines_of, no_tables, tables_for}
+use Rattle.hopper_top.specs.FirstForm.{IsRefusedFor, StandsFor, lines_of}
 use Rattle.hop_base.specs.declared.histories.Entry.{Entry}
 use Rattle.hop_model.specs.State.{Supply}
-use Rattle.script_read.specs.declared.refusals.Why.TheVariants.{NotToml, Missing, Kind, Name, Unknown, Range, BadCode, Long, NoRoom, Clash}
+use Rattle.script_read.specs.declared.refusals.Why.TheVariants.{Long}
 use Rattle.hopper_top.specs.Faults.{fault_line}
 use Rattle.hopper_top.specs.Runs.{Gains, IsComplete, IsKnownScript, Leaves, Ran}
 use Rattle.hopper_top.specs.Sources.{IsAccepted, IsReadFault, IsRefusal, IsRefusalOf, most_bytes}

@@ -1,5 +1,5 @@
 -- What a call leaves: the status, the history and the sink.
-use Rattle.std.specs.Prelude.{◌≡◌, ◌⊎◌, ℕ, ◌++◌, List, [], ◌∷◌, codes, Option, Some, IfSome, ⊤}
+use Rattle.std.specs.Prelude.{◌≡◌, ◌⊎◌, ◌++◌, List, [], ◌∷◌, codes, Option, Some, IfSome, ⊤}
 use Rattle.std.specs.Io.KnownBytes.{Appends}
 use Rattle.stream_edge.specs.Streams.{AppendsPart}
 use Rattle.hop_base.specs.declared.histories.Entry.{Entry}

@@ -1,4 +1,7 @@
+ghost use Rattle.std.specs.Prelude.{◌≡◌, IfOk};
+
 use crate::{Outcome, Status, hopper};
+use hop_base::{Answer, Entity, Entry, Event, Reply, Touch, Touched};
 use std::alloc::{AllocError, Global};
 use std::process::Abort;
 use std::test::Fail;
@@ -53,6 +56,70 @@ fn a_run_prints_its_lines_and_ends(rt: HostRuntime) -> Result<(), Fail> {
         assert!(rt; matches!(outcome.status, Status::Done), "{lines}");
         assert_eq!(rt; outcome.history.len(), entries);
     }
+    Ok(())
+}
+
+fn entity(number: u8) -> Result<Entity, Fail>
+    ensures { IfOk result (λ entity. entity ≡ number) }
+{
+    Ok(Entity::new(number).ok_or("an entity")?)
+}
+
+/// An entry of version 0, as births, steps and Stable entries are.
+fn entry(event: Event, actor: Entity, touched: Touched, answer: Answer) -> Entry {
+    Entry {
+        event,
+        actor,
+        touched,
+        version: 0,
+        answer,
+    }
+}
+
+fn write(entity: Entity, version: u64) -> Touch
+    ensures { result.entity ≡ entity }
+{
+    Touch {
+        version,
+        entity,
+        wrote: true,
+    }
+}
+
+fn read(entity: Entity, version: u64) -> Touch
+    ensures { result.entity ≡ entity }
+{
+    Touch {
+        version,
+        entity,
+        wrote: false,
+    }
+}
+
+#[test]
+fn a_history_has_births_a_stable_and_the_steps(rt: HostRuntime) -> Result<(), Fail> {
+    let alloc = rt.alloc();
+    let mut source = source_of(alloc, FIVE, &[])?;
+    let mut sink = sink_of(alloc, 100, &[])?;
+    let outcome = run(alloc, &["run"], &mut source, &mut sink)?;
+    let atlas = Entity::ATLAS;
+    let a = entity(1)?;
+    let l = entity(41)?;
+    let born_a = Touched::two(write(atlas, 1), write(a, 1));
+    let born_l = Touched::three(write(atlas, 2), write(a, 2), write(l, 1));
+    let stored = Touched::two(write(a, 3), write(l, 3));
+    let loaded = Touched::two(read(a, 3), write(l, 4));
+    let history = [
+        entry(Event::Birth, a, born_a, Answer::Quiet),
+        entry(Event::Birth, l, born_l, Answer::Quiet),
+        entry(Event::Stable, atlas, Touched::none(), Answer::Quiet),
+        entry(Event::Step, l, Touched::one(write(l, 2)), Answer::Quiet),
+        entry(Event::Step, l, stored, Answer::Reply(Reply::Ok)),
+        entry(Event::Step, l, loaded, Answer::Read(5)),
+        entry(Event::Step, l, Touched::one(write(l, 5)), Answer::Print(5)),
+        entry(Event::Step, l, Touched::one(write(l, 6)), Answer::Quiet),
+    ];
+    assert_eq!(rt; outcome.history.as_slice(), history.as_slice());
     Ok(())
 }
 

@@ -1,21 +1,19 @@
 -- The births of one container and one locus on plain states.
-use Rattle.std.proofs.Common.{◌≡◌, ℕ, ◌+◌, ◌-◌, ◌<◌, ◌≤◌, ◌^◌, Bool, true, false, ◌&&◌, ◌||◌, ◌==◌, nat_lt, nat_le, if◌then◌else◌, IsTrue, List, [], ◌∷◌, length, All, map, Option, Some, None, codes, get_or, slice_get, slice_index, string_bytes, refl, sym, ap, subst, ◌∙◌, arith}
-use Rattle.std.proofs.lemmas.Bool.Decides.{nat_tests}
+use Rattle.std.proofs.Common.{◌≡◌, ℕ, ◌≤◌, true, false, ◌==◌, nat_lt, if◌then◌else◌, List, [], ◌∷◌, All, map, Option, Some, None, codes, slice_index, string_bytes, refl, sym, ap, subst, ◌∙◌, arith}
 use Rattle.std.proofs.lemmas.List.{get_or_default}
 use Rattle.std.proofs.lemmas.List.Elements.{All-cons}
-use Rattle.hop_base.specs.Edges.{IsPath}
 use Rattle.hop_base.specs.declared.histories.Entry.{Entry}
 use Rattle.hop_base.specs.declared.instructions.Instr.{Instr}
-use Rattle.hop_model.specs.State.{Supply, AtlasState, ContainerState, LocusState, Cell, NotBorn, AtlasCell, ContainerCell, LocusCell, KernelState, empty_state, no_atlas}
+use Rattle.hop_model.specs.State.{Supply, AtlasState, Cell, NotBorn, AtlasCell, KernelState, empty_state, no_atlas}
 use Rattle.hop_model.specs.Births.{birth}
 use Rattle.hop_model.specs.Changes.{changed}
 use Rattle.hop_model.specs.Scripts.{ContainerTable, LocusTable, Script, container_named, locus_named}
-use Rattle.hop_model.specs.Soundness.{AreSound, IsSound, is_born, is_born_container, is_born_locus, regions_onto}
+use Rattle.hop_model.specs.Soundness.{IsSound}
+use Rattle.history_model.proofs.EmptyLemmas.{sound_empty}
 use Rattle.history_model.proofs.PlainSteps.{same_sound}
-use Rattle.history_model.specs.Born.{AreOfOneKind, IsUndefined}
-use Rattle.history_model.specs.Events.{AreFewVersions, Bears, Has, Makes, state_with}
-use Rattle.history_model.specs.Plains.{atlas_of, cells_by, cells_of, container_cell, edges_of, locus_cell}
-use Rattle.history_model.specs.declared.plain.Edge.{Edge}
+use Rattle.history_model.specs.Born.{AreOfOneKind}
+use Rattle.history_model.specs.Events.{AreFewVersions, Has, Makes}
+use Rattle.history_model.specs.Plains.{atlas_of, cells_by, cells_of, edges_of}
 use Rattle.history_model.specs.declared.plain.Plain.{Plain}
 use Rattle.plain_run.specs.Opening.{IsDefined, IsEmpty, IsOneLocus, container_a, container_born, first_state, locus_born, locus_l, one_locus, second_state}
 use Rattle.plain_run.proofs.Goings.{changed_rise, state_is}
@@ -30,48 +28,19 @@ no_container s x =
       | false ↦ elim (nat_lt x 41) as (λ t. (if t then NotBorn else NotBorn) ≡ NotBorn) [ true ↦ refl | false ↦ refl ]
     ]
 
--- an empty plain state has the empty state's cells
+-- an empty plain state has the cells of no names and no items
+plain_cells : (p : Plain) (us : List ℕ) → IsEmpty p us → (s : Supply) (x : ℕ) → cells_of s p x ≡ cells_by s no_atlas [] [] x
+plain_cells p us h s x = λ i. cells_by s (record { containers = map string_bytes (h.names i); loci = map string_bytes (h.locus_names i); edges = edges_of (h.edges i) }) (h.containers i) (h.loci i) x
+
+-- which are the empty state's
 pub empty_cells : (p : Plain) (us : List ℕ) → IsEmpty p us → (s : Supply) (x : ℕ) → cells_of s p x ≡ (empty_state x).cell
-empty_cells p us h s x =
-    (λ i. cells_by s (record { containers = map string_bytes (h.names i); loci = map string_bytes (h.locus_names i); edges = edges_of (h.edges i) }) (h.containers i) (h.loci i) x) ∙ no_container s x
+empty_cells p us h s x = plain_cells p us h s x ∙ no_container s x
 
 pub has_empty : (p : Plain) (us : List ℕ) → IsEmpty p us → (s : Supply) → Has empty_state (cells_of s p) us
 has_empty p us h s = record { cells = λ x. sym (empty_cells p us h s x); numbers = λ x. sym (h.unwritten x) }
 
-none_get : {A : Type 0} (i : ℕ) (x : A) → slice_get [] i ≡ Some x → ⊥
-none_get i x h = cc
-
-sound_empty : AreSound no_atlas (λ x. (empty_state x).cell)
-sound_empty = record {
-  atlas = refl;
-  names = record {
-    few_containers = omega arith;
-    few_loci = omega arith;
-    containers = refl;
-    loci = refl;
-    different = record { containers = λ i j name h g. absurd (none_get i name h); loci = λ i j name h g. absurd (none_get i name h); both = λ i j name h g. none_get i name h };
-    no_circle = λ c x path h. (let no : 0 < 0 = h.0 in omega arith);
-  };
-  containers = λ x born. absurd (no_container_born x born);
-  loci = λ x born. absurd (no_locus_born x born);
-  others = λ x unborn. other x unborn;
-  edges = λ x y. no_regions x y;
-}
-  where
-    no_container_born : (x : ℕ) → IsTrue (is_born_container no_atlas x) → ⊥
-    no_container_born x born = grind (arith, nat_tests)
-
-    no_locus_born : (x : ℕ) → IsTrue (is_born_locus no_atlas x) → ⊥
-    no_locus_born x born = grind (arith, nat_tests)
-
-    other : (x : ℕ) → is_born no_atlas x ≡ false → (empty_state x).cell ≡ NotBorn
-    other x unborn = elim (x == 0) as (λ t. (t || is_born_container no_atlas x || is_born_locus no_atlas x) ≡ false → (if t then AtlasCell no_atlas else NotBorn) ≡ NotBorn) [ true ↦ λ e. cc | false ↦ λ e. refl ] unborn
-
-    no_regions : (x y : ℕ) → 0 ≡ regions_onto (empty_state x).cell y
-    no_regions x y = elim (x == 0) as (λ t. 0 ≡ regions_onto (if t then AtlasCell no_atlas else NotBorn) y) [ true ↦ refl | false ↦ refl ]
-
 pub empty_sound : (p : Plain) (us : List ℕ) → IsEmpty p us → (s : Supply) → IsSound (cells_of s p)
-empty_sound p us h s = same_sound (λ x. (empty_state x).cell) (cells_of s p) (empty_cells p us h s) (no_atlas, sound_empty)
+empty_sound p us h s = same_sound (cells_by s no_atlas [] []) (cells_of s p) (plain_cells p us h s) (no_atlas, sound_empty s)
 
 -- versions that are below a number are few
 pub few_below : (us : List ℕ) → ((x : ℕ) → slice_index us x ≤ 2) → AreFewVersions us

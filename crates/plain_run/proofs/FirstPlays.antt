@@ -1,16 +1,14 @@
 -- Plays of scripts of the first form.
-use Rattle.std.proofs.Common.{◌≡◌, ℕ, zero, suc, ◌+◌, ◌-◌, ◌<◌, ◌≤◌, Bool, true, false, ◌&&◌, ◌||◌, ◌==◌, nat_lt, nat_le, if◌then◌else◌, IsTrue, List, [], ◌∷◌, ◌++◌, length, take, drop, All, replicate, slice_index, Option, Some, None, refl, sym, ap, subst, ◌∙◌, arith, append_assoc, append-nil}
+use Rattle.std.proofs.Common.{◌≡◌, ℕ, ◌+◌, ◌-◌, List, [], ◌∷◌, ◌++◌, length, take, drop, replicate, refl, sym, ap, subst, ◌∙◌, arith, append_assoc}
 use Rattle.std.proofs.lemmas.List.{take-append-drop}
 use Rattle.hop_base.specs.declared.histories.Entry.{Entry}
 use Rattle.hop_base.specs.declared.instructions.Instr.{Instr}
-use Rattle.hop_model.specs.Births.{next_birth_change}
-use Rattle.hop_model.specs.Changes.{changed}
 use Rattle.hop_model.specs.Histories.{start_run}
 use Rattle.hop_model.specs.Output.{output_of}
 use Rattle.hop_model.specs.Scripts.{ContainerTable, Script}
 use Rattle.hop_model.specs.Serial.{IsAllIdle, IsSerial, IsSerialFront, all_births, all_loci, rounds, serial_with, turns}
 use Rattle.hop_model.specs.Soundness.{IsSound}
-use Rattle.hop_model.specs.State.{Supply, Text, AtlasState, Cell, empty_state}
+use Rattle.hop_model.specs.State.{Supply, Text, Cell, empty_state}
 use Rattle.hop_model.specs.Steps.{atlas_in}
 use Rattle.history_model.specs.Events.{Has}
 use Rattle.history_model.specs.Plains.{cells_of}

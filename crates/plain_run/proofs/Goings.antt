@@ -1,25 +1,24 @@
 -- How a run of the five acts goes on: each entry may follow, and what the rules look at stays calm.
-use Rattle.std.proofs.Common.{◌≡◌, ◌≢◌, ℕ, zero, suc, ◌+◌, ◌-◌, ◌<◌, ◌≤◌, ◌⊎◌, Bool, true, false, not, ◌&&◌, ◌||◌, ◌==◌, nat_lt, if◌then◌else◌, IsTrue, List, [], ◌∷◌, ◌++◌, length, All, Option, Some, None, is_some, option_map, slice_index, slice_set, slice_get, unwrap_or, refl, sym, ap, subst, ◌∙◌, arith, append_assoc}
-use Rattle.std.specs.List.{list_any, list_all}
+use Rattle.std.proofs.Common.{◌≡◌, ℕ, ◌+◌, ◌<◌, ◌≤◌, Bool, true, false, not, ◌&&◌, ◌||◌, nat_lt, if◌then◌else◌, List, [], ◌∷◌, ◌++◌, Option, Some, None, is_some, option_map, refl, sym, ap, subst, ◌∙◌, arith, append_assoc}
+use Rattle.std.specs.List.{list_any}
 use Rattle.std.proofs.lemmas.Bool.Decides.{nat_tests}
 use Rattle.hop_base.specs.declared.histories.Answer.{Answer}
 use Rattle.hop_base.specs.declared.histories.Answer.TheVariants.{Quiet, Hop, Reply as Replied, Read, Print as Printed}
 use Rattle.hop_base.specs.declared.histories.Entry.{Entry}
 use Rattle.hop_base.specs.declared.histories.Event.{Event}
-use Rattle.hop_base.specs.declared.histories.Event.TheVariants.{Birth, Step, Snap as SnapEvent, Stable, Tried}
+use Rattle.hop_base.specs.declared.histories.Event.TheVariants.{Step}
 use Rattle.hop_base.specs.declared.histories.Touch.{Touch}
 use Rattle.hop_base.specs.declared.instructions.Instr.{Instr}
 use Rattle.hop_base.specs.declared.instructions.Instr.TheVariants.{Set, Load, Store, Print, Halt}
-use Rattle.hop_base.specs.declared.instructions.Reply.{Reply}
 use Rattle.hop_base.specs.declared.instructions.Reply.TheVariants.{Ok}
 use Rattle.hop_model.specs.State.{Supply, LocusState, Cell, LocusCell, EntityState, KernelState}
 use Rattle.hop_model.specs.Changes.{Access, Change, accessed, acts, carried, changed, written}
-use Rattle.hop_model.specs.Histories.{IsLegalFrom, IsMade, May, may, Run, after_step, asked_by, asks, births_owed, event_of, by_event, goes_on, has_wish, is_due, locus_in, never, noting, owed_by, run_after, stabilises, went_on, with_asked, writes}
+use Rattle.hop_model.specs.Histories.{IsLegalFrom, IsMade, May, may, Run, after_step, asks, event_of, by_event, goes_on, is_due, locus_in, never, noting, owed_by, run_after, stabilises, went_on, with_asked, writes}
 use Rattle.hop_model.specs.Parts.{after_entry, is_event, next_of}
 use Rattle.hop_model.specs.Refusals.{instr_at}
 use Rattle.hop_model.specs.Scripts.{Script, next_name}
 use Rattle.hop_model.specs.Serial.{can_step, made_and_owed, owed_stable, turn, turns}
-use Rattle.hop_model.specs.Steps.{atlas_in, change_of, numbered_change, running, step, step_change}
+use Rattle.hop_model.specs.Steps.{atlas_in, numbered_change, running, step, step_change}
 use Rattle.hop_model.specs.Words.{put}
 use Rattle.history_model.specs.Events.{Has, state_with}
 use Rattle.history_model.specs.FiveActs.{is_one_of_five}

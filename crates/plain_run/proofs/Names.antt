@@ -1,11 +1,12 @@
 -- The names of a sound state are short.
-use Rattle.std.proofs.Common.{◌≡◌, ℕ, zero, suc, ◌+◌, ◌<◌, ◌≤◌, ◌^◌, Bool, true, false, ◌&&◌, ◌||◌, ◌==◌, nat_lt, nat_le, IsTrue, List, [], ◌∷◌, length, All, decimal, refl, sym, ap, subst, ◌∙◌, arith}
+use Rattle.std.proofs.Common.{◌≡◌, ℕ, ◌+◌, ◌<◌, ◌≤◌, Bool, true, false, ◌&&◌, ◌||◌, nat_le, IsTrue, List, [], ◌∷◌, length, All, decimal, refl, ap, subst, arith}
 use Rattle.std.specs.List.{list_all}
 use Rattle.std.proofs.lemmas.Bool.Decides.{nat_tests}
 use Rattle.std.proofs.lemmas.Fmt.{length-decimal-le}
 use Rattle.std.proofs.lemmas.List.Elements.{All-cons}
+use Rattle.history_model.proofs.ScriptLemmas.{text_same}
 use Rattle.hop_model.specs.Outcomes.{made_name}
-use Rattle.hop_model.specs.Scripts.{atlas_name, text_eq}
+use Rattle.hop_model.specs.Scripts.{text_eq}
 use Rattle.hop_model.specs.Soundness.{IsSound, are_names_from, begins_with_letter, is_given_name, is_name_byte, is_name_of}
 use Rattle.hop_model.specs.State.{Text, AtlasState, Cell, AtlasCell}
 
@@ -19,16 +20,6 @@ right_true false b h = absurd (no h)
   where
     no : IsTrue false → ⊥
     no h = cc
-
-text_same : (s t : Text) → text_eq s t ≡ true → s ≡ t
-text_same [] [] h = refl
-text_same [] (y ∷ t) h = cc
-text_same (x ∷ s) [] h = cc
-text_same (x ∷ s) (y ∷ t) h =
-    elim (x == y) as (λ b. (x == y) ≡ b → (b && text_eq s t) ≡ true → x ∷ s ≡ y ∷ t) [
-      | true ↦ λ is e. (let here : x ≡ y = grind (arith, nat_tests) in λ i. here i ∷ text_same s t e i)
-      | false ↦ λ is e. cc
-    ] refl h
 
 given_short : (name : Text) → IsTrue (is_given_name name) → length name ≤ 24
 given_short name h =

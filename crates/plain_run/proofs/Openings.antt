@@ -1,21 +1,16 @@
 -- The births of one container and one locus, computed.
-use Rattle.std.proofs.Common.{◌≡◌, ℕ, ◌+◌, ◌-◌, ◌<◌, ◌≤◌, Bool, true, false, ◌==◌, nat_lt, if◌then◌else◌, IsTrue, List, [], ◌∷◌, ◌++◌, length, All, Option, Some, None, codes, sum_by, get_or, slice_index, zero, suc, replicate, refl, sym, ap, subst, ◌∙◌, arith}
+use Rattle.std.proofs.Common.{◌≡◌, ℕ, ◌-◌, ◌<◌, ◌≤◌, true, false, ◌==◌, if◌then◌else◌, IsTrue, List, [], ◌∷◌, Option, Some, None, codes, get_or, slice_index, zero, suc, replicate, refl, sym, subst, ◌∙◌, arith}
 use Rattle.std.specs.Option.{ForSome}
-use Rattle.hop_base.specs.declared.histories.Entry.{Entry}
-use Rattle.hop_base.specs.declared.instructions.Condition.TheVariants.{Running}
 use Rattle.hop_base.specs.declared.instructions.Instr.{Instr}
-use Rattle.hop_model.specs.State.{Supply, Cell, NotBorn, AtlasCell, ContainerCell, LocusCell, EntityState, KernelState, empty_state, no_atlas}
+use Rattle.hop_model.specs.State.{Supply, Cell, NotBorn, AtlasCell, EntityState, KernelState, empty_state, no_atlas}
 use Rattle.hop_model.specs.Births.{birth, birth_change, next_birth_change}
 use Rattle.hop_model.specs.Changes.{Access, access_at, accessed, changed, written}
-use Rattle.hop_model.specs.Choices.{covered, greatest}
-use Rattle.hop_model.specs.Histories.{IsLegalRun, births_owed, never, run_after, start_run}
-use Rattle.hop_model.specs.Outcomes.{supplied}
-use Rattle.hop_model.specs.Scripts.{Script}
+use Rattle.hop_model.specs.Histories.{IsLegalRun, never, start_run}
 use Rattle.hop_model.specs.Serial.{all_births}
 use Rattle.hop_model.specs.Soundness.{IsSound}
 use Rattle.history_model.specs.Events.{Has}
-use Rattle.history_model.specs.FiveActs.{HasFiveActs, code_of, has_five}
-use Rattle.plain_run.specs.Opening.{container_born, first_state, locus_born, no_tables, one_locus, opening, second_state, with_container, with_locus}
+use Rattle.history_model.specs.FiveActs.{code_of, has_five}
+use Rattle.plain_run.specs.Opening.{container_born, first_state, locus_born, one_locus, opening, second_state, with_container, with_locus}
 use Rattle.plain_run.specs.Sessions.{IsCalm, Tracks, run_of}
 use Rattle.plain_run.proofs.Goings.{changed_rise}
 

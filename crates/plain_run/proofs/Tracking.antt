@@ -1,6 +1,5 @@
 -- What is kept of a run, over one look at a locus.
-use Rattle.std.proofs.Common.{◌≡◌, ◌≢◌, ℕ, zero, suc, ◌+◌, ◌-◌, ◌*◌, ◌<◌, ◌≤◌, ◌^◌, ◌⊎◌, ⊎_elim, Bool, true, false, ◌&&◌, ◌==◌, nat_lt, if◌then◌else◌, IsTrue, List, [], ◌∷◌, ◌++◌, length, All, Option, Some, None, is_some, sum_by, slice_index, slice_set, slice_get, unwrap_or, refl, sym, ap, subst, ◌∙◌, arith, eqb-true, eq-eqb, get_or, append-nil}
-use Rattle.std.specs.List.{list_all}
+use Rattle.std.proofs.Common.{◌≡◌, ℕ, ◌+◌, ◌-◌, ◌*◌, ◌<◌, ◌≤◌, Bool, true, false, ◌&&◌, ◌==◌, nat_lt, if◌then◌else◌, IsTrue, List, [], ◌∷◌, ◌++◌, length, All, Option, Some, None, is_some, sum_by, slice_index, slice_set, slice_get, unwrap_or, refl, sym, ap, subst, ◌∙◌, arith, eqb-true, eq-eqb, get_or, append-nil}
 use Rattle.std.proofs.lemmas.Bool.Decides.{nat_tests}
 use Rattle.std.proofs.lemmas.List.{get_or-set_same, get_or-set_other, get_or_default, length-set, length-append}
 use Rattle.std.proofs.lemmas.List.Sums.{sum_by-le, sum_by-set}
@@ -9,19 +8,19 @@ use Rattle.hop_base.specs.declared.instructions.Condition.{Condition}
 use Rattle.hop_base.specs.declared.instructions.Condition.TheVariants.{Running, Stopped, Halted}
 use Rattle.hop_base.specs.declared.instructions.Instr.{Instr}
 use Rattle.hop_base.specs.declared.instructions.Instr.TheVariants.{Halt}
-use Rattle.hop_model.specs.State.{Supply, LocusState, Cell, NotBorn, AtlasCell, ContainerCell, LocusCell, KernelState, empty_state}
-use Rattle.hop_model.specs.Histories.{IsLegalFrom, Run, goes_on, never, run_after, start_run}
+use Rattle.hop_model.specs.State.{Supply, LocusState, Cell, NotBorn, AtlasCell, ContainerCell, LocusCell, empty_state}
+use Rattle.hop_model.specs.Histories.{Run, start_run}
 use Rattle.hop_model.specs.Refusals.{instr_at}
 use Rattle.hop_model.specs.Scripts.{Script}
-use Rattle.hop_model.specs.Serial.{all_births, can_step, turn, turns}
+use Rattle.hop_model.specs.Serial.{turn}
 use Rattle.hop_model.specs.Soundness.{IsSound}
 use Rattle.hop_model.specs.Steps.{if_running, running, step}
 use Rattle.hop_model.specs.Words.{put}
 use Rattle.history_model.proofs.SoundLemmas.{all_at}
 use Rattle.history_model.specs.Events.{AreFewVersions, Has, Stays, StepsTo, state_with}
 use Rattle.history_model.specs.FiveActs.{HasFiveActs, code_of, has_five, is_one_of_five}
-use Rattle.plain_run.specs.Sessions.{IsCalm, IsPlayed, Tracks, run_of}
-use Rattle.plain_run.proofs.Goings.{calm_step, goes_on_step, legal-push, may_step, run_after-append, state_is, step_rise, stepped, turn_idle, turn_step, turns-append}
+use Rattle.plain_run.specs.Sessions.{IsCalm, Tracks, run_of}
+use Rattle.plain_run.proofs.Goings.{calm_step, goes_on_step, legal-push, may_step, run_after-append, state_is, step_rise, stepped, turn_idle, turn_step}
 
 -- RUNNING LOCI
 

@@ -1,5 +1,5 @@
 -- The script of one container and one locus, and the script that names nothing.
-use Rattle.std.specs.Prelude.{◌≡◌, ℕ, List, [], ◌∷◌, Option, Some, None, codes, replicate, slice_index, IsTrue, true}
+use Rattle.std.specs.Prelude.{◌≡◌, ℕ, List, [], ◌∷◌, Some, None, codes, replicate, slice_index, IsTrue, true}
 use Rattle.hop_base.specs.declared.histories.Answer.TheVariants.{Quiet}
 use Rattle.hop_base.specs.declared.histories.Entry.{Entry}
 use Rattle.hop_base.specs.declared.histories.Event.TheVariants.{Birth, Stable}

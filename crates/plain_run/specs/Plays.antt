@@ -1,14 +1,13 @@
 -- What a run of a script made.
-use Rattle.std.specs.Prelude.{◌≡◌, ℕ, ◌≤◌, List, [], length, All, replicate}
+use Rattle.std.specs.Prelude.{◌≡◌, ℕ, List, [], replicate}
 use Rattle.hop_base.specs.declared.histories.Entry.{Entry}
 use Rattle.hop_model.specs.Histories.{IsLegalRun, never}
 use Rattle.hop_model.specs.Output.{output_of}
 use Rattle.hop_model.specs.Scripts.{Script}
-use Rattle.hop_model.specs.Serial.{IsSerial, IsSerialFront}
+use Rattle.hop_model.specs.Serial.{IsSerialFront}
 use Rattle.hop_model.specs.Soundness.{IsSound}
 use Rattle.hop_model.specs.State.{Supply, Cell, empty_state}
 use Rattle.hop_model.specs.Steps.{atlas_in}
-use Rattle.history_model.specs.Plains.{atlas_of, cells_of}
 use Rattle.plain_run.specs.Opening.{IsEmpty}
 use Rattle.plain_run.specs.Sessions.{run_of}
 use Rattle.plain_run.specs.declared.session.Session.{Session}

@@ -1,10 +1,10 @@
 -- A run of a script from the empty state, and what is kept of it.
-use Rattle.std.specs.Prelude.{◌≡◌, ℕ, ◌+◌, ◌-◌, ◌<◌, ◌≤◌, Bool, true, false, List, [], ◌∷◌, ◌++◌, length, sum_by, take, All, slice_index, Option, Some, None}
+use Rattle.std.specs.Prelude.{◌≡◌, ℕ, ◌+◌, ◌-◌, ◌<◌, ◌≤◌, false, List, ◌++◌, length, sum_by, All, slice_index, None}
 use Rattle.hop_base.specs.declared.histories.Entry.{Entry}
-use Rattle.hop_model.specs.State.{Supply, AtlasState, Cell, KernelState, empty_state}
+use Rattle.hop_model.specs.State.{Supply, Cell, empty_state}
 use Rattle.hop_model.specs.Histories.{IsLegalRun, Run, births_owed, never, run_after, start_run}
 use Rattle.hop_model.specs.Scripts.{Script}
-use Rattle.hop_model.specs.Serial.{all_births, all_loci, turns}
+use Rattle.hop_model.specs.Serial.{all_births, turns}
 use Rattle.hop_model.specs.Soundness.{IsSound}
 use Rattle.history_model.specs.Events.{Has}
 use Rattle.history_model.specs.FiveActs.{HasFiveActs}

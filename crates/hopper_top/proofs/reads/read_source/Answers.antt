@@ -1,8 +1,5 @@
-use Rattle.std.proofs.Common.{◌≡◌, ℕ, ◌≤◌, List, length, Option, Some, None, IfSome, sym, ap, subst, ◌∙◌, arith}
-use Rattle.hop_model.specs.State.{Text}
+use Rattle.std.proofs.Common.{◌≡◌, ◌≤◌, length, ap, arith}
 use Rattle.script_read.specs.Scripts.{tables_of}
-use Rattle.hopper_top.specs.FirstForm.{StandsFor}
-use Rattle.hopper_top.specs.Sources.{IsAccepted}
 use Rattle.hopper_top.proofs.Ends.{accepted_by, form_of}
 use Rattle.hopper_top.proofs.reads.read_source.Goals as goal
 

@@ -1,4 +1,4 @@
-use Rattle.std.proofs.Common.{◌≡◌, ℕ, ◌++◌, ◌≤◌, true, false, arith, sym, ap, subst, ◌∙◌}
+use Rattle.std.proofs.Common.{◌≡◌, ◌++◌, ◌≤◌, sym, subst, ◌∙◌}
 use Rattle.std.specs.Io.KnownBytes.{Appends}
 use Rattle.stream_edge.specs.Counts.{Rose}
 use Rattle.stream_edge.specs.Streams.{AppendsPart}
@@ -7,9 +7,9 @@ use Rattle.hop_model.specs.State.{Text}
 use Rattle.history_model.specs.Plains.{atlas_of}
 use Rattle.script_read.specs.Scripts.{tables_of}
 use Rattle.hopper_top.specs.Faults.{fault_line}
-use Rattle.hopper_top.specs.Runs.{Ran, Gains, HasRun, run_output}
+use Rattle.hopper_top.specs.Runs.{Ran, Gains, HasRun}
 use Rattle.hopper_top.specs.declared.faults.RunFault.TheVariants.{Memory as NoMemory}
-use Rattle.hopper_top.specs.declared.statuses.Status.TheVariants.{Done, SinkFault, Memory}
+use Rattle.hopper_top.specs.declared.statuses.Status.TheVariants.{SinkFault}
 use Rattle.hopper_top.proofs.Ends.{appended, caused, gains}
 use Rattle.hopper_top.proofs.runs.run_script.Goals.{then-not-played, else-not-played+then-is_ok, else-not-played+else-is_ok}
 use Rattle.hopper_top.proofs.runs.run_script.Goals as goal

@@ -1,11 +1,9 @@
-use Rattle.std.proofs.Common.{◌≡◌, ℕ, ◌≤◌, ◌∷◌, [], List, length, slice_index, arith, refl, sym, ap, subst, ◌∙◌}
-use Rattle.hop_base.specs.declared.histories.Entry.{Entry}
+use Rattle.std.proofs.Common.{◌∷◌, [], arith}
 use Rattle.hop_model.specs.Births.{birth}
 use Rattle.hop_model.specs.State.{Supply, empty_state}
-use Rattle.history_model.specs.Events.{Has}
 use Rattle.history_model.specs.Plains.{cells_of}
 use Rattle.script_read.specs.Scripts.{tables_of}
-use Rattle.plain_run.specs.Opening.{container_born, first_state, locus_born, opening, second_state}
+use Rattle.plain_run.specs.Opening.{container_born, first_state, locus_born, second_state}
 use Rattle.plain_run.proofs.Births.{defined, empty_sound, few_below, first_known, gives, has_empty, kinds_second, low_first, second_has, second_known}
 use Rattle.plain_run.proofs.opening.births.Goals as goal
 

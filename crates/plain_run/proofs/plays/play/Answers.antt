@@ -1,4 +1,4 @@
-use Rattle.std.proofs.Common.{◌≡◌, IsTrue, Ok, Err, OnOk, is_ok, refl, sym, subst, ◌∙◌}
+use Rattle.std.proofs.Common.{IsTrue, Ok, Err, OnOk, is_ok, refl, subst}
 use Rattle.hop_model.specs.Serial.{IsSerial}
 use Rattle.hop_model.specs.State.{empty_state}
 use Rattle.history_model.specs.Plains.{atlas_of, cells_of}

@@ -1,11 +1,10 @@
-use Rattle.std.proofs.Common.{◌≡◌, ℕ, ◌<◌, ◌≤◌, ◌++◌, ◌∷◌, [], List, take, Ok, Err, OnOk, OnErr, sym, ap, subst, ◌∙◌, arith, append-nil}
+use Rattle.std.proofs.Common.{◌≡◌, ℕ, ◌++◌, List, take, Ok, Err, OnOk, OnErr, sym, ap, subst, ◌∙◌, append-nil}
 use Rattle.hop_base.specs.declared.histories.Entry.{Entry}
-use Rattle.hop_model.specs.Histories.{run_after}
 use Rattle.hop_model.specs.Serial.{IsAllIdle, IsSerial, IsSerialFront, all_loci, rounds}
-use Rattle.hop_model.specs.State.{Supply, empty_state}
+use Rattle.hop_model.specs.State.{empty_state}
 use Rattle.hop_model.specs.Scripts.{Script}
 use Rattle.history_model.specs.Plains.{cells_of}
-use Rattle.plain_run.specs.Opening.{HasFirstForm, opening_of}
+use Rattle.plain_run.specs.Opening.{opening_of}
 use Rattle.plain_run.specs.Sessions.{Looks, Tracks, run_of}
 use Rattle.plain_run.proofs.FirstPlays.{front_of, play_none, play_of, whole_of}
 use Rattle.plain_run.proofs.plays.run_whole.Goals as goal

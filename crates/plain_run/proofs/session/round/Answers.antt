@@ -1,4 +1,4 @@
-use Rattle.std.proofs.Common.{◌≡◌, ℕ, ◌+◌, ◌-◌, ◌<◌, List, take, arith, subst, sym}
+use Rattle.std.proofs.Common.{◌≡◌, ◌+◌, ◌-◌, ◌<◌, take, arith, subst}
 use Rattle.hop_model.specs.Serial.{all_loci}
 use Rattle.plain_run.specs.Sessions.{Looks}
 use Rattle.plain_run.proofs.Rounds.{looked_one}

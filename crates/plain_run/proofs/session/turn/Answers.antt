@@ -1,9 +1,9 @@
-use Rattle.std.proofs.Common.{◌≡◌, ℕ, ◌+◌, ◌-◌, ◌<◌, ◌≤◌, ◌++◌, ◌∷◌, [], List, length, slice_index, slice_set, None, true, false, refl, rules, sym, ap, subst, ◌∙◌, arith}
+use Rattle.std.proofs.Common.{◌≡◌, ◌+◌, ◌-◌, ◌<◌, ◌≤◌, ◌++◌, ◌∷◌, [], List, length, slice_index, slice_set, None, true, false, rules, sym, ap, subst, ◌∙◌, arith}
 use Rattle.hop_base.specs.declared.histories.Entry.{Entry}
 use Rattle.hop_model.specs.State.{AtlasCell}
 use Rattle.hop_model.specs.Steps.{running}
 use Rattle.history_model.specs.Plains.{cells_of}
-use Rattle.plain_run.specs.Sessions.{Tracks, run_of}
+use Rattle.plain_run.specs.Sessions.{Tracks}
 use Rattle.plain_run.proofs.Tracking.{few_versions, tracks_step, tracks_stay, turn_spent}
 use Rattle.plain_run.proofs.session.turn.Goals as goal
 
