@@ -5,12 +5,15 @@ ghost use Rattle.hop_model.specs.State.{AtlasState, Supply, Text};
 ghost use Rattle.script_read.specs.Rules.{IsScript};
 ghost use Rattle.script_read.specs.Scripts.{tables_of};
 ghost use Rattle.history_model.specs.Born.{AreEdges, AreOfOneKind, KnowsNames};
+ghost use Rattle.history_model.specs.Events.{AreFewVersions};
+ghost use Rattle.history_model.specs.FiveActs.{HasFiveActs};
 ghost use Rattle.history_model.specs.Plains.{cells_of};
 
 use crate::births::plain_birth;
 use crate::names::{container_named, number_among};
 use crate::plain::{Plain, PlainAtlas};
-use hop_base::{Entry, Instr};
+use crate::steps::plain_step;
+use hop_base::{Entity, Entry, Instr};
 use script_read::{Script, ScriptContainer, ScriptLocus};
 use std::alloc::{AllocError, Global};
 use std::process::Abort;
@@ -58,6 +61,7 @@ fn one_of_each(alloc: Global) -> Result<Script, AllocError>
 /// Nothing but the atlas is born.
 fn empty_state(alloc: Global) -> Plain
     ensures sound { (s : Supply) → IsSound (cells_of s result) }
+    ensures five { (s : Supply) → HasFiveActs (cells_of s result) }
     ensures edges { AreEdges result.atlas.edges.items }
 {
     Plain {
@@ -127,5 +131,28 @@ fn a_locus_is_born_after_its_host_and_each_name_once(rt: HostRuntime) -> Result<
         bear(&rt, rt.alloc(), &mut state, &mut versions, &script, "b")?,
         None
     );
+    Ok(())
+}
+
+/// A step on a supplier of zeros.
+fn step(
+    state: &mut Plain,
+    versions: &mut [u64; 64],
+    locus: Entity,
+) -> Result<Option<Entry>, AllocError>
+    requires sound { (s : Supply) → IsSound (cells_of s state.old) }
+    requires five { (s : Supply) → HasFiveActs (cells_of s state.old) }
+    requires few { AreFewVersions versions.old }
+{
+    plain_step(state, versions, locus, &|_, _, _| 0)
+}
+
+#[test]
+fn a_locus_that_is_not_born_makes_no_step(rt: HostRuntime) -> Result<(), Fail> {
+    let mut state = empty_state(rt.alloc());
+    let mut versions = [0; 64];
+    let locus = Entity::new(63).ok_or("a locus")?;
+    assert!(rt; versions.iter().all(|v| *v < 1 << 63));
+    assert_eq!(rt; step(&mut state, &mut versions, locus)?, None);
     Ok(())
 }
