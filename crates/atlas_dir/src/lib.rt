@@ -3,6 +3,7 @@
 #![tactic(auto)]
 
 ghost use Rattle.std.specs.Prelude.{◌≡◌, ◌≢◌, ◌+◌, ◌-◌, ◌<◌, [], replicate, Ok, Err, MatchOption, IfErr, OnOk, OnErr, IsTrue, None, codes};
+ghost use Rattle.std.specs.Bool.{OnTrue, OnFalse};
 ghost use Rattle.std.specs.Option.{ForSome};
 ghost use Rattle.std.specs.Option.{option_map};
 ghost use Rattle.hop_base.specs.Edges.{ClosesCircle};
@@ -70,6 +71,17 @@ impl Atlas {
             loci: ArrayVec::new(),
             edges: [[0; SIDE]; SIDE],
         }
+    }
+
+    /// Whether an edge from `c` to `d` would close a circle: `d` reaches `c` over edges, also over none.
+    pub fn closes_circle(&self, c: Entity, d: Entity) -> bool
+        requires c_container { IsBornContainer self.now c }
+        requires d_container { IsBornContainer self.now d }
+        ensures circle { OnTrue result (ClosesCircle (edges_of self.now) c d) }
+        ensures open { OnFalse result (ClosesCircle (edges_of self.now) c d → ⊥) }
+        ensures inside { IsAmongContainers (edges_of self.now) }
+    {
+        leads(&self.edges, d.number() as usize, c.number() as usize)
     }
 
     /// Counts one region more of `d` that `c` shows. Circle where `d` reaches `c` over edges, also over none.

@@ -53,6 +53,14 @@ impl CapList {
         }
     }
 
+    /// All slots in their order.
+    pub fn slots(&self) -> &[Option<Cap>]
+        ensures all { result.now ≡ self.now }
+        ensures slots { length self.now ≡ SLOTS }
+    {
+        &self.slots
+    }
+
     /// Puts the capability into the lowest empty slot, and answers its number. ListFull where none is empty.
     pub fn put(&mut self, cap: Cap) -> Result<u8, Reply>
         ensures put { MatchOption (free_slot self.old)

@@ -1,13 +1,12 @@
 -- The cells and versions of plain states, after a container or a locus changed.
-use Rattle.std.proofs.Common.{◌≡◌, ◌≢◌, ℕ, zero, suc, ◌+◌, ◌-◌, ◌<◌, ◌≤◌, ◌⊎◌, inl, inr, ⊎_elim, Bool, true, false, if◌then◌else◌, ◌==◌, nat_lt, List, [], ◌∷◌, Option, Some, None, slice_index, slice_get, slice_set, length, refl, sym, ap, subst, ◌∙◌, arith, eqb-true, eq-eqb}
+use Rattle.std.proofs.Common.{◌≡◌, ◌≢◌, ℕ, zero, suc, ◌+◌, ◌-◌, ◌<◌, ◌≤◌, ◌⊎◌, inl, inr, ⊎_elim, true, false, if◌then◌else◌, ◌==◌, nat_lt, List, [], ◌∷◌, Option, Some, None, slice_index, slice_get, slice_set, length, refl, sym, ap, subst, ◌∙◌, arith, eqb-true, eq-eqb}
 use Rattle.std.proofs.lemmas.Bool.{cases_lt}
 use Rattle.std.proofs.lemmas.Bool.Decides.{nat_tests}
-use Rattle.std.proofs.lemmas.List.{get_or-set_same, get_or-set_other, length-set}
-use Rattle.hop_model.specs.State.{Supply, AtlasState, Cell, NotBorn, AtlasCell, ContainerCell, LocusCell}
+use Rattle.std.proofs.lemmas.List.{get_or-set_same, get_or-set_other}
+use Rattle.hop_model.specs.State.{Supply, AtlasState, AtlasCell, ContainerCell, LocusCell}
 use Rattle.hop_base.specs.declared.instructions.Condition.{Condition}
 use Rattle.hop_base.specs.declared.instructions.Condition.TheVariants.{Running, Stopped, Halted}
 use Rattle.hop_model.specs.Steps.{if_running, running}
-use Rattle.history_model.specs.Entries.{versions_beside}
 use Rattle.history_model.specs.Lists.{IsIdleIn}
 use Rattle.history_model.specs.Plains.{cells_by, container_of, locus_of, container_cell, locus_cell}
 use Rattle.history_model.specs.declared.plain.PlainContainer.{PlainContainer}
@@ -26,13 +25,6 @@ slice_get-set_other (y ∷ ys) zero zero x h = absurd (h refl)
 slice_get-set_other (y ∷ ys) zero (suc j) x h = refl
 slice_get-set_other (y ∷ ys) (suc i) zero x h = refl
 slice_get-set_other (y ∷ ys) (suc i) (suc j) x h = slice_get-set_other ys i j x (λ e. h (ap suc e))
-
-pub set_at : (us : List ℕ) (l v y : ℕ) → l < length us → slice_index (slice_set us l v) y ≡ (if l == y then v else slice_index us y)
-set_at us l v y h =
-    elim (l == y) as (λ b. (l == y) ≡ b → slice_index (slice_set us l v) y ≡ (if b then v else slice_index us y)) [
-      | true ↦ λ is. subst (λ x. slice_index (slice_set us l v) x ≡ v) (eqb-true l y is) (get_or-set_same us l v 0 h)
-      | false ↦ λ is. get_or-set_other us l y v 0 (λ e. let t = eq-eqb l y (sym e) in cc)
-    ] refl
 
 -- the version of one entity rises
 pub risen : (us : List ℕ) (l x : ℕ) → l < length us → slice_index (slice_set us l (slice_index us l + 1)) x ≡ (if l == x then slice_index us x + 1 else slice_index us x)
@@ -126,36 +118,6 @@ both_same s a cs ls i j b c l m y h k g is is' ec em =
       | false ↦ λ _. elim (j + 41 == y) as (λ t. (j + 41 == y) ≡ t → (if t then LocusCell (locus_of m) else cells_by s a cs ls y) ≡ cells_by s a cs ls y) [
         | true ↦ λ at. ap LocusCell em ∙ sym (cell_at_locus s a cs ls j l y (eqb-true _ _ at) is')
         | false ↦ λ _. refl
-      ] refl
-    ] refl
-
-eqb_far : (a b : ℕ) → b < a → (a == b) ≡ false
-eqb_far a b h = grind (arith, nat_tests)
-
--- the versions of both, or of the locus alone, rise
-pub risen_two : (us : List ℕ) (x l y : ℕ) (wrote : Bool) → x < length us → l < length us → x < l
-    → slice_index (versions_beside us x wrote l) y ≡ (if x == y then (if wrote then slice_index us y + 1 else slice_index us y) else if l == y then slice_index us y + 1 else slice_index us y)
-risen_two us x l y wrote h k lt =
-    elim (x == y) as (λ t. (x == y) ≡ t → slice_index (versions_beside us x wrote l) y ≡ (if t then (if wrote then slice_index us y + 1 else slice_index us y) else if l == y then slice_index us y + 1 else slice_index us y)) [
-      | true ↦ λ at.
-          let e : x ≡ y = eqb-true x y at in
-          let apart : (l == y) ≡ false = eqb_far l y (omega arith) in
-          elim wrote as (λ w. slice_index (versions_beside us x w l) y ≡ (if w then slice_index us y + 1 else slice_index us y)) [
-            | true ↦ set_at (slice_set us x (slice_index us x + 1)) l _ y (rw length-set k) ∙ rw apart (set_at us x _ y h ∙ rw at (ap (λ n. slice_index us n + 1) e))
-            | false ↦ set_at us l _ y k ∙ rw apart refl
-          ]
-      | false ↦ λ at. elim (l == y) as (λ t. (l == y) ≡ t → slice_index (versions_beside us x wrote l) y ≡ (if t then slice_index us y + 1 else slice_index us y)) [
-        | true ↦ λ is.
-            let e : l ≡ y = eqb-true l y is in
-            elim wrote as (λ w. slice_index (versions_beside us x w l) y ≡ slice_index us y + 1) [
-              | true ↦ set_at (slice_set us x (slice_index us x + 1)) l _ y (rw length-set k) ∙ rw is (ap (λ n. slice_index us n + 1) e)
-              | false ↦ set_at us l _ y k ∙ rw is (ap (λ n. slice_index us n + 1) e)
-            ]
-        | false ↦ λ is.
-            elim wrote as (λ w. slice_index (versions_beside us x w l) y ≡ slice_index us y) [
-              | true ↦ set_at (slice_set us x (slice_index us x + 1)) l _ y (rw length-set k) ∙ rw is (set_at us x _ y h ∙ rw at refl)
-              | false ↦ set_at us l _ y k ∙ rw is refl
-            ]
       ] refl
     ] refl
 

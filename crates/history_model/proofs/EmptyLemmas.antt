@@ -1,8 +1,8 @@
 -- The state in which nothing but the atlas is born is sound.
-use Rattle.std.proofs.Common.{◌≡◌, ℕ, ◌<◌, Bool, true, false, ◌||◌, if◌then◌else◌, ◌==◌, nat_lt, IsTrue, List, [], Some, slice_get, refl, arith}
+use Rattle.std.proofs.Common.{◌≡◌, ℕ, ◌<◌, true, false, ◌||◌, if◌then◌else◌, ◌==◌, nat_lt, IsTrue, [], Some, slice_get, refl, arith}
 use Rattle.std.proofs.lemmas.Bool.Decides.{nat_tests}
-use Rattle.hop_model.specs.Soundness.{AreSound, IsSound, is_born, is_born_container, is_born_locus, regions_onto}
-use Rattle.hop_model.specs.State.{Supply, Cell, NotBorn, AtlasCell, no_atlas}
+use Rattle.hop_model.specs.Soundness.{AreSound, is_born, is_born_container, is_born_locus, regions_onto}
+use Rattle.hop_model.specs.State.{Supply, NotBorn, AtlasCell, no_atlas}
 use Rattle.history_model.specs.FiveActs.{HasFiveActs, code_of, has_five}
 use Rattle.history_model.specs.Plains.{cells_by}
 

@@ -1,16 +1,18 @@
--- What a store's look makes, case by case.
-use Rattle.std.proofs.Common.{◌≡◌, ℕ, ◌/◌, ◌<◌, ◌≤◌, nat_lt, Bool, true, false, if◌then◌else◌, Option, Some, None, find, refl, sym, subst, ap, arith}
+-- What a look makes, case by case.
+use Rattle.std.proofs.Common.{◌≡◌, ℕ, ◌/◌, ◌<◌, ◌≤◌, nat_lt, Bool, true, false, ◌&&◌, ◌==◌, if◌then◌else◌, List, [], ◌∷◌, All, Option, Some, None, find, refl, arith, subst}
+use Rattle.std.proofs.lemmas.List.Elements.{All-head, All-tail}
 use Rattle.std.proofs.lemmas.Bool.{lt-ltb}
 use Rattle.std.proofs.lemmas.Bool.Decides.{nat_tests}
+use Rattle.hop_base.specs.declared.capabilities.Private.{Private}
 use Rattle.hop_base.specs.declared.capabilities.Region.{Region}
-use Rattle.hop_base.specs.declared.histories.Answer.{Answer}
-use Rattle.hop_base.specs.declared.histories.Answer.TheVariants.{Reply as Replied}
 use Rattle.hop_base.specs.declared.instructions.Reply.{Reply}
 use Rattle.hop_base.specs.declared.instructions.Reply.TheVariants.{Ok, NoPage, Deep}
-use Rattle.hop_model.specs.State.{ContainerState, LocusState, Cell, ContainerCell}
+use Rattle.hop_model.specs.State.{ContainerState, LocusState, ContainerCell}
+use Rattle.hop_model.specs.Refusals.{private_at}
 use Rattle.hop_model.specs.Words.{covers, denied}
-use Rattle.hop_model.specs.Outcomes.{Outcome, store, with_other, own_reply, finish, looked, looked_by, through, hop_to, look_hops, with_word}
-use Rattle.history_model.specs.FiveActs.{Acted}
+use Rattle.wanted_act.specs.Views.{IsInside}
+use Rattle.history_model.specs.Readiness.{ShowsPage}
+use Rattle.hop_model.specs.Outcomes.{Outcome, load, store, with_other, own_reply, looked_by, through, hop_to, look_hops, with_word}
 
 -- the act only read the container
 pub record Reads (o : Outcome) : Type 0 where
@@ -39,15 +41,41 @@ pub store_word : (l : LocusState) (c : ContainerState) (address word : ℕ) → 
 unfolding store
 store_word l c address word low is = rw (lt-ltb (address / 128) c.pages low, is) refl
 
--- an act that reads leaves the container
-pub acted_reading : (o p : Outcome) (m : LocusState) (c : ContainerState) (answer : Answer) (wrote : Bool) → o ≡ p → Reads p → m ≡ p.locus → answer ≡ p.answer → wrote ≡ false → Acted o m c c answer wrote
-acted_reading o p m c answer wrote same reads locus answers is =
-    subst (λ (q : Outcome). Acted q m c c answer wrote) (sym same)
-    (subst (λ (w : Bool). Acted p m c c answer w) (sym is)
-    (record { locus = locus; answers = answers; other = reads.other; same = λ _. refl; newborn = reads.newborn }))
+looked_by_reads : (l : LocusState) (address needed : ℕ) (done : Outcome) (r : Option Region) → Reads done → Reads (looked_by l address needed done r)
+looked_by_reads l address needed done (Some r) h = through_reads l r address (denied r.rights.0 needed)
+looked_by_reads l address needed done None h = h
 
--- a word was stored
-pub acted_storing : (o : Outcome) (l m : LocusState) (b c : ContainerState) (answer : Answer) → o ≡ with_other l Ok (ContainerCell c) → m ≡ finish l Ok → answer ≡ Replied Ok → Acted o m b c answer true
-acted_storing o l m b c answer same locus answers =
-    subst (λ (q : Outcome). Acted q m b c answer true) (sym same)
-    (record { locus = locus; answers = answers; other = refl; same = λ h. cc; newborn = refl })
+-- a load reads the container
+pub load_reads : (l : LocusState) (c : ContainerState) (d address : ℕ) → Reads (load l c d address)
+unfolding load
+load_reads l c d address =
+    let r = find (λ r. covers r (address / 128)) c.regions in
+    elim (nat_lt (address / 128) c.pages) as (λ b. (done : Outcome) → Reads done → Reads (if b then looked_by l address 1 done r else own_reply l NoPage)) [
+      | true ↦ λ done h. looked_by_reads l address 1 done r h
+      | false ↦ λ done h. record { other = refl; newborn = refl }
+    ] _ (record { other = refl; newborn = refl })
+
+-- what is found passes the test, and what holds of each holds of it
+pub found_passes : {X : Type 0} (test : X → Bool) (P : X → Type 0) (xs : List X) (x : X) → All P xs → find test xs ≡ Some x → (test x ≡ true) × P x
+found_passes test P [] x all h = cc
+found_passes test P (y ∷ ys) x all h =
+    elim (test y) as (λ b. test y ≡ b → (if b then Some y else find test ys) ≡ Some x → (test x ≡ true) × P x) [
+      | true ↦ λ is e. let same : y ≡ x = cc in subst (λ z. (test z ≡ true) × P z) same (is, All-head P y ys all)
+      | false ↦ λ is e. found_passes test P ys x (All-tail P y ys all) e
+    ] refl h
+
+both_hold : (a b : Bool) → (a && b) ≡ true → b ≡ true
+both_hold true b e = e
+both_hold false b e = absurd (no e)
+  where
+    no : false ≡ true → ⊥
+    no e = cc
+
+shows : (r : Region) (page : ℕ) → covers r page ≡ true → IsInside r → ShowsPage r page
+shows r page e inside = record { at = grind (arith, nat_tests); count = grind (arith, nat_tests); inside = inside }
+
+-- the private region that covers a page shows it
+pub private_shows : (l : LocusState) (page : ℕ) (p : Private) → All (λ (p : Private). IsInside p.region) l.privates → private_at l page ≡ Some p → ShowsPage p.region page
+private_shows l page p all is =
+    let found = found_passes (λ (p : Private). p.made == l.host && covers p.region page) (λ (p : Private). IsInside p.region) l.privates p all is in
+    shows p.region page (both_hold (p.made == l.host) (covers p.region page) found.0) found.1

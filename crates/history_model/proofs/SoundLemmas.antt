@@ -1,21 +1,17 @@
 -- What soundness says of plain states, and that the acts keep it.
-use Rattle.std.proofs.Common.{◌≡◌, ◌≢◌, ℕ, zero, suc, ◌+◌, ◌-◌, ◌/◌, ◌<◌, ◌≤◌, Bool, true, false, not, ◌&&◌, ◌||◌, if◌then◌else◌, ◌==◌, nat_lt, nat_le, IsTrue, List, [], ◌∷◌, length, All, Option, Some, None, IfSome, slice_get, slice_set, unwrap_or, find, refl, sym, ap, subst, ◌∙◌, arith, eqb-true}
+use Rattle.std.proofs.Common.{◌≡◌, ℕ, zero, suc, ◌+◌, ◌-◌, ◌/◌, ◌<◌, ◌≤◌, Bool, true, false, ◌&&◌, if◌then◌else◌, ◌==◌, nat_lt, nat_le, IsTrue, List, [], ◌∷◌, length, All, Option, Some, None, slice_get, find, refl, sym, ap, subst, ◌∙◌, arith}
 use Rattle.std.specs.List.{list_all}
 use Rattle.std.specs.Option.{ForSome}
 use Rattle.std.proofs.lemmas.Bool.Decides.{nat_tests}
-use Rattle.std.proofs.lemmas.List.{length-set}
 use Rattle.std.proofs.lemmas.List.Elements.{All-head, All-tail}
-use Rattle.std.proofs.lemmas.Option.{slice_get_within}
 use Rattle.hop_base.specs.declared.capabilities.Private.{Private}
-use Rattle.hop_base.specs.declared.capabilities.Region.{Region}
-use Rattle.hop_base.specs.declared.instructions.Instr.{Instr}
 use Rattle.hop_base.specs.declared.instructions.Walk.{Walk}
-use Rattle.hop_model.specs.State.{Supply, AtlasState, ContainerState, LocusState, Cell, NotBorn, AtlasCell, ContainerCell, LocusCell}
+use Rattle.hop_model.specs.State.{Supply, AtlasState, ContainerState, LocusState, NotBorn, AtlasCell, ContainerCell, LocusCell}
 use Rattle.hop_model.specs.Acts.{first_place, place_of_look, look_at}
-use Rattle.hop_model.specs.Refusals.{instr_at, private_at}
-use Rattle.hop_model.specs.Soundness.{AreSound, IsSound, IsSoundCode, IsSoundContainer, IsSoundLocus, IsSoundPrivate, IsSoundRegion, IsSoundWalk, is_born, is_born_container, is_born_locus, regions_onto}
+use Rattle.hop_model.specs.Refusals.{private_at}
+use Rattle.hop_model.specs.Soundness.{AreSound, IsSound, IsSoundContainer, IsSoundLocus, IsSoundPrivate, is_born, is_born_container, is_born_locus}
 use Rattle.hop_model.specs.Words.{covers}
-use Rattle.history_model.specs.FiveActs.{HasFiveActs, IsInside, IsReadyContainer, IsReadyLocus, code_of, container_of_look, has_five, is_one_of_five, address_of}
+use Rattle.history_model.specs.Readiness.{IsReadyContainer}
 use Rattle.history_model.specs.Plains.{cells_by, container_cell, container_of, locus_of}
 use Rattle.history_model.specs.declared.plain.PlainContainer.{PlainContainer}
 use Rattle.history_model.specs.declared.plain.PlainLocus.{PlainLocus}
@@ -108,15 +104,6 @@ module _ (s : Supply) (a : AtlasState) (cs : List PlainContainer) (ls : List Pla
 
 -- WHAT THE ACTS REST ON
 
-pub ready_locus : (a : AtlasState) (l : LocusState) → IsSoundLocus a l → IsTrue (has_five l.code) → IsReadyLocus l
-ready_locus a l h five = record {
-  place = h.place;
-  code = h.code;
-  five = five;
-  privates = λ k d lt. ((h.privates k d lt).region.at, (h.privates k d lt).region.from);
-  hops = λ w is. (h.walk w is).hops;
-}
-
 pub ready_container : (a : AtlasState) (c : ContainerState) → IsSoundContainer a c → IsReadyContainer c.pages c.regions
 ready_container a c h = record { size = h.size; each = λ k d lt. ((h.regions k d lt).at, (h.regions k d lt).from) }
 
@@ -128,8 +115,7 @@ place_born a l address (Some w) p host walk private is = walk w refl
 place_born a l address None (Some q) host walk private is = subst (λ o. IsTrue (is_born_container a (first_place l o))) (sym is) (private q refl)
 place_born a l address None None host walk private is = subst (λ o. IsTrue (is_born_container a (first_place l o))) (sym is) host
 
-pub look_born : (a : AtlasState) (l : LocusState) → IsSoundLocus a l → IsTrue (is_born_container a (container_of_look l))
-look_born a l h =
-    let address = address_of (instr_at l) l in
+pub look_born : (a : AtlasState) (l : LocusState) (address : ℕ) → IsSoundLocus a l → IsTrue (is_born_container a (look_at l address))
+look_born a l address h =
     place_born a l address l.walk (private_at l (address / 128)) h.host (λ w is. (h.walk w is).at)
     (λ q is. (find_all (IsSoundPrivate a) (λ p. p.made == l.host && covers p.region (address / 128)) l.privates h.privates q is).region.target) refl

@@ -1,143 +1,180 @@
--- The model's step, by what an act makes of its locus and of the container beside it.
-use Rattle.std.proofs.Common.{◌≡◌, ℕ, ◌+◌, ◌<◌, Bool, true, false, if◌then◌else◌, ◌==◌, List, [], ◌∷◌, Option, Some, None, slice_index, option_map, unwrap_or, is_some, refl, sym, ap, ◌∙◌, eqb-true}
+-- The model's step, by the act of its locus and what the act makes.
+use Rattle.std.proofs.Common.{◌≡◌, ℕ, ◌+◌, ◌<◌, ◌≤◌, true, false, if◌then◌else◌, ◌==◌, nat_lt, List, [], ◌∷◌, length, Option, Some, None, slice_index, slice_set, option_map, unwrap_or, is_some, refl, sym, ap, subst, ◌∙◌, arith, eqb-true, eq-eqb}
 use Rattle.std.proofs.lemmas.Bool.{lt-ltb}
-use Rattle.hop_base.specs.declared.histories.Answer.{Answer}
+use Rattle.std.proofs.lemmas.Bool.Decides.{nat_tests}
+use Rattle.std.proofs.lemmas.List.{get_or-set_same, get_or-set_other, length-set}
 use Rattle.hop_base.specs.declared.histories.Entry.{Entry}
 use Rattle.hop_base.specs.declared.histories.Event.TheVariants.{Step}
-use Rattle.hop_base.specs.declared.instructions.Instr.{Instr}
-use Rattle.hop_base.specs.declared.instructions.Reply.{Reply}
-use Rattle.hop_model.specs.State.{Supply, AtlasState, ContainerState, LocusState, Cell, NotBorn, AtlasCell, ContainerCell, LocusCell, EntityState, KernelState, no_atlas}
-use Rattle.hop_model.specs.Acts.{Act, alone, beside, wanted}
-use Rattle.hop_model.specs.Changes.{Access, Change, accessed, carried, carried_by, changed, joined, ordered, touches_of, written}
-use Rattle.hop_model.specs.Outcomes.{Outcome, on_cell, outcome}
-use Rattle.hop_model.specs.Refusals.{instr_at}
-use Rattle.hop_model.specs.Steps.{change_by, change_of, numbered_change, outcome_in, running, step, step_change}
-use Rattle.history_model.specs.Entries.{entry_alone, entry_beside}
+use Rattle.hop_model.specs.Acts.{Act, wanted}
+use Rattle.hop_model.specs.Changes.{Access, Change, access_at, accessed, carried, carried_by, changed, insert_access, joined, ordered, touches_of, written}
+use Rattle.hop_model.specs.Outcomes.{Outcome}
+use Rattle.hop_model.specs.State.{Supply, LocusState, Cell, EntityState, KernelState}
+use Rattle.hop_model.specs.Steps.{accesses_of, change_by, change_of, numbered_change, outcome_in, running, step, step_change}
+use Rattle.history_model.specs.Entries.{raised, step_entry, touches_by, versions_after}
 use Rattle.history_model.specs.Events.{StepsTo, state_with}
-use Rattle.history_model.specs.FiveActs.{ActsAlone, Acted, WantsLook, outcome_alone, outcome_of_look, container_of_look}
+use Rattle.history_model.specs.declared.entries.Mark.{Mark}
 
--- THE LOCUS ALONE
+-- WHAT AN ACCESS MAKES
 
-abbrev pub own_access : ℕ → LocusState → List Access
-own_access l m = record { entity = l; new = Some (LocusCell m) } ∷ []
+abbrev pub cell_by : Option Access → Cell → Cell
+cell_by None k = k
+cell_by (Some a) k = unwrap_or a.new k
 
-own_change : (l : ℕ) (i : Instr) (refused : Option Reply) (o : Outcome) → o.newborn ≡ None → change_by l (alone i refused) o ≡ record { accesses = own_access l o.locus; answer = o.answer }
-own_change l i refused o none = rw none refl
+abbrev pub version_by : Option Access → ℕ → ℕ
+version_by None v = v
+version_by (Some a) v = if is_some a.new then v + 1 else v
 
-outcome_of_alone : (s : Supply) (w : KernelState) (st : LocusState) (refused : Option Reply) → outcome_in s st (alone (instr_at st) refused) w ≡ outcome_alone s st refused
-unfolding outcome
-outcome_of_alone s w st refused = refl
+written_cell : (e : EntityState) (stamp : ℕ → ℕ) (c : Option Cell) → (written e stamp c).cell ≡ unwrap_or c e.cell
+written_cell e stamp None = refl
+written_cell e stamp (Some k) = refl
 
-step_alone : (s : Supply) (w : KernelState) (l : ℕ) (st m : LocusState) (answer : Answer) → running (w l).cell ≡ Some st → ActsAlone st m answer
-    → step s l w ≡ Some (carried_by w Step l (own_access l m) answer)
+written_version : (e : EntityState) (stamp : ℕ → ℕ) (c : Option Cell) → (written e stamp c).version ≡ (if is_some c then e.version + 1 else e.version)
+written_version e stamp None = refl
+written_version e stamp (Some k) = refl
+
+accessed_cell : (e : EntityState) (stamp : ℕ → ℕ) (o : Option Access) → (accessed e stamp o).cell ≡ cell_by o e.cell
+accessed_cell e stamp None = refl
+accessed_cell e stamp (Some a) = written_cell e stamp a.new
+
+accessed_version : (e : EntityState) (stamp : ℕ → ℕ) (o : Option Access) → (accessed e stamp o).version ≡ version_by o e.version
+accessed_version e stamp None = refl
+accessed_version e stamp (Some a) = written_version e stamp a.new
+
+changed_cell : (w : KernelState) (accesses : List Access) (x : ℕ) → (changed w accesses x).cell ≡ cell_by (access_at accesses x) (w x).cell
+unfolding changed
+changed_cell w accesses x = accessed_cell (w x) (joined w (touches_of w accesses)) (access_at accesses x)
+
+changed_version : (w : KernelState) (accesses : List Access) (x : ℕ) → (changed w accesses x).version ≡ version_by (access_at accesses x) (w x).version
+unfolding changed
+changed_version w accesses x = accessed_version (w x) (joined w (touches_of w accesses)) (access_at accesses x)
+
+-- MARKS
+
+abbrev pub mark_of : Access → Mark
+mark_of a = record { entity = a.entity; wrote = is_some a.new }
+
+abbrev pub marks_of : List Access → List Mark
+marks_of [] = []
+marks_of (a ∷ accesses) = mark_of a ∷ marks_of accesses
+
+touches_marked : (old : ℕ → Cell) (us : List ℕ) (stamps : ℕ → ℕ → ℕ) (accesses : List Access) → touches_of (state_with old us stamps) accesses ≡ touches_by us (marks_of accesses)
+touches_marked old us stamps [] = refl
+touches_marked old us stamps (a ∷ accesses) = ap (λ ts. record { version = if is_some a.new then slice_index us a.entity + 1 else slice_index us a.entity; entity = a.entity; wrote = is_some a.new } ∷ ts) (touches_marked old us stamps accesses)
+
+-- ONE STEP
+
+step_change_by : (s : Supply) (w : KernelState) (l : ℕ) (st : LocusState) (act : Act) (o : Outcome) (accesses : List Access)
+    → running (w l).cell ≡ Some st → wanted l st ≡ act → outcome_in s st act w ≡ o → ordered (accesses_of l act o) ≡ accesses
+    → step s l w ≡ Some (carried_by w Step l accesses o.answer)
 unfolding step_change change_of
-step_alone s w l st m answer run h =
-    let o = outcome_alone s st h.refused in
-    let change : change_of s w l st ≡ record { accesses = own_access l m; answer = answer } =
-    ap (λ (a : Act). change_by l a (outcome_in s st a w)) (h.wants l) ∙ ap (change_by l (alone (instr_at st) h.refused)) (outcome_of_alone s w st h.refused)
-    ∙ own_change l (instr_at st) h.refused o (h.newborn s) ∙ (λ i. record { accesses = own_access l (sym (h.locus s) i); answer = sym (h.answers s) i }) in
+step_change_by s w l st act o accesses run wants makes order =
+    let change : change_of s w l st ≡ change_by l act o = ap (λ (a : Act). change_by l a (outcome_in s st a w)) wants ∙ ap (change_by l act) makes in
     ap (λ (o : Option LocusState). option_map (λ (c : ℕ × Change). carried w Step c.0 c.1) (option_map (numbered_change s l w) o)) run
     ∙ ap (λ (c : Change). Some (carried w Step l c)) change
+    ∙ ap (λ (accesses : List Access). Some (carried_by w Step l accesses o.answer)) order
 
-own_cell : (w : KernelState) (l : ℕ) (m : LocusState) (x : ℕ) → (changed w (own_access l m) x).cell ≡ (if l == x then LocusCell m else (w x).cell)
-unfolding changed
-own_cell w l m x = elim (l == x) as (λ b. (accessed (w x) (joined w (touches_of w (own_access l m))) (if b then Some (record { entity = l; new = Some (LocusCell m) }) else None)).cell ≡ (if b then LocusCell m else (w x).cell)) [ true ↦ refl | false ↦ refl ]
-
-own_version : (w : KernelState) (l : ℕ) (m : LocusState) (x : ℕ) → (changed w (own_access l m) x).version ≡ (if l == x then (w x).version + 1 else (w x).version)
-unfolding changed
-own_version w l m x = elim (l == x) as (λ b. (accessed (w x) (joined w (touches_of w (own_access l m))) (if b then Some (record { entity = l; new = Some (LocusCell m) }) else None)).version ≡ (if b then (w x).version + 1 else (w x).version)) [ true ↦ refl | false ↦ refl ]
-
-pub steps_alone : (s : Supply) (old new : ℕ → Cell) (us vs : List ℕ) (l : ℕ) (st m : LocusState) (answer : Answer) (e : Entry)
-    → running (old l) ≡ Some st → ActsAlone st m answer → e ≡ entry_alone us l answer
-    → ((x : ℕ) → new x ≡ (if l == x then LocusCell m else old x))
-    → ((x : ℕ) → slice_index vs x ≡ (if l == x then slice_index us x + 1 else slice_index us x))
+-- a running locus steps by its act, over what the act touches in order
+pub steps_by : (s : Supply) (old new : ℕ → Cell) (us vs : List ℕ) (l : ℕ) (st : LocusState) (act : Act) (o : Outcome) (accesses : List Access) (e : Entry)
+    → running (old l) ≡ Some st → wanted l st ≡ act → ((stamps : ℕ → ℕ → ℕ) → outcome_in s st act (state_with old us stamps) ≡ o) → ordered (accesses_of l act o) ≡ accesses
+    → e ≡ step_entry us l (marks_of accesses) o.answer
+    → ((x : ℕ) → new x ≡ cell_by (access_at accesses x) (old x))
+    → ((x : ℕ) → slice_index vs x ≡ version_by (access_at accesses x) (slice_index us x))
     → StepsTo s l old us e new vs
-steps_alone s old new us vs l st m answer e run h entry cells versions stamps =
-    let w = state_with old us stamps in (
-      changed w (own_access l m),
-      step_alone s w l st m answer run h ∙ (λ j. Some (sym entry j, changed w (own_access l m))),
-      record { cells = λ x. own_cell w l m x ∙ sym (cells x); numbers = λ x. own_version w l m x ∙ sym (versions x) },
-    )
-
--- BESIDE A CONTAINER
-
-abbrev pub two_accesses : ℕ → Option Cell → ℕ → LocusState → List Access
-two_accesses x c l m = record { entity = x; new = c } ∷ record { entity = l; new = Some (LocusCell m) } ∷ []
-
-change_beside : (i : Instr) (l x : ℕ) (o : Outcome) → o.newborn ≡ None → change_by l (beside i x) o ≡ record { accesses = two_accesses x o.other l o.locus; answer = o.answer }
-change_beside i l x o none = rw none refl
-
-ordered_two : (x l : ℕ) (c : Option Cell) (m : LocusState) → x < l → ordered (two_accesses x c l m) ≡ two_accesses x c l m
-ordered_two x l c m lt = rw (lt-ltb x l lt) refl
-
-outcome_beside : (s : Supply) (w : KernelState) (st : LocusState) (c : ContainerState) → (w (container_of_look st)).cell ≡ ContainerCell c
-    → outcome_in s st (beside (instr_at st) (container_of_look st)) w ≡ outcome_of_look s st c
-unfolding outcome
-outcome_beside s w st c there = ap (on_cell s st no_atlas (container_of_look st) (instr_at st)) there
-
-step_beside : (s : Supply) (w : KernelState) (l : ℕ) (st : LocusState) (c : ContainerState) → running (w l).cell ≡ Some st → WantsLook st → (w (container_of_look st)).cell ≡ ContainerCell c
-    → (outcome_of_look s st c).newborn ≡ None → container_of_look st < l
-    → step s l w ≡ Some (carried_by w Step l (two_accesses (container_of_look st) (outcome_of_look s st c).other l (outcome_of_look s st c).locus) (outcome_of_look s st c).answer)
-unfolding step_change change_of
-step_beside s w l st c run h there none lt =
-    let x = container_of_look st in
-    let o = outcome_of_look s st c in
-    let change : change_of s w l st ≡ record { accesses = two_accesses x o.other l o.locus; answer = o.answer } =
-    ap (λ (a : Act). change_by l a (outcome_in s st a w)) (h.wants l) ∙ ap (change_by l (beside (instr_at st) x)) (outcome_beside s w st c there) ∙ change_beside (instr_at st) l x o none in
-    ap (λ (o : Option LocusState). option_map (λ (c : ℕ × Change). carried w Step c.0 c.1) (option_map (numbered_change s l w) o)) run
-    ∙ ap (λ (c : Change). Some (carried w Step l c)) change
-    ∙ (λ j. Some (carried_by w Step l (ordered_two x l o.other o.locus lt j) o.answer))
-
-two_cell : (w : KernelState) (x l : ℕ) (c : Option Cell) (m : LocusState) (y : ℕ) → (changed w (two_accesses x c l m) y).cell ≡ (if x == y then unwrap_or c (w y).cell else if l == y then LocusCell m else (w y).cell)
-unfolding changed
-two_cell w x l c m y =
-    elim (x == y) as (λ b. (accessed (w y) (joined w (touches_of w (two_accesses x c l m))) (if b then Some (record { entity = x; new = c }) else if l == y then Some (record { entity = l; new = Some (LocusCell m) }) else None)).cell ≡ (if b then unwrap_or c (w y).cell else if l == y then LocusCell m else (w y).cell)) [
-      | true ↦ elim c as (λ c. (written (w y) (joined w (touches_of w (two_accesses x c l m))) c).cell ≡ unwrap_or c (w y).cell) [ None ↦ refl | Some k ↦ refl ]
-      | false ↦ elim (l == y) as (λ b. (accessed (w y) (joined w (touches_of w (two_accesses x c l m))) (if b then Some (record { entity = l; new = Some (LocusCell m) }) else None)).cell ≡ (if b then LocusCell m else (w y).cell)) [ true ↦ refl | false ↦ refl ]
-    ]
-
-two_version : (w : KernelState) (x l : ℕ) (c : Option Cell) (m : LocusState) (y : ℕ) → (changed w (two_accesses x c l m) y).version ≡ (if x == y then (if is_some c then (w y).version + 1 else (w y).version) else if l == y then (w y).version + 1 else (w y).version)
-unfolding changed
-two_version w x l c m y =
-    elim (x == y) as (λ b. (accessed (w y) (joined w (touches_of w (two_accesses x c l m))) (if b then Some (record { entity = x; new = c }) else if l == y then Some (record { entity = l; new = Some (LocusCell m) }) else None)).version ≡ (if b then (if is_some c then (w y).version + 1 else (w y).version) else if l == y then (w y).version + 1 else (w y).version)) [
-      | true ↦ elim c as (λ c. (written (w y) (joined w (touches_of w (two_accesses x c l m))) c).version ≡ (if is_some c then (w y).version + 1 else (w y).version)) [ None ↦ refl | Some k ↦ refl ]
-      | false ↦ elim (l == y) as (λ b. (accessed (w y) (joined w (touches_of w (two_accesses x c l m))) (if b then Some (record { entity = l; new = Some (LocusCell m) }) else None)).version ≡ (if b then (w y).version + 1 else (w y).version)) [ true ↦ refl | false ↦ refl ]
-    ]
-
-wrote_by : (w : Bool) (k : Cell) (o : Option Cell) → o ≡ (if w then Some k else None) → w ≡ is_some o
-wrote_by true k o e = rw e refl
-wrote_by false k o e = rw e refl
-
-container_by : (w : Bool) (b c : ContainerState) (o : Option Cell) (k : Cell) → o ≡ (if w then Some (ContainerCell c) else None) → (w ≡ false → c ≡ b) → k ≡ ContainerCell b → unwrap_or o k ≡ ContainerCell c
-container_by true b c o k e f g = rw e refl
-container_by false b c o k e f g = rw e (g ∙ ap ContainerCell (sym (f refl)))
-
-pub steps_beside : (s : Supply) (old new : ℕ → Cell) (us vs : List ℕ) (l : ℕ) (st m : LocusState) (b c : ContainerState) (answer : Answer) (wrote : Bool) (e : Entry)
-    → running (old l) ≡ Some st → WantsLook st → old (container_of_look st) ≡ ContainerCell b → Acted (outcome_of_look s st b) m b c answer wrote → container_of_look st < l
-    → e ≡ entry_beside us (container_of_look st) wrote l answer
-    → ((y : ℕ) → new y ≡ (if container_of_look st == y then ContainerCell c else if l == y then LocusCell m else old y))
-    → ((y : ℕ) → slice_index vs y ≡ (if container_of_look st == y then (if wrote then slice_index us y + 1 else slice_index us y) else if l == y then slice_index us y + 1 else slice_index us y))
-    → StepsTo s l old us e new vs
-steps_beside s old new us vs l st m b c answer wrote e run h there made lt entry cells versions stamps =
+steps_by s old new us vs l st act o accesses e run wants makes order entry cells versions stamps =
     let w = state_with old us stamps in
-    let x = container_of_look st in
-    let o = outcome_of_look s st b in
-    let accesses = two_accesses x o.other l o.locus in
-    let is_wrote : wrote ≡ is_some o.other = wrote_by wrote (ContainerCell c) o.other made.other in (
+    let touched = touches_marked old us stamps accesses in (
       changed w accesses,
-      step_beside s w l st b run h there made.newborn lt ∙ (λ j. Some (sym (entry ∙ (λ t. entry_beside us x (is_wrote t) l (made.answers t))) j, changed w accesses)),
-      record {
-        cells = λ y. two_cell w x l o.other o.locus y ∙ sym (cells y ∙ cell_here y made.locus there is_wrote);
-        numbers = λ y. two_version w x l o.other o.locus y ∙ sym (versions y ∙ (λ t. if x == y then (if is_wrote t then slice_index us y + 1 else slice_index us y) else if l == y then slice_index us y + 1 else slice_index us y));
-      },
+      step_change_by s w l st act o accesses run wants (makes stamps) order
+          ∙ (λ j. Some (record { event = Step; actor = l; touched = touched j; version = 0; answer = o.answer }, changed w accesses))
+          ∙ (λ j. Some (sym entry j, changed w accesses)),
+      record { cells = λ x. changed_cell w accesses x ∙ sym (cells x); numbers = λ x. changed_version w accesses x ∙ sym (versions x) },
     )
+
+-- ACCESSES IN ORDER
+
+-- each is of a greater entity than the one before, the first than x
+abbrev pub Beyond : ℕ → List Access → Type 0
+Beyond x [] = Unit {0}
+Beyond x (a ∷ accesses) = (x < a.entity) × Beyond a.entity accesses
+
+abbrev pub Rises : List Access → Type 0
+Rises [] = Unit {0}
+Rises (a ∷ accesses) = Beyond a.entity accesses
+
+not_beyond : (x y : ℕ) (accesses : List Access) → Beyond x accesses → y ≤ x → access_at accesses y ≡ None
+not_beyond x y [] h le = refl
+not_beyond x y (a ∷ accesses) h le =
+    let lt : x < a.entity = h.0 in
+    let far : (a.entity == y) ≡ false = grind (arith, nat_tests) in
+    rw far (not_beyond a.entity y accesses h.1 (omega arith))
+
+beyond_ordered : (x : ℕ) (accesses : List Access) → Beyond x accesses → ordered accesses ≡ accesses
+beyond_ordered x [] h = refl
+beyond_ordered x (a ∷ []) h = refl
+beyond_ordered x (a ∷ b ∷ accesses) h =
+    let lt : a.entity < b.entity = h.1.0 in
+    ap (insert_access a) (beyond_ordered a.entity (b ∷ accesses) h.1) ∙ rw (lt-ltb a.entity b.entity lt) refl
+
+-- accesses that rise are in order
+pub rising_ordered : (accesses : List Access) → Rises accesses → ordered accesses ≡ accesses
+rising_ordered [] h = refl
+rising_ordered (a ∷ []) h = refl
+rising_ordered (a ∷ b ∷ accesses) h =
+    let lt : a.entity < b.entity = h.0 in
+    ap (insert_access a) (beyond_ordered a.entity (b ∷ accesses) h) ∙ rw (lt-ltb a.entity b.entity lt) refl
+
+-- two accesses, the greater one first
+pub ordered_swapped : (a b : Access) → b.entity < a.entity → ordered (a ∷ b ∷ []) ≡ b ∷ a ∷ []
+ordered_swapped a b lt =
+    let no : nat_lt a.entity b.entity ≡ false = grind (arith, nat_tests) in
+    let far : (a.entity == b.entity) ≡ false = grind (arith, nat_tests) in
+    rw (no, far) refl
+
+-- three accesses, the last of which goes between
+pub ordered_between : (a b c : Access) → a.entity < c.entity → c.entity < b.entity → ordered (a ∷ b ∷ c ∷ []) ≡ a ∷ c ∷ b ∷ []
+ordered_between a b c lt more = ap (insert_access a) (ordered_swapped b c more) ∙ rw (lt-ltb a.entity c.entity lt) refl
+
+-- VERSIONS AFTER
+
+raised_here : (us : List ℕ) (a : Access) → a.entity < length us → slice_index (raised us (mark_of a)) a.entity ≡ version_by (Some a) (slice_index us a.entity)
+raised_here us a lt =
+    elim (is_some a.new) as (λ b. slice_index (if b then slice_set us a.entity (slice_index us a.entity + 1) else us) a.entity ≡ (if b then slice_index us a.entity + 1 else slice_index us a.entity)) [
+      | true ↦ get_or-set_same us a.entity _ 0 lt
+      | false ↦ refl
+    ]
+
+pub raised_other : (us : List ℕ) (m : Mark) (y : ℕ) → (m.entity ≡ y → ⊥) → slice_index (raised us m) y ≡ slice_index us y
+raised_other us m y apart =
+    elim m.wrote as (λ b. slice_index (if b then slice_set us m.entity (slice_index us m.entity + 1) else us) y ≡ slice_index us y) [
+      | true ↦ get_or-set_other us m.entity y _ 0 (λ e. apart (sym e))
+      | false ↦ refl
+    ]
+
+raised_length : (us : List ℕ) (m : Mark) → length (raised us m) ≡ length us
+raised_length us m = elim m.wrote as (λ b. length (if b then slice_set us m.entity (slice_index us m.entity + 1) else us) ≡ length us) [ true ↦ length-set us m.entity _ | false ↦ refl ]
+
+abbrev pub AreWithin : List Access → ℕ → Type 0
+AreWithin [] n = Unit {0}
+AreWithin (a ∷ accesses) n = (a.entity < n) × AreWithin accesses n
+
+-- an access that rises gives each written entity the next version
+pub versions_by : (accesses : List Access) (us : List ℕ) (y : ℕ) → Rises accesses → AreWithin accesses (length us)
+    → slice_index (versions_after us (marks_of accesses)) y ≡ version_by (access_at accesses y) (slice_index us y)
+versions_by [] us y rises within = refl
+versions_by (a ∷ accesses) us y rises within =
+    let rest = versions_by accesses (raised us (mark_of a)) y (tail accesses rises) (subst (AreWithin accesses) (sym (raised_length us (mark_of a))) within.1) in
+    rest ∙
+    elim (a.entity == y) as (λ b. (a.entity == y) ≡ b → version_by (access_at accesses y) (slice_index (raised us (mark_of a)) y) ≡ version_by (if b then Some a else access_at accesses y) (slice_index us y)) [
+      | true ↦ λ is.
+          let e : a.entity ≡ y = eqb-true a.entity y is in
+          let none : access_at accesses y ≡ None = not_beyond a.entity y accesses rises (omega arith) in
+          ap (λ (o : Option Access). version_by o (slice_index (raised us (mark_of a)) y)) none
+          ∙ subst (λ y. slice_index (raised us (mark_of a)) y ≡ version_by (Some a) (slice_index us y)) e (raised_here us a within.0)
+      | false ↦ λ is.
+          let apart : a.entity ≡ y → ⊥ = λ e. let t = eq-eqb a.entity y e in cc in
+          ap (version_by (access_at accesses y)) (raised_other us (mark_of a) y apart)
+    ] refl
   where
-    cell_here : (y : ℕ) → m ≡ (outcome_of_look s st b).locus → old (container_of_look st) ≡ ContainerCell b → wrote ≡ is_some (outcome_of_look s st b).other
-        → (if container_of_look st == y then ContainerCell c else if l == y then LocusCell m else old y)
-        ≡ (if container_of_look st == y then unwrap_or (outcome_of_look s st b).other (old y) else if l == y then LocusCell (outcome_of_look s st b).locus else old y)
-    cell_here y locus there is_wrote =
-        elim (container_of_look st == y) as (λ t. (container_of_look st == y) ≡ t → (if t then ContainerCell c else if l == y then LocusCell m else old y)
-        ≡ (if t then unwrap_or (outcome_of_look s st b).other (old y) else if l == y then LocusCell (outcome_of_look s st b).locus else old y)) [
-          | true ↦ λ at. sym (container_by wrote b c (outcome_of_look s st b).other (old y) made.other made.same (ap old (sym (eqb-true _ _ at)) ∙ there))
-          | false ↦ λ _. ap (λ k. if l == y then LocusCell k else old y) locus
-        ] refl
+    tail : (accesses : List Access) → Beyond a.entity accesses → Rises accesses
+    tail [] h = tt
+    tail (b ∷ rest) h = h.1

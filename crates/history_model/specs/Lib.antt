@@ -4,3 +4,5 @@ pub mod FiveActs
 pub mod Lists
 pub mod Entries
 pub mod Born
+pub mod Readiness
+pub mod AtlasActs

@@ -1,8 +1,9 @@
--- Loci in their list.
-use Rattle.std.specs.Prelude.{◌≡◌, ℕ, ◌+◌, ◌-◌, ◌<◌, ◌≤◌, List, length, Option, Some, None, slice_get}
+-- Loci in their list, and names that are kept.
+use Rattle.std.specs.Prelude.{◌≡◌, ℕ, ◌+◌, ◌-◌, ◌≤◌, List, ◌++◌, Some, None, slice_get}
 use Rattle.hop_base.specs.declared.instructions.Condition.TheVariants.{Running}
+use Rattle.hop_model.specs.Acts.{Act, wanted}
+use Rattle.hop_model.specs.State.{AtlasState}
 use Rattle.hop_model.specs.Steps.{running}
-use Rattle.history_model.specs.FiveActs.{WantsLook}
 use Rattle.history_model.specs.Plains.{locus_cell, locus_of}
 use Rattle.history_model.specs.declared.plain.PlainLocus.{PlainLocus}
 
@@ -17,6 +18,19 @@ pub record IsRunningAt (loci : List PlainLocus) (number place : ℕ) : Type 0 wh
 abbrev pub IsIdleIn : List PlainLocus → ℕ → Type 0
 IsIdleIn loci number = 41 ≤ number → running (locus_cell (slice_get loci (number - 41))) ≡ None
 
--- the locus at this place wants a look
-abbrev pub WantsLookAt : List PlainLocus → ℕ → Type 0
-WantsLookAt loci place = (l : PlainLocus) → slice_get loci place ≡ Some l → WantsLook (locus_of l)
+-- the running locus of this number stands at this place, and wants this act
+pub record IsActingAt (loci : List PlainLocus) (number place : ℕ) (act : Act) : Type 0 where
+  pub at : place + 41 ≡ number
+  pub locus : PlainLocus
+  pub is : slice_get loci place ≡ Some locus
+  pub runs : locus.condition ≡ Running
+  pub wants : wanted number (locus_of locus) ≡ act
+
+-- the list goes on with others, if any
+abbrev pub IsFront : {A : Type 0} → List A → List A → Type 0
+IsFront {A} xs ys = (rest : List A) × (ys ≡ xs ++ rest)
+
+-- names stay, and others may follow
+pub record KeepsNames (a b : AtlasState) : Type 0 where
+  pub containers : IsFront a.containers b.containers
+  pub loci : IsFront a.loci b.loci

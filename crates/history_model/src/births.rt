@@ -74,7 +74,7 @@ fn locus_entry(versions: &mut [u64; 64], host: Entity, newborn: Entity) -> Entry
 }
 
 /// Appends where room was made before.
-fn push_within<T: Drop>(list: &mut Vec<T>, item: T)
+pub fn push_within<T: Drop>(list: &mut Vec<T>, item: T)
     requires room { vec_len list.old < vec_capacity list.old }
     ensures { list.new.items ≡ list.old.items ++ item ∷ [] }
 {

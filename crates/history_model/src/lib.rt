@@ -3,10 +3,24 @@
 #![tactic(auto)]
 
 mod acts;
+mod atlas_acts;
+mod atlas_steps;
+#[cfg(test)]
+mod atlas_tests;
+mod beside_acts;
 mod births;
+mod carry;
+mod circles;
+mod edges;
+mod entries;
+mod local_acts;
 mod looks;
 mod names;
 mod plain;
+mod program_births;
+mod reads;
+#[cfg(test)]
+mod step_tests;
 mod steps;
 mod tables;
 #[cfg(test)]
@@ -16,5 +30,6 @@ pub use births::plain_birth;
 pub use hop_model::{
     cut_law, greatest_choice_law, locality_law, printed_law, replay_law, stable_law, vector_law,
 };
+pub use names::{container_named, number_among, number_of};
 pub use plain::{Edge, Plain, PlainAtlas, PlainContainer, PlainLocus};
 pub use steps::plain_step;

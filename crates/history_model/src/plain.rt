@@ -1,5 +1,10 @@
+ghost use Rattle.std.specs.Prelude.{◌≡◌};
+ghost use Rattle.wanted_act.specs.Views.{view_of};
+ghost use Rattle.history_model.specs.Plains.{locus_of};
+
 use hop_base::{Call, Cap, Condition, Entity, Instr, Private, Region, Walk};
 use std::collections::BTreeMap;
+use wanted_act::LocusView;
 
 /// The states of all entities that are born. Containers and loci stand in the order of their numbers, which are 1 on
 /// and 41 on.
@@ -56,4 +61,25 @@ pub struct PlainLocus {
     pub every: u32,
     /// How many values it printed so far.
     pub printed: u64,
+}
+
+impl PlainLocus {
+    /// The locus as the choice of its act sees it.
+    pub fn view(&self) -> LocusView
+        ensures { view_of result ≡ locus_of self.now }
+    {
+        LocusView {
+            registers: &self.registers,
+            place: self.place,
+            code: &self.code,
+            host: self.host,
+            chain: &self.chain,
+            privates: &self.privates,
+            caps: &self.caps,
+            walk: self.walk,
+            condition: self.condition,
+            every: self.every,
+            printed: self.printed,
+        }
+    }
 }

@@ -1,17 +1,20 @@
-ghost use Rattle.std.specs.Prelude.{◌≡◌, ℕ, ◌+◌, ◌<◌, ◌≤◌, ◌↔◌, ◌^◌, IfOk, IfSome, IfNone, IsNone, None, OnErr, slice_index, slice_set, length};
+ghost use Rattle.std.specs.Prelude.{◌≡◌, ℕ, ◌+◌, ◌<◌, ◌≤◌, ◌↔◌, ◌^◌, if◌then◌else◌, IfOk, IfSome, IfNone, IsNone, None, OnErr};
 ghost use Rattle.hop_model.specs.Soundness.{IsSound};
 ghost use Rattle.hop_model.specs.State.{Supply};
 ghost use Rattle.hop_model.specs.Steps.{running};
+ghost use Rattle.hop_model.specs.Acts.{alone, beside};
+ghost use Rattle.wanted_act.specs.Views.{act_of, is_number, seen_by as act_seen_by};
+ghost use Rattle.history_model.specs.Born.{AreEdges};
 ghost use Rattle.history_model.specs.Events.{StepsTo, Stays, AreFewVersions};
-ghost use Rattle.history_model.specs.FiveActs.{HasFiveActs};
-ghost use Rattle.history_model.specs.Lists.{IsRunningAt, IsIdleIn, WantsLookAt};
+ghost use Rattle.history_model.specs.Lists.{IsActingAt, IsRunningAt, IsIdleIn, KeepsNames};
 ghost use Rattle.history_model.specs.Plains.{atlas_of, cells_of};
-ghost use Rattle.history_model.specs.Entries.{entry_alone as alone_entry, entry_beside as beside_entry, versions_beside};
 
-use crate::acts::{act_alone, look, look_container};
+use crate::atlas_steps::{step_make, step_mapping, step_spawn};
+use crate::carry::{step_atlas, step_container, step_local, step_locus, step_refused};
 use crate::plain::{Plain, PlainLocus};
-use hop_base::{Answer, Condition, Entity, Entry, Event, Touch, Touched};
+use hop_base::{Condition, Entity, Entry, Instr, Kind};
 use std::alloc::AllocError;
+use wanted_act::{Act, wants};
 
 /// The first number of a locus.
 const FIRST_LOCUS: u8 = 41;
@@ -35,91 +38,104 @@ fn running_place(loci: &[PlainLocus], locus: Entity) -> Option<usize>
     }
 }
 
-/// The entry of a step that touches the locus alone, whose version rises.
-fn entry_alone(versions: &mut [u64; 64], locus: Entity, answer: Answer) -> Entry
-    requires few { AreFewVersions versions.old }
-    ensures entry { result ≡ alone_entry versions.old locus answer }
-    ensures versions { versions.new ≡ slice_set versions.old locus (slice_index versions.old locus + 1) }
+/// An act beside the locus itself touches it alone.
+fn once(locus: Entity, act: Act) -> Act
+    ensures { act_of result ≡ (if is_number locus act.other then alone act.instr None else act_of act) }
 {
-    let n = locus.number() as usize;
-    versions[n] += 1;
-    Entry {
-        event: Event::Step,
-        actor: locus,
-        touched: Touched::one(Touch {
-            version: versions[n],
-            entity: locus,
-            wrote: true,
-        }),
-        version: 0,
-        answer,
+    let Some(other) = act.other else {
+        return act;
+    };
+    if other.number() != locus.number() {
+        return act;
+    }
+    Act {
+        instr: act.instr,
+        refused: None,
+        atlas: false,
+        other: None,
+        newborn: None,
     }
 }
 
-/// The entry of a step that touches a container beside the locus.
-fn entry_beside(
-    versions: &mut [u64; 64],
-    container: Entity,
-    wrote: bool,
-    locus: Entity,
-    answer: Answer,
-) -> Entry
-    requires few { AreFewVersions versions.old }
-    requires apart { container < locus }
-    ensures entry { result ≡ beside_entry versions.old container wrote locus answer }
-    ensures versions { versions.new ≡ versions_beside versions.old container wrote locus }
+/// The act of the locus with this number: one that names the locus itself touches it once.
+fn seen_by(locus: Entity, act: Act) -> Act
+    ensures act { act_of result ≡ act_seen_by locus (act_of act) }
+    ensures instruction { result.instr ≡ act.instr }
 {
-    let n = locus.number() as usize;
-    let m = container.number() as usize;
-    if wrote {
-        versions[m] += 1;
-    }
-    versions[n] += 1;
-    let of_container = Touch {
-        version: versions[m],
-        entity: container,
-        wrote,
-    };
-    let of_locus = Touch {
-        version: versions[n],
-        entity: locus,
-        wrote: true,
-    };
-    Entry {
-        event: Event::Step,
-        actor: locus,
-        touched: Touched::two(of_container, of_locus),
-        version: 0,
-        answer,
+    match act.instr {
+        Instr::Stop(_) => once(locus, act),
+        Instr::Go(_) => once(locus, act),
+        Instr::Snap(_) => once(locus, act),
+        _ => act,
     }
 }
 
-/// The step of a running locus that wants a look. On want of memory nothing is changed.
-fn step_look<S: Fn(u64, u32, u16) -> u64>(
+/// The step of a locus beside another entity, by what that is. On want of memory nothing is changed.
+fn step_beside<S: Fn(u64, u32, u16) -> u64>(
     state: &mut Plain,
     versions: &mut [u64; 64],
     locus: Entity,
     place: usize,
+    instr: Instr,
+    other: Entity,
     supply: &S,
 ) -> Result<Entry, AllocError>
     ghost s: { Supply }
     requires callable { (t p a : ℕ) → t < 2 ^ 64 → p < 256 → a < 128 → S.pre supply.now t p a }
     requires answers { (t p a r : ℕ) → t < 2 ^ 64 → p < 256 → a < 128 → S.post supply.now t p a r → r ≡ s t p a }
     requires sound { IsSound (cells_of s state.old) }
-    requires five { HasFiveActs (cells_of s state.old) }
     requires few { AreFewVersions versions.old }
-    requires place { IsRunningAt state.old.loci.items locus place }
-    requires look { WantsLookAt state.old.loci.items place }
+    requires acting { IsActingAt state.old.loci.items locus place (beside instr other) }
     ensures step { IfOk result (λ e. StepsTo s locus (cells_of s state.old) versions.old e (cells_of s state.new) versions.new) }
     ensures err { OnErr result (Stays (cells_of s state.old) versions.old (cells_of s state.new) versions.new) }
-    ensures sound { IsSound (cells_of s state.new) }
-    ensures five { HasFiveActs (cells_of s state.new) }
-    ensures names { atlas_of state.new.atlas ≡ atlas_of state.old.atlas }
+    ensures atlas { state.new.atlas ≡ state.old.atlas }
 {
-    let container = look_container(&state.loci[place]);
-    let at = container.number() as usize - 1;
-    let made = look(&mut state.loci[place], &mut state.containers[at], supply)?;
-    Ok(entry_beside(versions, container, made.wrote, locus, made.answer))
+    match other.kind() {
+        Kind::Atlas => Ok(step_atlas(state, versions, locus, place)),
+        Kind::Container => step_container(state, versions, locus, place, instr, other, supply),
+        Kind::Locus => Ok(step_locus(state, versions, locus, place, instr, other)),
+    }
+}
+
+/// The step of a running locus that wants this act. On want of memory nothing is changed.
+fn carry_out<S: Fn(u64, u32, u16) -> u64>(
+    state: &mut Plain,
+    versions: &mut [u64; 64],
+    locus: Entity,
+    place: usize,
+    act: Act,
+    supply: &S,
+) -> Result<Entry, AllocError>
+    ghost s: { Supply }
+    requires callable { (t p a : ℕ) → t < 2 ^ 64 → p < 256 → a < 128 → S.pre supply.now t p a }
+    requires answers { (t p a r : ℕ) → t < 2 ^ 64 → p < 256 → a < 128 → S.post supply.now t p a r → r ≡ s t p a }
+    requires sound { IsSound (cells_of s state.old) }
+    requires few { AreFewVersions versions.old }
+    requires edges { AreEdges state.old.atlas.edges.items }
+    requires acting { IsActingAt state.old.loci.items locus place (act_of act) }
+    ensures step { IfOk result (λ e. StepsTo s locus (cells_of s state.old) versions.old e (cells_of s state.new) versions.new) }
+    ensures err { OnErr result (Stays (cells_of s state.old) versions.old (cells_of s state.new) versions.new) }
+    ensures edges { AreEdges state.new.atlas.edges.items }
+    ensures names { KeepsNames (atlas_of state.old.atlas) (atlas_of state.new.atlas) }
+{
+    if let Some(reply) = act.refused {
+        return Ok(step_refused(state, versions, locus, place, reply));
+    }
+    let instr = act.instr;
+    if let Some(other) = act.other {
+        if act.atlas {
+            return step_mapping(state, versions, locus, place, instr, other);
+        }
+        return step_beside(state, versions, locus, place, instr, other, supply);
+    }
+    let Some(kind) = act.newborn else {
+        return step_local(state, versions, locus, place, instr);
+    };
+    match kind {
+        Kind::Container => step_make(state, versions, locus, place, instr),
+        Kind::Locus => step_spawn(state, versions, locus, place, instr),
+        Kind::Atlas => unreachable!(),
+    }
 }
 
 /// One step of a locus. None exactly where the locus is absent, stopped or halted; then, and on want of memory,
@@ -136,25 +152,23 @@ pub fn plain_step<S: Fn(u64, u32, u16) -> u64>(
     requires answers { (t p a r : ℕ) → t < 2 ^ 64 → p < 256 → a < 128 → S.post supply.now t p a r → r ≡ s t p a }
 
     requires sound { IsSound (cells_of s state.old) }
-    requires five { HasFiveActs (cells_of s state.old) }
     requires few { AreFewVersions versions.old }
+    requires edges { AreEdges state.old.atlas.edges.items }
 
     ensures step { IfOk result (λ r. IfSome r (λ e. StepsTo s locus (cells_of s state.old) versions.old e (cells_of s state.new) versions.new)) }
     ensures idle { IfOk result (λ r. IsNone r ↔ (running (cells_of s state.old locus) ≡ None)) }
     ensures none { IfOk result (λ r. IfNone r (Stays (cells_of s state.old) versions.old (cells_of s state.new) versions.new)) }
     ensures err { OnErr result (Stays (cells_of s state.old) versions.old (cells_of s state.new) versions.new) }
 
-    // The state stays one that steps may be made from. None of the five acts names anything.
+    // The state stays one that steps may be made from, and what has a name keeps it.
     ensures sound { IsSound (cells_of s state.new) }
-    ensures five { HasFiveActs (cells_of s state.new) }
-    ensures names { atlas_of state.new.atlas ≡ atlas_of state.old.atlas }
+    ensures edges { AreEdges state.new.atlas.edges.items }
+    ensures names { KeepsNames (atlas_of state.old.atlas) (atlas_of state.new.atlas) }
 {
     let Some(place) = running_place(&state.loci, locus) else {
         return Ok(None);
     };
-    if let Some(answer) = act_alone(&mut state.loci[place]) {
-        return Ok(Some(entry_alone(versions, locus, answer)));
-    }
-    let entry = step_look(state, versions, locus, place, supply)?;
+    let act = seen_by(locus, wants(&state.loci[place].view()));
+    let entry = carry_out(state, versions, locus, place, act, supply)?;
     Ok(Some(entry))
 }

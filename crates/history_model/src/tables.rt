@@ -1,4 +1,4 @@
-ghost use Rattle.std.specs.Prelude.{◌≡◌, ℕ, ◌+◌, ◌≤◌, IfOk, OnOk, nat_lt, length, map, string_bytes};
+ghost use Rattle.std.specs.Prelude.{◌≡◌, ℕ, ◌+◌, ◌≤◌, IfOk, OnOk, OnErr, nat_lt, length, map, string_bytes};
 ghost use Rattle.std.specs.List.{position_or_len};
 ghost use Rattle.hop_model.specs.Births.{caps_from as caps_by, regions_from as regions_by, container_from as container_by, locus_from as locus_by, number_or_0, region_from};
 ghost use Rattle.hop_model.specs.Scripts.{number_in};
@@ -32,8 +32,9 @@ fn place_of_page(regions: &[Region], at: u8) -> usize
 }
 
 /// Puts a region before the first one that begins behind it. On want of memory nothing is changed.
-fn insert_region(regions: &mut Vec<Region>, region: Region) -> Result<(), AllocError>
-    ensures { OnOk result (regions.new.items ≡ inserted region regions.old.items) }
+pub fn insert_region(regions: &mut Vec<Region>, region: Region) -> Result<(), AllocError>
+    ensures ok { OnOk result (regions.new.items ≡ inserted region regions.old.items) }
+    ensures err { OnErr result (regions.new.items ≡ regions.old.items) }
 {
     let place = place_of_page(regions, region.at);
     regions.insert(place, region)?;

@@ -6,7 +6,6 @@ ghost use Rattle.script_read.specs.Rules.{IsScript};
 ghost use Rattle.script_read.specs.Scripts.{tables_of};
 ghost use Rattle.history_model.specs.Born.{AreEdges, AreOfOneKind, KnowsNames};
 ghost use Rattle.history_model.specs.Events.{AreFewVersions};
-ghost use Rattle.history_model.specs.FiveActs.{HasFiveActs};
 ghost use Rattle.history_model.specs.Plains.{cells_of};
 
 use crate::births::plain_birth;
@@ -59,9 +58,8 @@ fn one_of_each(alloc: Global) -> Result<Script, AllocError>
 }
 
 /// Nothing but the atlas is born.
-fn empty_state(alloc: Global) -> Plain
+pub fn empty_state(alloc: Global) -> Plain
     ensures sound { (s : Supply) → IsSound (cells_of s result) }
-    ensures five { (s : Supply) → HasFiveActs (cells_of s result) }
     ensures edges { AreEdges result.atlas.edges.items }
 {
     Plain {
@@ -75,7 +73,7 @@ fn empty_state(alloc: Global) -> Plain
     }
 }
 
-fn bear(
+pub fn bear(
     rt: &impl Abort,
     alloc: Global,
     state: &mut Plain,
@@ -141,8 +139,8 @@ fn step(
     locus: Entity,
 ) -> Result<Option<Entry>, AllocError>
     requires sound { (s : Supply) → IsSound (cells_of s state.old) }
-    requires five { (s : Supply) → HasFiveActs (cells_of s state.old) }
     requires few { AreFewVersions versions.old }
+    requires edges { AreEdges state.old.atlas.edges.items }
 {
     plain_step(state, versions, locus, &|_, _, _| 0)
 }

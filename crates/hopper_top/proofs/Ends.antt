@@ -1,5 +1,5 @@
 -- What the ends of a call leave.
-use Rattle.std.proofs.Common.{◌≡◌, ◌≤◌, ◌<◌, IsTrue, List, [], ◌∷◌, length, All, nat_lt, true, false, codes, string_bytes, Option, Some, None, Result, Ok, Err, OnErr, IfSome, is_ok, map, get_or, inl, inr, refl, sym, subst, ◌∙◌, arith}
+use Rattle.std.proofs.Common.{◌≡◌, ℕ, ◌≤◌, ◌<◌, IsTrue, List, [], ◌∷◌, length, All, nat_le, true, false, ◌&&◌, codes, string_bytes, Option, Some, None, Result, Ok, Err, OnErr, IfSome, is_ok, map, get_or, inl, inr, refl, sym, subst, ◌∙◌, arith}
 use Rattle.std.specs.Io.KnownBytes.{Appends}
 use Rattle.std.proofs.lemmas.Bool.Decides.{nat_tests}
 use Rattle.std.proofs.lemmas.List.Elements.{All-head}
@@ -7,23 +7,25 @@ use Rattle.stream_edge.specs.Streams.{Puts}
 use Rattle.stream_edge.proofs.Streams.{AppendsPart-whole}
 use Rattle.hop_model.specs.Scripts.{ContainerTable, Script as Tables}
 use Rattle.hop_model.specs.State.{Text}
-use Rattle.history_model.specs.FiveActs.{has_five}
-use Rattle.plain_run.specs.Opening.{HasFirstForm}
 use Rattle.script_read.specs.declared.refusals.Why.{Why}
-use Rattle.script_read.specs.declared.refusals.Why.TheVariants.{TooMany}
-use Rattle.hopper_top.specs.FirstForm.{IsRefusedFor, StandsFor, lines_of}
+use Rattle.std.specs.List.{list_all}
+use Rattle.hop_base.specs.declared.instructions.Instr.{Instr}
+use Rattle.hop_base.specs.declared.instructions.Instr.TheVariants.{Set, Copy, Add, Sub, Jump, Jz, Load, Store, Invoke, Leave, Return, Map, Unmap, Lmap, Lunmap, Take, Give, Drop, Make, Spawn, Stop, Go, Snap, Stabilise, Print, Halt}
+use Rattle.plain_run.specs.Snaps.{HasNoSnapTables, is_no_snap}
+use Rattle.script_read.specs.Carried.{HasCarriedCode}
+use Rattle.script_read.specs.Meaning.{Source, is_carried_out, script_meaning}
+use Rattle.script_read.specs.Reading.{refused}
 use Rattle.hop_base.specs.declared.histories.Entry.{Entry}
 use Rattle.hop_model.specs.State.{Supply}
 use Rattle.script_read.specs.declared.refusals.Why.TheVariants.{Long}
 use Rattle.hopper_top.specs.Faults.{fault_line}
 use Rattle.hopper_top.specs.Runs.{Gains, IsComplete, IsKnownScript, Leaves, Ran}
-use Rattle.hopper_top.specs.Sources.{IsAccepted, IsReadFault, IsRefusal, IsRefusalOf, most_bytes}
+use Rattle.hopper_top.specs.Sources.{IsAccepted, IsReadFault, IsRefusal, IsRefusalOf}
 use Rattle.hopper_top.specs.Statuses.{status_by}
 use Rattle.hopper_top.specs.declared.faults.RunFault.{RunFault}
 use Rattle.hopper_top.specs.declared.faults.RunFault.TheVariants.{Usage as BadWords, Script as BadScript, Source as BadSource, Memory as NoMemory}
 use Rattle.hopper_top.specs.declared.statuses.Status.{Status}
 use Rattle.hopper_top.specs.declared.statuses.Status.TheVariants.{Done, Usage, Script, SourceFault, SinkFault, Memory}
-use Rattle.hopper_top.proofs.FirstScripts.{read_not_refused}
 
 -- what a put leaves
 pub gains : {T E : Type 0} (before after : Option Text) (rose : Type 0) (result : Result T E) (bytes : Text) → Puts before after result bytes → OnErr result rose → Gains before after rose bytes
@@ -46,32 +48,57 @@ one_item f [] d one = absurd (omega (arith, one))
 one_item f (x ∷ []) d one = refl
 one_item f (x ∷ y ∷ xs) d one = absurd (omega (arith, one))
 
--- a source that is not refused for its number of lines has few
-pub few_lines : (bytes : Text) → ((why : Why) (key : Text) → IsRefusedFor bytes why key → ⊥) → length (lines_of bytes) ≤ 128
-few_lines bytes accepted =
-    elim (nat_lt 128 (length (lines_of bytes))) as (λ b. nat_lt 128 (length (lines_of bytes)) ≡ b → length (lines_of bytes) ≤ 128) [
-      | true ↦ λ is. (let many : 128 < length (lines_of bytes) = grind (arith, nat_tests) in absurd (accepted TooMany (codes "program.p") (record { many = many; named = refl })))
-      | false ↦ λ is. grind (arith, nat_tests)
-    ] refl
-
--- what a source stands for is of the first form
-pub form_of : (bytes : Text) (script : Tables) → StandsFor bytes script → All (λ (t : ContainerTable). IsTrue (has_five t.code)) script.containers → HasFirstForm script
-form_of [] script stands five = subst HasFirstForm (sym stands.same) refl
-form_of (b ∷ bytes) script stands five =
-    let each = subst (λ (k : Tables). All (λ (t : ContainerTable). IsTrue (has_five t.code)) k.containers) stands.same five in
-    subst HasFirstForm (sym stands.same) (record { code = stands.code; is = refl; five = All-head (λ (t : ContainerTable). IsTrue (has_five t.code)) _ [] each })
-
--- a source that was read whole, and is short enough and not refused, is accepted
-pub accepted_by : (left : Option Text) (read all : Text) (script : Tables) → read ≡ all → IfSome left (λ bytes. all ≡ bytes) → length read ≤ most_bytes → StandsFor read script → ((why : Why) (key : Text) → IsRefusedFor read why key → ⊥)
+-- a source that was read whole and means this script is accepted
+pub accepted_by : (left : Option Text) (read all : Text) (script : Tables) (frames : ℕ) → read ≡ all → IfSome left (λ bytes. all ≡ bytes) → script_meaning read ≡ Ok (record { tables = script; frames = frames })
     → IfSome left (λ bytes. IsAccepted bytes script)
-accepted_by None read all script same whole short stands accepted = tt
-accepted_by (Some bytes) read all script same whole short stands accepted =
-    subst (λ b. IsAccepted b script) (same ∙ whole) (record { short = short; few = few_lines read accepted; stands = stands })
+accepted_by None read all script frames same whole means = tt
+accepted_by (Some bytes) read all script frames same whole means = subst (λ b. IsAccepted b script) (same ∙ whole) (record { frames = frames; means = means })
+
+-- a source that is too long means this refusal
+pub long_refused : (bytes : Text) → 1048576 < length bytes → script_meaning bytes ≡ refused Long (codes "-")
+long_refused bytes long = (let no : nat_le (length bytes) 1048576 ≡ false = grind (arith, nat_tests) in rw no refl)
 
 -- an accepted source is not refused
 pub accepted_not_refused : (bytes : Text) (script : Tables) (why : Why) (key : Text) → IsAccepted bytes script → IsRefusal bytes why key → ⊥
-accepted_not_refused bytes script Long key ok h = (let no : 1048576 < 1048576 = omega (arith, ok.short, h.long) in omega arith)
-accepted_not_refused bytes script why key ok h = read_not_refused bytes ok.stands.code ok.stands.source ok.few why key h.lines
+accepted_not_refused bytes script why key ok h = (let both : Ok (record { tables = script; frames = ok.frames }) ≡ refused why key = sym ok.means ∙ h in cc)
+
+-- CODE
+
+-- what is carried out is no snap
+no_snap : (i : Instr) → is_no_snap i ≡ is_carried_out i
+no_snap (Set d n) = refl
+no_snap (Copy d r) = refl
+no_snap (Add d r) = refl
+no_snap (Sub d r) = refl
+no_snap (Jump p) = refl
+no_snap (Jz r p) = refl
+no_snap (Load d a) = refl
+no_snap (Store a r) = refl
+no_snap (Invoke c) = refl
+no_snap (Leave c) = refl
+no_snap Return = refl
+no_snap (Map d a c b n access) = refl
+no_snap (Unmap d a) = refl
+no_snap (Lmap a c b n access) = refl
+no_snap (Lunmap a) = refl
+no_snap (Take d c y) = refl
+no_snap (Give d c r given) = refl
+no_snap (Drop r) = refl
+no_snap (Make d n t e) = refl
+no_snap (Spawn d p) = refl
+no_snap (Stop c) = refl
+no_snap (Go c) = refl
+no_snap (Snap c) = refl
+no_snap (Stabilise c) = refl
+no_snap (Print r) = refl
+no_snap Halt = refl
+
+no_snaps_in : (code : List Instr) → list_all is_no_snap code ≡ list_all is_carried_out code
+no_snaps_in [] = refl
+no_snaps_in (i ∷ code) = λ k. no_snap i k && no_snaps_in code k
+
+pub no_snaps : (script : Tables) → HasCarriedCode script → HasNoSnapTables script
+no_snaps script carried k d lt = no_snaps_in (get_or script.containers k d).code ∙ carried k d lt
 
 -- WHAT A RUN LEAVES
 

@@ -1,4 +1,1 @@
-pub mod Ascii
-pub mod FirstLines
-pub mod FirstScripts
 pub mod Ends

@@ -1,5 +1,4 @@
 pub mod Faults
-pub mod FirstForm
 pub mod Lines
 pub mod Sources
 pub mod Runs

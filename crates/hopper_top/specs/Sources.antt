@@ -1,13 +1,14 @@
 -- Which sources are accepted, and why the others are refused.
-use Rattle.std.specs.Prelude.{◌≡◌, ℕ, ◌<◌, ◌≤◌, length, codes, string_bytes, Option, IfSome, ⊤}
+use Rattle.std.specs.Prelude.{◌≡◌, ℕ, Ok, codes, string_bytes, Option, IfSome, ⊤}
 use Rattle.stream_edge.specs.declared.reading.ReadStop.{ReadStop}
 use Rattle.stream_edge.specs.declared.reading.ReadStop.TheVariants.{Source as FromSource, Memory as NoRoom, Long as TooMuch}
 use Rattle.hop_model.specs.Scripts.{Script as Tables}
 use Rattle.hop_model.specs.State.{Text}
+use Rattle.script_read.specs.Meaning.{script_meaning}
+use Rattle.script_read.specs.Reading.{refused}
 use Rattle.script_read.specs.declared.refusals.Refusal.{Refusal}
 use Rattle.script_read.specs.declared.refusals.Why.{Why}
 use Rattle.script_read.specs.declared.refusals.Why.TheVariants.{Long}
-use Rattle.hopper_top.specs.FirstForm.{IsRefusedFor, StandsFor, lines_of}
 use Rattle.hopper_top.specs.declared.faults.RunFault.{RunFault}
 use Rattle.hopper_top.specs.declared.faults.RunFault.TheVariants.{Usage, Script, Source, Memory}
 
@@ -15,30 +16,18 @@ use Rattle.hopper_top.specs.declared.faults.RunFault.TheVariants.{Usage, Script,
 abbrev pub most_bytes : ℕ
 most_bytes = 1048576
 
--- the source is too long, and no key is to blame
-pub record IsTooLong (bytes key : Text) : Type 0 where
-  pub long : most_bytes < length bytes
-  pub named : key ≡ codes "-"
-
--- the source is short enough, and refused for its lines
-pub record HasBadLines (bytes : Text) (why : Why) (key : Text) : Type 0 where
-  pub short : length bytes ≤ most_bytes
-  pub lines : IsRefusedFor bytes why key
-
 -- the source is refused so
 abbrev pub IsRefusal : Text → Why → Text → Type 0
-IsRefusal bytes Long key = IsTooLong bytes key
-IsRefusal bytes why key = HasBadLines bytes why key
+IsRefusal bytes why key = script_meaning bytes ≡ refused why key
 
 -- the source is refused as the refusal says, where its bytes are told
 abbrev pub IsRefusalOf : Option Text → Refusal → Type 0
 IsRefusalOf left refusal = IfSome left (λ bytes. IsRefusal bytes refusal.why (string_bytes refusal.key))
 
--- the source is not refused, and stands for this script
+-- the source is not refused, and means this script
 pub record IsAccepted (bytes : Text) (script : Tables) : Type 0 where
-  pub short : length bytes ≤ most_bytes
-  pub few : length (lines_of bytes) ≤ 128
-  pub stands : StandsFor bytes script
+  pub frames : ℕ
+  pub means : script_meaning bytes ≡ Ok (record { tables = script; frames = frames })
 
 -- why no script was read: the source is refused so, its count of faults rose, or memory ran out
 abbrev pub IsReadFault : Option Text → Type 0 → RunFault → Type 0

@@ -5,14 +5,12 @@ mod faults;
 mod output;
 mod reads;
 mod runs;
-mod source;
 mod statuses;
 
 pub use faults::{RunFault, put_fault};
 pub use output::put_output;
 pub use reads::read_source;
 pub use runs::hopper;
-pub use source::first_script;
 pub use statuses::{Outcome, Status};
 
 #[cfg(test)]

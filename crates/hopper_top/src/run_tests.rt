@@ -2,12 +2,13 @@ ghost use Rattle.std.specs.Prelude.{◌≡◌, IfOk};
 
 use crate::{Outcome, Status, hopper};
 use hop_base::{Answer, Entity, Entry, Event, Reply, Touch, Touched};
+use manager_gate::{CountedWords, Supplier};
 use std::alloc::{AllocError, Global};
 use std::process::Abort;
 use std::test::Fail;
 use stream_edge::{MemorySink, MemorySource};
 
-/// Runs on a supplier of zeros.
+/// Runs on a supplier whose words count up from the tag.
 fn run(
     alloc: Global,
     words: &[&str],
@@ -18,7 +19,8 @@ fn run(
     for word in words {
         given.push(String::from_str(alloc, word)?)?;
     }
-    Ok(hopper(alloc, &given, source, sink, &|_, _, _| 0))
+    let words = |tag, page, place| CountedWords.word(tag, page, place);
+    Ok(hopper(alloc, &given, source, sink, &words))
 }
 
 fn source_of(alloc: Global, text: &[u8], fails: &[u64]) -> Result<MemorySource, AllocError> {
@@ -35,18 +37,142 @@ fn sink_of(alloc: Global, room: u32, fails: &[u64]) -> Result<MemorySink, AllocE
     MemorySink::new(alloc, room, calls)
 }
 
-const FIVE: &[u8] = b"set r0 5\nstore r1 r0\nload r2 r1\nprint r2\nhalt\n";
+const FIVE: &[u8] = b"program.p = ['set r0 5', 'store r1 r0', 'load r2 r1', 'print r2', 'halt']
+container = [{ name = 'a', pages = 1, program = 'p' }]
+locus = [{ name = 'l', host = 'a' }]
+";
 
 const PAST_THE_PAGE: &[u8] =
-    b"set r0 128\nload r1 r0\nprint r7\nset r0 127\nload r1 r0\nprint r7\nhalt";
+    b"program.p = ['set r0 128', 'load r1 r0', 'print r7', 'set r0 127', 'load r1 r0', 'print r7', 'halt']
+container = [{ name = 'a', pages = 1, program = 'p' }]
+locus = [{ name = 'l', host = 'a' }]
+";
+
+// The supplier's words count up from the tag.
+const TAGGED: &[u8] = b"program.p = ['set r0 130', 'load r1 r0', 'print r1', 'halt']
+container = [{ name = 'a', pages = 2, tag = 7, program = 'p' }]
+locus = [{ name = 'l', host = 'a' }]
+";
+
+// A private region is looked at before the container's.
+const PRIVATE_FIRST: &[u8] =
+    b"program.p = ['set r0 128', 'load r1 r0', 'print r1', 'set r2 1', 'set r5 1', 'lmap r2 r3 r4 r5 r', 'load r1 r0', 'print r1', 'lunmap r2', 'load r1 r0', 'print r1', 'halt']
+container = [
+    { name = 'b', pages = 1, tag = 1000 },
+    { name = 'c', pages = 1, tag = 2000 },
+    { name = 'a', pages = 2, program = 'p', regions = ['1 b 0 1 rw'] },
+]
+locus = [{ name = 'l', host = 'a', caps = ['c r'] }]
+";
+
+// It is looked at in the host where it was made.
+const PRIVATE_IN_ONE_HOST: &[u8] = b"program.d = ['load r1 r0', 'print r1', 'return']
+program.p = ['set r5 1', 'lmap r2 r3 r4 r5 r', 'load r1 r0', 'print r1', 'set r6 1', 'invoke r6', 'load r1 r0', 'print r1', 'halt']
+container = [
+    { name = 'c', pages = 1, tag = 2000 },
+    { name = 'd', pages = 1, tag = 3000, entry = 0, program = 'd' },
+    { name = 'a', pages = 1, program = 'p' },
+]
+locus = [{ name = 'l', host = 'a', caps = ['c r', 'd i'] }]
+";
+
+const CIRCLES: &[u8] =
+    b"program.p = ['set r5 1', 'set r1 1', 'set r2 2', 'map r0 r6 r1 r6 r5 r', 'print r7', 'map r1 r6 r2 r6 r5 r', 'print r7', 'map r2 r6 r0 r6 r5 r', 'print r7', 'map r0 r1 r0 r6 r5 r', 'print r7', 'halt']
+container = [
+    { name = 'a', pages = 2 },
+    { name = 'b', pages = 1 },
+    { name = 'c', pages = 1 },
+    { name = 'h', pages = 1, program = 'p' },
+]
+locus = [{ name = 'l', host = 'h', caps = ['a rm', 'b rm', 'c rm'] }]
+";
+
+const DENIED_OVER_A_MAPPING: &[u8] = b"program.p = ['store r0 r1', 'print r7', 'halt']
+container = [
+    { name = 'c', pages = 1 },
+    { name = 'b', pages = 1, regions = ['0 c 0 1 r'] },
+    { name = 'a', pages = 1, program = 'p', regions = ['0 b 0 1 rw'] },
+]
+locus = [{ name = 'l', host = 'a' }]
+";
+
+const NO_ENTRY: &[u8] =
+    b"program.p = ['invoke r0', 'print r7', 'set r0 1', 'invoke r0', 'print r7', 'halt']
+container = [
+    { name = 'b', pages = 1 },
+    { name = 'a', pages = 1, program = 'p' },
+]
+locus = [{ name = 'l', host = 'a', caps = ['b r', 'b i'] }]
+";
+
+const FULL_CHAIN: &[u8] =
+    b"program.p = ['invoke r0', 'print r7', 'halt', 'return', 'print r7', 'halt']
+container = [{ name = 'a', pages = 1, entry = 0, program = 'p' }]
+locus = [
+    { name = 'l', host = 'a', caps = ['a i'] },
+    { name = 'm', host = 'a', at = 3 },
+]
+";
+
+const ALL_PAGES: &[u8] = b"frames = 1
+program.p = ['set r1 128', 'set r2 256', 'set r3 1', 'store r0 r2', 'add r0 r1', 'sub r2 r3', 'jz r2 @8', 'jump @3', 'set r0 0', 'set r2 256', 'load r4 r0', 'add r5 r4', 'add r0 r1', 'sub r2 r3', 'jz r2 @16', 'jump @10', 'print r5', 'halt']
+container = [{ name = 'a', pages = 256, program = 'p' }]
+locus = [{ name = 'l', host = 'a' }]
+";
+
+const LAST_NUMBER: &[u8] = b"steps = 100
+program.p = ['spawn r1 @5', 'jz r7 @0', 'print r7', 'halt', 'halt', 'halt']
+container = [{ name = 'a', pages = 1, program = 'p' }]
+locus = [{ name = 'l', host = 'a' }]
+";
+
+const STOPS_ITSELF: &[u8] = b"program.p = ['stop r0', 'go r0', 'print r7', 'halt']
+container = [{ name = 'a', pages = 1, program = 'p' }]
+locus = [{ name = 'l', host = 'a', caps = ['l k'] }]
+";
+
+const TAKES: &[u8] =
+    b"program.p = ['take r1 r0 r2', 'print r1', 'print r7', 'take r1 r0 r1', 'print r7', 'halt']
+container = [
+    { name = 'b', pages = 1, caps = ['b r'] },
+    { name = 'a', pages = 1, program = 'p' },
+]
+locus = [{ name = 'l', host = 'a', caps = ['b c'] }]
+";
+
+const STABLE: &[u8] = b"steps = 103
+program.p = ['set r0 7', 'store r1 r0', 'stabilise r2', 'add r0 r3', 'jump @3']
+container = [{ name = 'a', pages = 1, program = 'p' }]
+locus = [{ name = 'l', host = 'a', caps = ['atlas t'] }]
+";
+
+// The picks of the order come first.
+const ORDERED: &[u8] = b"order = ['m', 'm', 'l']
+program.p = ['print r0', 'halt']
+container = [{ name = 'a', pages = 1, program = 'p' }]
+locus = [{ name = 'l', host = 'a' }, { name = 'm', host = 'a' }]
+";
 
 #[test]
 fn a_run_prints_its_lines_and_ends(rt: HostRuntime) -> Result<(), Fail> {
     let alloc = rt.alloc();
-    let runs: [(&[u8], &str, usize); 3] = [
+    let runs: [(&[u8], &str, usize); 16] = [
         (FIVE, "l 5\n", 8),
         (PAST_THE_PAGE, "l 3\nl 0\n", 10),
         (b"", "", 0),
+        (TAGGED, "l 137\n", 7),
+        (PRIVATE_FIRST, "l 1000\nl 2000\nl 1000\n", 19),
+        (PRIVATE_IN_ONE_HOST, "l 2000\nl 3000\nl 2000\n", 17),
+        (CIRCLES, "l 0\nl 0\nl 4\nl 4\n", 18),
+        (DENIED_OVER_A_MAPPING, "l 17\n", 9),
+        (NO_ENTRY, "l 18\nl 8\n", 10),
+        (FULL_CHAIN, "m 7\nl 6\n", 74),
+        (ALL_PAGES, "l 32896\n", 2824),
+        (LAST_NUMBER, "l 10\n", 73),
+        (STOPS_ITSELF, "", 4),
+        (TAKES, "l 1\nl 0\nl 1\n", 10),
+        (STABLE, "", 107),
+        (ORDERED, "m 0\nl 0\n", 8),
     ];
     for (text, lines, entries) in runs {
         let mut source = source_of(alloc, text, &[])?;
@@ -141,10 +267,10 @@ fn other_words_are_refused(rt: HostRuntime) -> Result<(), Fail> {
 #[test]
 fn a_refused_source_is_told_by_its_key(rt: HostRuntime) -> Result<(), Fail> {
     let alloc = rt.alloc();
-    let mut source = source_of(alloc, b"add r0 r0", &[])?;
+    let mut source = source_of(alloc, b"steps = 0", &[])?;
     let mut sink = sink_of(alloc, 100, &[])?;
     let outcome = run(alloc, &["run"], &mut source, &mut sink)?;
-    assert_eq!(rt; sink.held(), b"fault 3 8 program.p.0\n".as_slice());
+    assert_eq!(rt; sink.held(), b"fault 3 6 steps\n".as_slice());
     assert!(rt; matches!(outcome.status, Status::Script(_)));
     assert!(rt; outcome.history.is_empty());
     Ok(())
@@ -153,17 +279,14 @@ fn a_refused_source_is_told_by_its_key(rt: HostRuntime) -> Result<(), Fail> {
 #[test]
 fn a_source_past_a_mebibyte_is_too_long(rt: HostRuntime) -> Result<(), Fail> {
     let alloc = rt.alloc();
-    for (len, line) in [
-        (1_048_576, "fault 3 7 program.p\n"),
-        (1_048_577, "fault 3 9 -\n"),
-    ] {
+    for (len, line, status) in [(1_048_576, "", 0), (1_048_577, "fault 3 9 -\n", 3)] {
         let mut bytes = Vec::new(alloc);
         bytes.resize(len, b'\n')?;
         let mut source = MemorySource::new(bytes, Vec::new(alloc));
         let mut sink = sink_of(alloc, 100, &[])?;
         let outcome = run(alloc, &["run"], &mut source, &mut sink)?;
         assert_eq!(rt; sink.held(), line.as_bytes());
-        assert!(rt; matches!(outcome.status, Status::Script(_)));
+        assert_eq!(rt; outcome.status.number(), status);
     }
     Ok(())
 }

@@ -7,7 +7,7 @@ ghost use Rattle.hop_model.specs.Output.{output_of};
 ghost use Rattle.hop_model.specs.Scripts.{Script as Tables};
 ghost use Rattle.hop_model.specs.State.{Supply};
 ghost use Rattle.history_model.specs.Plains.{atlas_of};
-ghost use Rattle.plain_run.specs.Opening.{HasFirstForm};
+ghost use Rattle.plain_run.specs.Snaps.{HasNoSnapTables};
 ghost use Rattle.script_read.specs.Rules.{IsScript};
 ghost use Rattle.script_read.specs.Scripts.{tables_of};
 ghost use Rattle.hopper_top.specs.Faults.{fault_line};
@@ -75,8 +75,8 @@ fn run_script<W: Sink, S: Fn(u64, u32, u16) -> u64>(
     ghost s: { Supply }
     requires callable { (t p a : ℕ) → t < 2 ^ 64 → p < 256 → a < 128 → S.pre supply.now t p a }
     requires answers { (t p a r : ℕ) → t < 2 ^ 64 → p < 256 → a < 128 → S.post supply.now t p a r → r ≡ s t p a }
-    requires form { HasFirstForm (tables_of script.now) }
     requires rules { IsScript (tables_of script.now) }
+    requires code { HasNoSnapTables (tables_of script.now) }
     ensures ran { Ran s (tables_of script.now) result.status result.history.items (W.held sink.old) (W.held sink.new) (Rose (W.faults sink.old) (W.faults sink.new)) }
     ensures cause { result.status ≡ Status.SinkFault → Rose (W.faults sink.old) (W.faults sink.new) }
     ensures count { W.faults sink.old ≤ W.faults sink.new }

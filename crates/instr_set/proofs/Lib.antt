@@ -6,3 +6,4 @@ pub mod Tails
 pub mod WordFronts
 pub mod Rows
 pub mod Lines
+pub mod Reader

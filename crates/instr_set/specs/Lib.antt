@@ -1,3 +1,4 @@
 pub mod Fronts
 pub mod Spelling
 pub mod Forms
+pub mod Reader

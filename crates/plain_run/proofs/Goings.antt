@@ -1,4 +1,4 @@
--- How a run of the five acts goes on: each entry may follow, and what the rules look at stays calm.
+-- How a run goes on: each entry may follow, and what the rules look at stays calm.
 use Rattle.std.proofs.Common.{◌≡◌, ℕ, ◌+◌, ◌<◌, ◌≤◌, Bool, true, false, not, ◌&&◌, ◌||◌, nat_lt, if◌then◌else◌, List, [], ◌∷◌, ◌++◌, Option, Some, None, is_some, option_map, refl, sym, ap, subst, ◌∙◌, arith, append_assoc}
 use Rattle.std.specs.List.{list_any}
 use Rattle.std.proofs.lemmas.Bool.Decides.{nat_tests}
@@ -6,23 +6,24 @@ use Rattle.hop_base.specs.declared.histories.Answer.{Answer}
 use Rattle.hop_base.specs.declared.histories.Answer.TheVariants.{Quiet, Hop, Reply as Replied, Read, Print as Printed}
 use Rattle.hop_base.specs.declared.histories.Entry.{Entry}
 use Rattle.hop_base.specs.declared.histories.Event.{Event}
-use Rattle.hop_base.specs.declared.histories.Event.TheVariants.{Step}
+use Rattle.hop_base.specs.declared.histories.Event.TheVariants.{Step, Stable}
 use Rattle.hop_base.specs.declared.histories.Touch.{Touch}
 use Rattle.hop_base.specs.declared.instructions.Instr.{Instr}
-use Rattle.hop_base.specs.declared.instructions.Instr.TheVariants.{Set, Load, Store, Print, Halt}
+use Rattle.hop_base.specs.declared.instructions.Instr.TheVariants.{Snap, Stabilise}
 use Rattle.hop_base.specs.declared.instructions.Reply.TheVariants.{Ok}
 use Rattle.hop_model.specs.State.{Supply, LocusState, Cell, LocusCell, EntityState, KernelState}
 use Rattle.hop_model.specs.Changes.{Access, Change, accessed, acts, carried, changed, written}
-use Rattle.hop_model.specs.Histories.{IsLegalFrom, IsMade, May, may, Run, after_step, asks, event_of, by_event, goes_on, is_due, locus_in, never, noting, owed_by, run_after, stabilises, went_on, with_asked, writes}
+use Rattle.hop_model.specs.Histories.{AllBelow64, IsLegalFrom, IsMade, May, may, Run, after_step, asks, births_owed, event_of, by_event, goes_on, is_due, locus_in, mark, never, noting, owed_by, run_after, stabilises, went_on, with_asked, writes}
 use Rattle.hop_model.specs.Parts.{after_entry, is_event, next_of}
 use Rattle.hop_model.specs.Refusals.{instr_at}
-use Rattle.hop_model.specs.Scripts.{Script, next_name}
+use Rattle.hop_model.specs.Scripts.{Script}
 use Rattle.hop_model.specs.Serial.{can_step, made_and_owed, owed_stable, turn, turns}
-use Rattle.hop_model.specs.Steps.{atlas_in, numbered_change, running, step, step_change}
+use Rattle.hop_model.specs.Steps.{numbered_change, running, step, step_change}
 use Rattle.hop_model.specs.Words.{put}
 use Rattle.history_model.specs.Events.{Has, state_with}
-use Rattle.history_model.specs.FiveActs.{is_one_of_five}
-use Rattle.plain_run.specs.Sessions.{IsCalm}
+use Rattle.plain_run.specs.Looking.{is_stabilise, owed_after}
+use Rattle.plain_run.specs.Snaps.{is_no_snap}
+use Rattle.plain_run.specs.Standing.{IsLow, IsQuiet}
 
 -- LISTS OF ENTRIES
 
@@ -35,6 +36,11 @@ pub legal-push : (s : Supply) (script : Script) (r : Run) (es : List Entry) (e :
 legal-push s script r [] e legal may = (may, tt)
 legal-push s script r (f ∷ es) e legal may = (legal.0, legal-push s script (goes_on s script r f) es e legal.1 may)
 
+-- and one that touches low numbers alone goes on such entries
+pub below-push : (es : List Entry) (e : Entry) → AllBelow64 es → IsLow e → AllBelow64 (es ++ e ∷ [])
+below-push [] e all low = (low, tt)
+below-push (f ∷ es) e all low = (all.0, below-push es e all.1 low)
+
 pub turns-append : (s : Supply) (script : Script) (r : Run) (xs ys : List ℕ) → turns s script r (xs ++ ys) ≡ turns s script r xs ++ turns s script (run_after s script r (turns s script r xs)) ys
 turns-append s script r [] ys = refl
 turns-append s script r (x ∷ xs) ys =
@@ -46,7 +52,7 @@ turns-append s script r (x ∷ xs) ys =
 
 -- WHAT A STEP GIVES
 
-acts_made : (ev : Event) (f : KernelState → Option (ℕ × Change)) (w : KernelState) (r : Entry × KernelState) → acts ev f w ≡ Some r → (c : ℕ × Change) × (f w ≡ Some c) × (carried w ev c.0 c.1 ≡ r)
+pub acts_made : (ev : Event) (f : KernelState → Option (ℕ × Change)) (w : KernelState) (r : Entry × KernelState) → acts ev f w ≡ Some r → (c : ℕ × Change) × (f w ≡ Some c) × (carried w ev c.0 c.1 ≡ r)
 acts_made ev f w r h = by_change (f w) refl h
   where
     by_change : (o : Option (ℕ × Change)) → f w ≡ o → option_map (λ c. carried w ev c.0 c.1) o ≡ Some r → (c : ℕ × Change) × (f w ≡ Some c) × (carried w ev c.0 c.1 ≡ r)
@@ -101,45 +107,43 @@ step_rise s l w v e x h =
 pub state_is : (w : KernelState) (cells : ℕ → Cell) (versions : List ℕ) → Has w cells versions → w ≡ state_with cells versions (λ x. (w x).stamp)
 state_is w cells versions h = λ i x. record { cell = h.cells x i; version = h.numbers x i; stamp = (w x).stamp }
 
--- THE FIVE ACTS NEITHER STABILISE NOR ASK
+-- NO SNAP, NO WISH
 
-no_five : (i : Instr) → false ≡ true → ⊥
-no_five i e = cc
+not_snap : false ≡ true → ⊥
+not_snap e = cc
 
-stabilises_five : (answer : Answer) (i : Instr) → is_one_of_five i ≡ true → stabilises answer i ≡ false
-stabilises_five Quiet i five = refl
-stabilises_five Hop i five = refl
-stabilises_five (Read v) i five = refl
-stabilises_five (Printed v) i five = refl
-stabilises_five (Replied Ok) (Set d n) five = refl
-stabilises_five (Replied Ok) (Load d a) five = refl
-stabilises_five (Replied Ok) (Store a r) five = refl
-stabilises_five (Replied Ok) (Print r) five = refl
-stabilises_five (Replied Ok) Halt five = refl
-stabilises_five (Replied Ok) i five = absurd (no_five i five)
-stabilises_five (Replied r) i five = refl
+pub asks_nothing : (answer : Answer) (i : Instr) (l : LocusState) → is_no_snap i ≡ true → asks answer i l ≡ None
+asks_nothing Quiet i l calm = refl
+asks_nothing Hop i l calm = refl
+asks_nothing (Read v) i l calm = refl
+asks_nothing (Printed v) i l calm = refl
+asks_nothing (Replied Ok) (Snap c) l calm = absurd (not_snap calm)
+asks_nothing (Replied Ok) i l calm = refl
+asks_nothing (Replied r) i l calm = refl
 
-asks_five : (answer : Answer) (i : Instr) (l : LocusState) → is_one_of_five i ≡ true → asks answer i l ≡ None
-asks_five Quiet i l five = refl
-asks_five Hop i l five = refl
-asks_five (Read v) i l five = refl
-asks_five (Printed v) i l five = refl
-asks_five (Replied Ok) (Set d n) l five = refl
-asks_five (Replied Ok) (Load d a) l five = refl
-asks_five (Replied Ok) (Store a r) l five = refl
-asks_five (Replied Ok) (Print r) l five = refl
-asks_five (Replied Ok) Halt l five = refl
-asks_five (Replied Ok) i l five = absurd (no_five i five)
-asks_five (Replied r) i l five = refl
+-- THE STABLE THAT A STEP OWES
 
--- A CALM STEP
+stabilises_is : (answer : Answer) (i : Instr) (l : ℕ) → (if stabilises answer i then Some l else None) ≡ owed_after l answer (is_stabilise i)
+stabilises_is Quiet i l = refl
+stabilises_is Hop i l = refl
+stabilises_is (Read v) i l = refl
+stabilises_is (Printed v) i l = refl
+stabilises_is (Replied Ok) (Stabilise c) l = refl
+stabilises_is (Replied Ok) i l = refl
+stabilises_is (Replied r) i l = refl
 
--- what the rules look at after a step of one of the five acts
-abbrev pub stepped : Run → Entry → ℕ → KernelState → Run
-stepped r e l v = noting (record r {
+-- what a step owes, by the locus before it
+pub owed_is : (l : ℕ) (answer : Answer) (st : LocusState) → owed_by l answer (Some st) ≡ owed_after l answer (is_stabilise (instr_at st))
+owed_is l answer st = stabilises_is answer (instr_at st) l
+
+-- A STEP
+
+-- what the rules look at after a step that asks for nothing
+abbrev pub stepped : Run → Entry → ℕ → KernelState → Option ℕ → Run
+stepped r e l v owed = noting (record r {
   state = v;
   began = false;
-  owed = None;
+  owed = owed;
   steps = put r.steps l (r.steps l + 1);
   by_step = λ x. writes e x || r.by_step x;
   was_full = λ x. not (writes e x) && r.was_full x;
@@ -151,12 +155,9 @@ after_made s script w v e l ev actor made =
     ∙ ap (λ k. next_of (event_of s script) w (step s k w)) actor
     ∙ ap (next_of (event_of s script) w) made
 
-owed_none : (l : ℕ) (answer : Answer) (st : LocusState) → is_one_of_five (instr_at st) ≡ true → owed_by l answer (Some st) ≡ None
-owed_none l answer st five = ap (λ (b : Bool). if b then Some l else None) (stabilises_five answer (instr_at st) five)
-
-pub goes_on_step : (s : Supply) (script : Script) (r : Run) (e : Entry) (v : KernelState) (l : ℕ) (st : LocusState) → (r.state l).cell ≡ LocusCell st → is_one_of_five (instr_at st) ≡ true → step s l r.state ≡ Some (e, v)
-    → goes_on s script r e ≡ stepped r e l v
-goes_on_step s script r e v l st cell five made =
+pub goes_on_step : (s : Supply) (script : Script) (r : Run) (e : Entry) (v : KernelState) (l : ℕ) (st : LocusState) → (r.state l).cell ≡ LocusCell st → asks e.answer (instr_at st) st ≡ None → step s l r.state ≡ Some (e, v)
+    → goes_on s script r e ≡ stepped r e l v (owed_after l e.answer (is_stabilise (instr_at st)))
+goes_on_step s script r e v l st cell blind made =
     let k = step_entry s l r.state v e made in
     let here : locus_in (r.state e.actor).cell ≡ Some st = ap (λ n. locus_in (r.state n).cell) k.1 ∙ ap locus_in cell in
     ap (went_on s script r e) k.0
@@ -165,10 +166,10 @@ goes_on_step s script r e v l st cell five made =
     ∙ (λ i. noting (record r {
       state = v;
       began = false;
-      owed = owed_none e.actor e.answer st five i;
+      owed = (ap (λ n. owed_by n e.answer (Some st)) k.1 ∙ owed_is l e.answer st) i;
       steps = put r.steps (k.1 i) (r.steps (k.1 i) + 1);
       by_step = λ x. writes e x || r.by_step x;
-      asked = with_asked (asks_five e.answer (instr_at st) st five i) r.asked;
+      asked = with_asked (blind i) r.asked;
       was_full = λ x. not (writes e x) && r.was_full x;
     }))
 
@@ -184,13 +185,13 @@ none_due r (t ∷ ts) calm = both (is_due never r t.entity) (not_due (r.by_step 
     both : (b : Bool) → b ≡ false → list_any (λ (t : Touch). is_due never r t.entity) ts ≡ false → (b || list_any (λ (t : Touch). is_due never r t.entity) ts) ≡ false
     both b e f = rw e f
 
-pub may_step : (s : Supply) (script : Script) (r : Run) (e : Entry) (v : KernelState) (l : ℕ) → IsCalm script r → r.steps l < script.steps → step s l r.state ≡ Some (e, v) → May s never script r e
-may_step s script r e v l calm few made =
+pub may_step : (s : Supply) (script : Script) (r : Run) (e : Entry) (v : KernelState) (l : ℕ) → IsQuiet r None → births_owed script r ≡ false → r.steps l < script.steps → step s l r.state ≡ Some (e, v) → May s never script r e
+may_step s script r e v l calm born few made =
     let k = step_entry s l r.state v e made in (
       calm.tried,
       subst (λ (ev : Event). may_by ev) (sym k.0) (
-        calm.born,
-        calm.owed,
+        born,
+        calm.owes,
         subst (λ n. r.steps n < script.steps) (sym k.1) few,
         none_due r e.touched calm.asked,
         subst (λ n. IsMade (step s n r.state) e) (sym k.1) (ap (option_map (λ (r : Entry × KernelState). r.0)) made),
@@ -200,23 +201,14 @@ may_step s script r e v l calm few made =
     may_by : Event → Type 0
     may_by ev = may s never script r e ev
 
--- the state after a calm step is calm, where the atlas is as it was
-pub calm_step : (script : Script) (r : Run) (e : Entry) (l : ℕ) (v : KernelState) → IsCalm script r → (v 0).cell ≡ (r.state 0).cell → IsCalm script (stepped r e l v)
-calm_step script r e l v calm same = record {
-  owed = refl;
-  tried = calm.tried;
-  asked = calm.asked;
-  born = ap (λ k. is_some (next_name (atlas_in k) script)) same ∙ calm.born;
-}
-
--- a look at a locus that may step gives its step
-pub turn_step : (s : Supply) (script : Script) (r : Run) (e : Entry) (v : KernelState) (l : ℕ) (st : LocusState) → (r.state l).cell ≡ LocusCell st → running (r.state l).cell ≡ Some st → is_one_of_five (instr_at st) ≡ true
-    → r.steps l < script.steps → step s l r.state ≡ Some (e, v) → turn s script r l ≡ e ∷ []
-turn_step s script r e v l st cell runs five few made =
+-- a look at a locus that may step gives its step, and the Stable that is owed after it
+pub turn_step : (s : Supply) (script : Script) (r : Run) (e : Entry) (v : KernelState) (l : ℕ) (st : LocusState) → (r.state l).cell ≡ LocusCell st → running (r.state l).cell ≡ Some st → asks e.answer (instr_at st) st ≡ None
+    → r.steps l < script.steps → step s l r.state ≡ Some (e, v) → turn s script r l ≡ e ∷ owed_stable (owed_after l e.answer (is_stabilise (instr_at st)))
+turn_step s script r e v l st cell runs blind few made =
     let can : can_step script r l ≡ true = can_true (running (r.state l).cell) (r.steps l) runs few in
     ap (λ (b : Bool). if b then made_and_owed s script r (step s l r.state) else []) can
     ∙ ap (made_and_owed s script r) made
-    ∙ ap (λ (q : Run). e ∷ owed_stable q.owed) (goes_on_step s script r e v l st cell five made)
+    ∙ ap (λ (q : Run). e ∷ owed_stable q.owed) (goes_on_step s script r e v l st cell blind made)
   where
     can_true : (o : Option LocusState) (n : ℕ) → o ≡ Some st → n < script.steps → (is_some o && nat_lt n script.steps) ≡ true
     can_true o n is lt = rw is (let t : nat_lt n script.steps ≡ true = grind (arith, nat_tests) in t)
@@ -224,3 +216,11 @@ turn_step s script r e v l st cell runs five few made =
 -- a look at a locus that may not step gives nothing
 pub turn_idle : (s : Supply) (script : Script) (r : Run) (l : ℕ) → can_step script r l ≡ false → turn s script r l ≡ []
 turn_idle s script r l idle = ap (λ (b : Bool). if b then made_and_owed s script r (step s l r.state) else []) idle
+
+-- A STABLE
+
+pub may_stable : (s : Supply) (script : Script) (r : Run) (actor : ℕ) → IsQuiet r (Some actor) → May s never script r (mark Stable actor 0)
+may_stable s script r actor quiet = (quiet.tried, (quiet.owes, quiet.short, refl))
+
+pub quiet_stable : (s : Supply) (script : Script) (r : Run) (actor : ℕ) → IsQuiet r (Some actor) → IsQuiet (goes_on s script r (mark Stable actor 0)) None
+quiet_stable s script r actor quiet = record { owes = refl; short = quiet.short; tried = quiet.tried; asked = λ x. refl }

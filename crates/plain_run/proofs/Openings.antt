@@ -1,120 +1,207 @@
--- The births of one container and one locus, computed.
-use Rattle.std.proofs.Common.{◌≡◌, ℕ, ◌-◌, ◌<◌, ◌≤◌, true, false, ◌==◌, if◌then◌else◌, IsTrue, List, [], ◌∷◌, Option, Some, None, codes, get_or, slice_index, zero, suc, replicate, refl, sym, subst, ◌∙◌, arith}
-use Rattle.std.specs.Option.{ForSome}
-use Rattle.hop_base.specs.declared.instructions.Instr.{Instr}
-use Rattle.hop_model.specs.State.{Supply, Cell, NotBorn, AtlasCell, EntityState, KernelState, empty_state, no_atlas}
-use Rattle.hop_model.specs.Births.{birth, birth_change, next_birth_change}
-use Rattle.hop_model.specs.Changes.{Access, access_at, accessed, changed, written}
-use Rattle.hop_model.specs.Histories.{IsLegalRun, never, start_run}
-use Rattle.hop_model.specs.Serial.{all_births}
+-- Births one after another, from any state.
+use Rattle.std.proofs.Common.{◌≡◌, ℕ, zero, suc, ◌+◌, ◌-◌, ◌*◌, ◌≤◌, Bool, true, false, if◌then◌else◌, IsTrue, List, [], ◌∷◌, ◌++◌, length, sum_by, Option, Some, None, is_some, option_map, All, refl, sym, ap, subst, ◌∙◌, arith, append_assoc, append-nil}
+use Rattle.std.proofs.lemmas.List.{length-append}
+use Rattle.hop_base.specs.declared.histories.Entry.{Entry}
+use Rattle.hop_base.specs.declared.histories.Event.{Event}
+use Rattle.hop_base.specs.declared.histories.Event.TheVariants.{Birth, Stable}
+use Rattle.hop_model.specs.Births.{birth, birth_change, next_birth, next_birth_change}
+use Rattle.hop_model.specs.Histories.{May, Run, after_birth, births_owed, by_event, event_of, goes_on, mark, may, never, noting, owing_births, run_after, start_run, went_on}
+use Rattle.hop_model.specs.Parts.{after_entry, is_event, next_of}
+use Rattle.hop_model.specs.Scripts.{Script, locus_named, next_name}
+use Rattle.hop_model.specs.Serial.{birth_turn, births, made_and_owed, owed_stable}
 use Rattle.hop_model.specs.Soundness.{IsSound}
-use Rattle.history_model.specs.Events.{Has}
-use Rattle.history_model.specs.FiveActs.{code_of, has_five}
-use Rattle.plain_run.specs.Opening.{container_born, first_state, locus_born, one_locus, opening, second_state, with_container, with_locus}
-use Rattle.plain_run.specs.Sessions.{IsCalm, Tracks, run_of}
-use Rattle.plain_run.proofs.Goings.{changed_rise}
+use Rattle.hop_model.specs.State.{Supply, Text, AtlasState, Cell, KernelState}
+use Rattle.hop_model.specs.Steps.{atlas_in}
+use Rattle.history_model.specs.Events.{Bears, Has}
+use Rattle.history_model.specs.Lists.{KeepsNames}
+use Rattle.script_read.specs.Rules.{IsScript}
+use Rattle.plain_run.specs.Fitting.{Fits}
+use Rattle.plain_run.specs.Snaps.{HasNoSnaps}
+use Rattle.plain_run.specs.Standing.{HasLooked, IsLow, IsQuiet, Reaches, opened_atlas, opening_from, run_from, settled}
+use Rattle.plain_run.proofs.Keeping.{keeps_itself, picks_born}
+use Rattle.plain_run.proofs.Goings.{acts_made, below-push, changed_rise, legal-push, may_stable, quiet_stable, run_after-append, state_is}
 
--- THE BIRTHS
+-- A STABLE
 
-pub first_birth : (s : Supply) (code : List Instr) → birth s (one_locus code) (codes "a") empty_state ≡ Some (container_born, first_state s code)
-unfolding birth_change
-first_birth s code = refl
+pub settled_is : (o : Option ℕ) (es : List Entry) → settled o es ≡ es ++ owed_stable o
+settled_is None es = sym (append-nil es)
+settled_is (Some actor) es = refl
 
-pub second_birth : (s : Supply) (code : List Instr) → birth s (one_locus code) (codes "l") (first_state s code) ≡ Some (locus_born, second_state s code)
-unfolding birth_change changed
-second_birth s code = refl
+pub run_more : (s : Supply) (script : Script) (w : KernelState) (es : List Entry) (e : Entry) → run_from s script w (es ++ e ∷ []) ≡ goes_on s script (run_from s script w es) e
+run_more s script w es e = run_after-append s script (start_run w) es (e ∷ [])
 
--- THE RUN
+-- a Stable leaves the state as it is
+pub settled_state : (s : Supply) (script : Script) (w : KernelState) (o : Option ℕ) (es : List Entry) → (run_from s script w (settled o es)).state ≡ (run_from s script w es).state
+settled_state s script w None es = refl
+settled_state s script w (Some actor) es = ap (λ (q : Run). q.state) (run_more s script w es (mark Stable actor 0))
 
-pub run_opening : (s : Supply) (code : List Instr) → (run_of s (one_locus code) opening).state ≡ second_state s code
-unfolding next_birth_change changed
-run_opening s code = refl
+pub settled_born : (s : Supply) (script : Script) (w : KernelState) (o : Option ℕ) (es : List Entry) → births_owed script (run_from s script w es) ≡ false → births_owed script (run_from s script w (settled o es)) ≡ false
+settled_born s script w o es born = ap (λ (v : KernelState). is_some (next_name (atlas_in (v 0).cell) script)) (settled_state s script w o es) ∙ born
 
-pub opening_is : (s : Supply) (code : List Instr) → all_births s (one_locus code) (start_run empty_state) ≡ opening
-unfolding next_birth_change changed
-opening_is s code = refl
+pub reaches_stable : (s : Supply) (script : Script) (w : KernelState) (cells : ℕ → Cell) (us made : List ℕ) (actor : ℕ) (es : List Entry) → Reaches s script w cells us made (Some actor) es → Reaches s script w cells us made None (es ++ mark Stable actor 0 ∷ [])
+reaches_stable s script w cells us made actor es t =
+    let m = mark Stable actor 0 in
+    let r = run_from s script w es in
+    let after = run_more s script w es m in
+    record {
+      legal = legal-push s script (start_run w) es m t.legal (may_stable s script r actor t.quiet);
+      has = subst (λ (q : Run). Has q.state cells us) (sym after) t.has;
+      quiet = subst (λ (q : Run). IsQuiet q None) (sym after) (quiet_stable s script r actor t.quiet);
+      steps = λ l h g. ap (λ (q : Run). q.steps l) after ∙ t.steps l h g;
+      limit = t.limit;
+      long = t.long;
+      count = t.count;
+      low = λ x. (let l = t.low x in let n = length-append es (m ∷ []) in omega (arith, l, n));
+      start = t.start;
+      sound = t.sound;
+      calm = t.calm;
+      rules = t.rules;
+      below = below-push es m t.below (λ x high. refl);
+    }
 
-pub opening_legal : (s : Supply) (code : List Instr) → IsLegalRun s never empty_state (one_locus code) opening
-unfolding next_birth_change changed
-opening_legal s code = ((refl, (refl, refl)), ((refl, (refl, refl)), ((refl, (refl, refl, refl)), tt)))
+-- BIRTHS IN TURN
 
--- WHAT THE OPENING LEAVES
+pub births_split : (s : Supply) (script : Script) (k m : ℕ) (r : Run) → births (k + m) s script r ≡ births k s script r ++ births m s script (run_after s script r (births k s script r))
+births_split s script zero m r = let e : 0 + m ≡ m = omega arith in ap (λ n. births n s script r) e
+births_split s script (suc k) m r =
+    let e : suc k + m ≡ suc (k + m) = omega arith in
+    let t = birth_turn s script r in
+    let q = run_after s script r t in
+    let b = births k s script q in
+    ap (λ n. births n s script r) e
+    ∙ ap (λ es. t ++ es) (births_split s script k m q)
+    ∙ sym (append_assoc t b (births m s script (run_after s script q b)))
+    ∙ ap (λ (v : Run). (t ++ b) ++ births m s script v) (sym (run_after-append s script r t b))
 
--- each written cell has P
-abbrev pub AreGood : (Cell → Type 0) → List Access → Type 0
-AreGood P [] = Unit {0}
-AreGood P (a ∷ rest) = ForSome a.new P × AreGood P rest
+pub births_none : (s : Supply) (script : Script) (m : ℕ) (r : Run) → births_owed script r ≡ false → births m s script r ≡ []
+births_none s script zero r born = refl
+births_none s script (suc m) r born =
+    let none : birth_turn s script r ≡ [] = ap (λ (b : Bool). if b then made_and_owed s script r (next_birth s script r.state) else []) born in
+    ap (λ es. es ++ births m s script (run_after s script r es)) none ∙ births_none s script m r born
 
-access_good : (P : Cell → Type 0) (accesses : List Access) (x : ℕ) → AreGood P accesses → ForSome (access_at accesses x) (λ (a : Access). ForSome a.new P)
-access_good P [] x all a h = cc
-access_good P (b ∷ rest) x all a h =
-    elim (b.entity == x) as (λ t. (if t then Some b else access_at rest x) ≡ Some a → ForSome a.new P) [
-      | true ↦ λ e. let same : b ≡ a = cc in subst (λ (a : Access). ForSome a.new P) same all.0
-      | false ↦ λ e. access_good P rest x all.1 a e
-    ] h
+births_one : (s : Supply) (script : Script) (r : Run) → births 1 s script r ≡ birth_turn s script r
+births_one s script r = append-nil (birth_turn s script r)
 
-accessed_good : (P : Cell → Type 0) (e : EntityState) (stamp : ℕ → ℕ) (o : Option Access) → P e.cell → ForSome o (λ (a : Access). ForSome a.new P) → P (accessed e stamp o).cell
-accessed_good P e stamp None old new = old
-accessed_good P e stamp (Some a) old new = by_new a.new (new a refl)
+-- the births so far are all, where none is owed
+pub opening_is : (s : Supply) (script : Script) (w : KernelState) (k : ℕ) (es : List Entry) → k ≤ 64 → es ≡ births k s script (start_run w) → births_owed script (run_from s script w es) ≡ false → opening_from s script w ≡ es
+opening_is s script w k es few same born =
+    let e : 64 ≡ k + (64 - k) = omega arith in
+    let b = births k s script (start_run w) in
+    let r = run_after s script (start_run w) b in
+    ap (λ n. births n s script (start_run w)) e
+    ∙ births_split s script k (64 - k) (start_run w)
+    ∙ ap (λ fs. b ++ fs) (births_none s script (64 - k) r (subst (λ (fs : List Entry). births_owed script (run_from s script w fs) ≡ false) same born))
+    ∙ append-nil b
+    ∙ sym same
+
+-- where no birth is owed, the looks begin
+pub opened : (s : Supply) (script : Script) (w : KernelState) (cells : ℕ → Cell) (k : ℕ) (es : List Entry) → k ≤ 64 → es ≡ births k s script (start_run w) → births_owed script (run_from s script w es) ≡ false → ((run_from s script w es).state 0).cell ≡ cells 0
+    → IsScript script → Fits (atlas_in (cells 0)) script → HasLooked s script w cells es []
+opened s script w cells k es few same born cell rules fits =
+    let opening = opening_is s script w k es few same born in
+    let atlas : opened_atlas s script w ≡ atlas_in (cells 0) = ap (λ (fs : List Entry). atlas_in ((run_from s script w fs).state 0).cell) opening ∙ ap atlas_in cell in
+    let none : is_some (next_name (atlas_in (cells 0)) script) ≡ false = ap (λ (c : Cell). is_some (next_name (atlas_in c) script)) (sym cell) ∙ born in
+    record {
+      born = born;
+      names = subst (λ (a : AtlasState). KeepsNames a (atlas_in (cells 0))) (sym atlas) (keeps_itself (atlas_in (cells 0)));
+      picks = subst (λ (a : AtlasState). All (λ (name : Text). IsTrue (is_some (locus_named a name))) script.order) (sym atlas) (picks_born (atlas_in (cells 0)) script rules fits none);
+      same = sym opening ∙ sym (append-nil (opening_from s script w));
+    }
+
+-- ONE BIRTH
+
+-- what is owed after a birth, by the next name
+abbrev pub owed_then : Option Text → Option ℕ
+owed_then None = Some 0
+owed_then (Some name) = None
+
+next_is_birth : (s : Supply) (script : Script) (name : Text) (w : KernelState) → next_name (atlas_in (w 0).cell) script ≡ Some name → next_birth s script w ≡ birth s script name w
+unfolding next_birth_change birth_change
+next_is_birth s script name w is = rw is refl
+
+birth_event : (s : Supply) (script : Script) (name : Text) (w v : KernelState) (e : Entry) → birth s script name w ≡ Some (e, v) → e.event ≡ Birth
+birth_event s script name w v e h =
+    let m = acts_made Birth (birth_change s script name) w (e, v) h in
+    ap (λ (r : Entry × KernelState). r.0.event) (sym m.2)
+
+birth_rise : (s : Supply) (script : Script) (name : Text) (w v : KernelState) (e : Entry) (x : ℕ) → birth s script name w ≡ Some (e, v) → (v x).version ≤ (w x).version + 1
+birth_rise s script name w v e x h =
+    let m = acts_made Birth (birth_change s script name) w (e, v) h in
+    subst (λ (r : Entry × KernelState). (r.1 x).version ≤ (w x).version + 1) m.2 (changed_rise w _ x)
+
+-- what the rules look at after a birth
+abbrev pub borne : Script → Run → Entry → KernelState → Run
+borne script r e v = noting (owing_births script (after_birth r e v))
+
+goes_on_birth : (s : Supply) (script : Script) (r : Run) (e : Entry) (v : KernelState) → e.event ≡ Birth → next_birth s script r.state ≡ Some (e, v) → goes_on s script r e ≡ borne script r e v
+goes_on_birth s script r e v ev made =
+    let after : after_entry (event_of s script) r.state e ≡ v =
+    ap (λ (k : Event). if is_event k then next_of (event_of s script) r.state (by_event s script k e.actor r.state) else r.state) ev
+    ∙ ap (next_of (event_of s script) r.state) made in
+    ap (went_on s script r e) ev ∙ ap (λ (u : KernelState). borne script r e u) after
+
+may_birth : (s : Supply) (script : Script) (r : Run) (e : Entry) (v : KernelState) → r.tried ≡ None → r.began ≡ true → e.event ≡ Birth → next_birth s script r.state ≡ Some (e, v) → May s never script r e
+may_birth s script r e v tried began ev made =
+    (tried, subst (λ (k : Event). may s never script r e k) (sym ev) (began, ap (option_map (λ (r : Entry × KernelState). r.0)) made))
+
+-- a birth, from a run with these cells
+pub record IsBirth (s : Supply) (script : Script) (w : KernelState) (new : ℕ → Cell) (vs made : List ℕ) (es : List Entry) (e : Entry) (later : Option Text) : Type 0 where
+  pub reaches : Reaches s script w new vs made (owed_then later) (es ++ e ∷ [])
+  pub turn : birth_turn s script (run_from s script w es) ≡ e ∷ owed_stable (owed_then later)
+  pub owed : births_owed script (run_from s script w (es ++ e ∷ [])) ≡ is_some later
+  pub began : (run_from s script w (es ++ e ∷ [])).began ≡ true
+
+pub birth_made : (s : Supply) (script : Script) (name : Text) (later : Option Text) (w : KernelState) (cells new : ℕ → Cell) (us vs made : List ℕ) (es : List Entry) (e : Entry)
+    → Reaches s script w cells us made None es → (run_from s script w es).began ≡ true → next_name (atlas_in (cells 0)) script ≡ Some name → Bears s script name cells us e new vs
+    → next_name (atlas_in (new 0)) script ≡ later → IsSound new → HasNoSnaps new → IsLow e → length es + 2 ≤ 64
+    → IsBirth s script w new vs made es e later
+birth_made s script name later w cells new us vs made es e t began next bears named sound calm low few =
+    let r = run_from s script w es in
+    let b = bears (λ x. (r.state x).stamp) in
+    let v = b.0 in
+    let made_here : birth s script name r.state ≡ Some (e, v) = ap (birth s script name) (state_is r.state cells us t.has) ∙ b.1 in
+    let here : next_name (atlas_in (r.state 0).cell) script ≡ Some name = ap (λ (k : Cell). next_name (atlas_in k) script) (t.has.cells 0) ∙ next in
+    let nexts : next_birth s script r.state ≡ Some (e, v) = next_is_birth s script name r.state here ∙ made_here in
+    let ev = birth_event s script name r.state v e made_here in
+    let step = goes_on_birth s script r e v ev nexts in
+    let after : run_from s script w (es ++ e ∷ []) ≡ borne script r e v = run_more s script w es e ∙ step in
+    let owed : births_owed script (after_birth r e v) ≡ is_some later = ap is_some (ap (λ (k : Cell). next_name (atlas_in k) script) (b.2.cells 0) ∙ named) in
+    let owes : (borne script r e v).owed ≡ owed_then later = ap (λ (p : Bool). if p then None else Some 0) owed ∙ by_then later in
+    let was : births_owed script r ≡ true = ap is_some here in
+    record {
+      reaches = record {
+        legal = legal-push s script (start_run w) es e t.legal (may_birth s script r e v t.quiet.tried began ev nexts);
+        has = subst (λ (q : Run). Has q.state new vs) (sym after) b.2;
+        quiet = subst (λ (q : Run). IsQuiet q (owed_then later)) (sym after) (record { owes = owes; short = t.quiet.short; tried = t.quiet.tried; asked = t.quiet.asked });
+        steps = λ l h g. ap (λ (q : Run). q.steps l) after ∙ t.steps l h g;
+        limit = t.limit;
+        long = t.long;
+        count = count_then later;
+        low = λ x. (let l = t.low x in let n = length-append es (e ∷ []) in let p = b.2.numbers x in let q = t.has.numbers x in let k = birth_rise s script name r.state v e x made_here in omega (arith, l, n, p, q, k));
+        start = t.start;
+        sound = sound;
+        calm = calm;
+        rules = t.rules;
+        below = below-push es e t.below low;
+      };
+      turn = ap (λ (p : Bool). if p then made_and_owed s script r (next_birth s script r.state) else []) was ∙ ap (made_and_owed s script r) nexts ∙ ap (λ (q : Run). e ∷ owed_stable q.owed) step ∙ ap (λ (o : Option ℕ). e ∷ owed_stable o) owes;
+      owed = ap (births_owed script) after ∙ owed;
+      began = ap (λ (q : Run). q.began) after ∙ began;
+    }
   where
-    by_new : (k : Option Cell) → ForSome k P → P (written e stamp k).cell
-    by_new None h = old
-    by_new (Some k) h = h k refl
+    by_then : (o : Option Text) → (if is_some o then None else Some 0) ≡ owed_then o
+    by_then None = refl
+    by_then (Some x) = refl
 
--- what holds of all cells and of all that is written holds of all cells after a change
-changed_good : (P : Cell → Type 0) (w : KernelState) (accesses : List Access) → ((x : ℕ) → P (w x).cell) → AreGood P accesses → (x : ℕ) → P (changed w accesses x).cell
-unfolding changed
-changed_good P w accesses old new x = accessed_good P (w x) _ (access_at accesses x) (old x) (access_good P accesses x new)
+    count_then : (o : Option Text) → length (settled (owed_then o) (es ++ e ∷ [])) ≤ 64 + 2 * sum_by (λ n. n) made
+    count_then None = let n = length-append es (e ∷ []) in let m = length-append (es ++ e ∷ []) (mark Stable 0 0 ∷ []) in omega (arith, n, m, few)
+    count_then (Some x) = let n = length-append es (e ∷ []) in omega (arith, n, few)
 
-abbrev pub HasFive : Cell → Type 0
-HasFive k = IsTrue (has_five (code_of k))
-
-pub empty_five : (x : ℕ) → HasFive (empty_state x).cell
-empty_five x = elim (x == 0) as (λ t. HasFive (if t then AtlasCell no_atlas else NotBorn)) [ true ↦ refl | false ↦ refl ]
-
-some_five : (k : Cell) → HasFive k → ForSome (Some k) HasFive
-some_five k h j e = let same : k ≡ j = cc in subst HasFive same h
-
-pub second_five : (s : Supply) (code : List Instr) → IsTrue (has_five code) → (x : ℕ) → HasFive (second_state s code x).cell
-second_five s code five =
-    changed_good HasFive (first_state s code) (with_locus s code)
-    (changed_good HasFive empty_state (with_container s code) empty_five (some_five _ refl, (some_five _ five, tt)))
-    (some_five _ refl, (some_five _ five, (some_five _ five, tt)))
-
-calm_opening : (s : Supply) (code : List Instr) → IsCalm (one_locus code) (run_of s (one_locus code) opening)
-unfolding next_birth_change changed
-calm_opening s code = record { owed = refl; tried = refl; asked = λ x. refl; born = refl }
-
-steps_opening : (s : Supply) (code : List Instr) (l : ℕ) → (run_of s (one_locus code) opening).steps l ≡ 0
-unfolding next_birth_change changed
-steps_opening s code l = refl
-
-pub zero_at : (n k d : ℕ) → k < n → get_or (replicate n 0) k d ≡ 0
-zero_at zero k d h = absurd (omega arith)
-zero_at (suc n) zero d h = refl
-zero_at (suc n) (suc k) d h = zero_at n k d (omega arith)
-
--- zeros are found at each place, also past the end
-pub zeros_at : (n k : ℕ) → slice_index (replicate n 0) k ≡ 0
-zeros_at zero k = refl
-zeros_at (suc n) zero = refl
-zeros_at (suc n) (suc k) = zeros_at n k
-
-low_second : (s : Supply) (code : List Instr) (x : ℕ) → (second_state s code x).version ≤ 2
-low_second s code x = omega (arith, changed_rise (first_state s code) (with_locus s code) x, changed_rise empty_state (with_container s code) x)
-
--- after the births the session is where the run is
-pub tracks_opening : (s : Supply) (code : List Instr) (cells : ℕ → Cell) (versions : List ℕ) → IsTrue (has_five code) → Has (second_state s code) cells versions → IsSound cells
-    → Tracks s (one_locus code) cells versions (replicate 23 0) opening
-tracks_opening s code cells versions five has sound = record {
-  legal = opening_legal s code;
-  has = subst (λ (w : KernelState). Has w cells versions) (sym (run_opening s code)) has;
-  calm = calm_opening s code;
-  steps = λ l high low. steps_opening s code l ∙ sym (zero_at 23 (l - 41) 0 (omega arith));
-  sound = sound;
-  five = λ x. subst HasFive (has.cells x) (second_five s code five x);
-  long = refl;
-  limit = λ k d inside. rw (zero_at 23 k d inside) (omega arith);
-  count = omega arith;
-  low = λ x. omega (arith, has.numbers x, low_second s code x);
-}
+-- one birth more
+pub births_more : (s : Supply) (script : Script) (w : KernelState) (k : ℕ) (es fs : List Entry) → es ≡ births k s script (start_run w) → birth_turn s script (run_from s script w es) ≡ fs → es ++ fs ≡ births (k + 1) s script (start_run w)
+births_more s script w k es fs same turn =
+    let b = births k s script (start_run w) in
+    ap (λ (gs : List Entry). es ++ gs) (sym turn)
+    ∙ ap (λ (gs : List Entry). gs ++ birth_turn s script (run_from s script w gs)) same
+    ∙ ap (λ (gs : List Entry). b ++ gs) (sym (births_one s script (run_after s script (start_run w) b)))
+    ∙ sym (births_split s script k 1 (start_run w))

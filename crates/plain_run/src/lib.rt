@@ -1,9 +1,15 @@
-//! Runs of scripts on plain states, one step after another: the serial history of the abstract kernel.
+//! Runs of scripts on plain states, one entry after another: the serial history of the abstract kernel.
 #![tactic(auto)]
 
-mod opening;
+mod fitting;
+mod looks;
+mod names;
+mod newborns;
 mod plays;
-mod session;
+mod serial;
+#[cfg(test)]
+mod tests;
 
-pub use plays::{Played, play};
-pub use session::Session;
+pub use fitting::against;
+pub use plays::{Played, finish, play, replay};
+pub use serial::SerialRun;

@@ -1,23 +1,104 @@
-ghost use Rattle.std.specs.Prelude.{◌≡◌, ℕ, ◌<◌, ◌≤◌, ◌^◌, [], OnOk, OnErr, List, All, length, replicate, IsTrue, vec_len, vec_capacity};
-ghost use Rattle.hop_base.specs.declared.instructions.Instr.{Instr as AnInstr};
-ghost use Rattle.hop_model.specs.Histories.{IsLegalRun, never};
-ghost use Rattle.hop_model.specs.Serial.{IsSerial, IsSerialFront};
-ghost use Rattle.hop_model.specs.Soundness.{IsSound};
+//! Runs to their end, or over so many entries.
+ghost use Rattle.std.specs.Prelude.{◌≡◌, ℕ, ◌<◌, ◌≤◌, ◌^◌, ◌++◌, OnOk, OnErr, IfOk, All, length, IsTrue, vec_len, vec_capacity, ◌∷◌, [], ◌+◌, false};
+ghost use Rattle.hop_model.specs.Serial.{IsSerial};
 ghost use Rattle.hop_model.specs.Scripts.{Script as Tables};
-ghost use Rattle.hop_model.specs.State.{Supply, empty_state};
+ghost use Rattle.hop_model.specs.State.{Supply, KernelState, empty_state};
 ghost use Rattle.history_model.specs.Plains.{atlas_of, cells_of};
-ghost use Rattle.plain_run.specs.Opening.{HasFirstForm, IsOneLocus, opening_of};
-ghost use Rattle.plain_run.specs.Plays.{IsFresh, IsPlay, PrintsAsRun};
-ghost use Rattle.plain_run.specs.Sessions.{TracksSession};
+ghost use Rattle.plain_run.specs.Plays.{IsPlay, Makes, Records, Replays};
+ghost use Rattle.plain_run.specs.Snaps.{HasNoSnapTables};
+ghost use Rattle.plain_run.specs.Standing.{IsStanding, Stands};
 ghost use Rattle.script_read.specs.Rules.{IsScript};
 ghost use Rattle.script_read.specs.Scripts.{tables_of};
 
-use crate::opening::{births, empty};
-use crate::session::{Session, finish, push_within};
-use history_model::Plain;
+use crate::serial::SerialRun;
+use history_model::{Plain, PlainAtlas};
 use hop_base::Entry;
 use script_read::Script;
 use std::alloc::{AllocError, Global};
+
+/// Goes on for so many entries. False exactly where the serial history has fewer left; then, and on want of memory, as many
+/// were made as there are or there was memory for.
+pub fn replay<S: Fn(u64, u32, u16) -> u64>(
+    alloc: Global,
+    run: &mut SerialRun,
+    script: &Script,
+    supply: &S,
+    entries: u64,
+) -> Result<bool, AllocError>
+    ghost s: { Supply }
+    requires callable { (t p a : ℕ) → t < 2 ^ 64 → p < 256 → a < 128 → S.pre supply.now t p a }
+    requires answers { (t p a r : ℕ) → t < 2 ^ 64 → p < 256 → a < 128 → S.post supply.now t p a r → r ≡ s t p a }
+    requires stands { IsStanding s (tables_of script.now) run.old }
+    ensures replayed { IfOk result (λ whole. Replays s (tables_of script.now) entries whole run.old run.new) }
+    ensures err { OnErr result (Makes s (tables_of script.now) run.old run.new) }
+{
+    let mut made = 0;
+    while made < entries {
+        let entry = run.next(alloc, script, supply)?;
+        if entry.is_none() {
+            return Ok(false);
+        }
+        made += 1;
+    }
+    Ok(true)
+}
+
+/// Appends where room was made before.
+fn push_within(history: &mut Vec<Entry>, entry: Entry)
+    requires room { vec_len history.old < vec_capacity history.old }
+    ensures { history.new.items ≡ history.old.items ++ entry ∷ [] }
+{
+    let _ = history.push(entry);
+}
+
+/// One entry more in the history. False where the serial history is over.
+fn record_next<S: Fn(u64, u32, u16) -> u64>(
+    alloc: Global,
+    run: &mut SerialRun,
+    script: &Script,
+    supply: &S,
+    history: &mut Vec<Entry>,
+) -> Result<bool, AllocError>
+    ghost s: { Supply }
+    requires callable { (t p a : ℕ) → t < 2 ^ 64 → p < 256 → a < 128 → S.pre supply.now t p a }
+    requires answers { (t p a r : ℕ) → t < 2 ^ 64 → p < 256 → a < 128 → S.post supply.now t p a r → r ≡ s t p a }
+    requires stands { IsStanding s (tables_of script.now) run.old }
+    ensures records { Records s (tables_of script.now) run.old history.old.items run.new history.new.items }
+    ensures longer { IfOk result (λ more. IsTrue more → length history.new.items ≡ length history.old.items + 1) }
+    ensures over { IfOk result (λ more. (more ≡ false) → (w : KernelState) → Stands s (tables_of script.now) w run.old history.old.items → IsSerial s (tables_of script.now) w history.new.items) }
+{
+    history.reserve(1)?;
+    match run.next(alloc, script, supply)? {
+        Some(entry) => {
+            push_within(history, entry);
+            Ok(true)
+        }
+        None => Ok(false),
+    }
+}
+
+/// Goes on to the end of the serial history, and appends each entry. Where memory is wanting the run ends there.
+pub fn finish<S: Fn(u64, u32, u16) -> u64>(
+    alloc: Global,
+    run: &mut SerialRun,
+    script: &Script,
+    supply: &S,
+    history: &mut Vec<Entry>,
+) -> Result<(), AllocError>
+    ghost s: { Supply }
+    requires callable { (t p a : ℕ) → t < 2 ^ 64 → p < 256 → a < 128 → S.pre supply.now t p a }
+    requires answers { (t p a r : ℕ) → t < 2 ^ 64 → p < 256 → a < 128 → S.post supply.now t p a r → r ≡ s t p a }
+    requires stands { (w : KernelState) × Stands s (tables_of script.now) w run.old history.old.items }
+    ensures records { Records s (tables_of script.now) run.old history.old.items run.new history.new.items }
+    ensures over { OnOk result ((w : KernelState) → Stands s (tables_of script.now) w run.old history.old.items → IsSerial s (tables_of script.now) w history.new.items) }
+{
+    loop {
+        let more = record_next(alloc, run, script, supply, history)?;
+        if !more {
+            return Ok(());
+        }
+    }
+}
 
 /// What a run made.
 #[derive(Drop, Debug)]
@@ -28,75 +109,30 @@ pub struct Played {
     pub whole: bool,
 }
 
-fn fresh(alloc: Global) -> Session
-    ensures { IsFresh result }
+/// Nothing but the atlas is born.
+fn empty(alloc: Global) -> Plain
+    ensures containers { result.containers.items ≡ [] }
+    ensures loci { result.loci.items ≡ [] }
+    ensures names { result.atlas.containers.items ≡ [] }
+    ensures locus_names { result.atlas.loci.items ≡ [] }
+    ensures edges { result.atlas.edges.items ≡ [] }
 {
-    Session {
-        state: empty(alloc),
-        versions: [0; 64],
-        made: [0; 23],
-        history: Vec::new(alloc),
+    Plain {
+        atlas: PlainAtlas {
+            containers: Vec::new(alloc),
+            loci: Vec::new(alloc),
+            edges: Vec::new(alloc),
+        },
+        containers: Vec::new(alloc),
+        loci: Vec::new(alloc),
     }
 }
 
-/// The births of a container and a locus, with the Stable that is owed then.
-fn start(alloc: Global, session: &mut Session, script: &Script) -> Result<(), AllocError>
-    requires tables { IsOneLocus (tables_of script.now) }
-    requires script { IsScript (tables_of script.now) }
-    requires fresh { IsFresh session.old }
-    ensures tracks { OnOk result ((s : Supply) → TracksSession s (tables_of script.now) session.new) }
-    ensures history { OnOk result (session.new.history.items ≡ opening_of (tables_of script.now)) }
-    ensures err { OnErr result (session.new.history.items ≡ []) }
-    ensures sound { (s : Supply) → IsSound (cells_of s session.new.state) }
+/// A run that begins with nothing.
+fn fresh(alloc: Global) -> SerialRun
+    ensures { (s : Supply) → (script : Tables) → IsScript script → HasNoSnapTables script → Stands s script empty_state result [] }
 {
-    session.history.reserve(3)?;
-    let [container, locus, stable] = births(
-        alloc,
-        &mut session.state,
-        &mut session.versions,
-        script,
-    )?;
-    push_within(&mut session.history, container);
-    push_within(&mut session.history, locus);
-    push_within(&mut session.history, stable);
-    Ok(())
-}
-
-/// The births, and none if the script names nothing.
-fn open(alloc: Global, session: &mut Session, script: &Script) -> Result<(), AllocError>
-    requires form { HasFirstForm (tables_of script.now) }
-    requires script { IsScript (tables_of script.now) }
-    requires fresh { IsFresh session.old }
-    ensures tracks { OnOk result ((s : Supply) → TracksSession s (tables_of script.now) session.new) }
-    ensures history { OnOk result (session.new.history.items ≡ opening_of (tables_of script.now)) }
-    ensures err { OnErr result (session.new.history.items ≡ []) }
-    ensures sound { (s : Supply) → IsSound (cells_of s session.new.state) }
-{
-    if script.containers.is_empty() {
-        return Ok(());
-    }
-    start(alloc, session, script)
-}
-
-/// The births and then the steps of all loci in rounds.
-fn run_whole<S: Fn(u64, u32, u16) -> u64>(
-    alloc: Global,
-    session: &mut Session,
-    script: &Script,
-    supply: &S,
-) -> Result<(), AllocError>
-    ghost g: { Supply × Tables }
-    requires callable { (t p a : ℕ) → t < 2 ^ 64 → p < 256 → a < 128 → S.pre supply.now t p a }
-    requires answers { (t p a r : ℕ) → t < 2 ^ 64 → p < 256 → a < 128 → S.post supply.now t p a r → r ≡ g.0 t p a }
-    requires tables { tables_of script.now ≡ g.1 }
-    requires form { HasFirstForm g.1 }
-    requires script { IsScript (tables_of script.now) }
-    requires fresh { IsFresh session.old }
-    ensures play { IsPlay g.0 g.1 (cells_of g.0 session.new.state) session.new.history.items }
-    ensures whole { OnOk result (IsSerial g.0 g.1 empty_state session.new.history.items) }
-{
-    open(alloc, session, script)?;
-    finish(session, script.steps, supply)
+    SerialRun::begin(empty(alloc), [0; 64])
 }
 
 /// Runs a script from the empty state: the births of its names, and then the loci in rounds until each is stopped, halted or
@@ -105,17 +141,19 @@ pub fn play<S: Fn(u64, u32, u16) -> u64>(alloc: Global, script: &Script, supply:
     ghost s: { Supply }
     requires callable { (t p a : ℕ) → t < 2 ^ 64 → p < 256 → a < 128 → S.pre supply.now t p a }
     requires answers { (t p a r : ℕ) → t < 2 ^ 64 → p < 256 → a < 128 → S.post supply.now t p a r → r ≡ s t p a }
-    requires form { HasFirstForm (tables_of script.now) }
+    requires code { HasNoSnapTables (tables_of script.now) }
     requires script { IsScript (tables_of script.now) }
     ensures play { IsPlay s (tables_of script.now) (cells_of s result.state) result.history.items }
     ensures names { All (λ name. length name ≤ 24) (atlas_of result.state.atlas).loci }
     ensures whole { IsTrue result.whole → IsSerial s (tables_of script.now) empty_state result.history.items }
 {
-    let mut session = fresh(alloc);
-    let whole = run_whole(alloc, &mut session, script, supply).is_ok();
+    let mut run = fresh(alloc);
+    let mut history = Vec::new(alloc);
+    let whole = finish(alloc, &mut run, script, supply, &mut history).is_ok();
+    let (state, _) = run.into_parts();
     Played {
-        state: session.state,
-        history: session.history,
+        state,
+        history,
         whole,
     }
 }

@@ -1,7 +1,7 @@
 //! The regions of a container, in a list of fixed room.
 #![tactic(auto)]
 
-ghost use Rattle.std.specs.Prelude.{◌≡◌, ◌≤◌, ◌<◌, [], length, take, drop, not, find, filter, OnOk, OnErr, IfSome, IfNone, None, IsSomeAnd, IsTrue, insert, slice_get};
+ghost use Rattle.std.specs.Prelude.{◌≡◌, ◌≤◌, ◌<◌, ◌==◌, [], length, take, drop, not, find, filter, OnOk, OnErr, IfSome, IfNone, None, IsSomeAnd, IsTrue, insert, slice_get};
 ghost use Rattle.std.specs.Option.{ok_or};
 ghost use Rattle.std.specs.List.{list_any};
 ghost use Rattle.arrayvec.specs.ArrayVec.{array_vec_len};
@@ -109,6 +109,21 @@ impl<const N: usize> RegionMap<N> {
         RegionMap {
             regions: ArrayVec::new(),
         }
+    }
+
+    /// Whether the region overlaps one that is there.
+    pub fn overlaps(&self, region: &Region) -> bool
+        ensures { result ≡ list_any (overlaps region.now) self.now }
+    {
+        overlaps_any(region, self.regions.as_slice())
+    }
+
+    /// Whether there are `N` regions.
+    pub fn is_full(&self) -> bool
+        ensures full { result ≡ (length self.now == N) }
+        ensures few { length self.now ≤ N }
+    {
+        self.regions.is_full()
     }
 
     /// Adds the region in its order. Overlap where it overlaps one that is there, else ListFull where there are

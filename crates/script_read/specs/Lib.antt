@@ -1,3 +1,9 @@
 pub mod Scripts
 pub mod Rules
 pub mod Refusals
+pub mod Reading
+pub mod Strings
+pub mod Fields
+pub mod Meaning
+pub mod Views
+pub mod Carried

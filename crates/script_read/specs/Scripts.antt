@@ -1,5 +1,5 @@
 -- What the structs of a script are in the model.
-use Rattle.std.specs.Prelude.{ℕ, List, map, string_bytes}
+use Rattle.std.specs.Prelude.{map, string_bytes}
 use Rattle.hop_model.specs.Scripts.{RegionTable, CapTable, ContainerTable, LocusTable, Script as Tables}
 use Rattle.script_read.specs.declared.Script.{Script}
 use Rattle.script_read.specs.declared.ScriptCap.{ScriptCap}

@@ -1,9 +1,19 @@
 //! Scripts: the containers and loci, with their programs, that a run gives birth to.
 #![tactic(auto)]
 
+mod fields;
+mod keys;
+mod links;
+mod programs;
+mod reading;
 mod refusals;
+mod strings;
+mod tables;
+#[cfg(test)]
+mod tests;
 
 use hop_base::{Instr, Rights};
+pub use reading::read_script;
 pub use refusals::{Refusal, ScriptFault, Why};
 
 /// A script. Ranges and rules of its parts are those of `IsScript` in specs/.

@@ -1,4 +1,6 @@
 pub mod Counts
+pub mod FileLaws
+pub mod Files
 pub mod Memory
 pub mod Reading
 pub mod Standard

@@ -107,7 +107,7 @@ impl<W: Write> Sink for WriteSink<W> {
 }
 
 // One read, made again while a signal interrupts it.
-fn read_some<R: Read>(reader: &mut R, out: &mut [u8]) -> io::Result<usize>
+pub(crate) fn read_some<R: Read>(reader: &mut R, out: &mut [u8]) -> io::Result<usize>
     requires { 0 < length out.old }
     ensures within { IfOk result (λ n. n ≤ length out.new) }
     ensures bytes { Takes (R.remaining reader.old) (R.remaining reader.new) result out.new }
@@ -139,7 +139,7 @@ fn write_some<W: Write>(writer: &mut W, bytes: &[u8]) -> io::Result<usize>
 }
 
 // Writes all the bytes and flushes. A write that accepts nothing is an error.
-fn write_whole<W: Write>(writer: &mut W, bytes: &[u8]) -> io::Result<()>
+pub(crate) fn write_whole<W: Write>(writer: &mut W, bytes: &[u8]) -> io::Result<()>
     ensures ok { OnOk result (Appends (W.contents writer.old) (W.contents writer.new) bytes.now) }
     ensures err { OnErr result (AppendsPart (W.contents writer.old) (W.contents writer.new) bytes.now) }
 {

@@ -5,14 +5,15 @@ use Rattle.hop_model.specs.State.{ContainerState, ContainerCell}
 use Rattle.hop_model.specs.Words.{denied}
 use Rattle.hop_model.specs.Outcomes.{own_reply, through, with_other}
 use Rattle.history_model.specs.Plains.{container_of, locus_of}
-use Rattle.history_model.proofs.LookLemmas.{through_reads, store_past, store_through, store_word, acted_reading, acted_storing}
+use Rattle.history_model.proofs.BesideLemmas.{acted_reading, acted_writing}
+use Rattle.history_model.proofs.LookLemmas.{through_reads, store_past, store_through, store_word}
 use Rattle.history_model.proofs.acts.store.Goals as goal
 
 pub returns-then-address-c-clause-made : goal.returns-then-address-c-clause-made
 returns-then-address-c-clause-made c s =
     let l = locus_of c.args.l.now in
     let b = container_of s c.args.c.now in
-    acted_reading _ (own_reply l NoPage) _ b _ _ (store_past l b c.args.address c.args.word c.if-address-c.true) (record { other = refl; newborn = refl })
+    acted_reading _ (own_reply l NoPage) _ (ContainerCell b) _ _ (store_past l b c.args.address c.args.word c.if-address-c.true) refl refl
     c.finish.ensures.locus (c.read_only.ensures.answer ∙ c.finish.ensures.answer) c.read_only.ensures.wrote
 
 pub returns-in-Some-clause-made : goal.returns-in-Some-clause-made
@@ -20,8 +21,9 @@ returns-in-Some-clause-made c s =
     let l = locus_of c.args.l.now in
     let b = container_of s c.args.c.now in
     let r = c.in-Some.region in
-    acted_reading _ (through l r c.args.address (denied r.rights.0 2)) _ b _ _
-    (store_through l b c.args.address c.args.word r c.if-address-c.false (sym c.in-Some.ensures.region)) (through_reads l r c.args.address (denied r.rights.0 2))
+    let reads = through_reads l r c.args.address (denied r.rights.0 2) in
+    acted_reading _ (through l r c.args.address (denied r.rights.0 2)) _ (ContainerCell b) _ _
+    (store_through l b c.args.address c.args.word r c.if-address-c.false (sym c.in-Some.ensures.region)) reads.other reads.newborn
     c.through.ensures.locus (c.read_only-in-Some.ensures.answer ∙ c.through.ensures.answer) c.read_only-in-Some.ensures.wrote
 
 pub returns-in_err-put_word-clause-err : goal.returns-in_err-put_word-clause-err
@@ -33,6 +35,7 @@ pub returns-clause-made : goal.returns-clause-made
 returns-clause-made c s =
     let l = locus_of c.args.l.now in
     let b = container_of s c.args.c.now in
-    acted_storing _ l _ b (container_of s c.put_word.new.c) _
+    let d = container_of s c.put_word.new.c in
+    acted_writing _ (with_other l Ok (ContainerCell d)) _ (ContainerCell b) (ContainerCell d) _ _
     (store_word l b c.args.address c.args.word c.if-address-c.false (sym c.in_default.ensures.region) ∙ ap (λ (d : ContainerState). with_other l Ok (ContainerCell d)) (sym (c.in_ok-put_word.ensures.ok s)))
-    c.finish-2.ensures.locus c.finish-2.ensures.answer
+    refl refl c.finish-2.ensures.locus c.finish-2.ensures.answer refl

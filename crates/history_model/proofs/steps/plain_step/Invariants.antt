@@ -1,4 +1,4 @@
 use Rattle.history_model.proofs.steps.plain_step.Given as goal
 
-abbrev pub ghost-step_look : goal.ghost-step_look
-ghost-step_look g a = g.s
+abbrev pub ghost-carry_out : goal.ghost-carry_out
+ghost-carry_out g a = g.s

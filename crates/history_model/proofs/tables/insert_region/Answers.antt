@@ -3,7 +3,7 @@ use Rattle.std.specs.List.{insert, position_or_len}
 use Rattle.history_model.proofs.TableLemmas.{inserted_at}
 use Rattle.history_model.proofs.tables.insert_region.Goals as goal
 
-pub returns : goal.returns
-returns c =
+pub returns-clause-ok : goal.returns-clause-ok
+returns-clause-ok c =
     let rs = c.args.regions.now.items in
     c.in_ok-insert.ensures.items ∙ ap (λ n. insert rs n c.args.region) (c.place_of_page-place.ensures.place ∙ ap (position_or_len (λ other. nat_lt c.args.region.at other.at)) c.deref.ensures.value) ∙ inserted_at c.args.region rs

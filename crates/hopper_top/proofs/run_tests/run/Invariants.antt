@@ -1,5 +1,6 @@
+use Rattle.manager_gate.specs.Managers.{counted_word}
 use Rattle.hopper_top.proofs.run_tests.run.Given as goal
 
--- a supplier of zeros
+-- words that count up from the tag
 abbrev pub ghost-hopper : goal.ghost-hopper
-ghost-hopper a = λ tag page place. 0
+ghost-hopper a = λ tag page place. counted_word tag page place

@@ -1,17 +1,9 @@
-use Rattle.std.proofs.Common.{refl, rules}
-use Rattle.plain_run.proofs.Openings.{zeros_at}
+use Rattle.hop_model.specs.State.{empty_state}
+use Rattle.plain_run.proofs.Beginning.{can_begin}
 use Rattle.plain_run.proofs.plays.fresh.Goals as goal
 
 pub returns : goal.returns
-returns c = record {
-  empty = record {
-    containers = c.empty.ensures.containers;
-    loci = c.empty.ensures.loci;
-    names = c.empty.ensures.names;
-    locus_names = c.empty.ensures.locus_names;
-    edges = c.empty.ensures.edges;
-    unwritten = λ x. zeros_at 64 x;
-  };
-  made = refl;
-  history = search rules;
-}
+returns c s script rules code =
+    let e = c.empty.ensures in
+    c.begin.ensures.stands s script empty_state
+    (can_begin s script c.empty.result (record { containers = e.containers; loci = e.loci; names = e.names; locus_names = e.locus_names; edges = e.edges }) rules code)

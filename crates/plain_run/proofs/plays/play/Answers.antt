@@ -1,21 +1,44 @@
-use Rattle.std.proofs.Common.{IsTrue, Ok, Err, OnOk, is_ok, refl, subst}
+use Rattle.std.proofs.Common.{IsTrue, List, Ok, Err, OnOk, is_ok, refl, sym, subst}
+use Rattle.hop_base.specs.declared.histories.Entry.{Entry}
 use Rattle.hop_model.specs.Serial.{IsSerial}
-use Rattle.hop_model.specs.State.{empty_state}
+use Rattle.hop_model.specs.State.{KernelState, empty_state}
 use Rattle.history_model.specs.Plains.{atlas_of, cells_of}
 use Rattle.script_read.specs.Scripts.{tables_of}
-use Rattle.plain_run.proofs.Names.{sound_short}
+use Rattle.plain_run.specs.Standing.{Stands}
+use Rattle.plain_run.proofs.Beginning.{play_of}
+use Rattle.plain_run.proofs.ShortNames.{sound_short}
 use Rattle.plain_run.proofs.plays.play.Goals as goal
+
+pub finish-requires : goal.finish-requires
+finish-requires g c κs lives =
+    let q = c.requires.1.1.1 in
+    let script = tables_of c.args.script.now in
+    let begun = subst (λ (es : List Entry). Stands g.s script empty_state c.fresh-run.result es) (sym c.new-history.ensures.items) (c.fresh-run.ensures g.s script q.1 q.0) in
+    (λ a mem. lives a mem, (c.requires.1.0, (c.requires.1.1.0, (empty_state, begun))))
+
+pub returns-clause-play : goal.returns-clause-play
+returns-clause-play g c =
+    let q = c.requires.1.1.1 in
+    let script = tables_of c.args.script.now in
+    let begun = subst (λ (es : List Entry). Stands g.s script empty_state c.fresh-run.result es) (sym c.new-history.ensures.items) (c.fresh-run.ensures g.s script q.1 q.0) in
+    play_of g.s script c.finish.new.run c.into_parts-state.result.0 c.finish.new.history.items c.into_parts-state.ensures.state (c.finish.ensures.records empty_state begun)
 
 pub returns-clause-names : goal.returns-clause-names
 returns-clause-names g c =
-    let state = c.run_whole.new.session.state in
-    sound_short (cells_of g.s state) (atlas_of state.atlas) c.run_whole.ensures.play.sound refl
+    let q = c.requires.1.1.1 in
+    let script = tables_of c.args.script.now in
+    let begun = subst (λ (es : List Entry). Stands g.s script empty_state c.fresh-run.result es) (sym c.new-history.ensures.items) (c.fresh-run.ensures g.s script q.1 q.0) in
+    let play = play_of g.s script c.finish.new.run c.into_parts-state.result.0 c.finish.new.history.items c.into_parts-state.ensures.state (c.finish.ensures.records empty_state begun) in
+    sound_short (cells_of g.s c.into_parts-state.result.0) (atlas_of c.into_parts-state.result.0.atlas) play.sound refl
 
 pub returns-clause-whole : goal.returns-clause-whole
 returns-clause-whole g c whole =
+    let q = c.requires.1.1.1 in
     let script = tables_of c.args.script.now in
-    let es = c.run_whole.new.session.history.items in
-    elim c.run_whole.result as (λ res. IsTrue (is_ok res) → OnOk res (IsSerial g.s script empty_state es) → IsSerial g.s script empty_state es) [
+    let es = c.finish.new.history.items in
+    let begun = subst (λ (es : List Entry). Stands g.s script empty_state c.fresh-run.result es) (sym c.new-history.ensures.items) (c.fresh-run.ensures g.s script q.1 q.0) in
+    let over = elim c.finish.result as (λ res. IsTrue (is_ok res) → OnOk res ((w : KernelState) → Stands g.s script w c.fresh-run.result c.new-history.result.items → IsSerial g.s script w es) → (w : KernelState) → Stands g.s script w c.fresh-run.result c.new-history.result.items → IsSerial g.s script w es) [
       | Ok x ↦ λ t h. h
       | Err e ↦ λ t h. (let bad : ⊥ = cc in absurd bad)
-    ] (subst IsTrue c.is_ok-whole.ensures.value whole) c.run_whole.ensures.whole
+    ] (subst IsTrue c.is_ok-whole.ensures.value whole) c.finish.ensures.over in
+    over empty_state begun

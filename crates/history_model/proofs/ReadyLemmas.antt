@@ -1,0 +1,29 @@
+-- What a mapping rests on follows from a sound state and edges in order.
+use Rattle.std.proofs.Common.{ℕ, ◌<◌, ◌≤◌, ◌==◌, arith}
+use Rattle.std.proofs.lemmas.List.Sums.{count_by-le-length}
+use Rattle.hop_base.specs.declared.capabilities.Region.{Region}
+use Rattle.hop_model.specs.Soundness.{AreSound, regions_onto}
+use Rattle.hop_model.specs.State.{AtlasState, Cell, NotBorn, AtlasCell, ContainerCell, LocusCell}
+use Rattle.sound_steps.proofs.Cells.{Fits, born_low, edge_born, fits_in}
+use Rattle.history_model.specs.AtlasActs.{AreReadyEdges}
+use Rattle.history_model.specs.Born.{AreEdges}
+use Rattle.history_model.specs.Plains.{atlas_of, edges_of}
+use Rattle.history_model.specs.declared.plain.PlainAtlas.{PlainAtlas}
+
+few_shown : (a : AtlasState) (x y : ℕ) (k : Cell) → Fits a x k → regions_onto k y ≤ 16
+few_shown a x y NotBorn f = omega arith
+few_shown a x y (AtlasCell b) f = omega arith
+few_shown a x y (ContainerCell c) f = let le = count_by-le-length (λ (r : Region). r.target == y) c.regions in let few = f.1.few in omega arith
+few_shown a x y (LocusCell l) f = omega arith
+
+module _ (p : PlainAtlas) (cells : ℕ → Cell) (h : AreSound (atlas_of p) cells) where
+  pub ready_edges : AreEdges p.edges.items → AreReadyEdges p.edges.items
+  ready_edges edges = record {
+    edges = edges;
+    low = λ x y some. born_low (atlas_of p) y h.names.few_containers (edge_born (atlas_of p) cells x y h some);
+    no_circle = h.names.no_circle;
+  }
+
+  -- a container shows at most 16 regions of another
+  pub few_edges : (x y : ℕ) → edges_of p.edges.items x y < 255
+  few_edges x y = let e = h.edges x y in let le = few_shown (atlas_of p) x y (cells x) (fits_in (atlas_of p) cells h x) in omega arith

@@ -1,0 +1,4 @@
+pub mod CallLemmas
+pub mod ControlLemmas
+pub mod BirthLemmas
+pub mod MapLemmas

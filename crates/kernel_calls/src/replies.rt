@@ -1,0 +1,16 @@
+ghost use Rattle.std.specs.Prelude.{◌≡◌, ◌<◌};
+ghost use Rattle.hop_model.specs.Outcomes.{finish as finished};
+ghost use Rattle.locus_machine.specs.Loci.{locus_of};
+
+use hop_base::Reply;
+use locus_machine::Locus;
+
+/// Ends the call with this reply.
+pub(crate) fn reply_with(locus: &mut Locus, reply: Reply) -> Reply
+    requires { locus.old.place < 128 }
+    ensures locus { locus_of locus.new ≡ finished (locus_of locus.old) reply }
+    ensures reply { result ≡ reply }
+{
+    let _answer = locus.finish(reply);
+    reply
+}

@@ -1,0 +1,4 @@
+pub mod ListLemmas
+pub mod Allowed
+pub mod Alone
+pub mod Kept

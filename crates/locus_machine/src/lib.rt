@@ -1,0 +1,12 @@
+//! Loci and the heads of containers, and the acts that touch a locus alone.
+#![tactic(auto)]
+
+mod lists;
+mod local_acts;
+mod loci;
+
+pub use lists::{Chain, Code, MOST_CALLS, Privates};
+pub use loci::{Head, Locus};
+
+#[cfg(test)]
+mod tests;

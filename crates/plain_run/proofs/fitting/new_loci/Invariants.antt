@@ -1,0 +1,12 @@
+use Rattle.std.proofs.Common.{◌≡◌, ◌≤◌, take, map}
+use Rattle.history_model.specs.Plains.{atlas_of}
+use Rattle.script_read.specs.Scripts.{locus_of}
+use Rattle.plain_run.specs.Fitting.{new_loci}
+use Rattle.plain_run.proofs.fitting.new_loci.Given as goal
+
+-- the names so far are counted
+abbrev pub invariant-loop-table : goal.invariant-loop-table
+invariant-loop-table l = record {
+  counted : l.count ≡ new_loci (atlas_of l.atlas) (map locus_of (take l.table-index l.tables));
+  few : l.count ≤ l.table-index;
+}

@@ -1,0 +1,5 @@
+pub mod Counting
+pub mod Cutting
+pub mod Leaving
+pub mod Reaching
+pub mod Serials

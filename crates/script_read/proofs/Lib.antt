@@ -1,0 +1,5 @@
+pub mod Lists
+pub mod Each
+pub mod Readings
+pub mod Allowed
+pub mod Carried

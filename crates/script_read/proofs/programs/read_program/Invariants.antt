@@ -1,0 +1,12 @@
+-- The lines so far are read, and the others decide.
+use Rattle.std.proofs.Common.{◌≡◌, [], Option, drop, map, string_bytes}
+use Rattle.hop_base.specs.declared.instructions.Instr.{Instr}
+use Rattle.hop_model.specs.State.{Text}
+use Rattle.toml.specs.View.{view}
+use Rattle.script_read.specs.Fields.{each}
+use Rattle.instr_set.specs.Reader.{IsReader}
+use Rattle.script_read.specs.Meaning.{a_line}
+use Rattle.script_read.proofs.programs.read_program.Given as goal
+
+abbrev pub invariant-loop-line : goal.invariant-loop-line
+invariant-loop-line l = (spelled : Text → Option Instr) → IsReader spelled → each (a_line spelled (string_bytes l.key)) l.code.items (drop l.line-index (map view l.lines)) ≡ each (a_line spelled (string_bytes l.key)) [] (map view l.lines)

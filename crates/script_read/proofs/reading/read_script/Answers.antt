@@ -1,0 +1,18 @@
+-- Lines are read by `instr_of`, and what is read is allowed.
+use Rattle.instr_set.specs.Reader.{instr_of}
+use Rattle.instr_set.proofs.Reader.{IsReader-instr_of}
+use Rattle.script_read.proofs.Allowed.{rules_of, frames_of}
+use Rattle.script_read.proofs.Carried.{carried_of}
+use Rattle.script_read.proofs.reading.read_script.Goals as goal
+
+pub returns-clause-meaning : goal.returns-clause-meaning
+returns-clause-meaning c = c.read_source.ensures instr_of IsReader-instr_of
+
+pub returns-clause-rules : goal.returns-clause-rules
+returns-clause-rules c = rules_of c.args.bytes.now c.read_source.result (c.read_source.ensures instr_of IsReader-instr_of)
+
+pub returns-clause-frames : goal.returns-clause-frames
+returns-clause-frames c = frames_of c.args.bytes.now c.read_source.result (c.read_source.ensures instr_of IsReader-instr_of)
+
+pub returns-clause-carried_out : goal.returns-clause-carried_out
+returns-clause-carried_out c = carried_of c.args.bytes.now c.read_source.result (c.read_source.ensures instr_of IsReader-instr_of)

@@ -1,0 +1,4 @@
+pub mod Calls
+pub mod Ready
+pub mod Allowed
+pub mod Beside

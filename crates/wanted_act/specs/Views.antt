@@ -1,0 +1,63 @@
+-- What a view of a locus and an act are in the model, and what the choice of an act rests on.
+use Rattle.std.specs.Prelude.{ℕ, ◌+◌, ◌≤◌, Bool, true, false, ◌&&◌, ◌==◌, nat_lt, if◌then◌else◌, Option, Some, None, All}
+use Rattle.std.specs.Option.{ForSome}
+use Rattle.hop_base.specs.declared.capabilities.Private.{Private}
+use Rattle.hop_base.specs.declared.capabilities.Region.{Region}
+use Rattle.hop_base.specs.declared.instructions.Instr.{Instr}
+use Rattle.hop_base.specs.declared.instructions.Instr.TheVariants.{Stop, Go, Snap}
+use Rattle.hop_base.specs.declared.instructions.Walk.{Walk}
+use Rattle.hop_model.specs.State.{LocusState}
+use Rattle.hop_model.specs.Soundness.{IsSoundCode}
+use Rattle.hop_model.specs.Acts.{alone, Act as Wanted}
+use Rattle.wanted_act.specs.declared.view.LocusView.{LocusView}
+use Rattle.wanted_act.specs.declared.choice.Act.{Act}
+
+abbrev pub view_of : LocusView → LocusState
+view_of v = record {
+  registers = v.registers.now;
+  place = v.place;
+  code = v.code.now;
+  host = v.host;
+  chain = v.chain.now;
+  privates = v.privates.now;
+  caps = v.caps.now;
+  walk = v.walk;
+  condition = v.condition;
+  every = v.every;
+  printed = v.printed;
+}
+
+abbrev pub act_of : Act → Wanted
+act_of a = record { instr = a.instr; refused = a.refused; atlas = a.atlas; other = a.other; newborn = a.newborn }
+
+-- WHAT THE CHOICE RESTS ON
+
+-- both sides of the region are within the greatest size
+abbrev pub IsInside : Region → Type 0
+IsInside r = (r.at + r.count ≤ 256) × (r.from + r.count ≤ 256)
+
+pub record IsReadyLocus (l : LocusState) : Type 0 where
+  pub place : l.place ≤ 128
+  pub code : IsSoundCode l.code
+  pub privates : All (λ (p : Private). IsInside p.region) l.privates
+  pub hops : ForSome l.walk (λ (w : Walk). w.hops ≤ 63)
+
+-- pages from `at` on overlap the region
+abbrev pub meets : ℕ → ℕ → Region → Bool
+meets at count r = nat_lt at (r.at + r.count) && nat_lt r.at (at + count)
+
+-- AN ACT ON THE LOCUS ITSELF
+
+abbrev pub may_name_itself : Instr → Bool
+may_name_itself (Stop c) = true
+may_name_itself (Go c) = true
+may_name_itself (Snap c) = true
+may_name_itself i = false
+
+abbrev pub is_number : ℕ → Option ℕ → Bool
+is_number me (Some x) = x == me
+is_number me None = false
+
+-- the act of the locus with this number: one that names the locus itself touches it once
+abbrev pub seen_by : ℕ → Wanted → Wanted
+seen_by me act = if may_name_itself act.instr && is_number me act.other then alone act.instr None else act
