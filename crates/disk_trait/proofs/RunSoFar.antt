@@ -1,12 +1,14 @@
 -- A run of blocks as far as it is written.
 use Rattle.std.proofs.Common.{◌≡◌, ◌≤◌, ◌+◌, ℕ, List, length, take}
 use Rattle.disk_trait.specs.Image.{Image, HasRun, IsInRun, SameOutside}
+use Rattle.disk_trait.specs.Disk.{Began}
 use Rattle.disk_trait.specs.Moments.{Quiet}
 
 -- what holds after the first i of the blocks
 pub record RunSoFar {D : Type 0} (tells : Type 0) (block_count : D → ℕ) (reading : D → Image) (may_leave : D → Image → Type 0) (left_since : D → ℕ → Image → Type 0) (clock faults : D → ℕ) (at : ℕ) (run : List (List ℕ)) (i : ℕ) (old new : D) : Type 0 where
   pub count : block_count new ≡ block_count old
   pub time : clock new ≤ clock old + i
+  pub began : Began i (clock old) (clock new)
   pub later : faults old ≤ faults new
   pub has_run : tells → HasRun at (take i run) (reading new)
   pub same : tells → SameOutside (IsInRun at (length run)) (reading old) (reading new)

@@ -8,6 +8,13 @@ pub record Ticks (before now : ℕ) : Type 0 where
   pub one_more : before < 2 ^ 64 - 1 → now ≡ before + 1
   pub at_end : 2 ^ 64 - 1 ≤ before → now ≡ before
 
+-- so many calls were begun, for each of which a count of 64 bits goes up by one
+pub record Began (calls before now : ℕ) : Type 0 where
+  pub later : before ≤ now
+  pub at_most : now ≤ before + calls
+  -- short of its end it missed none
+  pub all : now < 2 ^ 64 - 1 → now ≡ before + calls
+
 -- the count of faults doesn't fall, and it rose where the call failed
 pub record HasCause {T E : Type 0} (before now : ℕ) (result : Result T E) : Type 0 where
   pub later : before ≤ now

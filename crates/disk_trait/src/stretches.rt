@@ -1,6 +1,6 @@
 // Stretches of calls that callers of a disk have in common.
 ghost use Rattle.std.specs.Prelude.{◌≡◌, ◌≤◌, ◌<◌, ◌+◌, length, slice_set, OnOk};
-ghost use Rattle.disk_trait.specs.Disk.{HasCause, Only};
+ghost use Rattle.disk_trait.specs.Disk.{Began, HasCause, Only};
 ghost use Rattle.disk_trait.specs.Image.{HasRun, IsInRun, SameOutside};
 ghost use Rattle.disk_trait.specs.Moments.{Quiet};
 
@@ -11,6 +11,7 @@ pub fn write_and_sync<D: Disk>(disk: &mut D, at: u32, block: &[u8; 1024]) -> Res
     requires { at < D.block_count disk.old }
     ensures count { D.block_count disk.new ≡ D.block_count disk.old }
     ensures clock { D.clock disk.new ≤ D.clock disk.old + 2 }
+    ensures began { OnOk result (Began 2 (D.clock disk.old) (D.clock disk.new)) }
     ensures cause { HasCause (D.faults disk.old) (D.faults disk.new) result }
     ensures block { D.tells → OnOk result (D.reading disk.new ≡ slice_set (D.reading disk.old) at block.now) }
     ensures reading { D.tells → SameOutside (λ n. n ≡ at) (D.reading disk.old) (D.reading disk.new) }
@@ -26,6 +27,7 @@ pub fn write_run<D: Disk>(disk: &mut D, at: u32, run: &[[u8; 1024]]) -> Result<(
     requires { at + length run.now ≤ D.block_count disk.old }
     ensures count { D.block_count disk.new ≡ D.block_count disk.old }
     ensures clock { D.clock disk.new ≤ D.clock disk.old + length run.now }
+    ensures began { OnOk result (Began (length run.now) (D.clock disk.old) (D.clock disk.new)) }
     ensures cause { HasCause (D.faults disk.old) (D.faults disk.new) result }
     ensures run { D.tells → OnOk result (HasRun at run.now (D.reading disk.new)) }
     ensures reading { D.tells → SameOutside (IsInRun at (length run.now)) (D.reading disk.old) (D.reading disk.new) }

@@ -39,7 +39,8 @@ fn put(alloc: Global, disk: &mut MemoryDisk, items: &[Item]) -> Result<(), Write
     disk.sync()?;
     match read_journal(alloc, disk) {
         Ok(mut journal) if journal.place.epoch < LAST_EPOCH => {
-            put_items(alloc, disk, &mut journal.place, items)
+            put_items(alloc, disk, &mut journal.place, items)?;
+            Ok(())
         }
         _ => Err(WriteFault::Disk),
     }

@@ -1,6 +1,6 @@
 // Putting items into force.
-ghost use Rattle.std.specs.Prelude.{◌≡◌, ◌≢◌, ◌⊎◌, ◌<◌, ◌≤◌, ◌+◌, ◌^◌, List, length, IfSome, OnOk, OnErr, IsErrOf};
-ghost use Rattle.disk_trait.specs.Disk.{HasCause, Only};
+ghost use Rattle.std.specs.Prelude.{◌≡◌, ◌≢◌, ◌⊎◌, ◌<◌, ◌≤◌, ◌+◌, ◌^◌, List, length, IfOk, IfSome, OnOk, OnErr, IsErrOf};
+ghost use Rattle.disk_trait.specs.Disk.{Began, HasCause, Only};
 ghost use Rattle.disk_trait.specs.Image.{HasRun, IsInRun, SameOutside, block_at};
 ghost use Rattle.disk_trait.specs.Moments.{LeavesOnly, Quiet};
 ghost use Rattle.journal.specs.Faults.{Rose};
@@ -21,6 +21,7 @@ fn write_blocks<D: Disk>(disk: &mut D, half: Half, blocks: &[[u8; 1024]]) -> Res
     requires room { length blocks.now ≤ 1281 }
     ensures count { D.block_count disk.new ≡ D.block_count disk.old }
     ensures clock { D.clock disk.new ≤ D.clock disk.old + length blocks.now + 1 }
+    ensures began { OnOk result (Began (length blocks.now + 1) (D.clock disk.old) (D.clock disk.new)) }
     ensures cause { HasCause (D.faults disk.old) (D.faults disk.new) result }
     ensures run { D.tells → OnOk result (HasRun (half_at half) blocks.now (D.reading disk.new)) }
     ensures reading { D.tells → SameOutside (IsInRun (half_at half) 1281) (D.reading disk.old) (D.reading disk.new) }
@@ -31,13 +32,16 @@ fn write_blocks<D: Disk>(disk: &mut D, half: Half, blocks: &[[u8; 1024]]) -> Res
     disk.sync()
 }
 
-// Closes a half, writes blocks into it, and opens it.
-fn replace_half<D: Disk>(disk: &mut D, half: Half, blocks: &[[u8; 1024]]) -> Result<(), DiskFault>
+// Closes a half, writes blocks into it, and opens it. It tells how many writes and syncs it began.
+fn replace_half<D: Disk>(disk: &mut D, half: Half, blocks: &[[u8; 1024]]) -> Result<u64, DiskFault>
     requires enough { 2600 ≤ D.block_count disk.old }
     requires room { length blocks.now ≤ 1281 }
     requires synced { D.tells → Only (D.reading disk.old) (D.may_leave disk.old) }
     ensures count { D.block_count disk.new ≡ D.block_count disk.old }
     ensures clock { D.clock disk.new ≤ D.clock disk.old + length blocks.now + 5 }
+    ensures began { IfOk result (λ n. Began n (D.clock disk.old) (D.clock disk.new)) }
+    ensures some { IfOk result (λ n. 1 ≤ n) }
+    ensures few { IfOk result (λ n. n ≤ length blocks.now + 5) }
     ensures cause { HasCause (D.faults disk.old) (D.faults disk.new) result }
     ensures gate { D.tells → OnOk result (block_at (D.reading disk.new) (gate_at half) ≡ open_gate) }
     ensures run { D.tells → OnOk result (HasRun (half_at half) blocks.now (D.reading disk.new)) }
@@ -45,9 +49,10 @@ fn replace_half<D: Disk>(disk: &mut D, half: Half, blocks: &[[u8; 1024]]) -> Res
     ensures stable { D.tells → OnOk result (Only (D.reading disk.new) (D.may_leave disk.new)) }
     ensures any_moment { D.tells → LeavesOnly D.clock D.left_since disk.old disk.new (IsStage half blocks.now (D.reading disk.old)) }
 {
-    close_gate(disk, half)?;
+    let closing = close_gate(disk, half)?;
     write_blocks(disk, half, blocks)?;
-    open_half(disk, half)
+    open_half(disk, half)?;
+    Ok(closing + blocks.len() as u64 + 3)
 }
 
 // The half that is not in force.
@@ -61,7 +66,7 @@ fn next_half(place: Place) -> Half
 }
 
 /// Puts these items into force in place of those that the disk keeps at `place`, in the next epoch, and tells the new
-/// place. A stop at any moment leaves the old items or the new ones.
+/// place, and how many writes and syncs it began. A stop at any moment leaves the old items or the new ones.
 ///
 /// It writes the half that is not in force: its gate is closed where it reads open, and synced; the text is written, and
 /// synced; the gate is opened, and synced. After a fault of the disk the journal has to be read again.
@@ -70,7 +75,7 @@ pub fn put_items<D: Disk>(
     disk: &mut D,
     place: &mut Place,
     items: &[Item],
-) -> Result<(), WriteFault>
+) -> Result<u64, WriteFault>
     requires enough { 2600 ≤ D.block_count disk.old }
     requires short { blocks_needed (kept_runs items.now) < 2 ^ 32 }
     requires epoch { place.old.epoch < 2 ^ 62 }
@@ -101,6 +106,10 @@ pub fn put_items<D: Disk>(
 
     ensures count { D.block_count disk.new ≡ D.block_count disk.old }
     ensures clock { D.clock disk.new ≤ D.clock disk.old + 1286 }
+    // An Ok tells how many writes and syncs it began.
+    ensures began { IfOk result (λ n. Began n (D.clock disk.old) (D.clock disk.new)) }
+    ensures some { IfOk result (λ n. 1 ≤ n) }
+    ensures few { IfOk result (λ n. n ≤ 1286) }
 {
     let need = blocks_for(items);
     if need > HALF_BLOCKS {
@@ -110,10 +119,10 @@ pub fn put_items<D: Disk>(
     let half = next_half(*place);
     let epoch = place.epoch + 1;
     let blocks = text_blocks(alloc, epoch, items)?;
-    replace_half(disk, half, &blocks)?;
+    let began = replace_half(disk, half, &blocks)?;
     *place = Place {
         half: Some(half),
         epoch,
     };
-    Ok(())
+    Ok(began)
 }

@@ -47,7 +47,7 @@ none_of_none e es none =
     ] (sym sum ∙ none)
 
 -- a list with one more item
-slice_get_more : (xs : List ℕ) (m i a : ℕ) → slice_get (xs ++ m ∷ []) i ≡ Some a → (slice_get xs i ≡ Some a) ⊎ ((i ≡ length xs) × (a ≡ m))
+pub slice_get_more : (xs : List ℕ) (m i a : ℕ) → slice_get (xs ++ m ∷ []) i ≡ Some a → (slice_get xs i ≡ Some a) ⊎ ((i ≡ length xs) × (a ≡ m))
 slice_get_more [] m zero a e = inr (refl, cc)
 slice_get_more [] m (suc i) a e = cc
 slice_get_more (x ∷ xs) m zero a e = inl e
@@ -55,7 +55,7 @@ slice_get_more (x ∷ xs) m (suc i) a e = elim (slice_get_more xs m i a e) as (�
 
 module _ (s : Supply) (policy : Policy) (script : Script) where
   -- entries that complete no records add none
-  none_complete : (r : Run) (ds : List Entry) → count_by completes ds ≡ 0 → (run_after s script r ds).commits ≡ r.commits
+  pub none_complete : (r : Run) (ds : List Entry) → count_by completes ds ≡ 0 → (run_after s script r ds).commits ≡ r.commits
   none_complete r [] none = refl
   none_complete r (e ∷ ds) none =
       let split = none_of_none e ds none in

@@ -84,7 +84,7 @@ module _ (s : Supply) (policy : Policy) (script : Script) where
   low_after r [] legal low = low
   low_after r (e ∷ es) legal low = low_after (goes_on s script r e) es legal.1 (low_goes_on r e legal.0 low)
 
-  legal_front : (r : Run) (es fs : List Entry) → IsLegalFrom s policy script r (es ++ fs) → IsLegalFrom s policy script r es
+  pub legal_front : (r : Run) (es fs : List Entry) → IsLegalFrom s policy script r (es ++ fs) → IsLegalFrom s policy script r es
   legal_front r [] fs legal = tt
   legal_front r (e ∷ es) fs legal = (legal.0, legal_front (goes_on s script r e) es fs legal.1)
 
@@ -169,7 +169,7 @@ module _ (s : Supply) (policy : Policy) (script : Script) where
   ]
 
   -- a front that ends with a Stable is legal
-  front_legal : (w : KernelState) (es fs gs : List Entry) (e : Entry) → IsKeptRun s policy script w es → es ≡ (fs ++ e ∷ []) ++ gs → e.event ≡ Stable → IsLegalRun s policy w script (fs ++ e ∷ [])
+  pub front_legal : (w : KernelState) (es fs gs : List Entry) (e : Entry) → IsKeptRun s policy script w es → es ≡ (fs ++ e ∷ []) ++ gs → e.event ≡ Stable → IsLegalRun s policy w script (fs ++ e ∷ [])
   front_legal w es fs gs e kept is stable = elim kept as (λ _. IsLegalRun s policy w script (fs ++ e ∷ [])) [
     | inl u ↦ legal_front (start_run w) (fs ++ e ∷ []) gs (subst (IsLegalRun s policy w script) is u.legal)
     | inr t ↦ within t gs is

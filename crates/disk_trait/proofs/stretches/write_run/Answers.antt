@@ -2,7 +2,7 @@ use Rattle.std.proofs.Common.{◌<◌, ◌+◌, ℕ, length, arith, ◌∙◌}
 use Rattle.disk_trait.specs.Image.{IsInRun}
 use Rattle.disk_trait.proofs.Images.{HasRun-more, SameOutside-one, SameOutside-trans}
 use Rattle.disk_trait.proofs.Phases.{IsImage-reading, Quiet-write, told}
-use Rattle.disk_trait.proofs.Ticks.{Ticks-one}
+use Rattle.disk_trait.proofs.Ticks.{Began-tick, Ticks-one}
 use Rattle.disk_trait.proofs.stretches.write_run.Goals as goal
 
 pub loop-i-preserved : goal.loop-i-preserved
@@ -14,6 +14,7 @@ loop-i-preserved g c =
     record {
       count = c.write.ensures.count ∙ so_far.count;
       time = omega (arith, so_far.time, Ticks-one _ _ c.write.ensures.clock);
+      began = Began-tick _ _ _ _ so_far.began c.write.ensures.clock;
       later = omega (arith, so_far.later, c.write.ensures.cause.later);
       has_run = λ t.
           let whole = IsImage-reading g.D.Disk.reading t disk.reads_now disk.counts_now disk.whole c.loop-i.disk in

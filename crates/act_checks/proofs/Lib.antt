@@ -1,0 +1,2 @@
+mod EdgeLemmas
+mod WantLemmas

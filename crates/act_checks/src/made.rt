@@ -1,0 +1,102 @@
+// The kernel's locus or container from the plain kernel's. Whether it is the same is seen afterwards.
+use cap_list::CapList;
+use history_model::{PlainContainer, PlainLocus};
+use hop_base::{Call, Cap, Entity, Instr, Private, Region, Rights};
+use locus_machine::{Chain, Code, Head, Locus, MOST_CALLS, Privates};
+use region_map::RegionMap;
+
+/// What stands for a moment in a slot that is to be empty.
+const NO_CAP: Cap = Cap {
+    entity: Entity::ATLAS,
+    rights: Rights(0),
+};
+
+fn code_from(code: &[Instr]) -> Option<Code> {
+    if code.len() > 128 {
+        return None;
+    }
+    Some(Code::new(code))
+}
+
+fn chain_from(calls: &[Call]) -> Option<Chain> {
+    let mut chain = Chain::new();
+    for call in calls {
+        if chain.as_slice().len() >= MOST_CALLS {
+            return None;
+        }
+        chain.push(*call);
+    }
+    Some(chain)
+}
+
+fn privates_from(items: &[Private]) -> Option<Privates> {
+    let mut list = Privates::new();
+    for item in items {
+        if list.as_slice().len() >= 16 {
+            return None;
+        }
+        list.add(*item);
+    }
+    Some(list)
+}
+
+/// Each of these slots is filled.
+fn filled(slots: &[Option<Cap>]) -> CapList {
+    let mut list = CapList::new();
+    for slot in slots {
+        let _put = list.put(slot.unwrap_or(NO_CAP));
+    }
+    list
+}
+
+fn caps_from(slots: &[Option<Cap>]) -> CapList {
+    let mut list = filled(slots);
+    for (slot, held) in slots.iter().enumerate() {
+        if held.is_none() {
+            let _cleared = list.clear(slot as u64);
+        }
+    }
+    list
+}
+
+fn regions_from(regions: &[Region]) -> Option<RegionMap<16>> {
+    let mut map = RegionMap::new();
+    for region in regions {
+        let count = region.count as u32;
+        if count == 0 || region.at as u32 + count > 256 || region.from as u32 + count > 256 {
+            return None;
+        }
+        let _added = map.add(*region);
+    }
+    Some(map)
+}
+
+/// The kernel's locus of the plain one.
+pub fn locus_from(plain: &PlainLocus) -> Option<Locus> {
+    Some(Locus {
+        registers: plain.registers,
+        place: plain.place,
+        code: code_from(&plain.code)?,
+        host: plain.host,
+        chain: chain_from(&plain.chain)?,
+        privates: privates_from(&plain.privates)?,
+        caps: caps_from(&plain.caps),
+        walk: plain.walk,
+        condition: plain.condition,
+        every: plain.every,
+        printed: plain.printed,
+    })
+}
+
+/// The kernel's head of the plain container.
+pub fn head_from(plain: &PlainContainer) -> Option<Head> {
+    Some(Head {
+        pages: plain.pages,
+        tag: plain.tag,
+        every: plain.every,
+        entry: plain.entry,
+        code: code_from(&plain.code)?,
+        regions: regions_from(&plain.regions)?,
+        caps: caps_from(&plain.caps),
+    })
+}
