@@ -1,31 +1,23 @@
 -- What the ends of a call leave.
-use Rattle.std.proofs.Common.{◌≡◌, ℕ, ◌≤◌, ◌<◌, IsTrue, List, [], ◌∷◌, length, All, nat_le, true, false, ◌&&◌, codes, string_bytes, Option, Some, None, Result, Ok, Err, OnErr, IfSome, is_ok, map, get_or, inl, inr, refl, sym, subst, ◌∙◌, arith}
+use Rattle.std.proofs.Common.{◌≡◌, ℕ, ◌<◌, List, [], ◌∷◌, length, nat_le, true, false, ◌&&◌, get_or, codes, Option, Result, Ok, Err, OnErr, is_ok, refl, sym, ap, ◌∙◌, arith}
 use Rattle.std.specs.Io.KnownBytes.{Appends}
 use Rattle.std.proofs.lemmas.Bool.Decides.{nat_tests}
-use Rattle.std.proofs.lemmas.List.Elements.{All-head}
 use Rattle.stream_edge.specs.Streams.{Puts}
 use Rattle.stream_edge.proofs.Streams.{AppendsPart-whole}
-use Rattle.hop_model.specs.Scripts.{ContainerTable, Script as Tables}
+use Rattle.hop_model.specs.Scripts.{Script as Tables}
 use Rattle.hop_model.specs.State.{Text}
 use Rattle.script_read.specs.declared.refusals.Why.{Why}
 use Rattle.std.specs.List.{list_all}
 use Rattle.hop_base.specs.declared.instructions.Instr.{Instr}
 use Rattle.hop_base.specs.declared.instructions.Instr.TheVariants.{Set, Copy, Add, Sub, Jump, Jz, Load, Store, Invoke, Leave, Return, Map, Unmap, Lmap, Lunmap, Take, Give, Drop, Make, Spawn, Stop, Go, Snap, Stabilise, Print, Halt}
+use Rattle.kept_run.specs.Meaning.{IsAccepted}
 use Rattle.plain_run.specs.Snaps.{HasNoSnapTables, is_no_snap}
 use Rattle.script_read.specs.Carried.{HasCarriedCode}
-use Rattle.script_read.specs.Meaning.{Source, is_carried_out, script_meaning}
+use Rattle.script_read.specs.Meaning.{is_carried_out, script_meaning}
 use Rattle.script_read.specs.Reading.{refused}
-use Rattle.hop_base.specs.declared.histories.Entry.{Entry}
-use Rattle.hop_model.specs.State.{Supply}
 use Rattle.script_read.specs.declared.refusals.Why.TheVariants.{Long}
-use Rattle.hopper_top.specs.Faults.{fault_line}
-use Rattle.hopper_top.specs.Runs.{Gains, IsComplete, IsKnownScript, Leaves, Ran}
-use Rattle.hopper_top.specs.Sources.{IsAccepted, IsReadFault, IsRefusal, IsRefusalOf}
-use Rattle.hopper_top.specs.Statuses.{status_by}
-use Rattle.hopper_top.specs.declared.faults.RunFault.{RunFault}
-use Rattle.hopper_top.specs.declared.faults.RunFault.TheVariants.{Usage as BadWords, Script as BadScript, Source as BadSource, Memory as NoMemory}
-use Rattle.hopper_top.specs.declared.statuses.Status.{Status}
-use Rattle.hopper_top.specs.declared.statuses.Status.TheVariants.{Done, Usage, Script, SourceFault, SinkFault, Memory}
+use Rattle.hopper_top.specs.Ends.{Gains}
+use Rattle.hopper_top.specs.Sources.{IsRefusal}
 
 -- what a put leaves
 pub gains : {T E : Type 0} (before after : Option Text) (rose : Type 0) (result : Result T E) (bytes : Text) → Puts before after result bytes → OnErr result rose → Gains before after rose bytes
@@ -42,25 +34,17 @@ pub caused : {T E : Type 0} (rose : Type 0) (result : Result T E) → OnErr resu
 caused rose (Ok x) cause failed = cc
 caused rose (Err e) cause failed = cause
 
--- a list of one
-pub one_item : {X Y : Type 0} (f : X → Y) (xs : List X) (d : X) → length xs ≡ 1 → map f xs ≡ f (get_or xs 0 d) ∷ []
-one_item f [] d one = absurd (omega (arith, one))
-one_item f (x ∷ []) d one = refl
-one_item f (x ∷ y ∷ xs) d one = absurd (omega (arith, one))
-
--- a source that was read whole and means this script is accepted
-pub accepted_by : (left : Option Text) (read all : Text) (script : Tables) (frames : ℕ) → read ≡ all → IfSome left (λ bytes. all ≡ bytes) → script_meaning read ≡ Ok (record { tables = script; frames = frames })
-    → IfSome left (λ bytes. IsAccepted bytes script)
-accepted_by None read all script frames same whole means = tt
-accepted_by (Some bytes) read all script frames same whole means = subst (λ b. IsAccepted b script) (same ∙ whole) (record { frames = frames; means = means })
-
 -- a source that is too long means this refusal
 pub long_refused : (bytes : Text) → 1048576 < length bytes → script_meaning bytes ≡ refused Long (codes "-")
 long_refused bytes long = (let no : nat_le (length bytes) 1048576 ≡ false = grind (arith, nat_tests) in rw no refl)
 
 -- an accepted source is not refused
 pub accepted_not_refused : (bytes : Text) (script : Tables) (why : Why) (key : Text) → IsAccepted bytes script → IsRefusal bytes why key → ⊥
-accepted_not_refused bytes script why key ok h = (let both : Ok (record { tables = script; frames = ok.frames }) ≡ refused why key = sym ok.means ∙ h in cc)
+accepted_not_refused bytes script why key ok h = (let both : Ok (record { tables = script; frames = ok.0 }) ≡ refused why key = sym ok.1 ∙ h in cc)
+
+-- a source that was read whole and means this script is accepted
+pub accepted_by : (read all : Text) (script : Tables) (frames : ℕ) → read ≡ all → script_meaning read ≡ Ok (record { tables = script; frames = frames }) → IsAccepted all script
+accepted_by read all script frames same means = (frames, ap script_meaning (sym same) ∙ means)
 
 -- CODE
 
@@ -99,33 +83,3 @@ no_snaps_in (i ∷ code) = λ k. no_snap i k && no_snaps_in code k
 
 pub no_snaps : (script : Tables) → HasCarriedCode script → HasNoSnapTables script
 no_snaps script carried k d lt = no_snaps_in (get_or script.containers k d).code ∙ carried k d lt
-
--- WHAT A RUN LEAVES
-
--- a run leaves what it leaves of the source that its script is of
-pub leaves_run : (s : Supply) (left : Option Text) (script : Tables) (status : Status) (es : List Entry) (before after : Option Text) (rose : Type 0) → IfSome left (λ bytes. IsAccepted bytes script)
-    → Ran s script status es before after rose → Leaves s left status es before after rose
-leaves_run s left script Done es before after rose source ran = record { script = script; source = source; holds = ran }
-leaves_run s left script SinkFault es before after rose source ran = record { script = script; source = source; holds = ran }
-leaves_run s left script Memory es before after rose source ran = inr (record { script = script; source = source; holds = ran })
-leaves_run s left script Usage es before after rose source ran = absurd ran
-leaves_run s left script (Script refusal) es before after rose source ran = absurd ran
-leaves_run s left script SourceFault es before after rose source ran = absurd ran
-
--- a call that ran nothing leaves this
-pub leaves_unrun : (s : Supply) (left : Option Text) (fault : RunFault) (es : List Entry) (before after : Option Text) (rose : Type 0) → es ≡ [] → Gains before after rose (fault_line fault) → Leaves s left (status_by fault) es before after rose
-leaves_unrun s left BadWords es before after rose none gained = record { history = none; output = gained }
-leaves_unrun s left (BadScript refusal) es before after rose none gained = record { history = none; output = gained }
-leaves_unrun s left BadSource es before after rose none gained = record { history = none; output = gained }
-leaves_unrun s left NoMemory es before after rose none gained = inl (record { history = none; output = gained })
-
--- WHEN A SCRIPT IS ACCEPTED
-
--- where its source is known and accepted, no script was read only for want of memory
-pub complete_by : (left : Option Text) (rose : Type 0) (fault : RunFault) (status : Status) (script : Tables) → status ≡ status_by fault → IsReadFault left rose fault → IsKnownScript left script → (rose → ⊥) → IsComplete status
-complete_by left rose BadWords status script is fault known calm = absurd fault
-complete_by left rose (BadScript refusal) status script is fault known calm =
-    let told : IsRefusalOf (Some known.0) refusal = subst (λ k. IsRefusalOf k refusal) known.1 fault in
-    absurd (accepted_not_refused known.0 script refusal.why (string_bytes refusal.key) known.2 told)
-complete_by left rose BadSource status script is fault known calm = absurd (calm fault)
-complete_by left rose NoMemory status script is fault known calm = inr is

@@ -1,1 +1,4 @@
+mod Beginnings
 pub mod Ends
+mod Leaves
+mod Running

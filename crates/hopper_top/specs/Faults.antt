@@ -1,8 +1,8 @@
--- The last line of a run that gave no output.
-use Rattle.std.specs.Prelude.{[], ◌∷◌, ◌++◌, codes, decimal, string_bytes}
+-- The last line of a call that came to no good end.
+use Rattle.std.specs.Prelude.{ℕ, [], ◌∷◌, ◌++◌, codes, decimal, string_bytes}
 use Rattle.hop_model.specs.State.{Text}
-use Rattle.hopper_top.specs.declared.faults.RunFault.{RunFault}
-use Rattle.hopper_top.specs.declared.faults.RunFault.TheVariants.{Usage, Script, Source, Memory}
+use Rattle.hopper_top.specs.declared.faults.Fault.{Fault}
+use Rattle.hopper_top.specs.declared.faults.Fault.TheVariants.{Usage, Script, Foreign, Disk, Source, Memory, Blocks}
 use Rattle.script_read.specs.declared.refusals.Refusal.{Refusal}
 use Rattle.script_read.specs.declared.refusals.Why.{Why}
 use Rattle.script_read.specs.Refusals.{why_number}
@@ -18,9 +18,16 @@ refusal_head why = codes "fault 3 " ++ decimal (why_number why) ++ codes " "
 abbrev pub refusal_line : Refusal → Text
 refusal_line refusal = line (refusal_head refusal.why ++ string_bytes refusal.key)
 
--- `fault`, the run's status, and what is to be told
-abbrev pub fault_line : RunFault → Text
+-- a status and two numbers
+abbrev pub numbers_line : Text → ℕ → ℕ → Text
+numbers_line front a b = line (front ++ decimal a ++ codes " " ++ decimal b)
+
+-- `fault`, the status, and what is to be told
+abbrev pub fault_line : Fault → Text
 fault_line Usage = line (codes "fault 2 usage")
 fault_line (Script refusal) = refusal_line refusal
+fault_line (Foreign block place) = numbers_line (codes "fault 4 ") block place
+fault_line Disk = line (codes "fault 5 disk")
 fault_line Source = line (codes "fault 6 source")
 fault_line Memory = line (codes "fault 8 memory")
+fault_line (Blocks n) = numbers_line (codes "fault 9 ") n.need n.free

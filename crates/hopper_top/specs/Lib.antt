@@ -1,5 +1,10 @@
+pub mod Ends
 pub mod Faults
+pub mod Leaving
 pub mod Lines
-pub mod Sources
+pub mod Needs
+pub mod Opening
 pub mod Runs
+pub mod Seen
+pub mod Sources
 pub mod Statuses

@@ -1,28 +1,115 @@
-//! The last line of a run that gave no output.
-ghost use Rattle.std.specs.Prelude.{◌≡◌, ◌≤◌, ◌++◌, OnErr};
+//! The last line of a call that came to no good end.
+ghost use Rattle.std.specs.Prelude.{◌≡◌, ◌≤◌, ◌<◌, ◌^◌, ◌++◌, OnErr, codes};
 ghost use Rattle.stream_edge.specs.Counts.{Rose};
 ghost use Rattle.stream_edge.specs.Streams.{Puts};
-ghost use Rattle.hopper_top.specs.Faults.{fault_line, line, refusal_head};
+ghost use Rattle.hopper_top.specs.Faults.{fault_line, line, numbers_line, refusal_head};
 
 use arrayvec::ArrayString;
+use disk_trait::{DiskFault, NoBlocks};
 use itoa::Buffer;
-use script_read::{Refusal, Why};
+use journal::{FormatFault, ReadFault};
+use kept_run::Stop;
+use script_read::{Refusal, ScriptFault, Why};
+use std::alloc::AllocError;
 use stream_edge::{Sink, SinkFault};
 
 /// A length that the front of no refusal's line exceeds.
 const HEAD: usize = 16;
 
-/// Why a run gave no output, as its last line tells it.
+/// A length that no line with two numbers exceeds.
+const NUMBERS: usize = 48;
+
+/// Why a call came to no good end, as its last line tells it.
 #[derive(Debug, Drop)]
-pub enum RunFault {
+pub enum Fault {
     /// The words of the command are of no known form.
     Usage,
     /// The source holds no script that may run.
     Script(Refusal),
+    /// The disk holds no image.
+    Foreign { block: u32, place: u16 },
+    /// A call of the disk failed.
+    Disk,
     /// The source could not be read.
     Source,
     /// Memory ran out.
     Memory,
+    /// Too few blocks.
+    Blocks(NoBlocks),
+}
+
+impl From<AllocError> for Fault {
+    ghost use Rattle.hopper_top.specs.declared.faults.Fault.TheVariants.{Memory};
+
+    ghost from_gives = { λ _ fault. fault ≡ Memory };
+
+    fn from(_error: AllocError) -> Fault {
+        Fault::Memory
+    }
+}
+
+impl From<DiskFault> for Fault {
+    ghost use Rattle.hopper_top.specs.declared.faults.Fault.TheVariants.{Disk};
+
+    ghost from_gives = { λ _ fault. fault ≡ Disk };
+
+    fn from(_error: DiskFault) -> Fault {
+        Fault::Disk
+    }
+}
+
+impl From<ScriptFault> for Fault {
+    ghost use Rattle.hopper_top.specs.Statuses.{fault_of_script};
+
+    ghost from_gives = { λ error fault. fault ≡ fault_of_script error };
+
+    fn from(error: ScriptFault) -> Fault {
+        match error {
+            ScriptFault::Refused(refusal) => Fault::Script(refusal),
+            ScriptFault::Memory => Fault::Memory,
+        }
+    }
+}
+
+impl From<ReadFault> for Fault {
+    ghost use Rattle.hopper_top.specs.Statuses.{fault_of_read};
+
+    ghost from_gives = { λ error fault. fault ≡ fault_of_read error };
+
+    fn from(error: ReadFault) -> Fault {
+        match error {
+            ReadFault::Foreign => Fault::Foreign { block: 0, place: 0 },
+            ReadFault::Disk => Fault::Disk,
+            ReadFault::Memory => Fault::Memory,
+        }
+    }
+}
+
+impl From<FormatFault> for Fault {
+    ghost use Rattle.hopper_top.specs.Statuses.{fault_of_format};
+
+    ghost from_gives = { λ error fault. fault ≡ fault_of_format error };
+
+    fn from(error: FormatFault) -> Fault {
+        match error {
+            FormatFault::Blocks(blocks) => Fault::Blocks(blocks),
+            FormatFault::Disk => Fault::Disk,
+        }
+    }
+}
+
+impl From<Stop> for Fault {
+    ghost use Rattle.hopper_top.specs.Statuses.{fault_of_stop};
+
+    ghost from_gives = { λ stop fault. fault ≡ fault_of_stop stop };
+
+    fn from(stop: Stop) -> Fault {
+        match stop {
+            Stop::Blocks(blocks) => Fault::Blocks(blocks),
+            Stop::Disk => Fault::Disk,
+            Stop::Memory => Fault::Memory,
+        }
+    }
 }
 
 /// The front of a refusal's line, up to the key.
@@ -35,6 +122,34 @@ fn refusal_head(why: Why) -> ArrayString<HEAD>
     head.push_str(digits.format(why.number()));
     head.push_str(" ");
     head
+}
+
+/// The line of a fault of the image.
+fn foreign_line(block: u32, place: u16) -> ArrayString<NUMBERS>
+    ensures { result.bytes ≡ numbers_line (codes "fault 4 ") block place }
+{
+    let mut digits = Buffer::new();
+    let mut line = ArrayString::new();
+    line.push_str("fault 4 ");
+    line.push_str(digits.format(block));
+    line.push_str(" ");
+    line.push_str(digits.format(place));
+    line.push_str("\n");
+    line
+}
+
+/// The line of a want of blocks.
+fn blocks_line(blocks: NoBlocks) -> ArrayString<NUMBERS>
+    ensures { result.bytes ≡ numbers_line (codes "fault 9 ") blocks.need blocks.free }
+{
+    let mut digits = Buffer::new();
+    let mut line = ArrayString::new();
+    line.push_str("fault 9 ");
+    line.push_str(digits.format(blocks.need));
+    line.push_str(" ");
+    line.push_str(digits.format(blocks.free));
+    line.push_str("\n");
+    line
 }
 
 /// Puts a line in pieces.
@@ -50,21 +165,26 @@ fn put_line<W: Sink>(sink: &mut W, front: &str, rest: &str) -> Result<(), SinkFa
     Ok(())
 }
 
-/// Puts the line of a fault: `fault`, the run's status, and what is to be told, each behind a blank. After a fault of the
+/// Puts the line of a fault: `fault`, the call's status, and what is to be told, each behind a blank. After a fault of the
 /// sink a front of the line was put.
-pub fn put_fault<W: Sink>(sink: &mut W, fault: &RunFault) -> Result<(), SinkFault>
+pub fn put_fault<W: Sink>(sink: &mut W, fault: &Fault) -> Result<(), SinkFault>
     ensures bytes { Puts (W.held sink.old) (W.held sink.new) result (fault_line fault.now) }
     ensures count { W.faults sink.old ≤ W.faults sink.new }
     ensures cause { OnErr result (Rose (W.faults sink.old) (W.faults sink.new)) }
 {
     match fault {
-        RunFault::Usage => sink.put(b"fault 2 usage\n"),
-        RunFault::Script(refusal) => put_line(
+        Fault::Usage => sink.put(b"fault 2 usage\n"),
+        Fault::Script(refusal) => put_line(
             sink,
             refusal_head(refusal.why).as_str(),
             refusal.key.as_str(),
         ),
-        RunFault::Source => sink.put(b"fault 6 source\n"),
-        RunFault::Memory => sink.put(b"fault 8 memory\n"),
+        Fault::Foreign { block, place } => {
+            sink.put(foreign_line(*block, *place).as_str().as_bytes())
+        }
+        Fault::Disk => sink.put(b"fault 5 disk\n"),
+        Fault::Source => sink.put(b"fault 6 source\n"),
+        Fault::Memory => sink.put(b"fault 8 memory\n"),
+        Fault::Blocks(blocks) => sink.put(blocks_line(*blocks).as_str().as_bytes()),
     }
 }

@@ -1,19 +1,26 @@
-//! The whole system behind one call: a source is read, its script is run, and what it prints goes out.
+//! The whole system behind one call: a disk's image is made, run or shown, and what a run prints goes out.
 #![tactic(auto)]
 
 mod faults;
+mod opening;
 mod output;
 mod reads;
 mod runs;
+mod shows;
 mod statuses;
+mod top;
 
-pub use faults::{RunFault, put_fault};
+pub use faults::{Fault, put_fault};
 pub use output::put_output;
-pub use reads::read_source;
-pub use runs::hopper;
+pub use reads::{ReadScript, read_source};
 pub use statuses::{Outcome, Status};
+pub use top::hopper;
 
 #[cfg(test)]
+mod image_tests;
+#[cfg(test)]
 mod run_tests;
+#[cfg(test)]
+mod test_calls;
 #[cfg(test)]
 mod tests;

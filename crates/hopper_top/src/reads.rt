@@ -1,20 +1,27 @@
 //! Reading a source to a script that may run.
-ghost use Rattle.std.specs.Prelude.{◌≡◌, ◌≤◌, IfOk, IfErr, OnOk, IfSome, codes, string_bytes};
+ghost use Rattle.std.specs.Prelude.{◌≡◌, ◌≤◌, IfOk, IfErr, OnOk, IfSome, codes, length, string_bytes};
 ghost use Rattle.std.specs.Io.KnownBytes.{IsAtEnd};
 ghost use Rattle.stream_edge.specs.Counts.{Rose};
+ghost use Rattle.kept_run.specs.Meaning.{IsAccepted};
 ghost use Rattle.plain_run.specs.Snaps.{HasNoSnapTables};
 ghost use Rattle.script_read.specs.Rules.{IsScript};
 ghost use Rattle.script_read.specs.Scripts.{tables_of};
-ghost use Rattle.hopper_top.specs.Statuses.{run_fault};
-ghost use Rattle.hopper_top.specs.Sources.{IsAccepted, IsFaultOfStop, IsReadFault, most_bytes};
+ghost use Rattle.hopper_top.specs.Sources.{IsFaultOfStop, IsReadFault, most_bytes};
 
-use crate::faults::RunFault;
-use script_read::{Refusal, Script, ScriptFault, Why, read_script};
+use crate::faults::Fault;
+use script_read::{Refusal, Script, Why, read_script};
 use std::alloc::{AllocError, Global};
 use stream_edge::{ReadStop, Source, read_all};
 
 /// How many bytes a source may have.
 const MOST_BYTES: usize = 1_048_576;
+
+/// A source that was read, and the script that it stands for.
+#[derive(Debug, Drop)]
+pub struct ReadScript {
+    pub bytes: Vec<u8>,
+    pub script: Script,
+}
 
 /// The refusal of a source that is too long.
 fn too_long(alloc: Global) -> Result<Refusal, AllocError>
@@ -28,34 +35,26 @@ fn too_long(alloc: Global) -> Result<Refusal, AllocError>
 }
 
 /// The fault of a source whose reading stopped.
-fn fault_of_stop(alloc: Global, stop: ReadStop) -> RunFault
+fn fault_of_stop(alloc: Global, stop: ReadStop) -> Fault
     ensures { IsFaultOfStop stop result }
 {
     match stop {
-        ReadStop::Source(_) => RunFault::Source,
-        ReadStop::Memory => RunFault::Memory,
+        ReadStop::Source(_) => Fault::Source,
+        ReadStop::Memory => Fault::Memory,
         ReadStop::Long => match too_long(alloc) {
-            Ok(refusal) => RunFault::Script(refusal),
-            Err(_) => RunFault::Memory,
+            Ok(refusal) => Fault::Script(refusal),
+            Err(_) => Fault::Memory,
         },
     }
 }
 
-/// The fault of a source that gave no script.
-fn fault_of_script(fault: ScriptFault) -> RunFault
-    ensures { result ≡ run_fault fault }
-{
-    match fault {
-        ScriptFault::Refused(refusal) => RunFault::Script(refusal),
-        ScriptFault::Memory => RunFault::Memory,
-    }
-}
-
 /// Reads a source to its end, and the script that it stands for.
-pub fn read_source<R: Source>(alloc: Global, source: &mut R) -> Result<Script, RunFault>
-    ensures read { IfOk result (λ script. IfSome (R.left source.old) (λ bytes. IsAccepted bytes (tables_of script))) }
-    ensures rules { IfOk result (λ script. IsScript (tables_of script)) }
-    ensures code { IfOk result (λ script. HasNoSnapTables (tables_of script)) }
+pub fn read_source<R: Source>(alloc: Global, source: &mut R) -> Result<ReadScript, Fault>
+    ensures bytes { IfOk result (λ read. IfSome (R.left source.old) (λ bytes. read.bytes.items ≡ bytes)) }
+    ensures accepted { IfOk result (λ read. IsAccepted read.bytes.items (tables_of read.script)) }
+    ensures short { IfOk result (λ read. length read.bytes.items ≤ most_bytes) }
+    ensures rules { IfOk result (λ read. IsScript (tables_of read.script)) }
+    ensures code { IfOk result (λ read. HasNoSnapTables (tables_of read.script)) }
     ensures end { OnOk result (IfSome (R.left source.old) (λ _. IsAtEnd (R.left source.new))) }
     ensures fault { IfErr result (IsReadFault (R.left source.old) (Rose (R.faults source.old) (R.faults source.new))) }
     ensures count { R.faults source.old ≤ R.faults source.new }
@@ -64,8 +63,6 @@ pub fn read_source<R: Source>(alloc: Global, source: &mut R) -> Result<Script, R
         Ok(bytes) => bytes,
         Err(stop) => return Err(fault_of_stop(alloc, stop)),
     };
-    match read_script(alloc, &bytes) {
-        Ok(script) => Ok(script),
-        Err(fault) => Err(fault_of_script(fault)),
-    }
+    let script = read_script(alloc, &bytes)?;
+    Ok(ReadScript { bytes, script })
 }

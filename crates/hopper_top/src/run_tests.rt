@@ -1,41 +1,11 @@
 ghost use Rattle.std.specs.Prelude.{◌≡◌, IfOk};
 
-use crate::{Outcome, Status, hopper};
+use crate::Status;
+use crate::test_calls::{call, formatted, sink_of, source_of};
 use hop_base::{Answer, Entity, Entry, Event, Reply, Touch, Touched};
-use manager_gate::{CountedWords, Supplier};
-use std::alloc::{AllocError, Global};
 use std::process::Abort;
 use std::test::Fail;
-use stream_edge::{MemorySink, MemorySource};
-
-/// Runs on a supplier whose words count up from the tag.
-fn run(
-    alloc: Global,
-    words: &[&str],
-    source: &mut MemorySource,
-    sink: &mut MemorySink,
-) -> Result<Outcome, AllocError> {
-    let mut given = Vec::new(alloc);
-    for word in words {
-        given.push(String::from_str(alloc, word)?)?;
-    }
-    let words = |tag, page, place| CountedWords.word(tag, page, place);
-    Ok(hopper(alloc, &given, source, sink, &words))
-}
-
-fn source_of(alloc: Global, text: &[u8], fails: &[u64]) -> Result<MemorySource, AllocError> {
-    let mut bytes = Vec::new(alloc);
-    bytes.extend_from_slice(text)?;
-    let mut calls = Vec::new(alloc);
-    calls.extend_from_slice(fails)?;
-    Ok(MemorySource::new(bytes, calls))
-}
-
-fn sink_of(alloc: Global, room: u32, fails: &[u64]) -> Result<MemorySink, AllocError> {
-    let mut calls = Vec::new(alloc);
-    calls.extend_from_slice(fails)?;
-    MemorySink::new(alloc, room, calls)
-}
+use stream_edge::MemorySource;
 
 const FIVE: &[u8] = b"program.p = ['set r0 5', 'store r1 r0', 'load r2 r1', 'print r2', 'halt']
 container = [{ name = 'a', pages = 1, program = 'p' }]
@@ -146,6 +116,12 @@ container = [{ name = 'a', pages = 1, program = 'p' }]
 locus = [{ name = 'l', host = 'a', caps = ['atlas t'] }]
 ";
 
+// A capability that lets the atlas be read does not let it be made stable.
+const UNSTABLE: &[u8] = b"program.p = ['stabilise r0', 'print r7', 'halt']
+container = [{ name = 'a', pages = 1, program = 'p' }]
+locus = [{ name = 'l', host = 'a', caps = ['atlas r'] }]
+";
+
 // The picks of the order come first.
 const ORDERED: &[u8] = b"order = ['m', 'm', 'l']
 program.p = ['print r0', 'halt']
@@ -156,7 +132,7 @@ locus = [{ name = 'l', host = 'a' }, { name = 'm', host = 'a' }]
 #[test]
 fn a_run_prints_its_lines_and_ends(rt: HostRuntime) -> Result<(), Fail> {
     let alloc = rt.alloc();
-    let runs: [(&[u8], &str, usize); 16] = [
+    let runs: [(&[u8], &str, usize); 17] = [
         (FIVE, "l 5\n", 8),
         (PAST_THE_PAGE, "l 3\nl 0\n", 10),
         (b"", "", 0),
@@ -173,11 +149,18 @@ fn a_run_prints_its_lines_and_ends(rt: HostRuntime) -> Result<(), Fail> {
         (TAKES, "l 1\nl 0\nl 1\n", 10),
         (STABLE, "", 107),
         (ORDERED, "m 0\nl 0\n", 8),
+        (UNSTABLE, "l 23\n", 6),
     ];
     for (text, lines, entries) in runs {
         let mut source = source_of(alloc, text, &[])?;
         let mut sink = sink_of(alloc, 100, &[])?;
-        let outcome = run(alloc, &["run"], &mut source, &mut sink)?;
+        let outcome = call(
+            alloc,
+            &["run"],
+            &mut source,
+            &mut sink,
+            formatted(alloc, &[])?,
+        )?;
         assert_eq!(rt; sink.held(), lines.as_bytes());
         assert!(rt; matches!(outcome.status, Status::Done), "{lines}");
         assert_eq!(rt; outcome.history.len(), entries);
@@ -227,7 +210,13 @@ fn a_history_has_births_a_stable_and_the_steps(rt: HostRuntime) -> Result<(), Fa
     let alloc = rt.alloc();
     let mut source = source_of(alloc, FIVE, &[])?;
     let mut sink = sink_of(alloc, 100, &[])?;
-    let outcome = run(alloc, &["run"], &mut source, &mut sink)?;
+    let outcome = call(
+        alloc,
+        &["run"],
+        &mut source,
+        &mut sink,
+        formatted(alloc, &[])?,
+    )?;
     let atlas = Entity::ATLAS;
     let a = entity(1)?;
     let l = entity(41)?;
@@ -252,11 +241,21 @@ fn a_history_has_births_a_stable_and_the_steps(rt: HostRuntime) -> Result<(), Fa
 #[test]
 fn other_words_are_refused(rt: HostRuntime) -> Result<(), Fail> {
     let alloc = rt.alloc();
-    let commands: [&[&str]; 5] = [&["run", "run"], &[], &["walk"], &["Run"], &["run "]];
+    let commands: [&[&str]; 9] = [
+        &["run", "run"],
+        &[],
+        &["walk"],
+        &["Run"],
+        &["run "],
+        &["run", "--workers", "0"],
+        &["run", "--trace", "--trace"],
+        &["format"],
+        &["show", "--"],
+    ];
     for words in commands {
         let mut source = source_of(alloc, FIVE, &[])?;
         let mut sink = sink_of(alloc, 100, &[])?;
-        let outcome = run(alloc, words, &mut source, &mut sink)?;
+        let outcome = call(alloc, words, &mut source, &mut sink, formatted(alloc, &[])?)?;
         assert_eq!(rt; sink.held(), b"fault 2 usage\n".as_slice());
         assert!(rt; matches!(outcome.status, Status::Usage));
         assert!(rt; outcome.history.is_empty());
@@ -269,7 +268,13 @@ fn a_refused_source_is_told_by_its_key(rt: HostRuntime) -> Result<(), Fail> {
     let alloc = rt.alloc();
     let mut source = source_of(alloc, b"steps = 0", &[])?;
     let mut sink = sink_of(alloc, 100, &[])?;
-    let outcome = run(alloc, &["run"], &mut source, &mut sink)?;
+    let outcome = call(
+        alloc,
+        &["run"],
+        &mut source,
+        &mut sink,
+        formatted(alloc, &[])?,
+    )?;
     assert_eq!(rt; sink.held(), b"fault 3 6 steps\n".as_slice());
     assert!(rt; matches!(outcome.status, Status::Script(_)));
     assert!(rt; outcome.history.is_empty());
@@ -284,7 +289,13 @@ fn a_source_past_a_mebibyte_is_too_long(rt: HostRuntime) -> Result<(), Fail> {
         bytes.resize(len, b'\n')?;
         let mut source = MemorySource::new(bytes, Vec::new(alloc));
         let mut sink = sink_of(alloc, 100, &[])?;
-        let outcome = run(alloc, &["run"], &mut source, &mut sink)?;
+        let outcome = call(
+            alloc,
+            &["run"],
+            &mut source,
+            &mut sink,
+            formatted(alloc, &[])?,
+        )?;
         assert_eq!(rt; sink.held(), line.as_bytes());
         assert_eq!(rt; outcome.status.number(), status);
     }
@@ -298,7 +309,13 @@ fn a_source_that_fails_gives_its_own_status(rt: HostRuntime) -> Result<(), Fail>
     for fails in [1, 2] {
         let mut source = source_of(alloc, FIVE, &[fails])?;
         let mut sink = sink_of(alloc, 100, &[])?;
-        let outcome = run(alloc, &["run"], &mut source, &mut sink)?;
+        let outcome = call(
+            alloc,
+            &["run"],
+            &mut source,
+            &mut sink,
+            formatted(alloc, &[])?,
+        )?;
         assert_eq!(rt; sink.held(), b"fault 6 source\n".as_slice());
         assert!(rt; matches!(outcome.status, Status::SourceFault));
         assert!(rt; outcome.history.is_empty());
@@ -312,7 +329,13 @@ fn a_sink_that_fails_holds_a_front_of_the_lines(rt: HostRuntime) -> Result<(), F
     for (fails, held) in [(1, ""), (2, "l 3\n")] {
         let mut source = source_of(alloc, PAST_THE_PAGE, &[])?;
         let mut sink = sink_of(alloc, 100, &[fails])?;
-        let outcome = run(alloc, &["run"], &mut source, &mut sink)?;
+        let outcome = call(
+            alloc,
+            &["run"],
+            &mut source,
+            &mut sink,
+            formatted(alloc, &[])?,
+        )?;
         assert_eq!(rt; sink.held(), held.as_bytes());
         assert!(rt; matches!(outcome.status, Status::SinkFault));
         assert_eq!(rt; outcome.history.len(), 10);
@@ -325,7 +348,7 @@ fn a_sink_that_fails_at_the_last_line_changes_no_status(rt: HostRuntime) -> Resu
     let alloc = rt.alloc();
     let mut source = source_of(alloc, FIVE, &[])?;
     let mut sink = sink_of(alloc, 100, &[1])?;
-    let outcome = run(alloc, &[], &mut source, &mut sink)?;
+    let outcome = call(alloc, &[], &mut source, &mut sink, formatted(alloc, &[])?)?;
     assert!(rt; sink.held().is_empty());
     assert!(rt; matches!(outcome.status, Status::Usage));
     Ok(())

@@ -2,25 +2,33 @@
 ghost use Rattle.std.specs.Prelude.{◌≡◌};
 ghost use Rattle.hopper_top.specs.Statuses.{status_by, status_number};
 
-use crate::faults::RunFault;
+use crate::faults::Fault;
+use disk_trait::NoBlocks;
 use hop_base::Entry;
 use script_read::Refusal;
 
 /// How a call ended. The numbers are those that its last line tells.
 #[derive(Debug, Drop)]
 pub enum Status {
-    /// The run came to its end, and all its lines were put. Number 0.
+    /// The command came to its end, and all its lines were put. Number 0.
     Done,
     /// The words are of no known form. Number 2.
     Usage,
-    /// The source is refused. Number 3.
+    /// The source is refused, or its script does not fit the image. Number 3.
     Script(Refusal),
+    /// The disk holds no image: its first bad place, by block and by byte in that block. A journal is bad as a whole, from
+    /// its first byte on. Number 4.
+    Foreign { block: u32, place: u16 },
+    /// A call of the disk failed. Number 5.
+    DiskFault,
     /// The source could not be read. Number 6.
     SourceFault,
     /// The sink could not take the lines. Number 7.
     SinkFault,
     /// Memory ran out. Number 8.
     Memory,
+    /// Too few blocks: how many are needed, and how many there are. Number 9.
+    BlocksFull(NoBlocks),
 }
 
 impl Status {
@@ -32,28 +40,40 @@ impl Status {
             Status::Done => 0,
             Status::Usage => 2,
             Status::Script(_) => 3,
+            Status::Foreign { .. } => 4,
+            Status::DiskFault => 5,
             Status::SourceFault => 6,
             Status::SinkFault => 7,
             Status::Memory => 8,
+            Status::BlocksFull(_) => 9,
         }
     }
 }
 
-/// What a call gives back: how it ended, and the entries of its run in order.
+/// What a call gives back.
 #[derive(Debug, Drop)]
-pub struct Outcome {
+pub struct Outcome<D> {
+    /// How the call ended.
     pub status: Status,
+    /// The entries of its run in order. None for a command that runs nothing.
     pub history: Vec<Entry>,
+    /// For each Stable of the history how many writes and syncs the call had begun on the disk when it was kept.
+    pub marks: Vec<u64>,
+    /// The disk that was handed in.
+    pub disk: D,
 }
 
-/// The status of a run that gave no output.
-pub fn status_of(fault: RunFault) -> Status
+/// The status of a call that gave no output.
+pub fn status_of(fault: Fault) -> Status
     ensures { result ≡ status_by fault }
 {
     match fault {
-        RunFault::Usage => Status::Usage,
-        RunFault::Script(refusal) => Status::Script(refusal),
-        RunFault::Source => Status::SourceFault,
-        RunFault::Memory => Status::Memory,
+        Fault::Usage => Status::Usage,
+        Fault::Script(refusal) => Status::Script(refusal),
+        Fault::Foreign { block, place } => Status::Foreign { block, place },
+        Fault::Disk => Status::DiskFault,
+        Fault::Source => Status::SourceFault,
+        Fault::Memory => Status::Memory,
+        Fault::Blocks(blocks) => Status::BlocksFull(blocks),
     }
 }

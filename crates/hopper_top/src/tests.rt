@@ -2,7 +2,8 @@ ghost use Rattle.std.specs.Prelude.{IfOk};
 ghost use Rattle.history_model.specs.Plains.{atlas_of};
 ghost use Rattle.hopper_top.specs.Lines.{HasShortNames};
 
-use crate::{RunFault, put_fault, put_output};
+use crate::{Fault, put_fault, put_output};
+use disk_trait::NoBlocks;
 use history_model::PlainAtlas;
 use hop_base::{Answer, Entity, Entry, Event, Reply, Touched};
 use script_read::{Refusal, Why};
@@ -61,8 +62,8 @@ fn each_printed_value_has_a_line_with_the_name_of_its_locus(rt: HostRuntime) -> 
     Ok(())
 }
 
-fn refused(alloc: Global, why: Why, key: &str) -> Result<RunFault, AllocError> {
-    Ok(RunFault::Script(Refusal {
+fn refused(alloc: Global, why: Why, key: &str) -> Result<Fault, AllocError> {
+    Ok(Fault::Script(Refusal {
         why,
         key: String::from_str(alloc, key)?,
     }))
@@ -72,7 +73,7 @@ fn refused(alloc: Global, why: Why, key: &str) -> Result<RunFault, AllocError> {
 fn each_fault_has_its_last_line(rt: HostRuntime) -> Result<(), Fail> {
     let alloc = rt.alloc();
     let faults = [
-        (RunFault::Usage, "fault 2 usage\n"),
+        (Fault::Usage, "fault 2 usage\n"),
         (
             refused(alloc, Why::BadCode, "program.p.0")?,
             "fault 3 8 program.p.0\n",
@@ -82,8 +83,23 @@ fn each_fault_has_its_last_line(rt: HostRuntime) -> Result<(), Fail> {
             refused(alloc, Why::Clash, "locus.0.name")?,
             "fault 3 11 locus.0.name\n",
         ),
-        (RunFault::Source, "fault 6 source\n"),
-        (RunFault::Memory, "fault 8 memory\n"),
+        (
+            Fault::Foreign {
+                block: 1285,
+                place: 0,
+            },
+            "fault 4 1285 0\n",
+        ),
+        (Fault::Disk, "fault 5 disk\n"),
+        (Fault::Source, "fault 6 source\n"),
+        (Fault::Memory, "fault 8 memory\n"),
+        (
+            Fault::Blocks(NoBlocks {
+                need: u32::MAX,
+                free: 1281,
+            }),
+            "fault 9 4294967295 1281\n",
+        ),
     ];
     for (fault, line) in faults {
         let mut sink = MemorySink::new(alloc, 100, Vec::new(alloc))?;

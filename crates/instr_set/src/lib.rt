@@ -10,7 +10,7 @@ mod words;
 mod writing;
 
 pub use reading::{BadInstr, read_line};
-pub use writing::write_line;
+pub use writing::{write_line, write_rights};
 
 #[cfg(test)]
 mod tests {
@@ -70,6 +70,17 @@ mod tests {
         ];
         for (text, want) in lines {
             reads_and_writes(&rt, text, want);
+        }
+    }
+
+    #[test]
+    fn sets_of_rights_are_written_by_their_letters(rt: HostRuntime) {
+        let sets = [(0, "-"), (1, "r"), (3, "rw"), (20, "ic"), (255, "rwimcskt")];
+        for (set, text) in sets {
+            let mut out = ArrayString::new();
+            out.push_str("what stood there");
+            write_rights(Rights(set), &mut out);
+            assert_eq!(rt; out.as_str(), text);
         }
     }
 

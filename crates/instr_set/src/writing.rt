@@ -10,7 +10,7 @@ ghost use Rattle.instr_set.specs.Forms.{token};
 use crate::building::parts;
 use crate::forms::{Operand, form_at};
 use arrayvec::ArrayString;
-use hop_base::Instr;
+use hop_base::{Instr, Rights};
 
 /// A length that no spelling exceeds.
 const LINE: usize = 96;
@@ -83,6 +83,14 @@ fn push_operand(operand: Operand, out: &mut ArrayString<LINE>)
         Operand::Entry(None) => push_byte(b'-', out),
         Operand::Entry(Some(place)) => push_place(place, out),
     }
+}
+
+/// Writes the letters of a set of rights in place of what `out` holds, a dash for the empty set.
+pub fn write_rights(set: Rights, out: &mut ArrayString<LINE>)
+    ensures { out.new.bytes ≡ rights set.0 }
+{
+    *out = ArrayString::new();
+    push_rights(set.0, out);
 }
 
 /// Writes the spelling of the instruction in place of what `out` holds.

@@ -1,10 +1,11 @@
 mod Ending
+pub mod Following
 mod Fronts
 mod KeptOn
-mod Looping
+pub mod Looping
 mod Marked
 pub mod Meanings
 mod Plainly
-mod Following
+pub mod Starting
 mod Stopping
 mod Trying

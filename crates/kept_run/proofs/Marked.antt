@@ -1,5 +1,5 @@
 -- Marks as entries are added.
-use Rattle.std.proofs.Common.{◌≡◌, ◌⊎◌, ◌≤◌, ◌<◌, ◌+◌, ◌*◌, ℕ, inl, inr, true, false, cond, List, [], ◌∷◌, ◌++◌, count_by, length, slice_get, Some, refl, sym, ap, subst, ◌∙◌, arith, length-append, append_assoc}
+use Rattle.std.proofs.Common.{◌≡◌, ◌≤◌, ◌+◌, ◌*◌, ℕ, inl, inr, true, false, cond, List, [], ◌∷◌, ◌++◌, count_by, length, refl, sym, ap, subst, ◌∙◌, arith, length-append, append_assoc}
 use Rattle.std.proofs.lemmas.List.{append-nil}
 use Rattle.std.proofs.lemmas.List.Sums.{sum_by-cons}
 use Rattle.std.proofs.lemmas.Option.{slice_get_within}
@@ -16,7 +16,7 @@ use Rattle.kept_run.specs.declared.keeping.Kept.{Kept}
 use Rattle.kept_run.proofs.KeptOn.{count_stable}
 use Rattle.kept_run.proofs.Plainly.{count_same}
 use Rattle.run_cuts.specs.Cuts.{IsKeptRun}
-use Rattle.run_cuts.specs.Marks.{AreMarks, completes, is_completing, is_step}
+use Rattle.run_cuts.specs.Marks.{AreMarks, completes, is_completing}
 use Rattle.run_cuts.proofs.Counting.{stable_counts}
 use Rattle.run_cuts.proofs.Leaving.{none_complete, slice_get_more}
 use Rattle.run_cuts.proofs.Reaching.{below_front, front_legal, legal_front}

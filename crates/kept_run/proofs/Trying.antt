@@ -4,8 +4,10 @@ use Rattle.std.proofs.lemmas.List.{append-nil}
 use Rattle.disk_trait.specs.Image.{Image}
 use Rattle.hop_base.specs.declared.histories.Entry.{Entry}
 use Rattle.hop_base.specs.declared.histories.Event.TheVariants.{Stable, Tried}
-use Rattle.hop_model.specs.Histories.{event_of, mark, never}
+use Rattle.hop_model.specs.Histories.{AllBelow64, event_of, mark, never}
 use Rattle.hop_model.specs.Parts.{is_event}
+use Rattle.hop_model.specs.Scripts.{Script}
+use Rattle.hop_model.specs.State.{Supply}
 use Rattle.kept_run.specs.Keeping.{Beginning, CanTry, IsAtFront, LeavesFronts, LeavesKept, LeavesTry, state_at, tried_at}
 use Rattle.kept_run.specs.Meaning.{Means}
 use Rattle.kept_run.specs.declared.keeping.Stop.{Stop}
@@ -15,6 +17,7 @@ use Rattle.run_cuts.specs.Left.{IsTryLeft}
 use Rattle.run_cuts.specs.Marks.{completes}
 use Rattle.run_cuts.proofs.Cutting.{after_append}
 use Rattle.run_cuts.proofs.Leaving.{front_more}
+use Rattle.run_cuts.proofs.Reaching.{below_more}
 
 -- a mark changes no state
 pub mark_same : (b : Beginning) (es : List Entry) (e : Entry) → is_event e.event ≡ false → state_at b (es ++ e ∷ []) ≡ state_at b es
@@ -47,3 +50,9 @@ pub count_tried : (stop : Stop) (es hist : List Entry) (version : ℕ) → hist 
 count_tried AtDisk es hist version is = ap (count_by completes) is ∙ count_same es (mark Tried 0 version) refl
 count_tried AtMemory es hist version is = ap (count_by completes) (is ∙ append-nil es)
 count_tried (AtBlocks n) es hist version is = ap (count_by completes) (is ∙ append-nil es)
+
+-- and touches nothing
+pub below_tried : (s : Supply) (script : Script) (stop : Stop) (es hist : List Entry) (version : ℕ) → hist ≡ es ++ tried_at stop version → AllBelow64 es → AllBelow64 hist
+below_tried s script AtDisk es hist version is low = subst AllBelow64 (sym is) (below_more s never script es (mark Tried 0 version) low refl)
+below_tried s script AtMemory es hist version is low = subst AllBelow64 (sym (is ∙ append-nil es)) low
+below_tried s script (AtBlocks n) es hist version is low = subst AllBelow64 (sym (is ∙ append-nil es)) low

@@ -1,5 +1,5 @@
 //! How the entries of a run are kept.
-ghost use Rattle.std.specs.Prelude.{◌≡◌, ◌<◌, ◌≤◌, ◌+◌, ◌-◌, ◌^◌, ◌++◌, ◌∷◌, [], ℕ, List, IfErr, OnErr, OnOk, IsErrOf, vec_capacity, vec_len};
+ghost use Rattle.std.specs.Prelude.{◌≡◌, ◌<◌, ◌≤◌, ◌+◌, ◌-◌, ◌^◌, ◌++◌, ◌∷◌, [], ℕ, List, IfErr, OnErr, OnOk, IsErrOf, length, vec_capacity, vec_len};
 ghost use Rattle.disk_trait.specs.Disk.{Only};
 ghost use Rattle.hop_base.specs.declared.histories.Event.TheVariants.{Snap as SnapEvent, Stable, Tried};
 ghost use Rattle.hop_model.specs.Histories.{mark};
@@ -10,9 +10,10 @@ ghost use Rattle.journal.specs.Text.{KeptRun, blocks_needed, kept_runs};
 ghost use Rattle.kept_run.specs.Marking.{IsMarked};
 ghost use Rattle.kept_run.specs.Keeping.{Beginning, CanTry, EndsWithRun, IsKept, LeavesKept, tried_at};
 
-use crate::keeping::{Kept, KeptJournal, Stop, keep_stable};
+use crate::keeping::{Kept, Stop, keep_stable};
 use disk_trait::{Disk, NoBlocks};
 use hop_base::{Answer, Entity, Entry, Event, Touched};
+use journal::Journal;
 use std::alloc::Global;
 
 // A try of the atlas.
@@ -32,7 +33,7 @@ fn try_of(version: u64) -> Entry
 fn keep_or_try<D: Disk>(
     alloc: Global,
     disk: &mut D,
-    journal: &mut KeptJournal,
+    journal: &mut Journal,
     kept: &mut Kept,
     stable: Entry,
     version: u64,
@@ -91,7 +92,7 @@ fn keep_or_try<D: Disk>(
 pub(crate) fn keep_entry<D: Disk>(
     alloc: Global,
     disk: &mut D,
-    journal: &mut KeptJournal,
+    journal: &mut Journal,
     kept: &mut Kept,
     entry: Entry,
     version: u64,
@@ -125,6 +126,7 @@ pub(crate) fn keep_entry<D: Disk>(
     ensures next { OnOk result (journal.new.place.epoch ≤ journal.old.place.epoch + 1) }
     ensures reads { D.tells → OnOk result ((runs : List KeptRun) × Keeps journal.new.place runs (D.reading disk.new)) }
     ensures synced { D.tells → OnOk result (Only (D.reading disk.new) (D.may_leave disk.new)) }
+    ensures fits { length kept.old.marks.items < length kept.new.marks.items → blocks_needed (kept_runs journal.old.items.items) ≤ 1281 }
     ensures blocks { (n : NoBlocks) → IsErrOf result (Stop.Blocks n) → (1281 < blocks_needed (kept_runs journal.old.items.items))
         × (n.need ≡ blocks_needed (kept_runs journal.old.items.items)) × (n.free ≡ 1281) }
     ensures cause { IsErrOf result Stop.Disk → Rose (D.faults disk.old) (D.faults disk.new) }

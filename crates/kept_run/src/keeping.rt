@@ -11,7 +11,7 @@ ghost use Rattle.kept_run.specs.Stops.{stop_of};
 
 use disk_trait::{Disk, NoBlocks};
 use hop_base::Entry;
-use journal::{Item, Place, WriteFault, put_items};
+use journal::{Item, Journal, WriteFault, put_items};
 use std::alloc::{AllocError, Global};
 
 /// Why a run stopped before its end.
@@ -59,13 +59,6 @@ pub struct Kept {
     pub begun: u64,
 }
 
-/// The journal during a run: the runs of before, and behind them this one.
-#[derive(Debug, Drop)]
-pub struct KeptJournal {
-    pub items: Vec<Item>,
-    pub place: Place,
-}
-
 // So many entries of the last run count.
 fn count_last(items: &mut Vec<Item>, entries: u64)
     requires { (b : Beginning) × EndsWithRun b (kept_runs items.old.items) }
@@ -81,7 +74,7 @@ fn count_last(items: &mut Vec<Item>, entries: u64)
 pub(crate) fn keep_stable<D: Disk>(
     alloc: Global,
     disk: &mut D,
-    journal: &mut KeptJournal,
+    journal: &mut Journal,
     kept: &mut Kept,
     stable: Entry,
 ) -> Result<(), Stop>

@@ -5,5 +5,5 @@ mod entries;
 mod keeping;
 mod running;
 
-pub use keeping::{Kept, KeptJournal, Stop};
+pub use keeping::{Kept, Stop};
 pub use running::run_kept;

@@ -3,6 +3,7 @@ ghost use Rattle.std.specs.Prelude.{◌≡◌, ◌<◌, ◌≤◌, ◌+◌, ◌*
 ghost use Rattle.disk_trait.specs.Disk.{Only};
 ghost use Rattle.history_model.specs.Plains.{cells_of};
 ghost use Rattle.hop_model.specs.Serial.{IsSerial};
+ghost use Rattle.hop_model.specs.Soundness.{IsSound};
 ghost use Rattle.hop_model.specs.State.{Supply, KernelState};
 ghost use Rattle.journal.specs.Faults.{Rose};
 ghost use Rattle.journal.specs.Journal.{Keeps};
@@ -20,8 +21,9 @@ ghost use Rattle.plain_run.specs.Standing.{Stands};
 ghost use Rattle.script_read.specs.Scripts.{tables_of};
 
 use crate::entries::keep_entry;
-use crate::keeping::{Kept, KeptJournal, Stop};
+use crate::keeping::{Kept, Stop};
 use disk_trait::{Disk, NoBlocks};
+use journal::Journal;
 use plain_run::SerialRun;
 use script_read::Script;
 use std::alloc::{AllocError, Global};
@@ -42,7 +44,7 @@ fn make_room(kept: &mut Kept) -> Result<(), AllocError>
 fn keep_next<D: Disk, S: Fn(u64, u32, u16) -> u64>(
     alloc: Global,
     disk: &mut D,
-    journal: &mut KeptJournal,
+    journal: &mut Journal,
     script: &Script,
     run: &mut SerialRun,
     supply: &S,
@@ -74,16 +76,20 @@ fn keep_next<D: Disk, S: Fn(u64, u32, u16) -> u64>(
         → EndsWithRun (beginning s (tables_of script.now) o) (kept_runs journal.old.items.items)
         → IsKept (beginning s (tables_of script.now) o) D.clock D.reading D.may_leave D.left_since disk.old journal.old.place kept.old
         → LeavesKept (beginning s (tables_of script.now) o) (D.left_since disk.new) kept.new.history.items kept.new.marks.items) }
+    ensures below { OnErr result ((w : KernelState) → Stands s (tables_of script.now) w run.old kept.old.history.items
+        → AllBelow64 kept.new.history.items) }
     ensures each { OnErr result (length kept.old.marks.items ≡ count_by completes kept.old.history.items
         → length kept.new.marks.items ≡ count_by completes kept.new.history.items) }
     ensures marked { IsMarked kept.old → IsMarked kept.new }
     ensures same_marks { OnErr result (kept.new.marks.items ≡ kept.old.marks.items) }
+    ensures sound { IsSound (cells_of s run.new.state) }
     ensures few { OnOk result (kept.new.begun ≤ kept.old.begun + 1286) }
     ensures last { (b : Beginning) → EndsWithRun b (kept_runs journal.old.items.items) → EndsWithRun b (kept_runs journal.new.items.items) }
     ensures blocks_same { blocks_needed (kept_runs journal.new.items.items) ≡ blocks_needed (kept_runs journal.old.items.items) }
     ensures next { OnOk result (journal.new.place.epoch ≤ journal.old.place.epoch + 1) }
     ensures reads { D.tells → OnOk result ((runs : List KeptRun) × Keeps journal.new.place runs (D.reading disk.new)) }
     ensures synced { D.tells → OnOk result (Only (D.reading disk.new) (D.may_leave disk.new)) }
+    ensures fits { length kept.old.marks.items < length kept.new.marks.items → blocks_needed (kept_runs journal.old.items.items) ≤ 1281 }
     ensures blocks { (n : NoBlocks) → IsErrOf result (Stop.Blocks n) → (1281 < blocks_needed (kept_runs journal.old.items.items))
         × (n.need ≡ blocks_needed (kept_runs journal.old.items.items)) × (n.free ≡ 1281) }
     ensures cause { IsErrOf result Stop.Disk → Rose (D.faults disk.old) (D.faults disk.new) }
@@ -99,13 +105,13 @@ fn keep_next<D: Disk, S: Fn(u64, u32, u16) -> u64>(
     Ok(true)
 }
 
-/// Runs a script to the end of its serial history, or up to a stop. Each Stable is written to the journal before it stands
-/// in the history. Where the disk fails at one, a try of the atlas stands in its place, at the end; where the journal has
+/// Runs a script to the end of its serial history, or up to a stop. The journal has the runs of before, and behind them
+/// this one. Each Stable is written to the journal before it stands in the history. Where the disk fails at one, a try of the atlas stands in its place, at the end; where the journal has
 /// too few blocks, or memory runs out, the history ends before it.
 pub fn run_kept<D: Disk, S: Fn(u64, u32, u16) -> u64>(
     alloc: Global,
     disk: &mut D,
-    journal: &mut KeptJournal,
+    journal: &mut Journal,
     script: &Script,
     run: &mut SerialRun,
     supply: &S,
@@ -136,15 +142,17 @@ pub fn run_kept<D: Disk, S: Fn(u64, u32, u16) -> u64>(
     ensures moments { D.tells → D.clock disk.new < 2 ^ 64 - 1 → (o : Origin) → Stands s (tables_of script.now) o.state run.old kept.old.history.items
         → EndsWithRun (beginning s (tables_of script.now) o) (kept_runs journal.old.items.items)
         → IsKept (beginning s (tables_of script.now) o) D.clock D.reading D.may_leave D.left_since disk.old journal.old.place kept.old
-        → StampsBelow o.state → AllBelow64 kept.new.history.items
+        → StampsBelow o.state
         → (t : ℕ) → (c : Image) → o.first ≤ t → D.left_since disk.new t c
         → IsLeft (Means s) s (tables_of script.now) o.state kept.new.history.items kept.new.marks.items o.since t c }
 
     // The marks of a history that was empty before: when each Stable was made, in writes and syncs begun.
     ensures marks { kept.old.history.items ≡ [] → kept.old.marks.items ≡ [] → kept.old.begun ≤ 1
-        → (w : KernelState) → Stands s (tables_of script.now) w run.old [] → StampsBelow w → AllBelow64 kept.new.history.items
+        → (w : KernelState) → Stands s (tables_of script.now) w run.old [] → StampsBelow w
         → AreMarks s (tables_of script.now) w kept.new.history.items kept.new.marks.items }
 
+    // A Stable that was kept needed no more blocks than a half has.
+    ensures fits { length kept.old.marks.items < length kept.new.marks.items → blocks_needed (kept_runs journal.old.items.items) ≤ 1281 }
     // Blocks comes only where the journal's text needs more blocks than a half has, with both numbers.
     ensures blocks { (n : NoBlocks) → IsErrOf result (Stop.Blocks n) → (1281 < blocks_needed (kept_runs journal.old.items.items))
         × (n.need ≡ blocks_needed (kept_runs journal.old.items.items)) × (n.free ≡ 1281) }
@@ -152,6 +160,9 @@ pub fn run_kept<D: Disk, S: Fn(u64, u32, u16) -> u64>(
     ensures cause { IsErrOf result Stop.Disk → Rose (D.faults disk.old) (D.faults disk.new) }
     ensures later { D.faults disk.old ≤ D.faults disk.new }
     ensures count { D.block_count disk.new ≡ D.block_count disk.old }
+    ensures time { D.tells → D.clock disk.old ≤ D.clock disk.new }
+    // The state that is left is one that runs can go on from.
+    ensures sound { IsSound (cells_of s run.new.state) }
 {
     loop {
         let more = keep_next(alloc, disk, journal, script, run, supply, kept)?;

@@ -96,7 +96,7 @@ module _ (s : Supply) (policy : Policy) (script : Script) where
   below_front [] fs low = tt
   below_front (e ∷ es) fs low = (low.0, below_front es fs low.1)
 
-  below_more : (es : List Entry) (e : Entry) → AllBelow64 es → e.touched ≡ [] → AllBelow64 (es ++ e ∷ [])
+  pub below_more : (es : List Entry) (e : Entry) → AllBelow64 es → e.touched ≡ [] → AllBelow64 (es ++ e ∷ [])
   below_more [] e low none = (λ x h. ap (λ ts. touch_at ts x) none, tt)
   below_more (f ∷ es) e low none = (low.0, below_more es e low.1 none)
 

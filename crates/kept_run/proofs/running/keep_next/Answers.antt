@@ -4,7 +4,8 @@ use Rattle.kept_run.specs.Running.{beginning}
 use Rattle.kept_run.proofs.Following.{at_none, at_some, can_try, cut_next, goes_at, if_err_at, no_snap, on_err_any, uncut, was_at}
 use Rattle.kept_run.proofs.Marked.{marked_same}
 use Rattle.kept_run.proofs.Plainly.{kept_same}
-use Rattle.kept_run.proofs.Trying.{count_tried, leaves_same}
+use Rattle.kept_run.proofs.Trying.{below_tried, count_tried, leaves_same}
+use Rattle.hop_model.specs.Histories.{AllBelow64}
 use Rattle.run_cuts.specs.Marks.{completes}
 use Rattle.plain_run.specs.Standing.{Stands}
 use Rattle.script_read.specs.Scripts.{tables_of}
@@ -113,6 +114,20 @@ returns-clause-keeps g c t below o stood ends was =
     c.in_ok-keep_entry.ensures.keeps t below (beginning g.s script o) ends now_mid.front
     (kept_same (beginning g.s script o) c.args.disk.now c.args.journal.now.place c.args.kept.now c.make_room.new.kept c.make_room.ensures.history c.make_room.ensures.marks c.make_room.ensures.begun was)
 
+pub returns-in_err-make_room-clause-below : goal.returns-in_err-make_room-clause-below
+returns-in_err-make_room-clause-below g c =
+    on_err_any c.from_residual.result _ (λ w stood. subst AllBelow64 (sym c.make_room.ensures.history) stood.reaches.below)
+
+pub returns-in_err-entry-clause-below : goal.returns-in_err-entry-clause-below
+returns-in_err-entry-clause-below g c =
+    on_err_any c.from_residual-in_err-entry.result _ (λ w stood. subst AllBelow64 (sym c.make_room.ensures.history) stood.reaches.below)
+
+pub returns-in_err-keep_entry-clause-below : goal.returns-in_err-keep_entry-clause-below
+returns-in_err-keep_entry-clause-below g c =
+    on_err_any c.from_residual-in_err-keep_entry.result _
+    (λ w stood. below_tried g.s (tables_of c.args.script.now) c.in_err-keep_entry.field-0.0 c.make_room.new.kept.history.items c.keep_entry.new.kept.history.items _ c.in_err-keep_entry.ensures.tried
+    (subst AllBelow64 (sym c.make_room.ensures.history) stood.reaches.below))
+
 pub returns-in_err-keep_entry-clause-each : goal.returns-in_err-keep_entry-clause-each
 returns-in_err-keep_entry-clause-each g c =
     on_err_any c.from_residual-in_err-keep_entry.result _
@@ -141,3 +156,32 @@ returns-in_err-keep_entry-clause-marked g c was = c.keep_entry.ensures.marked (m
 
 pub returns-clause-marked : goal.returns-clause-marked
 returns-clause-marked g c was = c.keep_entry.ensures.marked (marked_same c.args.kept.now c.make_room.new.kept c.make_room.ensures.history c.make_room.ensures.marks c.make_room.ensures.begun was)
+
+pub returns-in_err-make_room-clause-sound : goal.returns-in_err-make_room-clause-sound
+returns-in_err-make_room-clause-sound g c = c.requires.1.1.1.1.0.1.reaches.sound
+
+pub returns-in_err-entry-clause-sound : goal.returns-in_err-entry-clause-sound
+returns-in_err-entry-clause-sound g c =
+    let at = c.requires.1.1.1.1.0 in
+    let stood : Stands g.s (tables_of c.args.script.now) at.0 c.next.new.self c.make_room.new.kept.history.items =
+    c.in_err-entry.ensures.err at.0 c.make_room.new.kept.history.items (subst (Stands g.s (tables_of c.args.script.now) at.0 c.args.run.now) (sym c.make_room.ensures.history) at.1) in
+    stood.reaches.sound
+
+pub returns-in_default-clause-sound : goal.returns-in_default-clause-sound
+returns-in_default-clause-sound g c =
+    let at = c.requires.1.1.1.1.0 in
+    let stood : Stands g.s (tables_of c.args.script.now) at.0 c.next.new.self c.make_room.new.kept.history.items =
+    at_none c.in_ok-entry.field-0 _ c.in_default.is c.in_ok-entry.ensures.none at.0 c.make_room.new.kept.history.items (subst (Stands g.s (tables_of c.args.script.now) at.0 c.args.run.now) (sym c.make_room.ensures.history) at.1) in
+    stood.reaches.sound
+
+pub returns-in_err-keep_entry-clause-sound : goal.returns-in_err-keep_entry-clause-sound
+returns-in_err-keep_entry-clause-sound g c =
+    let at = c.requires.1.1.1.1.0 in
+    let goes = at_some c.in_ok-entry.field-0 _ c.in-Some.entry c.in-Some.is c.in_ok-entry.ensures.further in
+    (goes_at g.s (tables_of c.args.script.now) c.args.run.now c.next.new.self c.in-Some.entry goes c.args.kept.now.history.items c.make_room.new.kept.history.items c.make_room.ensures.history at.0 at.1).reaches.sound
+
+pub returns-clause-sound : goal.returns-clause-sound
+returns-clause-sound g c =
+    let at = c.requires.1.1.1.1.0 in
+    let goes = at_some c.in_ok-entry.field-0 _ c.in-Some.entry c.in-Some.is c.in_ok-entry.ensures.further in
+    (goes_at g.s (tables_of c.args.script.now) c.args.run.now c.next.new.self c.in-Some.entry goes c.args.kept.now.history.items c.make_room.new.kept.history.items c.make_room.ensures.history at.0 at.1).reaches.sound

@@ -2,7 +2,7 @@ use Rattle.std.proofs.Common.{◌≡◌, ◌<◌, ◌≤◌, ◌+◌, ◌-◌, l
 use Rattle.std.proofs.lemmas.Result.{err_from_is_err_and}
 use Rattle.kept_run.specs.Running.{beginning}
 use Rattle.kept_run.proofs.Following.{if_err_at, uncut}
-use Rattle.kept_run.proofs.Looping.{kept_run_of, left_of_kept, runs_start}
+use Rattle.kept_run.proofs.Looping.{fits_on, kept_run_of, left_of_kept, runs_start}
 use Rattle.kept_run.proofs.Marked.{marked_start, marks_of}
 use Rattle.plain_run.specs.Standing.{Stands}
 use Rattle.plain_run.proofs.Beginning.{few_entries}
@@ -69,6 +69,8 @@ loop-more-preserved g c =
       marked = λ was. next.marked (so_far.marked was);
       later = omega (arith, so_far.later, next.later);
       count = next.count ∙ so_far.count;
+      time = λ t. omega (arith, so_far.time t, next.time t);
+      fits = fits_on (length c.args.kept.now.marks.items) (length c.loop-more.kept.marks.items) (length c.keep_next.new.kept.marks.items) _ _ so_far.fits next.fits so_far.blocks;
       kept = λ t below o stood ends was. ok.keeps t below o (so_far.stands o.state stood) (so_far.last (beginning g.s (tables_of c.args.script.now) o) ends) (so_far.kept t (omega (arith, below, next.time t)) o stood ends was);
     }
 
@@ -91,25 +93,26 @@ returns-then-not-more-clause-uncut g c w h =
     uncut g.s (tables_of c.args.script.now) w c.keep_next.new.run c.keep_next.new.kept.history.items (c.in_ok-more.ensures.stands w (c.loop-more.invariant.stands w h))
 
 pub returns-then-not-more-clause-moments : goal.returns-then-not-more-clause-moments
-returns-then-not-more-clause-moments g c t below o stood ends was stamps low =
+returns-then-not-more-clause-moments g c t below o stood ends was stamps =
     let so_far = c.loop-more.invariant in
     let script = tables_of c.args.script.now in
     let next = c.keep_next.ensures in
     let before = so_far.kept t (omega (arith, below, next.time t)) o stood ends was in
     let stands = so_far.stands o.state stood in
     let kept = c.in_ok-more.ensures.keeps t below o stands (so_far.last (beginning g.s script o) ends) before in
-    left_of_kept g.s script o (g.D.Disk.left_since c.keep_next.new.disk) c.keep_next.new.kept.history.items c.keep_next.new.kept.marks.items stamps low
-    (inl (uncut g.s script o.state c.keep_next.new.run c.keep_next.new.kept.history.items (c.in_ok-more.ensures.stands o.state stands)).untried) kept.each (λ t c from here. inl (kept.fronts t c from here))
+    let now = c.in_ok-more.ensures.stands o.state stands in
+    left_of_kept g.s script o (g.D.Disk.left_since c.keep_next.new.disk) c.keep_next.new.kept.history.items c.keep_next.new.kept.marks.items stamps now.reaches.below
+    (inl (uncut g.s script o.state c.keep_next.new.run c.keep_next.new.kept.history.items now).untried) kept.each (λ t c from here. inl (kept.fronts t c from here))
 
 pub returns-in_err-more-clause-moments : goal.returns-in_err-more-clause-moments
-returns-in_err-more-clause-moments g c t below o stood ends was stamps low =
+returns-in_err-more-clause-moments g c t below o stood ends was stamps =
     let so_far = c.loop-more.invariant in
     let script = tables_of c.args.script.now in
     let next = c.keep_next.ensures in
     let before = so_far.kept t (omega (arith, below, next.time t)) o stood ends was in
     let stands = so_far.stands o.state stood in
     let stop = c.in_err-more.ensures in
-    left_of_kept g.s script o (g.D.Disk.left_since c.keep_next.new.disk) c.keep_next.new.kept.history.items c.keep_next.new.kept.marks.items stamps low
+    left_of_kept g.s script o (g.D.Disk.left_since c.keep_next.new.disk) c.keep_next.new.kept.history.items c.keep_next.new.kept.marks.items stamps (stop.below o.state stands)
     (kept_run_of g.s script o.state _ c.keep_next.new.kept.history.items c.in_err-more.field-0.0 (stop.cut o.state stands)) (stop.each before.each) (stop.left t o stands (so_far.last (beginning g.s script o) ends) before)
 
 pub returns-in_err-more-clause-cut : goal.returns-in_err-more-clause-cut
@@ -126,17 +129,34 @@ returns-in_err-more-clause-blocks g c n is =
     (omega (arith, found.0, c.loop-more.invariant.blocks), found.1 ∙ c.loop-more.invariant.blocks, found.2)
 
 pub returns-then-not-more-clause-marks : goal.returns-then-not-more-clause-marks
-returns-then-not-more-clause-marks g c none no_marks few w stood stamps low =
+returns-then-not-more-clause-marks g c none no_marks few w stood stamps =
     let so_far = c.loop-more.invariant in
     let script = tables_of c.args.script.now in
     let stands = so_far.stands w (subst (Stands g.s script w c.args.run.now) (sym none) stood) in
-    marks_of g.s script w stamps c.keep_next.new.kept low (inl (uncut g.s script w c.keep_next.new.run c.keep_next.new.kept.history.items (c.in_ok-more.ensures.stands w stands)).untried)
+    let now = c.in_ok-more.ensures.stands w stands in
+    marks_of g.s script w stamps c.keep_next.new.kept now.reaches.below (inl (uncut g.s script w c.keep_next.new.run c.keep_next.new.kept.history.items now).untried)
     (c.keep_next.ensures.marked (so_far.marked (marked_start c.args.kept.now none no_marks few)))
 
 pub returns-in_err-more-clause-marks : goal.returns-in_err-more-clause-marks
-returns-in_err-more-clause-marks g c none no_marks few w stood stamps low =
+returns-in_err-more-clause-marks g c none no_marks few w stood stamps =
     let so_far = c.loop-more.invariant in
     let script = tables_of c.args.script.now in
     let stands = so_far.stands w (subst (Stands g.s script w c.args.run.now) (sym none) stood) in
-    marks_of g.s script w stamps c.keep_next.new.kept low (kept_run_of g.s script w _ c.keep_next.new.kept.history.items c.in_err-more.field-0.0 (c.in_err-more.ensures.cut w stands))
+    marks_of g.s script w stamps c.keep_next.new.kept (c.in_err-more.ensures.below w stands) (kept_run_of g.s script w _ c.keep_next.new.kept.history.items c.in_err-more.field-0.0 (c.in_err-more.ensures.cut w stands))
     (c.keep_next.ensures.marked (so_far.marked (marked_start c.args.kept.now none no_marks few)))
+
+pub returns-then-not-more-clause-fits : goal.returns-then-not-more-clause-fits
+returns-then-not-more-clause-fits g c =
+    let so_far = c.loop-more.invariant in
+    fits_on (length c.args.kept.now.marks.items) (length c.loop-more.kept.marks.items) (length c.keep_next.new.kept.marks.items) _ _ so_far.fits c.keep_next.ensures.fits so_far.blocks
+
+pub returns-in_err-more-clause-fits : goal.returns-in_err-more-clause-fits
+returns-in_err-more-clause-fits g c =
+    let so_far = c.loop-more.invariant in
+    fits_on (length c.args.kept.now.marks.items) (length c.loop-more.kept.marks.items) (length c.keep_next.new.kept.marks.items) _ _ so_far.fits c.keep_next.ensures.fits so_far.blocks
+
+pub returns-then-not-more-clause-time : goal.returns-then-not-more-clause-time
+returns-then-not-more-clause-time g c t = omega (arith, c.loop-more.invariant.time t, c.keep_next.ensures.time t)
+
+pub returns-in_err-more-clause-time : goal.returns-in_err-more-clause-time
+returns-in_err-more-clause-time g c t = omega (arith, c.loop-more.invariant.time t, c.keep_next.ensures.time t)

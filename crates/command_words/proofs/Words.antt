@@ -1,0 +1,69 @@
+-- Words, their bytes, and which are no command.
+use Rattle.std.proofs.Common.{◌≡◌, ◌∙◌, ℕ, List, [], ◌∷◌, length, map, Option, Some, None, IfSome, IfNone, sym, ap, ap₂, refl, true, false, true≢false, is_some, unwrap_or, String, string_bytes, codes, slice_index, ne_eqb, arith}
+use Rattle.std.specs.Prelude.{◌==◌, ◌&&◌, ◌||◌, slice_get, bytes_eq}
+use Rattle.std.specs.List.{list_any}
+use Rattle.std.specs.Borrow.{Bor}
+use Rattle.std.specs.Option.{option_map}
+use Rattle.std.specs.Str.Parse.{AllDigits, IsNumeral}
+use Rattle.std.proofs.lemmas.Bool.{false≢true}
+use Rattle.std.proofs.lemmas.Str.Parse.{digit_from_value}
+use Rattle.command_words.specs.Commands.{IsCommand}
+use Rattle.command_words.specs.Forms as form
+use Rattle.command_words.specs.declared.Command.{Command}
+use Rattle.command_words.specs.declared.Command.TheVariants.{Format, Run, Show}
+
+-- what a getter gave, by its bytes
+pub value_given : (r : Option (Bor (List ℕ))) (name v : List ℕ) (words : List (List ℕ)) → option_map (λ s. s.now) r ≡ Some v → words ≡ name ∷ v ∷ []
+    → IfSome r (λ value. (x : List ℕ) × (words ≡ x ∷ value.now ∷ []))
+value_given None name v words e is = tt
+value_given (Some s) name v words e is = (name, is ∙ ap (λ t. name ∷ t ∷ []) (sym (ap (λ o. unwrap_or o v) e)))
+
+pub is_given : (P : Type 0) (r : Option (Bor (List ℕ))) (v : List ℕ) → option_map (λ s. s.now) r ≡ Some v → IfNone r P
+is_given P None v e = absurd (false≢true (ap is_some e))
+is_given P (Some s) v e = tt
+
+-- ---- digits are no refused word
+
+no_equals : (digits : List ℕ) → AllDigits 10 digits → list_any (λ b. b == 61) digits ≡ false
+no_equals [] h = refl
+no_equals (d ∷ ds) h =
+    let digit = digit_from_value d h.0 in
+    ap₂ (λ a b. a || b) (ne_eqb d 61 (λ e. omega (arith, digit.1, e))) (no_equals ds h.1)
+
+first_digit : (digits : List ℕ) → IsNumeral 10 digits → slice_index digits 0 ≡ 45 → ⊥
+first_digit [] h e = absurd (omega (arith, h.0))
+first_digit (d ∷ ds) h e = let digit = digit_from_value d h.1.0 in omega (arith, digit.0, e)
+
+not_dashes : (digits : List ℕ) → (slice_index digits 0 ≡ 45 → ⊥) → bytes_eq digits (codes "--") ≡ false
+not_dashes [] h = refl
+not_dashes (d ∷ ds) h = ap (λ b. b && bytes_eq ds (45 ∷ [])) (ne_eqb d 45 h)
+
+digits_stand : (digits : List ℕ) → IsNumeral 10 digits → form.is_refused digits ≡ false
+digits_stand digits h =
+    ap₂ (λ a b. a || b) (ap₂ (λ a b. a || b) (ne_eqb (length digits) 0 (λ e. omega (arith, h.0, e))) (not_dashes digits (first_digit digits h))) (no_equals digits h.1)
+
+-- a command has no refused word
+pub commands_stand : (words : List (List ℕ)) (command : Command) → IsCommand words command → list_any form.is_refused words ≡ false
+commands_stand words (Format blocks) (digits, is, number, size) = ap (list_any form.is_refused) is ∙ ap (λ b. b || false) (digits_stand digits number.0)
+commands_stand words Run is = ap (list_any form.is_refused) is
+commands_stand words Show is = ap (list_any form.is_refused) is
+
+pub no_command : (words : List (List ℕ)) → list_any form.is_refused words ≡ true → (command : Command) → IsCommand words command → ⊥
+no_command words e command is = true≢false (sym e ∙ commands_stand words command is)
+
+-- words that begin otherwise than with `format`
+other_word : (words : List (List ℕ)) (first : List ℕ) (others : List (List ℕ)) → first ≡ codes "format" → slice_get words 0 ≡ Some first → words ≡ others
+    → (length (unwrap_or (slice_get others 0) []) ≡ 6 → ⊥) → ⊥
+other_word words first others named at is longer =
+    longer (ap (λ ws. length (unwrap_or (slice_get ws 0) [])) (sym is) ∙ ap (λ o. length (unwrap_or o [])) at ∙ ap length named)
+
+-- with no value, or one that begins with a hyphen, `format` is no command
+pub no_format : (words : List (List ℕ)) (first : List ℕ) → first ≡ codes "format" → slice_get words 0 ≡ Some first
+    → ((name v : List ℕ) → words ≡ name ∷ v ∷ [] → slice_index v 0 ≡ 45) → (command : Command) → IsCommand words command → ⊥
+no_format words first named at hyphen (Format blocks) (digits, is, number, size) = first_digit digits number.0 (hyphen (codes "format") digits is)
+no_format words first named at hyphen Run is = other_word words first (codes "run" ∷ []) named at is (λ e. let bad : 3 ≡ 6 = e in omega (arith, bad))
+no_format words first named at hyphen Show is = other_word words first (codes "show" ∷ []) named at is (λ e. let bad : 4 ≡ 6 = e in omega (arith, bad))
+
+pub string_front : {Z : Type 0} (words : List (String Z)) (first : String Z) → slice_get words 0 ≡ Some first → slice_get (map string_bytes words) 0 ≡ Some (string_bytes first)
+string_front [] first e = absurd (false≢true (ap is_some e))
+string_front (w ∷ ws) first e = ap (option_map string_bytes) e

@@ -1,0 +1,33 @@
+use Rattle.std.proofs.Common.{rules, ◌≡◌, ◌∙◌, sym, string_bytes, true, false, codes, Some}
+use Rattle.std.specs.Prelude.{slice_get}
+use Rattle.std.specs.List.{list_any}
+use Rattle.clap.proofs.WalkLemmas.{list_any-map}
+use Rattle.command_words.specs.Forms as form
+use Rattle.command_words.proofs.Words.{no_command, no_format, string_front}
+use Rattle.command_words.proofs.read_command.Goals as goal
+
+pub returns-then-any_is_refused-clause-none : goal.returns-then-any_is_refused-clause-none
+returns-then-any_is_refused-clause-none c =
+    let refused : list_any (λ word. form.is_refused (string_bytes word)) c.args.words.now ≡ true = search rules in
+    no_command _ (sym (list_any-map form.is_refused string_bytes c.args.words.now) ∙ refused)
+
+pub one_value-requires : goal.one_value-requires
+one_value-requires c =
+    let stand : list_any (λ word. form.is_refused (string_bytes word)) c.args.words.now ≡ false = search rules in
+    sym (list_any-map form.is_refused string_bytes c.args.words.now) ∙ stand
+
+pub has_no_value-requires : goal.has_no_value-requires
+has_no_value-requires c =
+    let stand : list_any (λ word. form.is_refused (string_bytes word)) c.args.words.now ≡ false = search rules in
+    sym (list_any-map form.is_refused string_bytes c.args.words.now) ∙ stand
+
+pub has_no_value-requires-in-show : goal.has_no_value-requires-in-show
+has_no_value-requires-in-show c =
+    let stand : list_any (λ word. form.is_refused (string_bytes word)) c.args.words.now ≡ false = search rules in
+    sym (list_any-map form.is_refused string_bytes c.args.words.now) ∙ stand
+
+pub returns-in-None-clause-none : goal.returns-in-None-clause-none
+returns-in-None-clause-none c =
+    let front : slice_get c.args.words.now 0 ≡ Some c.in-Some.first.now = search rules in
+    let named : string_bytes c.in-Some.first.now ≡ codes "format" = search rules in
+    no_format _ _ named (string_front c.args.words.now c.in-Some.first.now front) (search rules)

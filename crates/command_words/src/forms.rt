@@ -1,0 +1,73 @@
+//! The forms of commands, as `clap` reads them.
+ghost use Rattle.std.specs.Prelude.{◌≡◌, ◌≢◌, ◌≤◌, ◌↔◌, ℕ, List, [], ◌∷◌, IfErr, IfNone, IfOk, IfSome, IsErrAnd, IsTrue, MatchOption, false, length, map, slice_index, string_bytes};
+ghost use Rattle.std.specs.List.{list_any};
+ghost use Rattle.clap.specs.Words.{kind_of};
+ghost use Rattle.command_words.specs.Forms as form;
+
+use clap::error::ErrorKind;
+use clap::{Arg, ArgMatches, Error};
+use std::alloc::{AllocError, Global};
+
+/// No command has such a word, and `clap` may read more in it than a value.
+fn is_refused(word: &String) -> bool
+    ensures { result ≡ form.is_refused (string_bytes word.now) }
+{
+    word.is_empty() || word.as_str() == "--" || word.as_str().as_bytes().contains(&b'=')
+}
+
+/// Some word is one that no command has.
+pub(crate) fn any_is_refused(words: &[String]) -> bool
+    ensures { result ≡ list_any (λ word. form.is_refused (string_bytes word)) words.now }
+{
+    words.iter().any(|word| is_refused(word))
+}
+
+/// None where the words are not of the form that `clap` was given.
+fn if_of_form<'a>(
+    parsed: Result<ArgMatches<'a>, Error>,
+) -> Result<Option<ArgMatches<'a>>, AllocError>
+    ensures ok { IfOk result (λ r. MatchOption r (IsErrAnd parsed.entry (λ e. kind_of e ≢ ErrorKind.OutOfMemory)) (λ matches. parsed.entry ≡ Ok matches)) }
+    ensures memory { IfErr result (λ _. IsErrAnd parsed.entry (λ e. kind_of e ≡ ErrorKind.OutOfMemory)) }
+{
+    match parsed {
+        Ok(matches) => Ok(Some(matches)),
+        Err(error) => match error.kind() {
+            ErrorKind::OutOfMemory => Err(AllocError),
+            _ => Ok(None),
+        },
+    }
+}
+
+/// Whether no word stands behind the name of the command.
+pub(crate) fn has_no_value<'a>(
+    alloc: Global,
+    name: &'a str,
+    words: &'a [String],
+) -> Result<bool, AllocError>
+    requires { list_any form.is_refused (map string_bytes words.now) ≡ false }
+    ensures { IfOk result (λ b. IsTrue b ↔ length words.entry.now ≤ 1) }
+{
+    let command = clap::Command::new(alloc, name).disable_help_flag(true);
+    let matches = if_of_form(command.try_get_matches_from(words))?;
+    Ok(matches.is_some())
+}
+
+/// The one word behind the command's name. A word that begins with a hyphen is no value.
+pub(crate) fn one_value<'a>(
+    alloc: Global,
+    words: &'a [String],
+) -> Result<Option<&'a str>, AllocError>
+    requires { list_any form.is_refused (map string_bytes words.now) ≡ false }
+    ensures some { IfOk result (λ r. IfSome r (λ value. (name : List ℕ) × (map string_bytes words.entry.now ≡ name ∷ value.now ∷ []))) }
+    ensures none { IfOk result (λ r. IfNone r ((name value : List ℕ) → map string_bytes words.entry.now ≡ name ∷ value ∷ [] → slice_index value 0 ≡ 45)) }
+{
+    let value = Arg::new(alloc, "blocks").required(true);
+    let command = clap::Command::new(alloc, "format")
+        .disable_help_flag(true)
+        .arg(value)?;
+    let matches = if_of_form(command.try_get_matches_from(words))?;
+    match matches {
+        Some(found) => Ok(found.get_str("blocks")),
+        None => Ok(None),
+    }
+}

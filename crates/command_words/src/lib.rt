@@ -1,0 +1,46 @@
+//! The words of a command, read.
+#![tactic(auto)]
+
+ghost use Rattle.std.specs.Prelude.{IfNone, IfOk, IfSome, map, string_bytes};
+ghost use Rattle.command_words.specs.Commands.{IsCommand};
+
+mod forms;
+mod sizes;
+#[cfg(test)]
+mod tests;
+
+use std::alloc::{AllocError, Global};
+
+/// What a command asks for.
+#[derive(Clone, Copy, Debug, PartialEq, Eq)]
+pub enum Command {
+    /// An empty image of so many blocks.
+    Format(u32),
+    /// A run of the script that the source holds.
+    Run,
+    /// What the image means.
+    Show,
+}
+
+/// The command that the words stand for, None where they are of no known form. The words are the
+/// arguments of a program, without its own name.
+pub fn read_command(alloc: Global, words: &[String]) -> Result<Option<Command>, AllocError>
+    ensures some { IfOk result (λ r. IfSome r (λ command. IsCommand (map string_bytes words.now) command)) }
+    ensures none { IfOk result (λ r. IfNone r ((command : Command) → IsCommand (map string_bytes words.now) command → ⊥)) }
+{
+    if forms::any_is_refused(words) {
+        return Ok(None);
+    }
+    let Some(first) = words.first() else {
+        return Ok(None);
+    };
+    match first.as_str() {
+        "format" => match forms::one_value(alloc, words)? {
+            Some(size) => Ok(sizes::read_size(size).map(Command::Format)),
+            None => Ok(None),
+        },
+        "run" => Ok(forms::has_no_value(alloc, "run", words)?.then_some(Command::Run)),
+        "show" => Ok(forms::has_no_value(alloc, "show", words)?.then_some(Command::Show)),
+        _ => Ok(None),
+    }
+}

@@ -1,6 +1,0 @@
-use Rattle.manager_gate.specs.Managers.{counted_word}
-use Rattle.hopper_top.proofs.run_tests.run.Given as goal
-
--- words that count up from the tag
-abbrev pub ghost-hopper : goal.ghost-hopper
-ghost-hopper a = λ tag page place. counted_word tag page place

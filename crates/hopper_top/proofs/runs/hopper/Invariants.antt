@@ -1,4 +1,0 @@
-use Rattle.hopper_top.proofs.runs.hopper.Given as goal
-
-abbrev pub ghost-run_script : goal.ghost-run_script
-ghost-run_script g a = g.s

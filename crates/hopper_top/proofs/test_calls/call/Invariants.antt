@@ -1,0 +1,6 @@
+use Rattle.manager_gate.specs.Managers.{counted_word}
+use Rattle.hopper_top.proofs.test_calls.call.Given as goal
+
+-- words that count up from the tag
+abbrev pub ghost-hopper : goal.ghost-hopper
+ghost-hopper a = λ tag page place. counted_word tag page place

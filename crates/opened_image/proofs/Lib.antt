@@ -1,0 +1,5 @@
+mod Beginnings
+pub mod Chains
+mod Reaching
+mod Stamping
+mod Wholes

@@ -1,0 +1,159 @@
+//! What is shown of a container.
+ghost use Rattle.std.specs.Prelude.{◌≡◌, ◌<◌, ◌≤◌, ◌^◌, ◌*◌, ℕ, OnErr};
+ghost use Rattle.std.specs.List.{flat_map};
+ghost use Rattle.hop_base.specs.Edges.{upto};
+ghost use Rattle.stream_edge.specs.Counts.{Rose};
+ghost use Rattle.stream_edge.specs.Streams.{Puts};
+ghost use Rattle.hop_model.specs.State.{Supply};
+ghost use Rattle.history_model.specs.Plains.{atlas_of, container_of};
+ghost use Rattle.plain_show.specs.Show.{changed_word, container_line, container_lines, region_line, word_line, word_line_by};
+
+use crate::lines::{put_caps, put_named, put_number, put_optional, put_region};
+use history_model::{PlainAtlas, PlainContainer};
+use hop_base::{Entity, Region};
+use stream_edge::{Sink, SinkFault};
+
+/// Words in a page.
+const PAGE: u64 = 128;
+
+/// Puts the first line of a container.
+fn put_head<W: Sink>(
+    sink: &mut W,
+    atlas: &PlainAtlas,
+    entity: Entity,
+    c: &PlainContainer,
+) -> Result<(), SinkFault>
+    ensures bytes { (s : Supply) → Puts (W.held sink.old) (W.held sink.new) result (container_line (atlas_of atlas.now) entity (container_of s c.now)) }
+    ensures count { W.faults sink.old ≤ W.faults sink.new }
+    ensures cause { OnErr result (Rose (W.faults sink.old) (W.faults sink.new)) }
+{
+    put_named(sink, atlas, "container", entity)?;
+    put_number(sink, c.pages as u64)?;
+    put_number(sink, c.tag)?;
+    put_number(sink, c.every as u64)?;
+    put_optional(sink, c.entry)?;
+    sink.put(b"\n")
+}
+
+/// Puts the line of a region.
+#[tactic(auto, using(stream_edge::proofs::Streams::puts))]
+fn put_region_line<W: Sink>(
+    sink: &mut W,
+    atlas: &PlainAtlas,
+    entity: Entity,
+    region: &Region,
+) -> Result<(), SinkFault>
+    ensures bytes { Puts (W.held sink.old) (W.held sink.new) result (region_line (atlas_of atlas.now) entity region.now) }
+    ensures count { W.faults sink.old ≤ W.faults sink.new }
+    ensures cause { OnErr result (Rose (W.faults sink.old) (W.faults sink.new)) }
+{
+    put_named(sink, atlas, "region", entity)?;
+    put_region(sink, atlas, region)
+}
+
+/// Puts a line for each region.
+#[tactic(auto, using(stream_edge::proofs::Streams::puts))]
+fn put_regions<W: Sink>(
+    sink: &mut W,
+    atlas: &PlainAtlas,
+    entity: Entity,
+    c: &PlainContainer,
+) -> Result<(), SinkFault>
+    ensures bytes { Puts (W.held sink.old) (W.held sink.new) result (flat_map (region_line (atlas_of atlas.now) entity) c.now.regions.items) }
+    ensures count { W.faults sink.old ≤ W.faults sink.new }
+    ensures cause { OnErr result (Rose (W.faults sink.old) (W.faults sink.new)) }
+{
+    for region in &c.regions {
+        put_region_line(sink, atlas, entity, region)?;
+    }
+    Ok(())
+}
+
+/// The word that was stored at an address, if it differs from the supplier's.
+fn changed_word<S: Fn(u64, u32, u16) -> u64>(
+    c: &PlainContainer,
+    supply: &S,
+    address: u64,
+) -> Option<u64>
+    ghost s: { Supply }
+    requires callable { (t p a : ℕ) → t < 2 ^ 64 → p < 256 → a < 128 → S.pre supply.now t p a }
+    requires answers { (t p a r : ℕ) → t < 2 ^ 64 → p < 256 → a < 128 → S.post supply.now t p a r → r ≡ s t p a }
+    requires address { address < 128 * 256 }
+    ensures { result ≡ changed_word s (container_of s c.now) address }
+{
+    let word = *c.words.get(&address)?;
+    let supplied = supply(c.tag, (address / PAGE) as u32, (address % PAGE) as u16);
+    if word == supplied { None } else { Some(word) }
+}
+
+/// Puts the line of a word, if it differs from the supplier's.
+fn put_word_line<W: Sink>(
+    sink: &mut W,
+    atlas: &PlainAtlas,
+    entity: Entity,
+    address: u64,
+    word: Option<u64>,
+) -> Result<(), SinkFault>
+    ensures bytes { Puts (W.held sink.old) (W.held sink.new) result (word_line_by (atlas_of atlas.now) entity address word) }
+    ensures count { W.faults sink.old ≤ W.faults sink.new }
+    ensures cause { OnErr result (Rose (W.faults sink.old) (W.faults sink.new)) }
+{
+    let Some(word) = word else {
+        return Ok(());
+    };
+    put_named(sink, atlas, "word", entity)?;
+    put_number(sink, address)?;
+    put_number(sink, word)?;
+    sink.put(b"\n")
+}
+
+/// Puts a line for each word that differs from the supplier's.
+#[tactic(auto, using(crate::proofs::Puts::pieces))]
+fn put_words<W: Sink, S: Fn(u64, u32, u16) -> u64>(
+    sink: &mut W,
+    atlas: &PlainAtlas,
+    entity: Entity,
+    c: &PlainContainer,
+    supply: &S,
+) -> Result<(), SinkFault>
+    ghost s: { Supply }
+    requires callable { (t p a : ℕ) → t < 2 ^ 64 → p < 256 → a < 128 → S.pre supply.now t p a }
+    requires answers { (t p a r : ℕ) → t < 2 ^ 64 → p < 256 → a < 128 → S.post supply.now t p a r → r ≡ s t p a }
+    requires size { c.now.pages ≤ 256 }
+    ensures bytes { Puts (W.held sink.old) (W.held sink.new) result (flat_map (word_line s (atlas_of atlas.now) entity (container_of s c.now)) (upto (128 * c.now.pages))) }
+    ensures count { W.faults sink.old ≤ W.faults sink.new }
+    ensures cause { OnErr result (Rose (W.faults sink.old) (W.faults sink.new)) }
+{
+    for address in 0..PAGE * c.pages as u64 {
+        put_word_line(
+            sink,
+            atlas,
+            entity,
+            address,
+            changed_word(c, supply, address),
+        )?;
+    }
+    Ok(())
+}
+
+/// Puts the lines of a container.
+pub fn put_container<W: Sink, S: Fn(u64, u32, u16) -> u64>(
+    sink: &mut W,
+    atlas: &PlainAtlas,
+    entity: Entity,
+    c: &PlainContainer,
+    supply: &S,
+) -> Result<(), SinkFault>
+    ghost s: { Supply }
+    requires callable { (t p a : ℕ) → t < 2 ^ 64 → p < 256 → a < 128 → S.pre supply.now t p a }
+    requires answers { (t p a r : ℕ) → t < 2 ^ 64 → p < 256 → a < 128 → S.post supply.now t p a r → r ≡ s t p a }
+    requires size { c.now.pages ≤ 256 }
+    ensures bytes { Puts (W.held sink.old) (W.held sink.new) result (container_lines s (atlas_of atlas.now) entity (container_of s c.now)) }
+    ensures count { W.faults sink.old ≤ W.faults sink.new }
+    ensures cause { OnErr result (Rose (W.faults sink.old) (W.faults sink.new)) }
+{
+    put_head(sink, atlas, entity, c)?;
+    put_regions(sink, atlas, entity, c)?;
+    put_caps(sink, atlas, entity, &c.caps)?;
+    put_words(sink, atlas, entity, c, supply)
+}
