@@ -5,12 +5,12 @@ ghost use Rattle.hop_base.specs.Instructions.{IsInstruction, IsAccess, IsPlace};
 ghost use Rattle.hop_model.specs.Scripts.{container_named as container_number, locus_named as locus_number};
 ghost use Rattle.hop_model.specs.Soundness.{IsSoundCode};
 ghost use Rattle.hop_model.specs.State.{AtlasState, Text};
-ghost use Rattle.script_read.specs.Rules.{IsScript};
-ghost use Rattle.script_read.specs.Scripts.{tables_of};
+ghost use Rattle.script_form.specs.Rules.{IsScript};
+ghost use Rattle.script_form.specs.Scripts.{tables_of};
 ghost use Rattle.history_model.specs.Born.{AreOfOneKind, KnowsNames};
 
 use hop_base::{Instr, Rights};
-use script_read::{Script, ScriptCap, ScriptContainer, ScriptLocus};
+use script_form::{Script, ScriptCap, ScriptContainer, ScriptLocus};
 use std::alloc::{AllocError, Global};
 
 /// Numbers that look random, the same each time.

@@ -1,3 +1,3 @@
 pub mod Paths
+pub mod Naming
 pub mod Digits
-pub mod Circles

@@ -1,5 +1,5 @@
 -- The directory of names, and the counts of the edges between containers.
-use Rattle.std.specs.Prelude.{◌≢◌, ℕ, ◌+◌, ◌-◌, ◌<◌, ◌≤◌, Bool, ◌&&◌, ◌||◌, ◌==◌, IsTrue, slice_index, nat_lt, if◌then◌else◌, List, [], ◌∷◌, ◌++◌, length, Option, Some, None, is_some, slice_get, slice_set, slice_index_or, codes}
+use Rattle.std.specs.Prelude.{◌≡◌, ◌≢◌, ◌⊎◌, ℕ, ◌+◌, ◌-◌, ◌<◌, ◌≤◌, Bool, ◌&&◌, ◌||◌, ◌==◌, IsTrue, slice_index, nat_lt, if◌then◌else◌, List, [], ◌∷◌, ◌++◌, length, Option, Some, None, is_some, IfSome, slice_get, slice_set, slice_index_or, codes}
 use Rattle.std.specs.List.{list_all}
 use Rattle.std.specs.Fmt.{decimal}
 use Rattle.std.specs.Str.{bytes_eq}
@@ -46,6 +46,12 @@ or_else (Some n) other = Some n
 abbrev pub entity_named : Directory → List ℕ → Option ℕ
 entity_named a name = if bytes_eq name (codes "atlas") then Some 0 else or_else (number_from 1 name a.containers) (number_from 41 name a.loci)
 
+-- how many entities of a kind are born
+abbrev pub number_born : Directory → Kind → ℕ
+number_born a kinds.Atlas = 1
+number_born a kinds.Container = length a.containers
+number_born a kinds.Locus = length a.loci
+
 -- the lowest free number of a kind
 abbrev pub free_number : Directory → Kind → Option ℕ
 free_number a kinds.Atlas = None
@@ -76,3 +82,14 @@ is_name_byte c = is_letter c || (nat_lt 47 c && nat_lt c 58) || c == 95 || c == 
 
 abbrev pub IsName : List ℕ → Type 0
 IsName name = (1 ≤ length name) × (length name ≤ 24) × IsTrue (is_letter (slice_index name 0)) × IsTrue (list_all is_name_byte name) × (name ≢ codes "atlas")
+
+-- the name is one that may be given, or the made one of this number
+abbrev pub IsNameOf : ℕ → List ℕ → Type 0
+IsNameOf n name = IsName name ⊎ (name ≡ made_name n)
+
+-- at most 40 containers and 23 loci; each name is a given one or the made one of its number, and leads back to its number, so that no two are the same
+pub record IsDirectory (a : Directory) : Type 0 where
+  pub few_containers : length a.containers ≤ 40
+  pub few_loci : length a.loci ≤ 23
+  pub formed : (n : ℕ) → 0 < n → IfSome (name_of a n) (IsNameOf n)
+  pub found : (n : ℕ) → IfSome (name_of a n) (λ name. entity_named a name ≡ Some n)

@@ -1,6 +1,7 @@
 -- Counted edges in rows, and which containers are reached over them.
 use Rattle.std.specs.Prelude.{◌&&◌, ◌==◌, if◌then◌else◌, ◌≡◌, ◌↔◌, IsTrue, ℕ, ◌<◌, ◌≤◌, Bool, true, false, List, [], slice_index, slice_index_or}
 use Rattle.hop_base.specs.Edges.{Edges, ClosesCircle, leads}
+use Rattle.circle_law.specs.Containers.{IsAmongContainers}
 
 -- the count at a row and a column, 0 where there is none
 abbrev pub edges_in : List (List ℕ) → Edges
@@ -16,10 +17,6 @@ is_marked marks n = slice_index_or marks n false
 -- no edge leads from a marked number to one that isn't
 abbrev pub IsClosed : List (List ℕ) → List Bool → Type 0
 IsClosed rows marks = (x y : ℕ) → is_marked marks x ≡ true → 0 < edges_in rows x y → is_marked marks y ≡ true
-
--- edges lead from containers to containers alone
-abbrev pub IsAmongContainers : Edges → Type 0
-IsAmongContainers edges = (x y : ℕ) → 0 < edges x y → (1 ≤ x) × (x < 41) × (1 ≤ y) × (y < 41)
 
 -- a search of at least 40 steps from d to c tells whether an edge from c to d would close a circle
 abbrev pub FindsCircles : Type 0

@@ -2,20 +2,22 @@
 //! containers that show regions of each other.
 #![tactic(auto)]
 
-ghost use Rattle.std.specs.Prelude.{◌≡◌, ◌≢◌, ◌+◌, ◌-◌, ◌<◌, [], replicate, Ok, Err, MatchOption, IfErr, OnOk, OnErr, IsTrue, None, codes};
+ghost use Rattle.std.specs.Prelude.{◌≡◌, ◌≢◌, ◌+◌, ◌-◌, ◌<◌, ◌≤◌, [], length, replicate, Ok, Err, MatchOption, IfErr, OnOk, OnErr, IsTrue, None, codes};
 ghost use Rattle.std.specs.Bool.{OnTrue, OnFalse};
 ghost use Rattle.std.specs.Option.{ForSome};
 ghost use Rattle.std.specs.Option.{option_map};
 ghost use Rattle.hop_base.specs.Edges.{ClosesCircle};
-ghost use Rattle.atlas_dir.specs.Reached.{IsAmongContainers, FindsCircles, with_edge};
-ghost use Rattle.atlas_dir.specs.Directory.{edges_of, with_count, name_of, is_born, entity_named, free_number, given_or_made, with_entity, IsName, IsBornContainer};
+ghost use Rattle.circle_law.specs.Containers.{IsAmongContainers};
+ghost use Rattle.atlas_dir.specs.Reached.{FindsCircles, with_edge};
+ghost use Rattle.atlas_dir.specs.Directory.{edges_of, with_count, name_of, is_born, entity_named, number_born, free_number, given_or_made, with_entity, IsName, IsDirectory, IsBornContainer};
 
 mod names;
 mod reached;
 
 use arrayvec::{ArrayString, ArrayVec};
 use hop_base::{Entity, Kind, Reply};
-use names::{Name, number_of};
+pub use names::is_name;
+use names::{Name, name_at, number_of};
 use reached::{SIDE, leads};
 use std::marker::Model;
 
@@ -39,18 +41,15 @@ impl Model for Atlas {
 
     ghost Value = { Directory };
 
-    ghost use Rattle.atlas_dir.specs.Reached.{edges_in, IsAmongContainers};
+    ghost use Rattle.circle_law.specs.Containers.{IsAmongContainers};
+    ghost use Rattle.atlas_dir.specs.Reached.{edges_in};
 
     ghost view = { λ a. record { containers = a.containers.items; loci = a.loci.items; edges = a.edges } };
 
-    ghost invariant = { λ a. IsAmongContainers (edges_in a.edges) };
-}
+    ghost use Rattle.atlas_dir.specs.Directory.{IsDirectory};
 
-fn entity(number: u8) -> Entity
-    requires { number < 64 }
-    ensures { result ≡ number }
-{
-    Entity::new(number).unwrap()
+    ghost invariant = { λ a. IsAmongContainers (edges_in a.edges)
+        × IsDirectory (record { containers = a.containers.items; loci = a.loci.items; edges = a.edges }) };
 }
 
 fn atlas_name() -> ArrayString<24>
@@ -97,19 +96,30 @@ impl Atlas {
         ensures refused { OnErr result (self.new ≡ self.old) }
         ensures inside { IsAmongContainers (edges_of self.new) }
     {
-        let c = c.number() as usize;
-        let d = d.number() as usize;
-        if leads(&self.edges, d, c) {
+        if self.closes_circle(c, d) {
             return Err(Reply::Circle);
         }
-        let row = &mut self.edges[c];
-        row[d] += 1;
+        self.set_count(c, d, self.count(c, d) + 1);
         Ok(())
+    }
+
+    /// Sets how many regions of `d` the container `c` shows, also where that closes a circle, or one of them isn't
+    /// born.
+    pub fn set_count(&mut self, c: Entity, d: Entity, n: u8)
+        requires c_container { (1 ≤ c) × (c ≤ CONTAINERS) }
+        requires d_container { (1 ≤ d) × (d ≤ CONTAINERS) }
+        ensures count { self.new ≡ with_count self.old c d n }
+        ensures edge { edges_of self.new ≡ with_edge (edges_of self.old) c d n }
+        ensures inside { IsAmongContainers (edges_of self.new) }
+    {
+        let row = &mut self.edges[c.number() as usize];
+        row[d.number() as usize] = n;
     }
 
     /// How many regions of `d` the container `c` shows.
     pub fn count(&self, c: Entity, d: Entity) -> u8
-        ensures { result ≡ edges_of self.now c d }
+        ensures count { result ≡ edges_of self.now c d }
+        ensures inside { IsAmongContainers (edges_of self.now) }
     {
         let c = c.number() as usize;
         let d = d.number() as usize;
@@ -127,8 +137,7 @@ impl Atlas {
         ensures edge { edges_of self.new ≡ with_edge (edges_of self.old) c d (edges_of self.old c d - 1) }
         ensures inside { IsAmongContainers (edges_of self.new) }
     {
-        let row = &mut self.edges[c.number() as usize];
-        row[d.number() as usize] -= 1;
+        self.set_count(c, d, self.count(c, d) - 1);
     }
 
     /// Gives birth to an entity of the kind under its lowest free number. Without a name it has the made name.
@@ -155,7 +164,7 @@ impl Atlas {
             Kind::Locus => self.loci.push(name),
             _ => self.containers.push(name),
         }
-        Ok(entity(free))
+        Ok(Entity::of(free))
     }
 
     /// The entity with this name, which for `atlas` is the atlas.
@@ -166,10 +175,10 @@ impl Atlas {
             return Some(Entity::ATLAS);
         }
         if let Some(number) = number_of(name, 1, self.containers.as_slice()) {
-            return Some(entity(number));
+            return Some(Entity::of(number));
         }
         match number_of(name, 41, self.loci.as_slice()) {
-            Some(number) => Some(entity(number)),
+            Some(number) => Some(Entity::of(number)),
             None => None,
         }
     }
@@ -182,14 +191,23 @@ impl Atlas {
         if number == 0 {
             return Some(atlas_name());
         }
-        let name = if number <= CONTAINERS {
-            self.containers.as_slice().get(number - 1)
-        } else {
-            self.loci.as_slice().get(number - 41)
-        };
-        match name {
-            Some(name) => Some(name.text()),
-            None => None,
+        name_at(number, self.containers.as_slice(), self.loci.as_slice())
+    }
+
+    /// How many entities of the kind are born. The atlas always is. Each name is a given one or the made one of its
+    /// number, and no two entities share a name.
+    pub fn named(&self, kind: Kind) -> u8
+        ensures number { result ≡ number_born self.now kind }
+        ensures containers { length self.now.containers ≤ CONTAINERS }
+        ensures loci { length self.now.loci ≤ LOCI }
+        ensures names { IsDirectory self.now }
+    {
+        let containers = self.containers.len() as u8;
+        let loci = self.loci.len() as u8;
+        match kind {
+            Kind::Atlas => 1,
+            Kind::Container => containers,
+            Kind::Locus => loci,
         }
     }
 
@@ -242,9 +260,28 @@ mod tests {
         let name = atlas.name(locus).ok_or("a name")?;
         assert_eq!(rt; name.as_str(), "#41");
         assert!(rt; atlas.born(made));
-        let next = Entity::new(2).ok_or("an entity")?;
+        let next = Entity::of(2);
         assert!(rt; !atlas.born(next));
         assert!(rt; atlas.name(next).is_none());
+        assert!(rt; is_name("Stack-2.b_"));
+        let given = atlas.birth(Some("Stack-2.b_"), Kind::Container)?;
+        assert_eq!(rt; atlas.find("Stack-2.b_"), Some(given));
+        assert_eq!(rt; atlas.named(Kind::Atlas), 1);
+        assert_eq!(rt; atlas.named(Kind::Container), 2);
+        assert_eq!(rt; atlas.named(Kind::Locus), 1);
+        for other in ["", "atlas", "#1", "2b", "a b", "abcdefghijklmnopqrstuvwxy"] {
+            assert!(rt; !is_name(other), "{other}");
+        }
         Ok(())
+    }
+
+    #[test]
+    fn counts_are_set_where_nothing_is_born_too(rt: HostRuntime) {
+        let mut atlas = Atlas::new();
+        atlas.set_count(Entity::of(40), Entity::of(1), 255);
+        assert_eq!(rt; atlas.count(Entity::of(40), Entity::of(1)), 255);
+        assert_eq!(rt; atlas.count(Entity::of(1), Entity::of(40)), 0);
+        atlas.unlink(Entity::of(40), Entity::of(1));
+        assert_eq!(rt; atlas.count(Entity::of(40), Entity::of(1)), 254);
     }
 }

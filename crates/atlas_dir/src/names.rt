@@ -1,8 +1,9 @@
 //! Names of at most 24 bytes, in the value itself.
-ghost use Rattle.std.specs.Prelude.{◌≡◌, ◌+◌, ◌<◌, ◌≤◌, length, IfSome};
+ghost use Rattle.std.specs.Prelude.{◌≡◌, ◌↔◌, ◌+◌, ◌-◌, ◌<◌, ◌≤◌, nat_lt, if◌then◌else◌, length, slice_get, option_map, IsTrue, IfSome};
+ghost use Rattle.std.specs.List.{list_all};
 ghost use Rattle.std.specs.Fmt.{decimal};
 ghost use Rattle.std.specs.Str.{bytes_eq};
-ghost use Rattle.atlas_dir.specs.Directory.{made_name, number_from};
+ghost use Rattle.atlas_dir.specs.Directory.{made_name, number_from, is_letter, is_name_byte, IsName};
 
 use arrayvec::ArrayString;
 use std::marker::Model;
@@ -83,4 +84,56 @@ pub(crate) fn number_of(text: &str, first: u8, names: &[Name]) -> Option<u8>
         }
     }
     None
+}
+
+/// The name at a number above 0: a container's below 41, a locus's from 41 on.
+pub(crate) fn name_at(
+    number: usize,
+    containers: &[Name],
+    loci: &[Name],
+) -> Option<ArrayString<LENGTH>>
+    requires { 0 < number }
+    ensures { option_map (λ text. text.bytes) result
+        ≡ (if nat_lt number 41 then slice_get containers.now (number - 1) else slice_get loci.now (number - 41)) }
+{
+    let name = if number < 41 {
+        containers.get(number - 1)
+    } else {
+        loci.get(number - 41)
+    };
+    match name {
+        Some(name) => Some(name.text()),
+        None => None,
+    }
+}
+
+fn is_letter(byte: u8) -> bool
+    ensures { result ≡ is_letter byte }
+{
+    byte >= b'A' && byte <= b'Z' || byte >= b'a' && byte <= b'z'
+}
+
+fn is_name_byte(byte: u8) -> bool
+    ensures { result ≡ is_name_byte byte }
+{
+    let is_digit = byte >= b'0' && byte <= b'9';
+    is_letter(byte) || is_digit || byte == b'_' || byte == b'-' || byte == b'.'
+}
+
+fn are_name_bytes(bytes: &[u8]) -> bool
+    ensures { result ≡ list_all is_name_byte bytes.now }
+{
+    bytes.iter().all(|byte| is_name_byte(*byte))
+}
+
+/// Whether the text is one that an entity may be given as its name: 1 to 24 bytes, a letter first, and then
+/// letters, digits, `_`, `-` or `.`, but not `atlas`.
+pub fn is_name(text: &str) -> bool
+    ensures { IsTrue result ↔ IsName text.now }
+{
+    let bytes = text.as_bytes();
+    let Some(first) = bytes.first() else {
+        return false;
+    };
+    bytes.len() <= LENGTH && is_letter(*first) && are_name_bytes(bytes) && text != "atlas"
 }

@@ -79,6 +79,15 @@ impl CapList {
         }
     }
 
+    /// Fills the slot with the capability, or empties it, whatever was in it.
+    pub fn set(&mut self, slot: u8, cap: Option<Cap>)
+        requires { slot < SLOTS }
+        ensures set { self.new ≡ slice_set self.old slot cap }
+        ensures slots { length self.new ≡ SLOTS }
+    {
+        self.slots[slot as usize] = cap;
+    }
+
     /// The capability in the slot. NoSlot where there is no such slot, or it is empty.
     pub fn at(&self, slot: u64) -> Result<Cap, Reply>
         ensures found { result ≡ ok_or (cap_at self.now slot) Reply.NoSlot }
@@ -130,5 +139,16 @@ mod tests {
         assert_eq!(rt; list.clear(5), Err(Reply::NoSlot));
         assert_eq!(rt; list.put(cap(99)), Ok(5));
         assert_eq!(rt; list.at(5), Ok(cap(99)));
+    }
+
+    #[test]
+    fn a_slot_is_filled_by_its_number(rt: HostRuntime) {
+        let mut list = CapList::new();
+        list.set(31, Some(cap(7)));
+        list.set(2, Some(cap(8)));
+        list.set(2, None);
+        assert_eq!(rt; list.at(31), Ok(cap(7)));
+        assert_eq!(rt; list.at(2), Err(Reply::NoSlot));
+        assert_eq!(rt; list.put(cap(9)), Ok(0));
     }
 }

@@ -1,15 +1,7 @@
--- Snapshot records as commits.
-use Rattle.std.specs.Prelude.{◌≡◌, ℕ, ◌≤◌, List, map, AllPairs, slice_index}
+-- What a search finds, and the order of records that it asks for.
+use Rattle.std.specs.Prelude.{◌≡◌, ℕ, ◌≤◌, List, AllPairs, slice_index}
 use Rattle.hop_base.specs.declared.records.Rec.{Rec}
 use Rattle.hop_base.specs.declared.records.Cut.{Cut}
-use Rattle.hop_model.specs.Choices.{Commit}
-
--- the commit that a record holds; its stamp is 0 past the last entity
-abbrev pub commit_of : Rec → Commit
-commit_of r = record { entity = r.entity; version = r.version; stamp = slice_index r.stamp }
-
-abbrev pub commits_of : List Rec → List Commit
-commits_of recs = map commit_of recs
 
 -- per entity the chosen version
 abbrev pub choice : Cut → ℕ → ℕ

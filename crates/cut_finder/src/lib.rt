@@ -4,7 +4,8 @@
 
 ghost use Rattle.std.specs.Prelude.{◌≤◌, ◌↔◌, length, IsTrue};
 ghost use Rattle.hop_model.specs.Choices.{IsGreatest};
-ghost use Rattle.cut_finder.specs.Records.{commits_of, choice, IsAscending};
+ghost use Rattle.cut_laws.specs.Records.{commits_of};
+ghost use Rattle.cut_finder.specs.Records.{choice, IsAscending};
 
 mod chains;
 mod search;

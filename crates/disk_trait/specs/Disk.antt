@@ -1,6 +1,7 @@
 -- What the calls of a disk do to its blocks, to its counts, and to what a stop of the machine may leave.
 -- The words take a disk's ghost members: its clock, what a stop now may leave, and what stops since a moment might have left.
 use Rattle.std.specs.Prelude.{◌≡◌, ◌⊎◌, ◌≤◌, ◌<◌, ℕ, ◌+◌, ◌-◌, ◌^◌, Result, OnErr}
+use Rattle.disk_trait.specs.Counts.{Rose}
 use Rattle.disk_trait.specs.Image.{Image, SameOutside}
 
 -- a count of 64 bits goes up by one; at its end it stands still
@@ -18,7 +19,7 @@ pub record Began (calls before now : ℕ) : Type 0 where
 -- the count of faults doesn't fall, and it rose where the call failed
 pub record HasCause {T E : Type 0} (before now : ℕ) (result : Result T E) : Type 0 where
   pub later : before ≤ now
-  pub failed : OnErr result (before < 2 ^ 64 - 1 → before < now)
+  pub failed : OnErr result (Rose before now)
 
 -- a stop may leave this image and no other
 abbrev pub Only : Image → (Image → Type 0) → Type 0

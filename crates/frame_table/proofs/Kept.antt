@@ -1,13 +1,13 @@
 -- The page table and the frames stay sound, and the pages are seen as they should be.
-use Rattle.std.proofs.Common.{◌≡◌, ◌≢◌, ℕ, ◌+◌, ◌<◌, ◌≤◌, Bool, List, [], length, get_or, set, map, Option, Some, None, is_some, count_by, replicate, refl, sym, ap, ◌∙◌, inl, inr, subst, IsSome, rules, arith}
+use Rattle.std.proofs.Common.{◌≡◌, ◌≢◌, ℕ, ◌+◌, ◌<◌, ◌≤◌, Bool, true, false, List, [], length, get_or, set, map, Option, Some, None, is_some, count_by, replicate, refl, sym, ap, ◌∙◌, inl, inr, subst, IsSome, IfSome, rules, arith}
 use Rattle.std.proofs.lemmas.Bool.{cases_eq, cases_lt}
-use Rattle.std.proofs.lemmas.List.{get_or-map, get_or_past, get_or-set_same, get_or-set_other, get_or-replicate, length-set, length-map, set-get_or}
+use Rattle.std.proofs.lemmas.List.{get_or-map, get_or_past, get_or-set_same, get_or-set_other, get_or-replicate, length-set, length-map}
 use Rattle.slab.specs.Slab.{Slab, get, slab_len, with_value, Updates}
 use Rattle.slab.proofs.SlabLemmas.{ContainsKey-within, Updates-with_value}
 use Rattle.frame_table.specs.declared.clock.Frame.{Frame}
-use Rattle.frame_table.specs.FrameTable.{Resident, page_at, resident_words, words_at, with_page, with_resident, IsResident, IsBounded, HasEmptyFrame}
-use Rattle.frame_table.specs.Held.{seen, seen_in, table_of, key_of, IsSound, unmarked, SameButUsed}
-use Rattle.frame_table.proofs.Pages.{pages_changed, pages_kept, count-set_new, count-set_gone, count-set_kept, count-map, count-none}
+use Rattle.frame_table.specs.FrameTable.{Resident, page_at, resident_words, resident_changed, resident_used, words_at, changed_at, used_at, with_resident, page_in, IsResident, IsBounded, HasEmptyFrame, Fills, Places, Removes}
+use Rattle.frame_table.specs.Held.{seen, seen_in, page_of, order_of, table_of, key_of, IsSound, spared, SameButUsed}
+use Rattle.frame_table.proofs.Pages.{list_ext, pages_changed, count-set_new, count-set_gone, count-set_kept, count-map, count-none}
 
 some_same : {X : Type 0} (x y : X) → Some x ≡ Some y → x ≡ y
 some_same x y e = cc
@@ -23,12 +23,26 @@ same_marked held key f used there =
     let updates = Updates-with_value held key (record f { used = used }) (subst IsSome (sym there) (search rules)) in
     record {
       same = λ k. elim (cases_eq k key) [
-        | inl same ↦ ap (λ j. unmarked (get (with_value held key (record f { used = used })) j)) same ∙ ap unmarked updates.changed ∙ ap unmarked (sym there) ∙ ap (λ j. unmarked (get held j)) (sym same)
-        | inr differs ↦ ap unmarked (updates.others k differs)
+        | inl same ↦ ap (λ j. spared (get (with_value held key (record f { used = used })) j)) same ∙ ap spared updates.changed ∙ ap spared (sym there) ∙ ap (λ j. spared (get held j)) (sym same)
+        | inr differs ↦ ap spared (updates.others k differs)
       ];
       len = slab_len-with_value held key f (record f { used = used }) there;
       capacity = refl;
     }
+
+-- the page in a frame
+pub page_under : (n : ℕ) (table : List (Option ℕ)) (held : Slab Frame) (hand key : ℕ) → page_in (table_of n table held hand) key ≡ page_of (get held key)
+page_under n table held hand key = elim (cases_lt key (length held.slots)) [
+  | inl within ↦ get_or-map page_of held.slots key None None within
+  | inr past ↦ get_or_past (map page_of held.slots) key None (omega (arith, length-map held.slots page_of)) ∙ sym (ap page_of (get_or_past held.slots key None past))
+]
+
+-- one frame's page changes
+fills_updated : (n : ℕ) (table table' : List (Option ℕ)) (held new : Slab Frame) (hand key : ℕ) (slot : Option Frame) → Updates held new key slot → Fills key (page_of slot) (table_of n table held hand) (table_of n table' new hand)
+fills_updated n table table' held new hand key slot updates = record {
+  filled = page_under n table' new hand key ∙ ap page_of updates.changed;
+  others = λ other differs. page_under n table' new hand other ∙ ap page_of (updates.others other differs) ∙ sym (page_under n table held hand other);
+}
 
 -- a slab with nothing in it
 get_empty : (held : Slab Frame) (key : ℕ) → held.slots ≡ [] → get held key ≡ None
@@ -117,15 +131,37 @@ module _ (n : ℕ) (table : List (Option ℕ)) (held : Slab Frame) (sound : IsSo
   residents = count-map (seen_in held) table (λ i within. resident_key i) ∙ sym sound.counted
 
   -- what is seen of a page
-  pub seen_at : (page : ℕ) → page < 256 → page_at (table_of n table held) page ≡ seen_in held (key_of table page)
+  pub seen_at : (page : ℕ) → page < 256 → page_at (table_of n table held 0) page ≡ seen_in held (key_of table page)
   seen_at page within = get_or-map (seen_in held) table page None None (omega (arith, sound.all_pages))
 
-  pub words_seen : (page key : ℕ) (f : Frame) → page < 256 → key_of table page ≡ Some key → get held key ≡ Some f → words_at (table_of n table held) page ≡ f.words
+  pub words_seen : (page key : ℕ) (f : Frame) → page < 256 → key_of table page ≡ Some key → get held key ≡ Some f → words_at (table_of n table held 0) page ≡ f.words
   words_seen page key f within at there =
-      let is : page_at (table_of n table held) page ≡ seen (Some f) = seen_at page within ∙ ap (seen_in held) at ∙ ap seen there in
+      let is : page_at (table_of n table held 0) page ≡ seen (Some f) = seen_at page within ∙ ap (seen_in held) at ∙ ap seen there in
       ap resident_words is
 
-  pub absent_key : (page : ℕ) → page < 256 → page_at (table_of n table held) page ≡ None → key_of table page ≡ None
+  pub changed_seen : (page key : ℕ) (f : Frame) → page < 256 → key_of table page ≡ Some key → get held key ≡ Some f → changed_at (table_of n table held 0) page ≡ f.changed
+  changed_seen page key f within at there =
+      let is : page_at (table_of n table held 0) page ≡ seen (Some f) = seen_at page within ∙ ap (seen_in held) at ∙ ap seen there in
+      ap resident_changed is
+
+  pub used_seen : (page key : ℕ) (f : Frame) → page < 256 → key_of table page ≡ Some key → get held key ≡ Some f → used_at (table_of n table held 0) page ≡ f.used
+  used_seen page key f within at there =
+      let is : page_at (table_of n table held 0) page ≡ seen (Some f) = seen_at page within ∙ ap (seen_in held) at ∙ ap seen there in
+      ap resident_used is
+
+  -- the frame of a page has the page in it
+  pub mine_at : (page key : ℕ) (f : Frame) → key_of table page ≡ Some key → get held key ≡ Some f → f.page ≡ page
+  mine_at page key f at there = one_page f.page page key (sound.listed key f there) at
+
+  -- the page table names the frame that a page is in
+  pub frame_found : (hand page : ℕ) → IfSome (key_of table page) (λ key. page_in (table_of n table held hand) key ≡ Some page)
+  frame_found hand page = by_entry (key_of table page) refl
+    where
+      by_entry : (entry : Option ℕ) → key_of table page ≡ entry → IfSome entry (λ key. page_in (table_of n table held hand) key ≡ Some page)
+      by_entry None at = search rules
+      by_entry (Some key) at = let old = sound.named page key at in page_under n table held hand key ∙ ap page_of old.1 ∙ ap Some old.2
+
+  pub absent_key : (page : ℕ) → page < 256 → page_at (table_of n table held 0) page ≡ None → key_of table page ≡ None
   absent_key page within absent = by_entry (key_of table page) refl
     where
       by_entry : (entry : Option ℕ) → key_of table page ≡ entry → entry ≡ None
@@ -135,45 +171,42 @@ module _ (n : ℕ) (table : List (Option ℕ)) (held : Slab Frame) (sound : IsSo
           let clash : None ≡ seen (Some old.0) = sym absent ∙ seen_at page within ∙ ap (seen_in held) at ∙ ap seen old.1 in
           absurd (cc clash)
 
-  -- a page that isn't resident is not there to be taken out
-  pub gone_already : (page : ℕ) → page < 256 → key_of table page ≡ None → table_of n table held ≡ with_page (table_of n table held) page None
-  gone_already page within at =
-      let is : page_at (table_of n table held) page ≡ None = seen_at page within ∙ ap (seen_in held) at in
-      let back = set-get_or (map (seen_in held) table) page None in
-      ap (λ pages. record { frames = n; pages = pages }) (sym back ∙ ap (set (map (seen_in held) table) page) is)
+  -- a page without an entry in the page table isn't resident
+  pub absent_page : (page : ℕ) → page < 256 → key_of table page ≡ None → page_at (table_of n table held 0) page ≡ None
+  absent_page page within at = seen_at page within ∙ ap (seen_in held) at
 
   -- the frames hold what is promised of every table
-  pub bounded : IsBounded (table_of n table held)
-  bounded = record {
+  pub bounded : (hand : ℕ) → IsBounded (table_of n table held hand)
+  bounded hand = record {
     some_frames = sound.some_frames;
     few_frames = sound.few_frames;
     all_pages = length-map table (seen_in held) ∙ sound.all_pages;
     fits = omega (arith, residents, sound.fits);
-    whole_pages = λ page resident. by_page page resident (page_at (table_of n table held) page) refl;
+    whole_pages = λ page resident. by_page page resident (page_at (table_of n table held 0) page) refl;
   }
     where
-      by_key : (page : ℕ) → page < 256 → IsResident (table_of n table held) page → (entry : Option ℕ) → key_of table page ≡ entry → length (words_at (table_of n table held) page) ≡ 128
+      by_key : (page : ℕ) → page < 256 → IsResident (table_of n table held 0) page → (entry : Option ℕ) → key_of table page ≡ entry → length (words_at (table_of n table held 0) page) ≡ 128
       by_key page within resident None at =
           let clash : IsSome {T = Resident} None = subst IsSome (seen_at page within ∙ ap (seen_in held) at) resident in absurd (cc clash)
       by_key page within resident (Some key) at =
           let old = sound.named page key at in
           ap length (words_seen page key old.0 within at old.1) ∙ sound.whole key old.0 old.1
 
-      by_page : (page : ℕ) → IsResident (table_of n table held) page → (o : Option Resident) → page_at (table_of n table held) page ≡ o → length (words_at (table_of n table held) page) ≡ 128
+      by_page : (page : ℕ) → IsResident (table_of n table held 0) page → (o : Option Resident) → page_at (table_of n table held 0) page ≡ o → length (words_at (table_of n table held 0) page) ≡ 128
       by_page page resident o at =
           elim (cases_lt page 256) [
             | inl within ↦ by_key page within resident (key_of table page) refl
             | inr past ↦
-                let none : page_at (table_of n table held) page ≡ None = get_or_past (map (seen_in held) table) page None (omega (arith, length-map table (seen_in held), sound.all_pages)) in
+                let none : page_at (table_of n table held 0) page ≡ None = get_or_past (map (seen_in held) table) page None (omega (arith, length-map table (seen_in held), sound.all_pages)) in
                 let clash : IsSome {T = Resident} None = subst IsSome none resident in absurd (cc clash)
           ]
 
   -- the page in a frame is resident
-  pub frame_resident : (key : ℕ) (f : Frame) → get held key ≡ Some f → IsResident (table_of n table held) f.page
+  pub frame_resident : (key : ℕ) (f : Frame) → get held key ≡ Some f → IsResident (table_of n table held 0) f.page
   frame_resident key f there =
       elim (cases_lt f.page 256) [
         | inl within ↦
-            let is : page_at (table_of n table held) f.page ≡ seen (Some f) = seen_at f.page within ∙ ap (seen_in held) (sound.listed key f there) ∙ ap seen there in
+            let is : page_at (table_of n table held 0) f.page ≡ seen (Some f) = seen_at f.page within ∙ ap (seen_in held) (sound.listed key f there) ∙ ap seen there in
             ap is_some is
         | inr past ↦
             let none : key_of table f.page ≡ None = get_or_past table f.page None (omega (arith, sound.all_pages)) in
@@ -185,41 +218,30 @@ module _ (n : ℕ) (table : List (Option ℕ)) (held : Slab Frame) (sound : IsSo
   some_taken full vacant = omega (arith, count-none held.slots vacant, sound.some_frames)
 
   -- a frame is empty exactly where fewer are taken than there are
-  pub empty_frame : slab_len held < n → HasEmptyFrame (table_of n table held)
+  pub empty_frame : slab_len held < n → HasEmptyFrame (table_of n table held 0)
   empty_frame fewer = omega (arith, residents)
 
-  pub no_empty_frame : n ≤ slab_len held → HasEmptyFrame (table_of n table held) → ⊥
+  pub no_empty_frame : n ≤ slab_len held → HasEmptyFrame (table_of n table held 0) → ⊥
   no_empty_frame full empty = omega (arith, residents)
 
   module _ (new : Slab Frame) (same : SameButUsed held new) where
-    seen_unmarked : (o : Option Frame) → seen (unmarked o) ≡ seen o
-    seen_unmarked None = refl
-    seen_unmarked (Some f) = refl
-
-    pub pages_same : map (seen_in new) table ≡ map (seen_in held) table
-    pages_same = pages_kept held new table (λ page. by_entry (key_of table page))
-      where
-        by_entry : (entry : Option ℕ) → seen_in new entry ≡ seen_in held entry
-        by_entry None = refl
-        by_entry (Some key) = sym (seen_unmarked (get new key)) ∙ ap seen (same.same key) ∙ seen_unmarked (get held key)
-
     -- a frame there now was there before, in the same form but for the mark of use
     was : (key : ℕ) (g : Frame) → get new key ≡ Some g → (f : Frame) × (get held key ≡ Some f) × (f.page ≡ g.page) × (f.words ≡ g.words)
     was key g e = by_old (get held key) refl
       where
         by_old : (o : Option Frame) → get held key ≡ o → (f : Frame) × (get held key ≡ Some f) × (f.page ≡ g.page) × (f.words ≡ g.words)
-        by_old None at = let k = sym (ap unmarked at) ∙ sym (same.same key) ∙ ap unmarked e in absurd (cc k)
+        by_old None at = let k = sym (ap spared at) ∙ sym (same.same key) ∙ ap spared e in absurd (cc k)
         by_old (Some f) at =
-            let k = some_same _ _ (sym (ap unmarked at) ∙ sym (same.same key) ∙ ap unmarked e) in
+            let k = some_same _ _ (sym (ap spared at) ∙ sym (same.same key) ∙ ap spared e) in
             (f, at, ap (λ x. x.page) k, ap (λ x. x.words) k)
 
     now : (key : ℕ) (f : Frame) → get held key ≡ Some f → (g : Frame) × (get new key ≡ Some g) × (g.page ≡ f.page)
     now key f e = by_new (get new key) refl
       where
         by_new : (o : Option Frame) → get new key ≡ o → (g : Frame) × (get new key ≡ Some g) × (g.page ≡ f.page)
-        by_new None at = let k = sym (ap unmarked at) ∙ same.same key ∙ ap unmarked e in absurd (cc k)
+        by_new None at = let k = sym (ap spared at) ∙ same.same key ∙ ap spared e in absurd (cc k)
         by_new (Some g) at =
-            let k = some_same _ _ (sym (ap unmarked at) ∙ same.same key ∙ ap unmarked e) in
+            let k = some_same _ _ (sym (ap spared at) ∙ same.same key ∙ ap spared e) in
             (g, at, ap (λ x. x.page) k)
 
     pub sound_same : IsSound n table new
@@ -234,6 +256,12 @@ module _ (n : ℕ) (table : List (Option ℕ)) (held : Slab Frame) (sound : IsSo
       fits = omega (arith, sound.fits, same.len);
       reserved = omega (arith, sound.reserved, same.capacity);
     }
+
+    -- the page in a frame now was resident before
+    pub victim_resident : (key : ℕ) (g : Frame) → get new key ≡ Some g → IsResident (table_of n table held 0) g.page
+    victim_resident key g there =
+        let f = was key g there in
+        subst (λ page. IsResident (table_of n table held 0) page) f.2 (frame_resident key f.0 f.1)
 
   -- a new page in an empty frame
   module _ (new : Slab Frame) (page key : ℕ) (f : Frame) (within : page < 256) (absent : key_of table page ≡ None) (vacant : get held key ≡ None) (mine : f.page ≡ page) (whole : length f.words ≡ 128) (updates : Updates held new key (Some f)) where
@@ -275,11 +303,22 @@ module _ (n : ℕ) (table : List (Option ℕ)) (held : Slab Frame) (sound : IsSo
       reserved = omega (arith, sound.reserved);
     }
 
-    pub pages_placed : map (seen_in new) (set table page (Some key)) ≡ set (map (seen_in held) table) page (seen (Some f))
+    pages_placed : map (seen_in new) (set table page (Some key)) ≡ set (map (seen_in held) table) page (seen (Some f))
     pages_placed =
         pages_changed held new table (set table page (Some key)) page (seen (Some f)) (length-set table page (Some key)) in_table
         (ap (seen_in new) (get_or-set_same table page (Some key) None in_table) ∙ ap seen updates.changed)
         (λ other differs. ap (seen_in new) (get_or-set_other table page other (Some key) None differs) ∙ others_kept new page key (Some f) (λ o e. absurd (unnamed o key e refl)) updates other differs)
+
+    pub placed : (hand : ℕ) → f.used ≡ true → f.changed ≡ false → Places page f.words (table_of n table held hand) (table_of n (set table page (Some key)) new hand)
+    placed hand used unchanged = record {
+      frame = key;
+      was_empty = page_under n table held hand key ∙ ap page_of vacant;
+      fills = subst (λ slot. Fills key slot (table_of n table held hand) (table_of n (set table page (Some key)) new hand)) (ap Some mine) (fills_updated n table (set table page (Some key)) held new hand key (Some f) updates);
+      is = ap (λ pages. record { frames = n; pages = pages; order = order_of held; hand = hand }) (pages_placed ∙ ap (λ slot. set (map (seen_in held) table) page slot) marks);
+    }
+      where
+        marks : seen (Some f) ≡ Some (record { words = f.words; changed = false; used = true })
+        marks = λ i. Some (record { words = f.words; changed = unchanged i; used = used i })
 
   -- a page is taken out of its frame
   module _ (new : Slab Frame) (page key : ℕ) (within : page < 256) (at : key_of table page ≡ Some key) (updates : Updates held new key None) where
@@ -314,11 +353,19 @@ module _ (n : ℕ) (table : List (Option ℕ)) (held : Slab Frame) (sound : IsSo
       reserved = omega (arith, sound.reserved);
     }
 
-    pub pages_removed : map (seen_in new) (set table page None) ≡ set (map (seen_in held) table) page None
+    pages_removed : map (seen_in new) (set table page None) ≡ set (map (seen_in held) table) page None
     pages_removed =
         pages_changed held new table (set table page None) page None (length-set table page None) inside
         (ap (seen_in new) (get_or-set_same table page None None inside))
         (λ other differs. ap (seen_in new) (get_or-set_other table page other None None differs) ∙ others_kept new page key None (λ o e. one_page o page key e at) updates other differs)
+
+    pub removed : (hand : ℕ) (f : Frame) → get held key ≡ Some f → f.page ≡ page → Removes page (table_of n table held hand) (table_of n (set table page None) new hand)
+    removed hand f there mine = record {
+      frame = key;
+      was_there = page_under n table held hand key ∙ ap page_of there ∙ ap Some mine;
+      fills = fills_updated n table (set table page None) held new hand key None updates;
+      is = ap (λ pages. record { frames = n; pages = pages; order = order_of held; hand = hand }) pages_removed;
+    }
 
   -- a resident page's frame is written through a `&mut`
   module _ (page key : ℕ) (f g : Frame) (within : page < 256) (at : key_of table page ≡ Some key) (there : get held key ≡ Some f) (mine : g.page ≡ f.page) (whole : length g.words ≡ length f.words) where
@@ -334,5 +381,15 @@ module _ (n : ℕ) (table : List (Option ℕ)) (held : Slab Frame) (sound : IsSo
     pub sound_set : IsSound n table (with_value held key g)
     sound_set = sound_written (with_value held key g) page key g at here all_words updated (slab_len-with_value held key f g there) refl
 
-    pub table_set : table_of n table (with_value held key g) ≡ with_resident (table_of n table held) page g.words g.changed
-    table_set = ap (λ pages. record { frames = n; pages = pages }) (pages_written (with_value held key g) page key g at here all_words updated within)
+    -- each frame has the page that it had
+    order_set : order_of (with_value held key g) ≡ order_of held
+    order_set = list_ext _ _ None (length-map (with_value held key g).slots page_of ∙ length-set held.slots key (Some g) ∙ sym (length-map held.slots page_of)) (λ k inside. page_under n table (with_value held key g) 0 k ∙ each k ∙ sym (page_under n table held 0 k))
+      where
+        each : (k : ℕ) → page_of (get (with_value held key g) k) ≡ page_of (get held k)
+        each k = elim (cases_eq k key) [
+          | inl same ↦ ap (λ j. page_of (get (with_value held key g) j)) same ∙ ap page_of updated.changed ∙ ap Some mine ∙ sym (ap page_of there) ∙ ap (λ j. page_of (get held j)) (sym same)
+          | inr differs ↦ ap page_of (updated.others k differs)
+        ]
+
+    pub table_set : (hand : ℕ) → table_of n table (with_value held key g) hand ≡ with_resident (table_of n table held hand) page g.words g.changed g.used
+    table_set hand = λ i. record { frames = n; pages = pages_written (with_value held key g) page key g at here all_words updated within i; order = order_set i; hand = hand }

@@ -9,7 +9,7 @@ use Rattle.frame_table.specs.FrameTable.{Resident}
 use Rattle.frame_table.specs.Held.{seen_in, key_of}
 
 -- two lists of one length with the same at each place are equal
-list_ext : {X : Type 0} (xs ys : List X) (d : X) → length xs ≡ length ys → ((i : ℕ) → i < length xs → get_or xs i d ≡ get_or ys i d) → xs ≡ ys
+pub list_ext : {X : Type 0} (xs ys : List X) (d : X) → length xs ≡ length ys → ((i : ℕ) → i < length xs → get_or xs i d ≡ get_or ys i d) → xs ≡ ys
 list_ext [] [] d e same = refl
 list_ext [] (y ∷ ys) d e same = absurd (omega arith)
 list_ext (x ∷ xs) [] d e same = absurd (omega arith)

@@ -1,12 +1,12 @@
 //! The frames of a container's memory: which pages are resident, with their words, and which to evict next.
 //!
-//! Eviction is by second chance, on a clock (Corbató, 1968): a hand goes round the frames, and a page that
-//! was used since the hand last passed it is spared once. A table with an entry for each page finds its frame
-//! in one step. All memory is taken when the frames are made.
+//! Eviction is by second chance, on a clock (F. J. Corbató, A Paging Experiment with the Multics System, 1968): a
+//! hand goes round the frames, and a page that was used since the hand last passed it is spared once. A table with
+//! an entry for each page finds its frame in one step. All memory is taken when the frames are made.
 #![tactic(auto)]
 
-ghost use Rattle.std.specs.Prelude.{◌≡◌, ℕ, ◌<◌, ◌≤◌, ◌↔◌, true, false, IsSome, IsNone, IfSome, IfOk, Some, None, slice_set, is_some};
-ghost use Rattle.frame_table.specs.FrameTable.{FrameTable, empty_table, page_at, IsResident, HasEmptyFrame, words_at, changed_at, word_at, page_taken, with_page, with_resident, IsBounded};
+ghost use Rattle.std.specs.Prelude.{◌≡◌, ℕ, ◌<◌, ◌≤◌, ◌↔◌, true, false, IsNone, IfSome, IfNone, OnSome, IfOk, Some, None, slice_set, is_some};
+ghost use Rattle.frame_table.specs.FrameTable.{FrameTable, empty_table, page_at, page_in, IsResident, HasEmptyFrame, words_at, changed_at, used_at, word_at, page_taken, with_resident, IsBounded, Places, Removes, IsVictim};
 
 mod clock;
 
@@ -32,7 +32,7 @@ impl Model for Frames {
 
     ghost Value = { FrameTable };
 
-    ghost view = { λ f. table_of f.frames f.table f.held };
+    ghost view = { λ f. table_of f.frames f.table f.held f.hand };
 
     ghost invariant = { λ f. IsSound f.frames f.table f.held };
 }
@@ -60,19 +60,23 @@ impl Frames {
         self.frames
     }
 
-    /// The number of the frame that the page is in, if it is resident.
+    /// The number of the frame that the page is in, if it is resident, in one step. No call takes such a number:
+    /// two pages that are resident have different ones.
     pub fn find(&self, page: u8) -> Option<usize>
-        ensures { is_some result ≡ is_some (page_at self.now page) }
+        ensures resident { is_some result ≡ is_some (page_at self.now page) }
+        ensures frame { IfSome result (λ frame. page_in self.now frame ≡ Some page) }
     {
         self.table[page as usize]
     }
 
-    /// The page to evict next, or `None` where a frame is empty. The pages that the hand passes lose their
-    /// marks of use; nothing else changes.
+    /// The page to evict next, or `None` where a frame is empty: the first unused page from the hand on, or the
+    /// first where all are used. The pages that the hand passes lose their marks of use; nothing else changes. It
+    /// looks at each frame twice at most.
     pub fn victim(&mut self) -> Option<u8>
         ensures none { IsNone result ↔ HasEmptyFrame self.old }
         ensures resident { IfSome result (λ page. IsResident self.old page) }
-        ensures same { self.new ≡ self.old }
+        ensures victim { IfSome result (λ page. IsVictim page self.old self.new) }
+        ensures same { IfNone result (self.new ≡ self.old) }
     {
         if self.held.len() < self.frames as usize {
             return None;
@@ -84,11 +88,11 @@ impl Frames {
         Some(self.held[key].page)
     }
 
-    /// Makes the page resident with these words. It is marked as used, and not as changed.
+    /// Makes the page resident with these words, in an empty frame. It is marked as used, and not as changed.
     pub fn place(&mut self, page: u8, words: &[u64; 128])
         requires room { HasEmptyFrame self.old }
         requires absent { page_at self.old page ≡ None }
-        ensures { self.new ≡ with_resident self.old page words.now false }
+        ensures { Places page words.now self.old self.new }
     {
         let key = self.held.insert_reserved(Frame {
             page,
@@ -102,7 +106,8 @@ impl Frames {
     /// Takes the page out of its frame, if it is resident, and gives its words and its changed mark.
     pub fn remove(&mut self, page: u8) -> Option<([u64; 128], bool)>
         ensures value { result ≡ page_taken (page_at self.old page) }
-        ensures gone { self.new ≡ with_page self.old page None }
+        ensures absent { IfNone result (self.new ≡ self.old) }
+        ensures gone { OnSome result (Removes page self.old self.new) }
     {
         let key = self.table[page as usize]?;
         let frame = self.held.remove(key);
@@ -116,21 +121,21 @@ impl Frames {
         requires resident { IsResident self.old page }
         requires in_page { place < 128 }
         ensures value { result ≡ word_at self.old page place }
-        ensures same { self.new ≡ self.old }
+        ensures marked { self.new ≡ with_resident self.old page (words_at self.old page) (changed_at self.old page) true }
     {
         let Some(key) = self.table[page as usize] else {
             unreachable!()
         };
-        let frame = &mut self.held[key];
-        frame.used = true;
-        frame.words[place as usize]
+        let read = &mut self.held[key];
+        read.used = true;
+        read.words[place as usize]
     }
 
     /// Writes a word of a resident page, and marks the page as used and changed.
     pub fn set(&mut self, page: u8, place: u8, word: u64)
         requires resident { IsResident self.old page }
         requires in_page { place < 128 }
-        ensures { self.new ≡ with_resident self.old page (slice_set (words_at self.old page) place word) true }
+        ensures { self.new ≡ with_resident self.old page (slice_set (words_at self.old page) place word) true true }
     {
         let Some(key) = self.table[page as usize] else {
             unreachable!()
@@ -167,7 +172,7 @@ impl Frames {
     /// Takes the changed mark from a resident page.
     pub fn clean(&mut self, page: u8)
         requires { IsResident self.old page }
-        ensures { self.new ≡ with_resident self.old page (words_at self.old page) false }
+        ensures { self.new ≡ with_resident self.old page (words_at self.old page) false (used_at self.old page) }
     {
         let Some(key) = self.table[page as usize] else {
             unreachable!()

@@ -34,8 +34,7 @@ fn a_page_keeps_its_words_and_its_mark(rt: HostRuntime) -> Result<(), Fail> {
     let mut frames = Frames::new(rt.alloc(), 2)?;
     place_filled(&rt, &mut frames, 7, 70);
     place_filled(&rt, &mut frames, 255, 9);
-    let frame = frames.find(7);
-    assert!(rt; frame.is_some() && frame != frames.find(255));
+    assert_eq!(rt; (frames.find(7), frames.find(255)), (Some(0), Some(1)));
     assert_eq!(rt; read(&rt, &mut frames, 7, 127), 70);
     let resident = frames.find(7);
     assert!(rt; resident.is_some());
@@ -80,5 +79,10 @@ fn a_page_used_since_the_hand_passed_is_spared_once(rt: HostRuntime) -> Result<(
     place_filled(&rt, &mut frames, 5, 0);
     // 4 and 5 were used as they came, and 2 was not used again
     assert_eq!(rt; frames.victim(), Some(2));
+    assert_eq!(rt; read(&rt, &mut frames, 2, 0), 0);
+    // from 3's old frame on, where 5 is, all three are used: the hand goes round and stops where it began
+    assert_eq!(rt; read(&rt, &mut frames, 4, 0), 0);
+    assert_eq!(rt; read(&rt, &mut frames, 5, 0), 0);
+    assert_eq!(rt; frames.victim(), Some(5));
     Ok(())
 }

@@ -1,92 +1,14 @@
 -- The edges of a newborn container.
-use Rattle.std.proofs.Common.{◌≡◌, ◌≢◌, ℕ, zero, suc, ◌+◌, ◌<◌, ◌≤◌, ⊎_elim, Bool, true, false, ◌&&◌, if◌then◌else◌, ◌==◌, nat_lt, IsTrue, List, [], ◌∷◌, ◌++◌, Option, refl, sym, ap, subst, ◌∙◌, arith, eqb-true, eq-eqb}
+use Rattle.std.proofs.Common.{◌≡◌, ℕ, zero, suc, ◌+◌, ◌<◌, ◌≤◌, ⊎_elim, Bool, true, false, ◌&&◌, if◌then◌else◌, ◌==◌, nat_lt, IsTrue, List, [], ◌∷◌, ◌++◌, refl, sym, ap, subst, ◌∙◌, arith, eqb-true, eq-eqb}
 use Rattle.std.specs.List.{All}
 use Rattle.std.proofs.lemmas.Bool.{cases_lt}
 use Rattle.std.proofs.lemmas.Bool.Decides.{nat_tests}
 use Rattle.std.proofs.lemmas.List.{append_assoc, append-nil}
 use Rattle.std.proofs.lemmas.List.Elements.{All-append, All-cons, All-head, All-nil, All-tail, All-weaker}
-use Rattle.std.proofs.lemmas.List.Sums.{sum_by-cons}
 use Rattle.hop_base.specs.declared.capabilities.Region.{Region}
-use Rattle.hop_model.specs.Births.{edges_from, number_or_0, region_from, regions_from, with_edge}
-use Rattle.hop_model.specs.Scripts.{RegionTable}
-use Rattle.hop_model.specs.State.{Text, AtlasState}
-use Rattle.hop_model.specs.Words.{insert_region, put}
 use Rattle.history_model.specs.Born.{AreAscending, AreEdges, is_before, edge_to, edges_below, shown}
 use Rattle.history_model.specs.Plains.{edges_of}
 use Rattle.history_model.specs.declared.plain.Edge.{Edge}
-
--- COUNTS OF REGIONS
-
-pub shown_more : (r : Region) (rs : List Region) (y : ℕ) → shown (r ∷ rs) y ≡ (if r.target == y then 1 else 0) + shown rs y
-shown_more r rs y = sum_by-cons (λ (r : Region). if r.target == y then 1 else 0) r rs
-
-pub shown_inserted : (r : Region) (rs : List Region) (y : ℕ) → shown (insert_region r rs) y ≡ (if r.target == y then 1 else 0) + shown rs y
-shown_inserted r [] y = shown_more r [] y
-shown_inserted r (s ∷ rs) y =
-    elim (nat_lt r.at s.at) as (λ b. shown (if b then r ∷ s ∷ rs else s ∷ insert_region r rs) y ≡ (if r.target == y then 1 else 0) + shown (s ∷ rs) y) [
-      | true ↦ shown_more r (s ∷ rs) y
-      | false ↦
-          let one = shown_more s (insert_region r rs) y in
-          let two = shown_more s rs y in
-          let rest = shown_inserted r rs y in
-          omega (arith, one, two, rest)
-    ]
-
--- what no region shows
-pub not_shown : (rs : List Region) (y : ℕ) → All (λ (r : Region). r.target ≢ y) rs → shown rs y ≡ 0
-not_shown [] y all = refl
-not_shown (r ∷ rs) y all =
-    let one = shown_more r rs y in
-    let rest = not_shown rs y (All-tail (λ (r : Region). r.target ≢ y) r rs all) in
-    let head : (r.target == y) ≡ false = off r.target y (All-head (λ (r : Region). r.target ≢ y) r rs all) in
-    one ∙ rw head (omega (arith, rest))
-  where
-    off : (a b : ℕ) → a ≢ b → (a == b) ≡ false
-    off a b h = grind (arith, nat_tests)
-
--- THE MODEL'S EDGES
-
--- one more from n to d, where m is the count so far
-one_more : (n d x y e f g m k : ℕ) → e ≡ k + (if x == n then m else 0) → f ≡ e + (if x == n then if d == y then 1 else 0 else 0) → g ≡ (if d == y then 1 else 0) + m → f ≡ k + (if x == n then g else 0)
-one_more n d x y e f g m k so_far more next =
-    elim (x == n) as (λ b. e ≡ k + (if b then m else 0) → f ≡ e + (if b then if d == y then 1 else 0 else 0) → f ≡ k + (if b then g else 0)) [
-      | true ↦ λ p q. omega arith
-      | false ↦ λ p q. omega arith
-    ] so_far more
-
-put_one : (a : AtlasState) (n d x y : ℕ) → (with_edge a n d).edges x y ≡ a.edges x y + (if x == n then if d == y then 1 else 0 else 0)
-put_one a n d x y =
-    elim (x == n) as (λ b. (x == n) ≡ b → (if b then put (a.edges n) d (a.edges n d + 1) else a.edges x) y ≡ a.edges x y + (if b then if d == y then 1 else 0 else 0)) [
-      | true ↦ λ is.
-          let e : x ≡ n = eqb-true x n is in
-          elim (y == d) as (λ t. (y == d) ≡ t → (if t then a.edges n d + 1 else a.edges n y) ≡ a.edges x y + (if d == y then 1 else 0)) [
-            | true ↦ λ at.
-                let f : y ≡ d = eqb-true y d at in
-                let back : (d == y) ≡ true = eq-eqb d y (sym f) in
-                rw back (λ i. a.edges (sym e i) (sym f i) + 1)
-            | false ↦ λ at.
-                let back : (d == y) ≡ false = grind (arith, nat_tests) in
-                let here : a.edges n y ≡ a.edges x y = (λ i. a.edges (sym e i) y) in
-                rw back (omega (arith, here))
-          ] refl
-      | false ↦ λ _. omega arith
-    ] refl
-
-pub model_edges : (number : Text → Option ℕ) (n : ℕ) (ts : List RegionTable) (a : AtlasState) (x y : ℕ) → (edges_from number n ts a).edges x y ≡ a.edges x y + (if x == n then shown (regions_from number ts) y else 0)
-model_edges number n [] a x y = elim (x == n) as (λ b. a.edges x y ≡ a.edges x y + (if b then 0 else 0)) [ true ↦ omega arith | false ↦ omega arith ]
-model_edges number n (t ∷ ts) a x y =
-    let d = number_or_0 number t.target in
-    let rest = edges_from number n ts a in
-    one_more n d x y (rest.edges x y) ((with_edge rest n d).edges x y) (shown (insert_region (region_from number t) (regions_from number ts)) y) (shown (regions_from number ts) y) (a.edges x y)
-    (model_edges number n ts a x y) (put_one rest n d x y) (shown_inserted (region_from number t) (regions_from number ts) y)
-
-pub model_containers : (number : Text → Option ℕ) (n : ℕ) (ts : List RegionTable) (a : AtlasState) → (edges_from number n ts a).containers ≡ a.containers
-model_containers number n [] a = refl
-model_containers number n (t ∷ ts) a = model_containers number n ts a
-
-pub model_loci : (number : Text → Option ℕ) (n : ℕ) (ts : List RegionTable) (a : AtlasState) → (edges_from number n ts a).loci ≡ a.loci
-model_loci number n [] a = refl
-model_loci number n (t ∷ ts) a = model_loci number n ts a
 
 -- EDGES IN A LIST
 

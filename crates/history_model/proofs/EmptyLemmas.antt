@@ -3,7 +3,6 @@ use Rattle.std.proofs.Common.{◌≡◌, ℕ, ◌<◌, true, false, ◌||◌, if
 use Rattle.std.proofs.lemmas.Bool.Decides.{nat_tests}
 use Rattle.hop_model.specs.Soundness.{AreSound, is_born, is_born_container, is_born_locus, regions_onto}
 use Rattle.hop_model.specs.State.{Supply, NotBorn, AtlasCell, no_atlas}
-use Rattle.history_model.specs.FiveActs.{HasFiveActs, code_of, has_five}
 use Rattle.history_model.specs.Plains.{cells_by}
 
 none_get : {A : Type 0} (i : ℕ) (x : A) → slice_get [] i ≡ Some x → ⊥
@@ -45,11 +44,3 @@ sound_empty s = record {
           | true ↦ refl
           | false ↦ elim (nat_lt x 41) as (λ t. 0 ≡ regions_onto (if t then NotBorn else NotBorn) y) [ true ↦ refl | false ↦ refl ]
         ]
-
--- and has no code, so none but the five acts
-pub five_empty : (s : Supply) → HasFiveActs (cells_by s no_atlas [] [])
-five_empty s x =
-    elim (x == 0) as (λ t. IsTrue (has_five (code_of (if t then AtlasCell no_atlas else if nat_lt x 41 then NotBorn else NotBorn)))) [
-      | true ↦ refl
-      | false ↦ elim (nat_lt x 41) as (λ t. IsTrue (has_five (code_of (if t then NotBorn else NotBorn)))) [ true ↦ refl | false ↦ refl ]
-    ]

@@ -7,7 +7,6 @@ pub mod TableLemmas
 pub mod BirthLemmas
 pub mod EdgeLemmas
 pub mod BornLemmas
-pub mod GrownLemmas
 pub mod PlainBirths
 pub mod ScriptLemmas
 pub mod EmptyLemmas

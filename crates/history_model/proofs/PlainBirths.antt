@@ -17,16 +17,18 @@ use Rattle.hop_model.specs.State.{Supply, AtlasState, ContainerState, LocusState
 use Rattle.hop_model.specs.Steps.{atlas_in}
 use Rattle.history_model.specs.Born.{AreEdges, BearsContainer, BearsLocus, HasFewNames, IsReadyContainerTable, IsReadyLocusTable, edges_below, entry_of_container, entry_of_locus, risen, shown}
 use Rattle.history_model.specs.Events.{state_with}
-use Rattle.history_model.specs.FiveActs.{HasFiveActs, code_of, has_five}
 use Rattle.history_model.specs.Plains.{atlas_of, cells_by, cells_of, container_cell, container_of, edges_of, locus_cell, locus_of}
 use Rattle.history_model.specs.declared.plain.Plain.{Plain}
 use Rattle.history_model.specs.declared.plain.PlainContainer.{PlainContainer}
 use Rattle.history_model.specs.declared.plain.PlainLocus.{PlainLocus}
 use Rattle.history_model.proofs.BirthLemmas.{container_grown, locus_grown, makes_three, makes_two, three_risen, two_risen}
-use Rattle.history_model.proofs.BornLemmas.{all_before, all_regions, born_container, born_locus, container_named_born, wider_container}
+use Rattle.history_model.proofs.BornLemmas.{all_before}
+use Rattle.sound_runs.proofs.Tables.{all_regions, born_container, born_locus, container_named_born, wider_container}
 use Rattle.history_model.proofs.CellLemmas.{cell_at_container, high_cell, low_container}
-use Rattle.history_model.proofs.EdgeLemmas.{AllBefore, grown, model_containers, model_edges, model_loci, not_shown, plain_edges}
-use Rattle.history_model.proofs.GrownLemmas.{joins_by_host, newborn_container, newborn_locus, not_yet_container, not_yet_locus, sound_table_container, sound_table_locus, sound_with_container, sound_with_locus, with_container, with_locus}
+use Rattle.history_model.proofs.EdgeLemmas.{AllBefore, grown, plain_edges}
+use Rattle.sound_runs.proofs.TableEdges.{model_containers, model_edges, model_loci, not_shown}
+use Rattle.history_model.proofs.ScriptLemmas.{found_of}
+use Rattle.sound_runs.proofs.Grown.{joins_by_host, newborn_container, newborn_locus, not_yet_container, not_yet_locus, sound_table_container, sound_table_locus, sound_with_container, sound_with_locus, with_container, with_locus}
 use Rattle.history_model.proofs.SoundLemmas.{sound_container}
 
 -- THE LISTS OF A SOUND STATE
@@ -217,20 +219,8 @@ module _ (s : Supply) (p q : Plain) (t : ContainerTable) (n : ℕ) (c : PlainCon
       let born = born_container b n (newborn_container a b (cells_of s p) (cells_of s q) n t.name d all_sound cells_joined h.names h.locus_names counts number_is number_small h.table.ranges.name h.table.fresh targets_born) in (
         b,
         sound_with_container a b (cells_of s p) (cells_of s q) n t.name d all_sound cells_joined h.names h.locus_names counts number_is number_small h.table.ranges.name h.table.fresh targets_born
-            (subst (IsSoundContainer b) (sym h.made) (sound_table_container s a b n t h.table w born)),
+            (subst (IsSoundContainer b) (sym h.made) (sound_table_container s a b n t (found_of a t n h.table) w born)),
       )
-
-  -- where all code has the five acts alone, it goes on so
-  pub added_five : HasFiveActs (cells_of s p) → IsTrue (has_five t.code) → HasFiveActs (cells_of s q)
-  added_five old five x = subst (λ k. IsTrue (has_five (code_of k))) (sym (cells_joined x)) (by_number (0 == x) (n == x))
-    where
-      code : IsTrue (has_five c.code.items)
-      code = subst (λ (d : ContainerState). IsTrue (has_five d.code)) (sym h.made) five
-
-      by_number : (z e : Bool) → IsTrue (has_five (code_of (if z then AtlasCell (atlas_of q.atlas) else if e then ContainerCell (container_of s c) else cells_of s p x)))
-      by_number true e = refl
-      by_number false true = code
-      by_number false false = old x
 
   same_atlas : atlas_of q.atlas ≡ edges_from (number_in (atlas_of p.atlas) t.name n) n t.regions (with_container_name (atlas_of p.atlas) t.name)
   same_atlas =
@@ -340,21 +330,6 @@ module _ (s : Supply) (p q : Plain) (t : LocusTable) (host n : ℕ) (c : PlainCo
 
       host_code : IsSoundContainer (atlas_of p.atlas) (container_of s c)
       host_code = subst (λ d. IsSoundContainer (atlas_of p.atlas) (container_of s d)) (same_container (sym host_found.1 ∙ h.there)) host_found.2
-
-  pub locus_added_five : HasFiveActs (cells_of s p) → HasFiveActs (cells_of s q)
-  locus_added_five old x = subst (λ k. IsTrue (has_five (code_of k))) (sym (locus_cells x)) (by_number (0 == x) (host == x) (n == x))
-    where
-      code : IsTrue (has_five c.code.items)
-      code = subst (λ k. IsTrue (has_five (code_of k))) host_cell (old host)
-
-      code' : IsTrue (has_five (locus_of l).code)
-      code' = subst (λ (m : LocusState). IsTrue (has_five m.code)) (sym h.made) code
-
-      by_number : (z u e : Bool) → IsTrue (has_five (code_of (if z then AtlasCell (atlas_of q.atlas) else if u then cells_of s p host else if e then LocusCell (locus_of l) else cells_of s p x)))
-      by_number true u e = refl
-      by_number false true e = old host
-      by_number false false true = code'
-      by_number false false false = old x
 
   locus_birth_is : (w : ℕ → Cell) → w host ≡ cells_of s p host → ((us : List ℕ) (stamps : ℕ → ℕ → ℕ) → locus_birth (state_with w us stamps) (atlas_of p.atlas) t (container_named (atlas_of p.atlas) t.host)
       ≡ Some (

@@ -11,9 +11,8 @@ use Rattle.hop_model.specs.Outcomes.{free_container, free_locus}
 use Rattle.hop_model.specs.Scripts.{ContainerTable, LocusTable, RegionTable, Script, container_named, container_table, locus_named, locus_table, number_in, number_of}
 use Rattle.hop_model.specs.Soundness.{is_born_container}
 use Rattle.hop_model.specs.State.{Supply, Text, AtlasState, Cell}
-use Rattle.script_read.specs.Rules.{IsContainerTable, IsLocusTable}
+use Rattle.script_form.specs.Rules.{IsContainerTable, IsLocusTable}
 use Rattle.history_model.specs.Events.{Makes, state_with}
-use Rattle.history_model.specs.FiveActs.{has_five}
 use Rattle.history_model.specs.declared.plain.Edge.{Edge}
 use Rattle.history_model.specs.declared.plain.PlainAtlas.{PlainAtlas}
 
@@ -43,10 +42,6 @@ pub record KnowsNames (a : AtlasState) (script : Script) (name : Text) : Type 0 
 pub record AreOfOneKind (a : AtlasState) (script : Script) : Type 0 where
   pub containers : All (λ (t : ContainerTable). locus_named a t.name ≡ None) script.containers
   pub loci : All (λ (t : LocusTable). container_named a t.name ≡ None) script.loci
-
--- the code of each container's table has the five acts alone
-abbrev pub HasFiveTables : Script → Type 0
-HasFiveTables script = All (λ (t : ContainerTable). IsTrue (has_five t.code)) script.containers
 
 -- EDGES
 

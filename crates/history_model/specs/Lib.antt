@@ -1,6 +1,5 @@
 pub mod Plains
 pub mod Events
-pub mod FiveActs
 pub mod Lists
 pub mod Entries
 pub mod Born

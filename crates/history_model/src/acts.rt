@@ -9,15 +9,12 @@ ghost use Rattle.history_model.specs.Readiness.{Acted, IsReadyContainer, ShowsPa
 
 use crate::beside_acts::{back, give, invoke, leave, take};
 use crate::local_acts::finish;
-use crate::looks::{PAGE, moved, next_address, region_at};
+use crate::looks::{moved, next_address, region_at};
 use crate::plain::{PlainContainer, PlainLocus};
 use crate::reads::{given_cap, register};
-use hop_base::{Answer, Entity, Instr, Region, Reply, Rights, Walk};
+use hop_base::{Answer, Entity, Instr, MOST_HOPS, PAGE_WORDS, Region, Reply, Rights, Walk};
 use std::alloc::AllocError;
 use wanted_act::denial;
-
-/// The hops that a walk makes at most.
-const MOST_HOPS: u8 = 63;
 
 // A LOOK
 
@@ -66,7 +63,11 @@ fn word<S: Fn(u64, u32, u16) -> u64>(c: &PlainContainer, supply: &S, address: u6
 {
     match c.words.get(&address) {
         Some(word) => *word,
-        None => supply(c.tag, (address / PAGE) as u32, (address % PAGE) as u16),
+        None => supply(
+            c.tag,
+            (address / PAGE_WORDS) as u32,
+            (address % PAGE_WORDS) as u16,
+        ),
     }
 }
 
@@ -89,10 +90,10 @@ fn load<S: Fn(u64, u32, u16) -> u64>(
     ensures locus { locus_of l.new ≡ (loaded (locus_of l.old) (container_of s c.now) d address).locus }
     ensures answer { result ≡ (loaded (locus_of l.old) (container_of s c.now) d address).answer }
 {
-    if address / PAGE >= c.pages as u64 {
+    if address / PAGE_WORDS >= c.pages as u64 {
         return finish(l, Reply::NoPage);
     }
-    if let Some(region) = region_at(c, address / PAGE) {
+    if let Some(region) = region_at(c, address / PAGE_WORDS) {
         return through(l, &region, address, Rights::READ);
     }
     let word = word(c, supply, address);
@@ -143,10 +144,10 @@ fn store(
     ensures made { IfOk result (λ made. (s : Supply) → Acted (stored (locus_of l.old) (container_of s c.old) address word) (locus_of l.new) (ContainerCell (container_of s c.old)) (ContainerCell (container_of s c.new)) made.answer made.wrote) }
     ensures err { OnErr result ((s : Supply) → (locus_of l.new ≡ locus_of l.old) × (container_of s c.new ≡ container_of s c.old)) }
 {
-    if address / PAGE >= c.pages as u64 {
+    if address / PAGE_WORDS >= c.pages as u64 {
         return Ok(read_only(finish(l, Reply::NoPage)));
     }
-    if let Some(region) = region_at(c, address / PAGE) {
+    if let Some(region) = region_at(c, address / PAGE_WORDS) {
         return Ok(read_only(through(l, &region, address, Rights::WRITE)));
     }
     put_word(c, address, word)?;

@@ -13,11 +13,8 @@ use crate::edges::{count_down, count_up};
 use crate::local_acts::finish;
 use crate::plain::{PlainAtlas, PlainContainer, PlainLocus};
 use crate::tables::insert_region;
-use hop_base::{Answer, Entity, Region, Reply};
+use hop_base::{Answer, Entity, MOST_REGIONS, Region, Reply};
 use std::alloc::AllocError;
-
-/// The most regions of a container.
-const MOST_REGIONS: usize = 16;
 
 // MAPPINGS
 

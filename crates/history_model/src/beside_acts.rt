@@ -8,11 +8,8 @@ use crate::acts::{Made, read_only, written};
 use crate::local_acts::finish;
 use crate::plain::{PlainContainer, PlainLocus};
 use crate::reads::{cap_at, free_slot};
-use hop_base::{Answer, Call, Cap, Condition, Entity, Instr, Reply};
+use hop_base::{Answer, Call, Cap, Condition, Entity, Instr, MOST_CALLS, Reply};
 use std::alloc::AllocError;
-
-/// The most calls in a chain.
-const MOST_CALLS: usize = 64;
 
 // INVOCATION
 

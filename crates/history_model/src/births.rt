@@ -3,11 +3,10 @@ ghost use Rattle.hop_model.specs.Outcomes.{free_container as free_container_numb
 ghost use Rattle.hop_model.specs.Scripts.{container_named as container_number};
 ghost use Rattle.hop_model.specs.Soundness.{IsSound};
 ghost use Rattle.hop_model.specs.State.{Supply};
-ghost use Rattle.script_read.specs.Rules.{IsScript};
-ghost use Rattle.script_read.specs.Scripts.{tables_of, container_of as container_table_of, locus_of as locus_table_of};
-ghost use Rattle.history_model.specs.Born.{AreEdges, AreOfOneKind, BearsContainer, BearsLocus, BearsNoLocus, HasFiveTables, IsReadyContainerTable, IsReadyLocusTable, IsUndefined, KnowsNames, entry_of_container, entry_of_locus, risen};
+ghost use Rattle.script_form.specs.Rules.{IsScript};
+ghost use Rattle.script_form.specs.Scripts.{tables_of, container_of as container_table_of, locus_of as locus_table_of};
+ghost use Rattle.history_model.specs.Born.{AreEdges, AreOfOneKind, BearsContainer, BearsLocus, BearsNoLocus, IsReadyContainerTable, IsReadyLocusTable, IsUndefined, KnowsNames, entry_of_container, entry_of_locus, risen};
 ghost use Rattle.history_model.specs.Events.{AreFewVersions, Bears, Stays};
-ghost use Rattle.history_model.specs.FiveActs.{HasFiveActs, has_five};
 ghost use Rattle.history_model.specs.Plains.{atlas_of, cells_of};
 
 use crate::names::{
@@ -16,7 +15,7 @@ use crate::names::{
 use crate::plain::{Edge, Plain, PlainContainer, PlainLocus};
 use crate::tables::{container_from, edges_from, locus_from};
 use hop_base::{Answer, Entity, Entry, Event, Touch, Touched};
-use script_read::{Script, ScriptContainer, ScriptLocus};
+use script_form::{Script, ScriptContainer, ScriptLocus};
 use std::alloc::{AllocError, Global};
 
 /// The version of a written entity rises.
@@ -139,7 +138,6 @@ fn container_birth(
     ensures err { OnErr result ((s : Supply) → Stays (cells_of s state.old) versions.old (cells_of s state.new) versions.new) }
     ensures edges { AreEdges state.new.atlas.edges.items }
     ensures sound { (s : Supply) → IsSound (cells_of s state.new) }
-    ensures five { (s : Supply) → HasFiveActs (cells_of s state.old) → IsTrue (has_five table.now.code.items) → HasFiveActs (cells_of s state.new) }
 {
     let Some(newborn) = free_container(&state.atlas) else {
         return Ok(None);
@@ -167,7 +165,6 @@ fn locus_birth(
     ensures err { OnErr result ((s : Supply) → Stays (cells_of s state.old) versions.old (cells_of s state.new) versions.new) }
     ensures edges { state.new.atlas.edges.items ≡ state.old.atlas.edges.items }
     ensures sound { (s : Supply) → IsSound (cells_of s state.new) }
-    ensures five { (s : Supply) → HasFiveActs (cells_of s state.old) → HasFiveActs (cells_of s state.new) }
 {
     let Some(host) = container_named(&state.atlas, &table.host) else {
         return Ok(None);
@@ -207,7 +204,6 @@ pub fn plain_birth(
     // The state stays one that events may be made from.
     ensures edges { AreEdges state.new.atlas.edges.items }
     ensures sound { (s : Supply) → IsSound (cells_of s state.new) }
-    ensures five { (s : Supply) → HasFiveActs (cells_of s state.old) → HasFiveTables (tables_of script.now) → HasFiveActs (cells_of s state.new) }
 {
     if number_of(&state.atlas, name).is_some() {
         return Ok(None);

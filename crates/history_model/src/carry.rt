@@ -16,11 +16,8 @@ use crate::beside_acts::{let_go_on, stop_other};
 use crate::entries::{Mark, entry_alone, entry_of_two, wrote};
 use crate::local_acts::{finish, local};
 use crate::plain::{Plain, PlainLocus};
-use hop_base::{Answer, Entity, Entry, Instr, Reply};
+use hop_base::{Answer, Entity, Entry, FIRST_LOCUS, Instr, Reply};
 use std::alloc::AllocError;
-
-/// The first number of a locus.
-const FIRST_LOCUS: u8 = 41;
 
 /// The step of a locus that refuses its act itself.
 pub fn step_refused(

@@ -11,11 +11,8 @@ ghost use Rattle.history_model.specs.Readiness.{stands_before as is_before};
 
 use crate::plain::PlainLocus;
 use crate::reads::{new_region, register};
-use hop_base::{Answer, Condition, Entity, Instr, Private, Region, Reply, Rights};
+use hop_base::{Answer, Condition, Entity, Instr, MOST_PRINTED, Private, Region, Reply, Rights};
 use std::alloc::AllocError;
-
-/// Printed values are counted up to this number.
-const MOST_PRINTED: u64 = 1 << 62;
 
 /// The next place, and nothing to tell.
 fn go_on(l: &mut PlainLocus) -> Answer

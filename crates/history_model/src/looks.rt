@@ -6,11 +6,8 @@ ghost use Rattle.history_model.specs.Plains.{locus_of};
 ghost use Rattle.history_model.specs.Readiness.{IsReadyContainer, ShowsPage};
 
 use crate::plain::{PlainContainer, PlainLocus};
-use hop_base::Region;
+use hop_base::{PAGE_WORDS, Region};
 use wanted_act::{covers_page, private_at};
-
-/// Words in a page.
-pub const PAGE: u64 = 128;
 
 /// The region of the container that covers the page.
 pub fn region_at(c: &PlainContainer, page: u64) -> Option<Region>
@@ -29,8 +26,8 @@ pub fn moved(region: &Region, address: u64) -> u64
     requires { ShowsPage region.now (address / 128) }
     ensures { result ≡ moved_address region.now address }
 {
-    let page = address / PAGE - region.at as u64 + region.from as u64;
-    page * PAGE + address % PAGE
+    let page = address / PAGE_WORDS - region.at as u64 + region.from as u64;
+    page * PAGE_WORDS + address % PAGE_WORDS
 }
 
 /// The address in the container of the next look.
@@ -40,7 +37,7 @@ pub fn next_address(l: &PlainLocus, address: u64) -> u64
 {
     match l.walk {
         Some(walk) => walk.address,
-        None => match private_at(&l.view(), address / PAGE) {
+        None => match private_at(&l.view(), address / PAGE_WORDS) {
             Some(p) => moved(&p.region, address),
             None => address,
         },

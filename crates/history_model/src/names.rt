@@ -6,20 +6,8 @@ ghost use Rattle.history_model.specs.Born.{HasFewNames};
 ghost use Rattle.history_model.specs.Plains.{atlas_of};
 
 use crate::plain::PlainAtlas;
-use hop_base::Entity;
-use script_read::{ScriptContainer, ScriptLocus};
-
-/// The first number of a container.
-const FIRST_CONTAINER: u8 = 1;
-
-/// The first number of a locus.
-const FIRST_LOCUS: u8 = 41;
-
-/// As many containers as have numbers.
-const MOST_CONTAINERS: usize = 40;
-
-/// As many loci as have numbers.
-const MOST_LOCI: usize = 23;
+use hop_base::{Entity, FIRST_CONTAINER, FIRST_LOCUS, MOST_CONTAINERS, MOST_LOCI};
+use script_form::{ScriptContainer, ScriptLocus};
 
 fn is_same(a: &str, b: &str) -> bool
     ensures { result ≡ text_eq a.now b.now }

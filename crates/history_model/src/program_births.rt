@@ -9,12 +9,9 @@ use crate::local_acts::finish;
 use crate::names::{free_container, free_locus};
 use crate::plain::{PlainAtlas, PlainContainer, PlainLocus};
 use crate::reads::free_slot;
-use hop_base::{Answer, Cap, Condition, Entity, Instr, Reply, Rights};
+use hop_base::{Answer, Cap, Condition, Entity, Instr, MOST_CAPS, Reply, Rights};
 use std::alloc::{AllocError, Global};
 use std::collections::BTreeMap;
-
-/// Slots for capabilities.
-const SLOTS: usize = 32;
 
 /// All rights but Stabilise.
 const NEWBORN_RIGHTS: Rights = Rights(127);
@@ -61,7 +58,7 @@ fn made_container(
     ensures { IfOk result (λ c. (s : Supply) → container_of s c ≡ container_made s (locus_of l.now) pages tag entry) }
 {
     let code = code_for(alloc, l, entry)?;
-    let caps = vec![in alloc; None; SLOTS]?;
+    let caps = vec![in alloc; None; MOST_CAPS]?;
     Ok(PlainContainer {
         pages,
         tag,

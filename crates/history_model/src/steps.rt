@@ -12,12 +12,9 @@ ghost use Rattle.history_model.specs.Plains.{atlas_of, cells_of};
 use crate::atlas_steps::{step_make, step_mapping, step_spawn};
 use crate::carry::{step_atlas, step_container, step_local, step_locus, step_refused};
 use crate::plain::{Plain, PlainLocus};
-use hop_base::{Condition, Entity, Entry, Instr, Kind};
+use hop_base::{Condition, Entity, Entry, FIRST_LOCUS, Instr, Kind};
 use std::alloc::AllocError;
 use wanted_act::{Act, wants};
-
-/// The first number of a locus.
-const FIRST_LOCUS: u8 = 41;
 
 /// The place in its list of a locus that is born and running.
 fn running_place(loci: &[PlainLocus], locus: Entity) -> Option<usize>

@@ -4,19 +4,16 @@ ghost use Rattle.hop_model.specs.Births.{caps_from as caps_by, regions_from as r
 ghost use Rattle.hop_model.specs.Scripts.{number_in};
 ghost use Rattle.hop_model.specs.State.{Supply};
 ghost use Rattle.hop_model.specs.Words.{insert_region as inserted};
-ghost use Rattle.script_read.specs.Scripts.{region_of, cap_of, container_of as container_table_of, locus_of as locus_table_of};
+ghost use Rattle.script_form.specs.Scripts.{region_of, cap_of, container_of as container_table_of, locus_of as locus_table_of};
 ghost use Rattle.history_model.specs.Born.{HasFewNames, edges_below};
 ghost use Rattle.history_model.specs.Plains.{atlas_of, container_of, locus_of};
 
 use crate::names::known_number;
 use crate::plain::{Edge, PlainAtlas, PlainContainer, PlainLocus};
-use hop_base::{Cap, Condition, Entity, Instr, Region};
-use script_read::{ScriptCap, ScriptContainer, ScriptLocus, ScriptRegion};
+use hop_base::{Cap, Condition, Entity, Instr, MOST_CAPS, Region};
+use script_form::{ScriptCap, ScriptContainer, ScriptLocus, ScriptRegion};
 use std::alloc::{AllocError, Global};
 use std::collections::BTreeMap;
-
-/// Slots for capabilities.
-const SLOTS: usize = 32;
 
 /// Where the first region stands that begins behind the page, or the end.
 fn place_of_page(regions: &[Region], at: u8) -> usize
@@ -80,7 +77,7 @@ fn caps_from(
     requires slots { length tables.now ≤ 32 }
     ensures { IfOk result (λ v. v.items ≡ caps_by (number_in (atlas_of atlas.now) own.now newborn) 0 (map cap_of tables.now)) }
 {
-    let mut caps = vec![in alloc; None; SLOTS]?;
+    let mut caps = vec![in alloc; None; MOST_CAPS]?;
     for slot in (0..tables.len()).rev() {
         let table = &tables[slot];
         let entity = known_number(atlas, own, newborn, &table.entity);

@@ -126,6 +126,19 @@ pub struct Region {
     pub rights: Rights,
 }
 
+impl Default for Region {
+    /// The region of no pages, which stands in the unused places of a list.
+    fn default() -> Region {
+        Region {
+            at: 0,
+            count: 0,
+            target: Entity::ATLAS,
+            from: 0,
+            rights: Rights(0),
+        }
+    }
+}
+
 /// A private region of a locus, which counts while the locus is in the container where it was made.
 #[derive(Clone, Copy, PartialEq, Eq, Hash, Debug)]
 pub struct Private {

@@ -31,6 +31,14 @@ impl Entity {
         if n < 64 { Some(Entity(n)) } else { None }
     }
 
+    /// The entity of a number that is known to be below 64.
+    pub fn of(number: u8) -> Entity
+        requires { number < 64 }
+        ensures { result ≡ number }
+    {
+        Entity(number)
+    }
+
     pub fn number(self) -> u8
         ensures number { result ≡ self }
         ensures small { result < 64 }

@@ -6,12 +6,18 @@ mod capabilities;
 mod entities;
 mod histories;
 mod instructions;
+mod limits;
 mod records;
 
 pub use capabilities::{Cap, Private, Region, Right, Rights};
 pub use entities::{Entity, Kind};
 pub use histories::{Answer, Entry, Event, Touch, Touched};
 pub use instructions::{Call, Condition, Instr, Reply, Walk};
+pub use limits::{
+    FIRST_CONTAINER, FIRST_LOCUS, MOST_CALLS, MOST_CAPS, MOST_CONTAINERS, MOST_ENTITIES, MOST_HOPS,
+    MOST_LOCI, MOST_PAGES, MOST_PRINTED, MOST_PRIVATES, MOST_REGIONS, MOST_SCRIPT_BYTES,
+    PAGE_WORDS,
+};
 pub use records::{Cut, Rec};
 
 #[cfg(test)]
@@ -38,6 +44,7 @@ mod tests {
             assert_eq!(rt; entity.kind(), kind, "at {n}");
         }
         assert_eq!(rt; Entity::new(64), None);
+        assert_eq!(rt; Entity::of(63).number(), 63);
         Ok(())
     }
 }

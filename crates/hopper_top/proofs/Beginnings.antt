@@ -7,7 +7,7 @@ use Rattle.disk_trait.specs.Image.{Image}
 use Rattle.hop_model.specs.Scripts.{Script as Tables}
 use Rattle.hop_model.specs.State.{Supply, Text, AtlasState, Cell, AtlasCell, KernelState}
 use Rattle.hop_model.specs.Steps.{atlas_in}
-use Rattle.journal.specs.Faults.{Rose}
+use Rattle.disk_trait.specs.Counts.{Rose}
 use Rattle.journal.specs.Journal.{HasItems, Keeps}
 use Rattle.journal.proofs.Meaning.{HasItems-unique}
 use Rattle.kept_run.specs.Meaning.{IsAccepted, Means}
@@ -19,10 +19,10 @@ use Rattle.opened_image.specs.Opening.{IsOpened}
 use Rattle.opened_image.proofs.Chains.{image_one, same_script}
 use Rattle.history_model.specs.declared.plain.Plain.{Plain}
 use Rattle.plain_run.specs.Fitting.{Fits, IsMisfit, misfit}
-use Rattle.script_read.specs.Scripts.{tables_of}
-use Rattle.script_read.specs.declared.Script.{Script}
-use Rattle.script_read.specs.declared.refusals.ScriptFault.{ScriptFault}
-use Rattle.script_read.specs.declared.refusals.ScriptFault.TheVariants.{Refused, Memory as OutOfMemory}
+use Rattle.script_form.specs.Scripts.{tables_of}
+use Rattle.script_form.specs.declared.Script.{Script}
+use Rattle.script_form.specs.declared.refusals.ScriptFault.{ScriptFault}
+use Rattle.script_form.specs.declared.refusals.ScriptFault.TheVariants.{Refused, Memory as OutOfMemory}
 use Rattle.hopper_top.specs.Needs.{Needs, blocks_with}
 use Rattle.hopper_top.specs.Seen.{left_after}
 use Rattle.hopper_top.specs.Opening.{HasBegun, IsUnbegun, IsUnfit, IsUnopened}

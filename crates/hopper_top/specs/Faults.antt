@@ -3,9 +3,9 @@ use Rattle.std.specs.Prelude.{ℕ, [], ◌∷◌, ◌++◌, codes, decimal, stri
 use Rattle.hop_model.specs.State.{Text}
 use Rattle.hopper_top.specs.declared.faults.Fault.{Fault}
 use Rattle.hopper_top.specs.declared.faults.Fault.TheVariants.{Usage, Script, Foreign, Disk, Source, Memory, Blocks}
-use Rattle.script_read.specs.declared.refusals.Refusal.{Refusal}
-use Rattle.script_read.specs.declared.refusals.Why.{Why}
-use Rattle.script_read.specs.Refusals.{why_number}
+use Rattle.script_form.specs.declared.refusals.Refusal.{Refusal}
+use Rattle.script_form.specs.declared.refusals.Why.{Why}
+use Rattle.script_form.specs.Refusals.{why_number}
 
 -- a text and the end of the line
 abbrev pub line : Text → Text

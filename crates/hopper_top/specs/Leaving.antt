@@ -16,7 +16,7 @@ use Rattle.hop_model.specs.Steps.{atlas_in}
 use Rattle.kept_run.specs.Meaning.{IsAccepted}
 use Rattle.plain_run.specs.Fitting.{misfit}
 use Rattle.plain_show.specs.Show.{shown}
-use Rattle.script_read.specs.declared.refusals.Refusal.{Refusal}
+use Rattle.script_form.specs.declared.refusals.Refusal.{Refusal}
 use Rattle.hopper_top.specs.Ends.{Gains, IsUnrun}
 use Rattle.hopper_top.specs.Runs.{Ran}
 use Rattle.hopper_top.specs.Seen.{Seen}

@@ -11,7 +11,7 @@ use Rattle.kept_run.specs.Meaning.{BeginsWith, Replays}
 use Rattle.plain_run.specs.Fitting.{Fits, misfit}
 use Rattle.plain_run.specs.Standing.{Stands}
 use Rattle.plain_run.specs.declared.serial.SerialRun.{SerialRun}
-use Rattle.script_read.specs.Scripts.{tables_of}
+use Rattle.script_form.specs.Scripts.{tables_of}
 use Rattle.hopper_top.specs.declared.opening.Begun.{Begun}
 use Rattle.hopper_top.specs.declared.faults.Fault.{Fault}
 use Rattle.hopper_top.specs.declared.faults.Fault.TheVariants.{Usage, Script as BadScript, Foreign as BadImage, Disk as BadDisk, Source, Memory as NoMemory, Blocks}

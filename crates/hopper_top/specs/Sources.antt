@@ -5,9 +5,9 @@ use Rattle.stream_edge.specs.declared.reading.ReadStop.TheVariants.{Source as Fr
 use Rattle.hop_model.specs.State.{Text}
 use Rattle.script_read.specs.Meaning.{script_meaning}
 use Rattle.script_read.specs.Reading.{refused}
-use Rattle.script_read.specs.declared.refusals.Refusal.{Refusal}
-use Rattle.script_read.specs.declared.refusals.Why.{Why}
-use Rattle.script_read.specs.declared.refusals.Why.TheVariants.{Long}
+use Rattle.script_form.specs.declared.refusals.Refusal.{Refusal}
+use Rattle.script_form.specs.declared.refusals.Why.{Why}
+use Rattle.script_form.specs.declared.refusals.Why.TheVariants.{Long}
 use Rattle.hopper_top.specs.declared.faults.Fault.{Fault}
 use Rattle.hopper_top.specs.declared.faults.Fault.TheVariants.{Usage, Script, Foreign, Disk, Source, Memory, Blocks}
 

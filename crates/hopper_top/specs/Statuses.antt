@@ -6,8 +6,8 @@ use Rattle.journal.specs.declared.kinds.ReadFault.{ReadFault}
 use Rattle.journal.specs.declared.kinds.ReadFault.TheVariants.{Foreign as NoJournal, Disk as ReadFailed, Memory as NoRoom}
 use Rattle.kept_run.specs.declared.keeping.Stop.{Stop}
 use Rattle.kept_run.specs.declared.keeping.Stop.TheVariants.{Blocks as StopBlocks, Disk as StopDisk, Memory as StopMemory}
-use Rattle.script_read.specs.declared.refusals.ScriptFault.{ScriptFault}
-use Rattle.script_read.specs.declared.refusals.ScriptFault.TheVariants.{Refused, Memory as OutOfMemory}
+use Rattle.script_form.specs.declared.refusals.ScriptFault.{ScriptFault}
+use Rattle.script_form.specs.declared.refusals.ScriptFault.TheVariants.{Refused, Memory as OutOfMemory}
 use Rattle.hopper_top.specs.declared.faults.Fault.{Fault}
 use Rattle.hopper_top.specs.declared.faults.Fault.TheVariants.{Usage as BadWords, Script as BadScript, Foreign as BadImage, Disk as BadDisk, Source as BadSource, Memory as NoMemory, Blocks as NoBlocksLeft}
 use Rattle.hopper_top.specs.declared.statuses.Status.{Status}

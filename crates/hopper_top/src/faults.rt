@@ -1,6 +1,6 @@
 //! The last line of a call that came to no good end.
 ghost use Rattle.std.specs.Prelude.{◌≡◌, ◌≤◌, ◌<◌, ◌^◌, ◌++◌, OnErr, codes};
-ghost use Rattle.stream_edge.specs.Counts.{Rose};
+ghost use Rattle.disk_trait.specs.Counts.{Rose};
 ghost use Rattle.stream_edge.specs.Streams.{Puts};
 ghost use Rattle.hopper_top.specs.Faults.{fault_line, line, numbers_line, refusal_head};
 

@@ -3,14 +3,14 @@ ghost use Rattle.std.specs.Prelude.{◌≡◌, ◌≤◌, ◌<◌, ◌+◌, ◌-
 ghost use Rattle.disk_trait.specs.Disk.{Only, Ticks};
 ghost use Rattle.disk_trait.specs.Image.{Image};
 ghost use Rattle.hop_model.specs.State.{Supply, KernelState};
-ghost use Rattle.journal.specs.Faults.{Rose};
+ghost use Rattle.disk_trait.specs.Counts.{Rose};
 ghost use Rattle.journal.specs.Journal.{Keeps};
 ghost use Rattle.journal.specs.Text.{KeptRun, blocks_needed, kept_runs};
 ghost use Rattle.kept_run.specs.Meaning.{IsAccepted, Means};
 ghost use Rattle.opened_image.specs.Opening.{IsOpened};
 ghost use Rattle.plain_run.specs.Snaps.{HasNoSnapTables};
-ghost use Rattle.script_read.specs.Rules.{IsScript};
-ghost use Rattle.script_read.specs.Scripts.{tables_of};
+ghost use Rattle.script_form.specs.Rules.{IsScript};
+ghost use Rattle.script_form.specs.Scripts.{tables_of};
 ghost use Rattle.hopper_top.specs.Opening.{HasBegun, IsStill, IsUnfit, IsUnopened};
 
 use crate::faults::Fault;

@@ -1,6 +1,6 @@
 //! The lines that a run prints.
 ghost use Rattle.std.specs.Prelude.{◌≡◌, ◌≤◌, length, OnErr};
-ghost use Rattle.stream_edge.specs.Counts.{Rose};
+ghost use Rattle.disk_trait.specs.Counts.{Rose};
 ghost use Rattle.stream_edge.specs.Streams.{Puts};
 ghost use Rattle.hop_model.specs.Output.{name_of_locus, printed_line, line_of, output_of};
 ghost use Rattle.history_model.specs.Plains.{atlas_of};
@@ -8,12 +8,9 @@ ghost use Rattle.hopper_top.specs.Lines.{HasShortNames};
 
 use arrayvec::ArrayString;
 use history_model::PlainAtlas;
-use hop_base::{Answer, Entity, Entry};
+use hop_base::{Answer, Entity, Entry, FIRST_LOCUS};
 use itoa::Buffer;
 use stream_edge::{Sink, SinkFault};
-
-/// The first number of a locus.
-const FIRST_LOCUS: u8 = 41;
 
 /// A length that no printed line exceeds.
 const LINE: usize = 64;

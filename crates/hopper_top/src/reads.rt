@@ -1,20 +1,18 @@
 //! Reading a source to a script that may run.
 ghost use Rattle.std.specs.Prelude.{◌≡◌, ◌≤◌, IfOk, IfErr, OnOk, IfSome, codes, length, string_bytes};
 ghost use Rattle.std.specs.Io.KnownBytes.{IsAtEnd};
-ghost use Rattle.stream_edge.specs.Counts.{Rose};
+ghost use Rattle.disk_trait.specs.Counts.{Rose};
 ghost use Rattle.kept_run.specs.Meaning.{IsAccepted};
 ghost use Rattle.plain_run.specs.Snaps.{HasNoSnapTables};
-ghost use Rattle.script_read.specs.Rules.{IsScript};
-ghost use Rattle.script_read.specs.Scripts.{tables_of};
+ghost use Rattle.script_form.specs.Rules.{IsScript};
+ghost use Rattle.script_form.specs.Scripts.{tables_of};
 ghost use Rattle.hopper_top.specs.Sources.{IsFaultOfStop, IsReadFault, most_bytes};
 
 use crate::faults::Fault;
+use hop_base::MOST_SCRIPT_BYTES;
 use script_read::{Refusal, Script, Why, read_script};
 use std::alloc::{AllocError, Global};
 use stream_edge::{ReadStop, Source, read_all};
-
-/// How many bytes a source may have.
-const MOST_BYTES: usize = 1_048_576;
 
 /// A source that was read, and the script that it stands for.
 #[derive(Debug, Drop)]
@@ -59,7 +57,7 @@ pub fn read_source<R: Source>(alloc: Global, source: &mut R) -> Result<ReadScrip
     ensures fault { IfErr result (IsReadFault (R.left source.old) (Rose (R.faults source.old) (R.faults source.new))) }
     ensures count { R.faults source.old ≤ R.faults source.new }
 {
-    let bytes = match read_all(alloc, source, MOST_BYTES) {
+    let bytes = match read_all(alloc, source, MOST_SCRIPT_BYTES) {
         Ok(bytes) => bytes,
         Err(stop) => return Err(fault_of_stop(alloc, stop)),
     };

@@ -5,14 +5,13 @@ ghost use Rattle.disk_trait.specs.Image.{Image};
 ghost use Rattle.hop_model.specs.Output.{output_of};
 ghost use Rattle.hop_model.specs.State.{Supply, Text, KernelState};
 ghost use Rattle.history_model.specs.Plains.{atlas_of};
-ghost use Rattle.journal.specs.Faults.{Rose as DiskRose};
 ghost use Rattle.journal.specs.Journal.{Keeps};
 ghost use Rattle.journal.specs.Text.{KeptRun, blocks_needed, kept_runs};
 ghost use Rattle.kept_run.specs.Meaning.{IsAccepted, Means};
 ghost use Rattle.plain_run.specs.Snaps.{HasNoSnapTables};
-ghost use Rattle.script_read.specs.Rules.{IsScript};
-ghost use Rattle.script_read.specs.Scripts.{tables_of};
-ghost use Rattle.stream_edge.specs.Counts.{Rose};
+ghost use Rattle.script_form.specs.Rules.{IsScript};
+ghost use Rattle.script_form.specs.Scripts.{tables_of};
+ghost use Rattle.disk_trait.specs.Counts.{Rose};
 ghost use Rattle.stream_edge.specs.Streams.{Puts};
 ghost use Rattle.hopper_top.specs.Ends.{Gains, IsPut, IsUnrun};
 ghost use Rattle.hopper_top.specs.Faults.{fault_line};
@@ -119,7 +118,7 @@ fn run_begun<W: Sink, D: Disk, S: Fn(u64, u32, u16) -> u64>(
     ensures blocks { (n : NoBlocks) → result.status ≡ Status.BlocksFull n → (1281 < blocks_needed (kept_runs begun.journal.items.items))
         × (n.need ≡ blocks_needed (kept_runs begun.journal.items.items)) × (n.free ≡ 1281) }
     ensures fits { 0 < length result.marks.items → blocks_needed (kept_runs begun.journal.items.items) ≤ 1281 }
-    ensures disk_cause { result.status ≡ Status.DiskFault → DiskRose (D.faults disk) (D.faults result.disk) }
+    ensures disk_cause { result.status ≡ Status.DiskFault → Rose (D.faults disk) (D.faults result.disk) }
     ensures sink_cause { result.status ≡ Status.SinkFault → Rose (W.faults sink.old) (W.faults sink.new) }
     ensures count { W.faults sink.old ≤ W.faults sink.new }
     ensures later { D.faults disk ≤ D.faults result.disk }
@@ -172,7 +171,7 @@ fn open_run<D: Disk, S: Fn(u64, u32, u16) -> u64>(
     ensures enough { OnOk result (2600 ≤ D.block_count disk.new) }
     ensures synced { D.tells → OnOk result (Only (D.reading disk.new) (D.may_leave disk.new)) }
     ensures fault { IfErr result (IsUnbegun (tables_of read.script) (λ w. D.tells → Means s (D.reading disk.old) w) (D.tells → (w : KernelState) → Means s (D.reading disk.old) w → ⊥)
-        (DiskRose (D.faults disk.old) (D.faults disk.new))) }
+        (Rose (D.faults disk.old) (D.faults disk.new))) }
     ensures still { D.tells → IfErr result (λ fault. (c : Image) → D.may_leave disk.new c → IsStill fault (D.reading disk.old) (D.may_leave disk.old) c) }
     ensures clock { Ticks (D.clock disk.old) (D.clock disk.new) }
     ensures reading { D.tells → D.reading disk.new ≡ D.reading disk.old }
@@ -201,11 +200,11 @@ pub fn run_read<W: Sink, D: Disk, S: Fn(u64, u32, u16) -> u64>(
         (W.held sink.old) (W.held sink.new) (Rose (W.faults sink.old) (W.faults sink.new)) }
     ensures blocks { (n : NoBlocks) → result.status ≡ Status.BlocksFull n → IsFull RunCommand D.tells (Some read.bytes.items) (D.reading disk) (D.block_count disk) n }
     ensures fits { 0 < length result.marks.items → HasRoom D.tells (Some read.bytes.items) (D.reading disk) }
-    ensures disk_cause { result.status ≡ Status.DiskFault → DiskRose (D.faults disk) (D.faults result.disk) }
+    ensures disk_cause { result.status ≡ Status.DiskFault → Rose (D.faults disk) (D.faults result.disk) }
     ensures sink_cause { result.status ≡ Status.SinkFault → Rose (W.faults sink.old) (W.faults sink.new) }
     ensures no_source { result.status ≡ Status.SourceFault → ⊥ }
     ensures later { D.faults disk ≤ D.faults result.disk }
-    ensures complete { CanDo RunCommand s D.tells (Some read.bytes.items) (D.reading disk) (D.block_count disk) → (DiskRose (D.faults disk) (D.faults result.disk) → ⊥)
+    ensures complete { CanDo RunCommand s D.tells (Some read.bytes.items) (D.reading disk) (D.block_count disk) → (Rose (D.faults disk) (D.faults result.disk) → ⊥)
         → (Rose (W.faults sink.old) (W.faults sink.new) → ⊥) → IsComplete result.status }
 {
     match open_run(alloc, read, &mut disk, supply) {

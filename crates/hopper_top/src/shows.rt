@@ -3,12 +3,11 @@ ghost use Rattle.std.specs.Prelude.{◌≡◌, ◌≤◌, ◌<◌, ◌^◌, ℕ,
 ghost use Rattle.command_words.specs.declared.Command.TheVariants.{Format as FormatCommand, Show as ShowCommand};
 ghost use Rattle.hop_model.specs.State.{Supply, KernelState};
 ghost use Rattle.history_model.specs.Plains.{cells_of};
-ghost use Rattle.journal.specs.Faults.{Rose as DiskRose};
 ghost use Rattle.journal.specs.Reads.{ReadsOnly};
 ghost use Rattle.journal.specs.Text.{kept_runs};
 ghost use Rattle.opened_image.specs.Opening.{IsOpened};
 ghost use Rattle.plain_show.specs.Show.{shown};
-ghost use Rattle.stream_edge.specs.Counts.{Rose};
+ghost use Rattle.disk_trait.specs.Counts.{Rose};
 ghost use Rattle.hopper_top.specs.Ends.{IsTold};
 ghost use Rattle.hopper_top.specs.Leaving.{FormatLeaves, IsComplete, IsFormatted, ShowLeaves};
 ghost use Rattle.hopper_top.specs.Needs.{CanDo, IsFull};
@@ -67,9 +66,9 @@ pub fn show_disk<W: Sink, D: Disk, S: Fn(u64, u32, u16) -> u64>(
     ensures leaves { ShowLeaves s (seen s D.tells D.reading D.may_leave D.left_since D.clock disk result.disk) result.status result.history.items result.marks.items
         (W.held sink.old) (W.held sink.new) (Rose (W.faults sink.old) (W.faults sink.new)) }
     ensures same { ReadsOnly D.tells D.block_count D.reading D.may_leave D.left_since D.clock D.faults disk result.disk }
-    ensures disk_cause { result.status ≡ Status.DiskFault → DiskRose (D.faults disk) (D.faults result.disk) }
+    ensures disk_cause { result.status ≡ Status.DiskFault → Rose (D.faults disk) (D.faults result.disk) }
     ensures sink_cause { result.status ≡ Status.SinkFault → Rose (W.faults sink.old) (W.faults sink.new) }
-    ensures complete { CanDo ShowCommand s D.tells None (D.reading disk) (D.block_count disk) → (DiskRose (D.faults disk) (D.faults result.disk) → ⊥)
+    ensures complete { CanDo ShowCommand s D.tells None (D.reading disk) (D.block_count disk) → (Rose (D.faults disk) (D.faults result.disk) → ⊥)
         → (Rose (W.faults sink.old) (W.faults sink.new) → ⊥) → IsComplete result.status }
 {
     match open_image(alloc, &mut disk, supply) {
@@ -90,8 +89,8 @@ pub fn format_disk<W: Sink, D: Disk>(
     ensures leaves { FormatLeaves result.status result.history.items result.marks.items (W.held sink.old) (W.held sink.new) (Rose (W.faults sink.old) (W.faults sink.new)) }
     ensures made { result.status ≡ Status.Done → D.tells → IsFormatted blocks (D.reading result.disk) (D.may_leave result.disk) }
     ensures full { (n : NoBlocks) → result.status ≡ Status.BlocksFull n → IsFull (FormatCommand blocks) D.tells None (D.reading disk) (D.block_count disk) n × (result.disk ≡ disk) }
-    ensures disk_cause { result.status ≡ Status.DiskFault → DiskRose (D.faults disk) (D.faults result.disk) }
-    ensures complete { blocks ≤ D.block_count disk → (DiskRose (D.faults disk) (D.faults result.disk) → ⊥) → result.status ≡ Status.Done }
+    ensures disk_cause { result.status ≡ Status.DiskFault → Rose (D.faults disk) (D.faults result.disk) }
+    ensures complete { blocks ≤ D.block_count disk → (Rose (D.faults disk) (D.faults result.disk) → ⊥) → result.status ≡ Status.Done }
 {
     match format(&mut disk, blocks) {
         Ok(()) => Outcome {

@@ -40,7 +40,7 @@ pub(crate) fn sink_of(alloc: Global, room: u32, fails: &[u64]) -> Result<MemoryS
     MemorySink::new(alloc, room, calls)
 }
 
-/// A disk of zero blocks with room for two thousand writes and syncs.
+/// A disk of zero blocks with room for 3,000 writes and syncs.
 pub(crate) fn disk_of(alloc: Global, blocks: u32, fails: &[u64]) -> Result<MemoryDisk, AllocError> {
     let mut calls = Vec::new(alloc);
     calls.extend_from_slice(fails)?;

@@ -4,9 +4,8 @@ ghost use Rattle.std.specs.Io.KnownBytes.{IsAtEnd};
 ghost use Rattle.command_words.specs.Commands.{IsCommand};
 ghost use Rattle.command_words.specs.declared.Command.TheVariants.{Format as FormatCommand, Run as RunCommand, Show as ShowCommand};
 ghost use Rattle.hop_model.specs.State.{Supply};
-ghost use Rattle.journal.specs.Faults.{Rose as DiskRose};
 ghost use Rattle.journal.specs.Reads.{ReadsOnly};
-ghost use Rattle.stream_edge.specs.Counts.{Rose};
+ghost use Rattle.disk_trait.specs.Counts.{Rose};
 ghost use Rattle.hopper_top.specs.Leaving.{IsComplete, IsFormatted, IsNoCommand, Leaves, RunLeaves, UsageLeaves};
 ghost use Rattle.hopper_top.specs.Needs.{CanDo, HasRoom, IsFull};
 ghost use Rattle.hopper_top.specs.Seen.{seen};
@@ -38,10 +37,10 @@ fn run_source<R: Source, W: Sink, D: Disk, S: Fn(u64, u32, u16) -> u64>(
     ensures source_cause { result.status ≡ Status.SourceFault → Rose (R.faults source.old) (R.faults source.new) }
     ensures blocks { (n : NoBlocks) → result.status ≡ Status.BlocksFull n → IsFull RunCommand D.tells (R.left source.old) (D.reading disk) (D.block_count disk) n }
     ensures fits { 0 < length result.marks.items → HasRoom D.tells (R.left source.old) (D.reading disk) }
-    ensures disk_cause { result.status ≡ Status.DiskFault → DiskRose (D.faults disk) (D.faults result.disk) }
+    ensures disk_cause { result.status ≡ Status.DiskFault → Rose (D.faults disk) (D.faults result.disk) }
     ensures sink_cause { result.status ≡ Status.SinkFault → Rose (W.faults sink.old) (W.faults sink.new) }
     ensures complete { CanDo RunCommand s D.tells (R.left source.old) (D.reading disk) (D.block_count disk) → (Rose (R.faults source.old) (R.faults source.new) → ⊥)
-        → (DiskRose (D.faults disk) (D.faults result.disk) → ⊥) → (Rose (W.faults sink.old) (W.faults sink.new) → ⊥) → IsComplete result.status }
+        → (Rose (D.faults disk) (D.faults result.disk) → ⊥) → (Rose (W.faults sink.old) (W.faults sink.new) → ⊥) → IsComplete result.status }
 {
     match read_source(alloc, source) {
         Ok(read) => run_read(alloc, read, sink, disk, supply),
@@ -90,13 +89,13 @@ pub fn hopper<R: Source, W: Sink, D: Disk, S: Fn(u64, u32, u16) -> u64>(
 
     // When each status comes.
     ensures source_fault { result.status ≡ Status.SourceFault → Rose (R.faults source.old) (R.faults source.new) }
-    ensures disk_fault { result.status ≡ Status.DiskFault → DiskRose (D.faults disk) (D.faults result.disk) }
+    ensures disk_fault { result.status ≡ Status.DiskFault → Rose (D.faults disk) (D.faults result.disk) }
     ensures sink_fault { result.status ≡ Status.SinkFault → Rose (W.faults sink.old) (W.faults sink.new) }
     ensures blocks { (c : Command) (n : NoBlocks) → IsCommand (map string_bytes words.now) c → result.status ≡ Status.BlocksFull n
         → IsFull c D.tells (R.left source.old) (D.reading disk) (D.block_count disk) n }
     ensures fits { 0 < length result.marks.items → HasRoom D.tells (R.left source.old) (D.reading disk) }
     ensures complete { (c : Command) → IsCommand (map string_bytes words.now) c → CanDo c s D.tells (R.left source.old) (D.reading disk) (D.block_count disk)
-        → (Rose (R.faults source.old) (R.faults source.new) → ⊥) → (DiskRose (D.faults disk) (D.faults result.disk) → ⊥) → (Rose (W.faults sink.old) (W.faults sink.new) → ⊥)
+        → (Rose (R.faults source.old) (R.faults source.new) → ⊥) → (Rose (D.faults disk) (D.faults result.disk) → ⊥) → (Rose (W.faults sink.old) (W.faults sink.new) → ⊥)
         → IsComplete result.status }
 {
     match read_command(alloc, words) {

@@ -144,9 +144,6 @@ bad_rest First Second bytes n m plain ends front first bad =
 
 -- a byte before a member of a set
 
-first_of_after : (c : ℕ) (Set : List ℕ → Type 0) (b : ℕ) (bytes : List ℕ) → After c Set (b ∷ bytes) → b ≡ c
-first_of_after c Set b bytes (y, member, e) = cc
-
 -- where the bytes don't begin with it, nothing goes on
 pub after_missing : (c : ℕ) (Set : List ℕ → Type 0) (bytes : List ℕ) → (y : List ℕ) → Set y → (0 < length bytes → get_or bytes 0 0 ≢ c) → IsLongestFront (After c Set) bytes 0
 after_missing c Set [] y member other = record {

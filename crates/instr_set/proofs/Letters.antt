@@ -1,5 +1,5 @@
 -- Letters for the bits of a set.
-use Rattle.std.proofs.Common.{◌≡◌, ◌≢◌, ℕ, suc, ◌+◌, ◌*◌, ◌/◌, ◌%◌, ◌^◌, ◌<◌, Bool, true, false, cond, eqb, ◌==◌, not, ◌&&◌, ◌||◌, List, [], ◌∷◌, ◌++◌, length, take, get_or, refl, sym, ap, ◌∙◌, ◌⊎◌, inl, inr, ⊎_elim, arith, add-one, length-append, length-take}
+use Rattle.std.proofs.Common.{◌≡◌, ℕ, suc, ◌+◌, ◌*◌, ◌/◌, ◌%◌, ◌^◌, ◌<◌, Bool, true, false, cond, eqb, ◌==◌, not, ◌&&◌, ◌||◌, List, [], ◌∷◌, ◌++◌, length, take, refl, sym, ap, ◌∙◌, ◌⊎◌, inl, inr, ⊎_elim, arith, add-one}
 use Rattle.std.specs.List.{list_any}
 use Rattle.std.proofs.lemmas.Bool.{false≢true, cases_eq}
 use borrow.Author.Tests.{eq-eqb, ne_eqb}
@@ -77,15 +77,7 @@ letters_same (letter ∷ letters) d m n m_small n_small e =
     (parity n))
     (parity m)
 
--- reading: at the end of the letters, at a letter that comes next, and at one that doesn't
-
-pub letters_end : (bytes : List ℕ) → ReadsLetters [] bytes 0 0
-letters_end bytes = record {
-  small = omega arith;
-  within = omega arith;
-  spelled = refl;
-  no_more = λ l other rest e. omega (arith, ap length e, length-append (take 1 bytes) rest, length-take 1 bytes);
-}
+-- reading: at a letter that comes next
 
 module _ (letter : ℕ) (letters : List ℕ) (d : differ (letter ∷ letters) ≡ true) (bytes : List ℕ) (n set : ℕ) (h : ReadsLetters letters bytes n set) where
   pub letters_next : ReadsLetters (letter ∷ letters) (letter ∷ bytes) (n + 1) (2 * set + 1)
@@ -103,18 +95,3 @@ module _ (letter : ℕ) (letters : List ℕ) (d : differ (letter ∷ letters) �
     where
       next_front : (k : ℕ) (rest : List ℕ) → take (k + 1) (letter ∷ bytes) ++ rest ≡ letter ∷ (take k bytes ++ rest)
       next_front k rest = rw add-one refl
-
-  pub letters_skip : (0 < length bytes → get_or bytes 0 0 ≢ letter) → ReadsLetters (letter ∷ letters) bytes n (2 * set)
-  letters_skip other_first = record {
-    small = omega (arith, h.small, doubled (length letters));
-    within = h.within;
-    spelled = letters_even letter letters (2 * set) (omega arith) ∙ ap (letters_of letters) (let e : (2 * set) / 2 ≡ set = omega arith in e) ∙ h.spelled;
-    no_more = λ l other rest e. ⊎_elim
-        (λ (odd : other % 2 ≡ 1). other_first (omega arith) (front_is bytes n (letters_of letters (other / 2)) rest l (sym e ∙ letters_odd letter letters other odd)))
-        (λ (even : other % 2 ≡ 0). h.no_more l (other / 2) rest (sym (letters_even letter letters other even) ∙ e))
-        (parity other);
-  }
-    where
-      front_is : (bytes : List ℕ) (n : ℕ) (more rest : List ℕ) → n < length bytes → take (n + 1) bytes ++ rest ≡ letter ∷ more → get_or bytes 0 0 ≡ letter
-      front_is [] n more rest l e = absurd (omega arith)
-      front_is (b ∷ bytes) n more rest l e = let f : b ∷ (take n bytes ++ rest) ≡ letter ∷ more = rw add-one at e in cc

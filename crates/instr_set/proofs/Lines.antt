@@ -1,5 +1,5 @@
 -- A whole line: its word, and then its operands.
-use Rattle.std.proofs.Common.{◌≡◌, ℕ, zero, suc, ◌+◌, ◌/◌, ◌%◌, ◌<◌, ◌≤◌, List, [], ◌∷◌, ◌++◌, length, take, drop, get_or, Some, None, refl, sym, ap, ◌∙◌, subst, ⊎_elim, arith, append_assoc, length-append, length-take, take-append-drop}
+use Rattle.std.proofs.Common.{◌≡◌, ℕ, zero, suc, ◌+◌, ◌/◌, ◌%◌, ◌<◌, ◌≤◌, List, [], ◌∷◌, ◌++◌, length, take, drop, get_or, Some, None, refl, sym, ap, ◌∙◌, subst, ⊎_elim, arith, length-append, length-take, take-append-drop}
 use Rattle.std.proofs.lemmas.List.{take_more, take_all, append-nil, get_or_default}
 use Rattle.std.proofs.lemmas.Grind.{flat_map-append}
 use Rattle.std.proofs.lemmas.Fmt.{length-decimal-le}
@@ -135,12 +135,6 @@ next_fits c os i o small oks l is =
     let all : tail os ≡ tail (take (i + 1) os) ++ tail (drop (i + 1) os) = ap tail (sym (take-append-drop (i + 1) os)) ∙ flat_map-append (λ p. 32 ∷ token p) (take (i + 1) os) (drop (i + 1) os) in
     let one : tail (o ∷ []) ≡ 32 ∷ token o = append-nil (32 ∷ token o) in
     omega (arith, form_len c os small oks, ap length all, length-append (tail (take (i + 1) os)) (tail (drop (i + 1) os)), ap length more, length-append (tail (take i os)) (tail (o ∷ [])), ap length one, length-append (word_at c) (tail (take i os)))
-
-pub next_tail : (word : List ℕ) (os : List Operand) (i : ℕ) (o : Operand) → i < length os → o ≡ get_or os i o
-    → word ++ tail (take (i + 1) os) ≡ ((word ++ tail (take i os)) ++ 32 ∷ []) ++ token o
-next_tail word os i o l is =
-    ap (λ z. word ++ tail z) (take_more os i o l ∙ ap (λ p. take i os ++ p ∷ []) (sym is)) ∙ ap (λ z. word ++ z) (flat_map-append (λ p. 32 ∷ token p) (take i os) (o ∷ []))
-    ∙ ap (λ z. word ++ (tail (take i os) ++ z)) (append-nil (32 ∷ token o)) ∙ sym (append_assoc word (tail (take i os)) (32 ∷ token o)) ∙ sym (append_assoc (word ++ tail (take i os)) (32 ∷ []) (token o))
 
 rows_few : AllRows (λ x. length x.kinds ≤ 6) rows
 rows_few =

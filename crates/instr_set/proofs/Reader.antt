@@ -1,5 +1,5 @@
 -- `instr_of` gives the instruction that a text spells, and nothing for other texts.
-use Rattle.std.proofs.Common.{◌≡◌, ◌≢◌, ℕ, zero, suc, ◌+◌, ◌<◌, ◌≤◌, ◌^◌, Bool, true, false, ◌&&◌, ◌==◌, if◌then◌else◌, eqb, eqb-true, List, [], ◌∷◌, ◌++◌, length, map, Option, Some, None, MatchOption, unwrap_or, option_and_then, bytes_eq, refl, sym, ap, ◌∙◌, subst, ◌⊎◌, inl, inr, ⊎_elim, arith}
+use Rattle.std.proofs.Common.{◌≡◌, ℕ, zero, suc, ◌+◌, ◌<◌, ◌≤◌, Bool, true, false, ◌&&◌, ◌==◌, if◌then◌else◌, eqb, eqb-true, List, [], ◌∷◌, ◌++◌, length, Option, Some, None, MatchOption, unwrap_or, option_and_then, bytes_eq, refl, sym, ap, ◌∙◌, subst, ⊎_elim, arith}
 use Rattle.std.specs.Option.{option_eq}
 use Rattle.std.specs.Fmt.{decimal}
 use Rattle.std.specs.List.{position_or_len}

@@ -1,10 +1,10 @@
 -- Operands with a blank before each.
-use Rattle.std.proofs.Common.{◌≡◌, ◌≢◌, ℕ, zero, suc, ◌+◌, ◌/◌, ◌%◌, ◌^◌, ◌<◌, ◌≤◌, Bool, true, false, not, ◌||◌, ◌==◌, List, [], ◌∷◌, ◌++◌, length, take, drop, get_or, Some, None, refl, sym, ap, ◌∙◌, subst, ◌⊎◌, inl, inr, ⊎_elim, arith, append_assoc}
+use Rattle.std.proofs.Common.{◌≡◌, ◌≢◌, ℕ, zero, suc, ◌+◌, ◌/◌, ◌%◌, ◌^◌, ◌<◌, ◌≤◌, Bool, true, false, not, ◌||◌, ◌==◌, List, [], ◌∷◌, ◌++◌, length, drop, get_or, Some, None, refl, sym, ap, ◌∙◌, subst, ◌⊎◌, inl, inr, ⊎_elim, arith}
 use Rattle.std.specs.Fmt.{decimal}
 use Rattle.std.proofs.lemmas.Bool.{cases_lt, false≢true}
 use Rattle.std.specs.List.{list_any}
 use borrow.Author.Tests.{eq-eqb}
-use Rattle.std.proofs.lemmas.List.{get_or_past, take-append-drop}
+use Rattle.std.proofs.lemmas.List.{get_or_past}
 use Rattle.std.proofs.lemmas.Str.Parse.{digit_at}
 use Rattle.std.proofs.lemmas.Fmt.{decimal_is_IsNumeral, decimal_injective}
 use Rattle.instr_set.specs.declared.forms.OperandKind.{OperandKind}
@@ -13,7 +13,7 @@ use Rattle.instr_set.specs.declared.forms.Operand.{Operand}
 use Rattle.instr_set.specs.declared.forms.Operand.TheVariants as operand
 use Rattle.instr_set.specs.Fronts.{Spelled, IsBadPlace, Reads}
 use Rattle.instr_set.specs.Spelling.{letters_of, rights}
-use Rattle.instr_set.specs.Forms.{token, tail, IsOperand, AreOperands, IsTail, ReadsAll}
+use Rattle.instr_set.specs.Forms.{token, tail, IsOperand, AreOperands, IsTail}
 use Rattle.instr_set.proofs.Fronts.{NoBlank, IsEndOrBlank, Then, After, bad_same, after_front, after_missing, bad_token, bad_rest}
 use Rattle.instr_set.proofs.Letters.{parity, letters_odd, letters_even, absent_front, letters_same}
 use Rattle.instr_set.proofs.Tokens.{all_letters, set, rights_letters, register_back, number_back, place_back, access_back, rights_back, entry_back}
@@ -126,16 +126,6 @@ more_ends ks x y (os, oks, e) = subst IsEndOrBlank e (ends os)
 
 -- the bad places of operands
 
-pub bad_end : (b : ℕ) (bytes : List ℕ) → IsBadPlace (IsTail []) (b ∷ bytes) 0
-bad_end b bytes = record {
-  front = record { within = omega arith; goes_on = ([], ([], tt, refl)); no_more = λ l (rest, s). none (b ∷ rest) s (omega arith) };
-  incomplete = λ e. absurd (omega arith);
-}
-  where
-    none : (bs : List ℕ) → IsTail [] bs → 0 < length bs → ⊥
-    none bs ([], oks, e) l = omega (arith, ap length e)
-    none bs (o ∷ os, oks, e) l = oks
-
 pub bad_blank : (k : OperandKind) (ks : List OperandKind) (bytes : List ℕ) → (0 < length bytes → get_or bytes 0 0 ≢ 32) → IsBadPlace (IsTail (k ∷ ks)) bytes 0
 bad_blank k ks bytes other =
     let some = from_tail k ks _ (some_tail (k ∷ ks)).1 in
@@ -154,11 +144,6 @@ pub bad_later : (k : OperandKind) (ks : List OperandKind) (bytes : List ℕ) (n 
 bad_later k ks bytes n m o h bad =
     bad_same (to_tail k ks) (from_tail k ks) (32 ∷ bytes) (n + m + 1) (after_bad 32 (OneAndMore k ks) bytes (n + m)
     (bad_rest (Spelled (IsOperand k) token) (λ x y. IsTail ks y) bytes n m (one_plain k) (more_ends ks) h.front (o, h.whole.0, h.whole.1) bad))
-
-pub all_read : (k : OperandKind) (ks : List OperandKind) (bytes : List ℕ) (n : ℕ) (o : Operand) (old new : List Operand) → Reads (IsOperand k) token bytes n (Some o)
-    → ReadsAll ks (drop n bytes) (old ++ o ∷ []) new → ReadsAll (k ∷ ks) (32 ∷ bytes) old new
-all_read k ks bytes n o old new h (more, oks, e, f) =
-    (o ∷ more, (h.whole.0, oks), ap (λ z. 32 ∷ (z ++ tail more)) h.whole.1 ∙ ap (λ z. 32 ∷ (take n bytes ++ z)) e ∙ ap (λ z. 32 ∷ z) (take-append-drop n bytes), f ∙ append_assoc old (o ∷ []) more)
 
 -- operands are told by their spelling
 

@@ -112,43 +112,85 @@ fn list(operands: &[Operand]) -> ArrayVec<Operand, MOST>
     list
 }
 
+/// The code of an instruction: its place in the table of forms, from 0 for `set` to 25 for `halt`.
+pub fn code(instr: &Instr) -> u8
+    ensures { result ≡ code_of instr.now }
+{
+    match *instr {
+        Instr::Set(_, _) => 0,
+        Instr::Copy(_, _) => 1,
+        Instr::Add(_, _) => 2,
+        Instr::Sub(_, _) => 3,
+        Instr::Jump(_) => 4,
+        Instr::Jz(_, _) => 5,
+        Instr::Load(_, _) => 6,
+        Instr::Store(_, _) => 7,
+        Instr::Invoke(_) => 8,
+        Instr::Leave(_) => 9,
+        Instr::Return => 10,
+        Instr::Map(_, _, _, _, _, _) => 11,
+        Instr::Unmap(_, _) => 12,
+        Instr::Lmap(_, _, _, _, _) => 13,
+        Instr::Lunmap(_) => 14,
+        Instr::Take(_, _, _) => 15,
+        Instr::Give(_, _, _, _) => 16,
+        Instr::Drop(_) => 17,
+        Instr::Make(_, _, _, _) => 18,
+        Instr::Spawn(_, _) => 19,
+        Instr::Stop(_) => 20,
+        Instr::Go(_) => 21,
+        Instr::Snap(_) => 22,
+        Instr::Stabilise(_) => 23,
+        Instr::Print(_) => 24,
+        Instr::Halt => 25,
+    }
+}
+
+/// The operands of an instruction in the order of the spelling.
+fn operands(instr: &Instr) -> ArrayVec<Operand, MOST>
+    ensures { result.items ≡ operands_of instr.now }
+{
+    match *instr {
+        Instr::Set(d, n) => list(&[r(d), Operand::Number(n)]),
+        Instr::Copy(d, s) => list(&[r(d), r(s)]),
+        Instr::Add(d, s) => list(&[r(d), r(s)]),
+        Instr::Sub(d, s) => list(&[r(d), r(s)]),
+        Instr::Jump(p) => list(&[Operand::Place(p)]),
+        Instr::Jz(s, p) => list(&[r(s), Operand::Place(p)]),
+        Instr::Load(d, a) => list(&[r(d), r(a)]),
+        Instr::Store(a, s) => list(&[r(a), r(s)]),
+        Instr::Invoke(c) => list(&[r(c)]),
+        Instr::Leave(c) => list(&[r(c)]),
+        Instr::Return => list(&[]),
+        Instr::Map(d, a, c, b, n, access) => list(&[
+            r(d),
+            r(a),
+            r(c),
+            r(b),
+            r(n),
+            Operand::Rights(access),
+        ]),
+        Instr::Unmap(d, a) => list(&[r(d), r(a)]),
+        Instr::Lmap(a, c, b, n, access) => list(&[r(a), r(c), r(b), r(n), Operand::Rights(access)]),
+        Instr::Lunmap(a) => list(&[r(a)]),
+        Instr::Take(d, c, y) => list(&[r(d), r(c), r(y)]),
+        Instr::Give(d, c, s, rights) => list(&[r(d), r(c), r(s), Operand::Rights(rights)]),
+        Instr::Drop(s) => list(&[r(s)]),
+        Instr::Make(d, n, t, entry) => list(&[r(d), r(n), r(t), Operand::Entry(entry)]),
+        Instr::Spawn(d, p) => list(&[r(d), Operand::Place(p)]),
+        Instr::Stop(c) => list(&[r(c)]),
+        Instr::Go(c) => list(&[r(c)]),
+        Instr::Snap(c) => list(&[r(c)]),
+        Instr::Stabilise(c) => list(&[r(c)]),
+        Instr::Print(s) => list(&[r(s)]),
+        Instr::Halt => list(&[]),
+    }
+}
+
 /// The code of an instruction, and its operands in the order of the spelling.
 pub(crate) fn parts(instr: &Instr) -> (usize, ArrayVec<Operand, MOST>)
     ensures code { result.0 ≡ code_of instr.now }
     ensures operands { result.1.items ≡ operands_of instr.now }
 {
-    match *instr {
-        Instr::Set(d, n) => (0, list(&[r(d), Operand::Number(n)])),
-        Instr::Copy(d, s) => (1, list(&[r(d), r(s)])),
-        Instr::Add(d, s) => (2, list(&[r(d), r(s)])),
-        Instr::Sub(d, s) => (3, list(&[r(d), r(s)])),
-        Instr::Jump(p) => (4, list(&[Operand::Place(p)])),
-        Instr::Jz(s, p) => (5, list(&[r(s), Operand::Place(p)])),
-        Instr::Load(d, a) => (6, list(&[r(d), r(a)])),
-        Instr::Store(a, s) => (7, list(&[r(a), r(s)])),
-        Instr::Invoke(c) => (8, list(&[r(c)])),
-        Instr::Leave(c) => (9, list(&[r(c)])),
-        Instr::Return => (10, list(&[])),
-        Instr::Map(d, a, c, b, n, access) => (
-            11,
-            list(&[r(d), r(a), r(c), r(b), r(n), Operand::Rights(access)]),
-        ),
-        Instr::Unmap(d, a) => (12, list(&[r(d), r(a)])),
-        Instr::Lmap(a, c, b, n, access) => (
-            13,
-            list(&[r(a), r(c), r(b), r(n), Operand::Rights(access)]),
-        ),
-        Instr::Lunmap(a) => (14, list(&[r(a)])),
-        Instr::Take(d, c, y) => (15, list(&[r(d), r(c), r(y)])),
-        Instr::Give(d, c, s, rights) => (16, list(&[r(d), r(c), r(s), Operand::Rights(rights)])),
-        Instr::Drop(s) => (17, list(&[r(s)])),
-        Instr::Make(d, n, t, entry) => (18, list(&[r(d), r(n), r(t), Operand::Entry(entry)])),
-        Instr::Spawn(d, p) => (19, list(&[r(d), Operand::Place(p)])),
-        Instr::Stop(c) => (20, list(&[r(c)])),
-        Instr::Go(c) => (21, list(&[r(c)])),
-        Instr::Snap(c) => (22, list(&[r(c)])),
-        Instr::Stabilise(c) => (23, list(&[r(c)])),
-        Instr::Print(s) => (24, list(&[r(s)])),
-        Instr::Halt => (25, list(&[])),
-    }
+    (code(instr) as usize, operands(instr))
 }

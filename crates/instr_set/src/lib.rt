@@ -9,6 +9,7 @@ mod reading;
 mod words;
 mod writing;
 
+pub use building::code;
 pub use reading::{BadInstr, read_line};
 pub use writing::{write_line, write_rights};
 

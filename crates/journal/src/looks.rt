@@ -2,7 +2,7 @@
 ghost use Rattle.std.specs.Prelude.{◌≡◌, ◌<◌, ◌≤◌, ◌↔◌, ◌*◌, ◌^◌, length, IfOk, IsTrue, IsErrOf};
 ghost use Rattle.disk_trait.specs.Disk.{HasCause};
 ghost use Rattle.disk_trait.specs.Image.{block_at};
-ghost use Rattle.journal.specs.Faults.{Rose};
+ghost use Rattle.disk_trait.specs.Counts.{Rose};
 ghost use Rattle.journal.specs.Layout.{HasFirst, IsFirst, IsOpen, epoch_in, first_block as first_of, first_number as number_of, half_bytes};
 ghost use Rattle.journal.specs.Reads.{ReadsOnly};
 

@@ -1,6 +1,6 @@
 // What the journal on a disk says.
 ghost use Rattle.std.specs.Prelude.{◌≡◌, ◌<◌, ◌≤◌, ◌^◌, IfOk, OnOk, IsErrOf};
-ghost use Rattle.journal.specs.Faults.{Rose};
+ghost use Rattle.disk_trait.specs.Counts.{Rose};
 ghost use Rattle.journal.specs.Journal.{HasEqualEpochs, IsForeign, Keeps, IsInForceAt};
 ghost use Rattle.journal.specs.Layout.{epoch_in, other};
 ghost use Rattle.journal.specs.Reads.{ReadsOnly};

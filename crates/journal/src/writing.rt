@@ -3,7 +3,7 @@ ghost use Rattle.std.specs.Prelude.{◌≡◌, ◌≢◌, ◌⊎◌, ◌<◌, �
 ghost use Rattle.disk_trait.specs.Disk.{Began, HasCause, Only};
 ghost use Rattle.disk_trait.specs.Image.{HasRun, IsInRun, SameOutside, block_at};
 ghost use Rattle.disk_trait.specs.Moments.{LeavesOnly, Quiet};
-ghost use Rattle.journal.specs.Faults.{Rose};
+ghost use Rattle.disk_trait.specs.Counts.{Rose};
 ghost use Rattle.journal.specs.Journal.{HasItems, Keeps};
 ghost use Rattle.journal.specs.Layout.{IsOfHalf, gate_at, half_at, open_gate};
 ghost use Rattle.journal.specs.Stages.{IsStage};

@@ -4,7 +4,7 @@ ghost use Rattle.disk_trait.specs.Disk.{Only};
 ghost use Rattle.hop_base.specs.declared.histories.Event.TheVariants.{Snap as SnapEvent, Stable, Tried};
 ghost use Rattle.hop_model.specs.Histories.{mark};
 ghost use Rattle.hop_model.specs.Serial.{IsSerialFront};
-ghost use Rattle.journal.specs.Faults.{Rose};
+ghost use Rattle.disk_trait.specs.Counts.{Rose};
 ghost use Rattle.journal.specs.Journal.{Keeps};
 ghost use Rattle.journal.specs.Text.{KeptRun, blocks_needed, kept_runs};
 ghost use Rattle.kept_run.specs.Marking.{IsMarked};

@@ -3,7 +3,7 @@ ghost use Rattle.std.specs.Prelude.{◌≡◌, ◌<◌, ◌≤◌, ◌+◌, ◌-
 ghost use Rattle.disk_trait.specs.Disk.{Began, Only};
 ghost use Rattle.hop_base.specs.declared.histories.Event.TheVariants.{Stable};
 ghost use Rattle.hop_model.specs.Serial.{IsSerialFront};
-ghost use Rattle.journal.specs.Faults.{Rose};
+ghost use Rattle.disk_trait.specs.Counts.{Rose};
 ghost use Rattle.journal.specs.Journal.{Keeps};
 ghost use Rattle.journal.specs.Text.{KeptRun, blocks_needed, kept_runs};
 ghost use Rattle.kept_run.specs.Keeping.{Beginning, EndsWithRun, IsKept, LeavesTry, runs_with};

@@ -5,7 +5,7 @@ ghost use Rattle.history_model.specs.Plains.{cells_of};
 ghost use Rattle.hop_model.specs.Serial.{IsSerial};
 ghost use Rattle.hop_model.specs.Soundness.{IsSound};
 ghost use Rattle.hop_model.specs.State.{Supply, KernelState};
-ghost use Rattle.journal.specs.Faults.{Rose};
+ghost use Rattle.disk_trait.specs.Counts.{Rose};
 ghost use Rattle.journal.specs.Journal.{Keeps};
 ghost use Rattle.journal.specs.Text.{KeptRun, blocks_needed, kept_runs};
 ghost use Rattle.kept_run.specs.Keeping.{Beginning, EndsWithRun, IsKept, LeavesKept};
@@ -18,14 +18,14 @@ ghost use Rattle.disk_trait.specs.Image.{Image};
 ghost use Rattle.run_cuts.specs.Left.{IsLeft};
 ghost use Rattle.run_cuts.specs.Marks.{AreMarks, completes};
 ghost use Rattle.plain_run.specs.Standing.{Stands};
-ghost use Rattle.script_read.specs.Scripts.{tables_of};
+ghost use Rattle.script_form.specs.Scripts.{tables_of};
 
 use crate::entries::keep_entry;
 use crate::keeping::{Kept, Stop};
 use disk_trait::{Disk, NoBlocks};
 use journal::Journal;
 use plain_run::SerialRun;
-use script_read::Script;
+use script_form::Script;
 use std::alloc::{AllocError, Global};
 
 // Makes room for an entry and a mark.

@@ -24,8 +24,9 @@ use Rattle.hop_model.specs.Words.{unless, first, flat, overlaps, insert_region, 
 use Rattle.region_map.specs.Regions.{begins_at, add_answer}
 use Rattle.region_map.specs.Regions.{insert_region as region_put}
 use Rattle.atlas_dir.specs.Directory.{Directory, edges_of, with_count, IsBornContainer}
-use Rattle.atlas_dir.specs.Reached.{IsAmongContainers, with_edge}
-use Rattle.atlas_dir.proofs.Circles.{circle_found}
+use Rattle.circle_law.specs.Containers.{IsAmongContainers}
+use Rattle.circle_law.proofs.Circles.{circle_found}
+use Rattle.atlas_dir.specs.Reached.{with_edge}
 use Rattle.wanted_act.specs.Views.{may_name_itself}
 use Rattle.wanted_act.proofs.Allowed.{unless_none, first_none}
 use Rattle.locus_machine.proofs.Alone.{wanted_says}

@@ -169,7 +169,8 @@ impl Privates {
         &self.items[..self.len as usize]
     }
 
-    fn push(&mut self, new: Private)
+    /// Adds the region behind all others.
+    pub fn push(&mut self, new: Private)
         requires { length self.old < MOST_PRIVATES }
         ensures { self.new ≡ self.old ++ new ∷ [] }
     {

@@ -11,11 +11,8 @@ ghost use Rattle.wanted_act.specs.Views.{IsReadyLocus};
 ghost use Rattle.locus_machine.specs.Loci.{locus_of, touches_alone, IsAlone};
 
 use crate::loci::Locus;
-use hop_base::{Answer, Condition, Instr, Private, Reply, Rights};
+use hop_base::{Answer, Condition, Instr, MOST_PRINTED, Private, Reply, Rights};
 use wanted_act::new_region;
-
-/// Printed values are counted up to this number.
-const MOST_PRINTED: u64 = 1 << 62;
 
 /// A register gets a value, and the place is the next.
 #[tactic(auto, unfolding(hop_model::specs::Outcomes::local_act))]

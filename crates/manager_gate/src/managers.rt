@@ -1,4 +1,4 @@
-ghost use Rattle.std.specs.Prelude.{◌≡◌};
+ghost use Rattle.std.specs.Prelude.{◌≡◌, ⊤};
 ghost use Rattle.manager_gate.specs.Managers.{counted_word, is_due};
 
 use crate::{Policy, Supplier};
@@ -9,6 +9,8 @@ pub struct CountedWords;
 
 impl Supplier for CountedWords {
     ghost word = { λ _. counted_word };
+
+    ghost keeps = { λ _. ⊤ };
 
     fn word(&self, tag: u64, page: u32, place: u16) -> u64 {
         if tag == 0 {
@@ -25,6 +27,8 @@ pub struct EveryVersions;
 
 impl Policy for EveryVersions {
     ghost wish = { λ _. is_due };
+
+    ghost keeps = { λ _. ⊤ };
 
     fn wish(&self, every: u32, since: u64) -> bool {
         every != 0 && since >= every as u64

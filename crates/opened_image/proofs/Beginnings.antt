@@ -11,7 +11,7 @@ use Rattle.journal.specs.Text.{KeptRun, blocks_needed, kept, kept_runs}
 use Rattle.journal.specs.declared.kinds.Item.{Item}
 use Rattle.plain_run.specs.Snaps.{has_no_snap}
 use Rattle.plain_run.proofs.Beginning.{IsEmpty, can_begin}
-use Rattle.script_read.specs.Rules.{IsScript}
+use Rattle.script_form.specs.Rules.{IsScript}
 use Rattle.opened_image.specs.Opening.{IsReached}
 
 -- NOTHING

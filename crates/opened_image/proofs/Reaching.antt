@@ -16,7 +16,7 @@ use Rattle.plain_run.specs.Snaps.{HasNoSnapTables}
 use Rattle.plain_run.specs.Standing.{CanBegin, Stands}
 use Rattle.plain_run.specs.declared.serial.SerialRun.{SerialRun}
 use Rattle.plain_run.proofs.Beginning.{few_entries}
-use Rattle.script_read.specs.Rules.{IsScript}
+use Rattle.script_form.specs.Rules.{IsScript}
 use Rattle.opened_image.specs.Opening.{IsOpened, IsReached}
 use Rattle.opened_image.proofs.Stamping.{legal_below}
 

@@ -12,8 +12,8 @@ use Rattle.journal.specs.declared.kinds.ReadFault.{ReadFault}
 use Rattle.journal.specs.declared.kinds.ReadFault.TheVariants.{Foreign, Memory as NoMemory}
 use Rattle.kept_run.specs.Meaning.{Replays}
 use Rattle.plain_run.specs.Snaps.{HasNoSnaps}
-use Rattle.script_read.specs.declared.refusals.ScriptFault.{ScriptFault}
-use Rattle.script_read.specs.declared.refusals.ScriptFault.TheVariants.{Refused, Memory}
+use Rattle.script_form.specs.declared.refusals.ScriptFault.{ScriptFault}
+use Rattle.script_form.specs.declared.refusals.ScriptFault.TheVariants.{Refused, Memory}
 
 -- WHAT IS OPENED: these cells and versions are those of the state w to which the runs lead from nothing, and a run can begin with them.
 pub record IsOpened (s : Supply) (runs : List KeptRun) (w : KernelState) (state : Plain) (versions : List ℕ) : Type 0 where

@@ -1,7 +1,7 @@
 //! Opens an image.
 ghost use Rattle.std.specs.Prelude.{◌≡◌, ◌<◌, ◌≤◌, ◌^◌, ℕ, IfOk, OnOk, IsErrOf};
 ghost use Rattle.hop_model.specs.State.{Supply, KernelState};
-ghost use Rattle.journal.specs.Faults.{Rose};
+ghost use Rattle.disk_trait.specs.Counts.{Rose};
 ghost use Rattle.journal.specs.Journal.{Keeps};
 ghost use Rattle.journal.specs.Reads.{ReadsOnly};
 ghost use Rattle.journal.specs.Text.{blocks_needed, kept_runs};

@@ -8,8 +8,8 @@ ghost use Rattle.journal.specs.Text.{KeptRun, kept, kept_runs};
 ghost use Rattle.kept_run.specs.Meaning.{BeginsWith, Replays};
 ghost use Rattle.opened_image.specs.Opening.{IsOpened, IsReached, read_fault};
 ghost use Rattle.plain_run.specs.Snaps.{HasNoSnapTables};
-ghost use Rattle.script_read.specs.Rules.{IsScript};
-ghost use Rattle.script_read.specs.Scripts.{tables_of};
+ghost use Rattle.script_form.specs.Rules.{IsScript};
+ghost use Rattle.script_form.specs.Scripts.{tables_of};
 
 use history_model::{Plain, PlainAtlas};
 use journal::{Item, ReadFault};

@@ -1,8 +1,8 @@
 -- One bit of the words is written, and the free blocks change as they should.
-use Rattle.std.proofs.Common.{◌≡◌, ◌≢◌, ℕ, ◌+◌, ◌-◌, ◌*◌, ◌/◌, ◌%◌, ◌^◌, ◌<◌, ◌≤◌, true, false, eqb, List, [], ◌∷◌, length, get_or, set, Contains, min, w64, sym, ap, ◌∙◌, inl, inr, arith}
+use Rattle.std.proofs.Common.{◌≡◌, ◌≢◌, ℕ, ◌+◌, ◌-◌, ◌*◌, ◌/◌, ◌%◌, ◌^◌, ◌<◌, ◌≤◌, true, false, eqb, List, [], ◌∷◌, length, get_or, set, Contains, min, replicate, w64, sym, ap, ◌∙◌, inl, inr, arith}
 use Rattle.std.proofs.lemmas.Bool.{cases_eq, cases_lt}
 use Rattle.std.proofs.lemmas.Bool.Decides.{nat_tests}
-use Rattle.std.proofs.lemmas.List.{get_or_past, get_or-set_same, get_or-set_other}
+use Rattle.std.proofs.lemmas.List.{get_or_past, get_or-set_same, get_or-set_other, get_or-replicate, length-replicate}
 use Rattle.std.proofs.lemmas.Nat.Bits.{bit_at-zero, bit_at-lt, bit_at-trailing_zeros}
 use Rattle.std.specs.Int.{bit_at, trailing_zeros}
 use Rattle.std.proofs.lemmas.List.FromFn.{length-range_with_len}
@@ -75,7 +75,6 @@ module _ (words : List ℕ) (first end free hint : ℕ) (sound : IsSound words f
   pub free_set : (block : ℕ) → bit_of words block ≡ 1 → Contains (free_blocks words first end) block
   free_set block on =
       let within = sound.within block on in
-      let range = sound.range in
       passing_contains (is_set words) first (end - first) block within.0 (omega (arith, within.1)) (set_test words block on)
 
   pub set_free : (block : ℕ) → Contains (free_blocks words first end) block → bit_of words block ≡ 1
@@ -85,7 +84,6 @@ module _ (words : List ℕ) (first end free hint : ℕ) (sound : IsSound words f
 
   pub ordered : IsOrdered (pool_of words first end)
   ordered = record {
-    range = sound.range;
     few = sound.few;
     ascending = passing_ascends (is_set words) first (end - first);
     within = λ block there. sound.within block (set_free block there);
@@ -108,10 +106,9 @@ module _ (words : List ℕ) (first end free hint : ℕ) (sound : IsSound words f
       | inr differs ↦ sound.within b (sym (writes.others b differs) ∙ e)
     ]
 
-    back : free_blocks words first end ≡ with_block block (free_blocks words' first end)
+    pub back : free_blocks words first end ≡ with_block block (free_blocks words' first end)
     back =
         let within = sound.within block on in
-        let range = sound.range in
         passing_with (is_set words') (is_set words) first (end - first) block within.0 (omega (arith, within.1)) (clear_test words' block writes.written) (set_test words block on)
         (λ k differs. same_test words' words k (sym (writes.others k differs)))
 
@@ -121,7 +118,6 @@ module _ (words : List ℕ) (first end free hint : ℕ) (sound : IsSound words f
     -- the block is taken, and the hint stays
     pub sound_taken : IsSound words' first end (free - 1) hint
     sound_taken = record {
-      range = sound.range;
       few = sound.few;
       all_blocks = len ∙ sound.all_blocks;
       within = still_within;
@@ -139,7 +135,6 @@ module _ (words : List ℕ) (first end free hint : ℕ) (sound : IsSound words f
       -- the lowest block is taken, and the hint moves to its word
       pub sound_lowest : IsSound words' first end (free - 1) (block / 64)
       sound_lowest = record {
-        range = sound.range;
         few = sound.few;
         all_blocks = len ∙ sound.all_blocks;
         within = still_within;
@@ -153,21 +148,18 @@ module _ (words : List ℕ) (first end free hint : ℕ) (sound : IsSound words f
       pub lowest_blocks : free_blocks words first end ≡ block ∷ free_blocks words' first end
       lowest_blocks =
           let within = sound.within block on in
-          let range = sound.range in
           passing_lowest (is_set words) (is_set words') first (end - first) block within.0 (omega (arith, within.1)) (set_test words block on) (clear_test words' block writes.written)
           (λ k below. clear_test words k (lowest k below)) (λ k differs. same_test words words' k (writes.others k differs))
 
   module _ (words' : List ℕ) (block : ℕ) (len : length words' ≡ length words) (low : first ≤ block) (high : block < end) (off : bit_of words block ≡ 0) (writes : WritesBit words words' block 1) where
     pub given_blocks : free_blocks words' first end ≡ with_block block (free_blocks words first end)
     given_blocks =
-        let range = sound.range in
         passing_with (is_set words) (is_set words') first (end - first) block low (omega arith) (clear_test words block off) (set_test words' block writes.written)
         (λ k differs. same_test words words' k (writes.others k differs))
 
     -- the block is free again, and the hint is no later than its word
     pub sound_given : IsSound words' first end (free + 1) (min hint (block / 64))
     sound_given = record {
-      range = sound.range;
       few = sound.few;
       all_blocks = len ∙ sound.all_blocks;
       within = λ b e. elim (cases_eq b block) [
@@ -181,6 +173,11 @@ module _ (words : List ℕ) (first end free hint : ℕ) (sound : IsSound words f
       ];
     }
 
+    -- as many as the range has are free at most
+    pub few_given : free + 1 ≤ end - first
+    few_given =
+        omega (arith, sound.counted, ap length given_blocks, length-with_block block (free_blocks words first end), length-passing (is_set words') first (end - first))
+
   -- a bit that isn't set is clear
   pub clear_unless_free : (block : ℕ) → (Contains (free_blocks words first end) block → ⊥) → bit_of words block ≡ 0
   clear_unless_free block taken = elim (cases_eq (bit_of words block) 1) [
@@ -188,16 +185,32 @@ module _ (words : List ℕ) (first end free hint : ℕ) (sound : IsSound words f
     | inr off ↦ omega (arith, bit_at-lt (get_or words (block / 64) 0) (block % 64))
   ]
 
-  pub few_free : free ≤ 65536
-  few_free = omega (arith, sound.counted, sound.few, length-passing (is_set words) first (end - first))
+  pub few_free : free ≤ end - first
+  few_free = omega (arith, sound.counted, length-passing (is_set words) first (end - first))
 
-pub all_free : (words : List ℕ) (first end : ℕ) → first ≤ end → ((b : ℕ) → first ≤ b → b < end → bit_of words b ≡ 1) → free_blocks words first end ≡ range_with_len first (end - first)
-all_free words first end range on = passing_all (is_set words) first (end - first) (λ k low high. set_test words k (on k low (omega arith)))
+-- a pool with no bit set
+pub sound_none : (words : List ℕ) (first end : ℕ) → end < 2 ^ 32 → length words ≡ end / 64 + 1 → ((b : ℕ) → bit_of words b ≡ 0) → IsSound words first end 0 0
+sound_none words first end few len none = record {
+  few = few;
+  all_blocks = len;
+  within = λ b e. let clash = sym (none b) ∙ e in absurd (cc clash);
+  counted = sym (ap length (passing_none (is_set words) first (end - first) (λ k. clear_test words k (none k))));
+  hinted = λ b below. none b;
+}
+
+-- no bit of zeros is set
+pub zeros_clear : (n block : ℕ) → bit_of (replicate n 0) block ≡ 0
+zeros_clear n block = elim (cases_lt (block / 64) n) [
+  | inl within ↦ ap (λ w. bit_at w (block % 64)) (get_or-replicate n (block / 64) 0 0 within) ∙ bit_at-zero (block % 64)
+  | inr past ↦ bit_past (replicate n 0) block (omega (arith, length-replicate {A = ℕ} n 0))
+]
+
+pub all_free : (words : List ℕ) (first end : ℕ) → ((b : ℕ) → first ≤ b → b < end → bit_of words b ≡ 1) → free_blocks words first end ≡ range_with_len first (end - first)
+all_free words first end on = passing_all (is_set words) first (end - first) (λ k low high. set_test words k (on k low (omega arith)))
 
 -- a new pool, whose bits are set for the blocks of the range alone
-pub sound_new : (words : List ℕ) (first end : ℕ) → first ≤ end → end ≤ 65536 → length words ≡ end / 64 + 1 → ((b : ℕ) → first ≤ b → b < end → bit_of words b ≡ 1) → ((b : ℕ) → b < first → bit_of words b ≡ 0) → ((b : ℕ) → end ≤ b → bit_of words b ≡ 0) → IsSound words first end (end - first) (first / 64)
-sound_new words first end range few len on before after = record {
-  range = range;
+pub sound_new : (words : List ℕ) (first end : ℕ) → end < 2 ^ 32 → length words ≡ end / 64 + 1 → ((b : ℕ) → first ≤ b → b < end → bit_of words b ≡ 1) → ((b : ℕ) → b < first → bit_of words b ≡ 0) → ((b : ℕ) → end ≤ b → bit_of words b ≡ 0) → IsSound words first end (end - first) (first / 64)
+sound_new words first end few len on before after = record {
   few = few;
   all_blocks = len;
   within = λ b e. (
@@ -210,6 +223,6 @@ sound_new words first end range few len on before after = record {
       | inr past ↦ let clash = sym (after b past) ∙ e in absurd (cc clash)
     ],
   );
-  counted = sym (ap length (all_free words first end range on) ∙ length-range_with_len first (end - first));
+  counted = sym (ap length (all_free words first end on) ∙ length-range_with_len first (end - first));
   hinted = λ b below. before b (omega arith);
 }

@@ -1,5 +1,5 @@
 -- How the free blocks are kept: one bit for each block, 64 to a word.
-use Rattle.std.specs.Prelude.{◌≡◌, ◌≢◌, ℕ, ◌+◌, ◌-◌, ◌*◌, ◌/◌, ◌%◌, ◌<◌, ◌≤◌, ◌==◌, Bool, List, length, filter, slice_index}
+use Rattle.std.specs.Prelude.{◌≡◌, ◌≢◌, ℕ, ◌+◌, ◌-◌, ◌*◌, ◌/◌, ◌%◌, ◌^◌, ◌<◌, ◌≤◌, ◌==◌, Bool, List, length, filter, slice_index}
 use Rattle.std.specs.List.{range_with_len}
 use Rattle.std.specs.Int.{bit_at}
 use Rattle.page_shadow.specs.Pool.{Pool}
@@ -25,8 +25,7 @@ pub record WritesBit (old new : List ℕ) (block bit : ℕ) : Type 0 where
 
 -- the words have a bit for each block, set for the free blocks of the range alone
 pub record IsSound (words : List ℕ) (first end free hint : ℕ) : Type 0 where
-  pub range : first ≤ end
-  pub few : end ≤ 65536
+  pub few : end < 2 ^ 32
   pub all_blocks : length words ≡ end / 64 + 1
   pub within : (block : ℕ) → bit_of words block ≡ 1 → (first ≤ block) × (block < end)
   pub counted : free ≡ length (free_blocks words first end)

@@ -30,7 +30,7 @@ pub(crate) fn has_bit(words: &[u64], block: u32) -> bool
 
 /// The lowest block whose bit is set, where no bit is set before this word.
 pub(crate) fn lowest_bit(words: &[u64], from: usize) -> Option<u32>
-    requires few { length words.now < 2 ^ 26 }
+    requires few { length words.now ≤ 2 ^ 26 }
     requires none_before { (block : ℕ) → block < 64 * from → bit_of words.now block ≡ 0 }
     ensures found { IfSome result (λ block. bit_of words.now block ≡ 1) }
     ensures lowest { IfSome result (λ block. (other : ℕ) → other < block → bit_of words.now other ≡ 0) }

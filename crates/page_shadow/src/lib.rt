@@ -2,19 +2,21 @@
 //!
 //! The pool keeps one bit for each block, 64 to a word, and remembers the first word that may have a free
 //! block. So a block is mostly found in the first word that is looked at, and at worst after one look at each
-//! word.
+//! word. Beside the pool a count for each block says how often it is named, as by records that are kept.
 #![tactic(auto)]
 
 ghost use Rattle.std.specs.Prelude.{◌≡◌, ℕ, ◌+◌, ◌*◌, ◌<◌, ◌≤◌, ◌↔◌, [], ◌∷◌, length, slice_index, slice_set, replicate, IsTrue, IfOk, IfErr, OnErr};
-ghost use Rattle.page_shadow.specs.Pool.{Pool as Blocks, full_pool, IsFree, IsInRange, with_block, without_block, IsOrdered};
+ghost use Rattle.page_shadow.specs.Pool.{Pool as Blocks, full_pool, empty_pool, IsFree, IsInRange, with_block, without_block, IsOrdered, Takes, Gives};
 ghost use Rattle.page_shadow.specs.ShadowTable.{block_of};
 
 mod bits;
+mod uses;
 
 use bits::{clear_bit, has_bit, lowest_bit, set_bit};
 pub use disk_trait::NoBlocks;
 use std::alloc::{AllocError as Memory, Global};
 use std::marker::Model;
+pub use uses::Uses;
 
 /// The blocks of a range of a disk, each free or in use.
 #[derive(Drop)]
@@ -41,10 +43,9 @@ impl Model for Pool {
 }
 
 impl Pool {
-    /// All blocks from `first` up to `end`, `end` left out, and all free.
+    /// All blocks from `first` up to `end`, `end` left out, and all free. It takes an eighth of a byte for each
+    /// number below `end`.
     pub fn new(alloc: Global, first: u32, end: u32) -> Result<Pool, Memory>
-        requires range { first ≤ end }
-        requires few { end ≤ 65536 }
         ensures { IfOk result (λ p. p ≡ full_pool first end) }
     {
         let mut words = vec![in alloc; 0u64; (end / 64 + 1) as usize]?;
@@ -54,9 +55,22 @@ impl Pool {
         Ok(Pool {
             first,
             end,
-            free: end - first,
+            free: end.saturating_sub(first),
             words,
             hint: (first / 64) as usize,
+        })
+    }
+
+    /// The same range, of which no block is free. It takes as much memory.
+    pub fn none_free(alloc: Global, first: u32, end: u32) -> Result<Pool, Memory>
+        ensures { IfOk result (λ p. p ≡ empty_pool first end) }
+    {
+        Ok(Pool {
+            first,
+            end,
+            free: 0,
+            words: vec![in alloc; 0u64; (end / 64 + 1) as usize]?,
+            hint: 0,
         })
     }
 
@@ -88,6 +102,7 @@ impl Pool {
         ensures none { OnErr result (self.old.blocks ≡ []) }
         ensures count { IfErr result (λ e. e ≡ record { need = 1; free = 0 }) }
         ensures same { OnErr result (self.new ≡ self.old) }
+        ensures takes { IfOk result (λ block. Takes block self.old self.new) }
         ensures first { self.new.first ≡ self.old.first }
         ensures end { self.new.end ≡ self.old.end }
     {
@@ -103,7 +118,8 @@ impl Pool {
     /// Takes this block, which is free.
     pub fn take_this(&mut self, block: u32)
         requires { IsFree self.old block }
-        ensures { self.new ≡ record self.old { blocks = without_block block self.old.blocks } }
+        ensures value { self.new ≡ record self.old { blocks = without_block block self.old.blocks } }
+        ensures takes { Takes block self.old self.new }
     {
         clear_bit(&mut self.words, block);
         self.free -= 1;
@@ -113,7 +129,8 @@ impl Pool {
     pub fn give_back(&mut self, block: u32)
         requires range { IsInRange self.old block }
         requires taken { ¬ IsFree self.old block }
-        ensures { self.new ≡ record self.old { blocks = with_block block self.old.blocks } }
+        ensures value { self.new ≡ record self.old { blocks = with_block block self.old.blocks } }
+        ensures gives { Gives block self.old self.new }
     {
         set_bit(&mut self.words, block);
         self.free += 1;

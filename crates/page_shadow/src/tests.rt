@@ -58,8 +58,35 @@ fn the_whole_of_the_largest_disk_fits(rt: HostRuntime) -> Result<(), Fail> {
     let mut pool = Pool::new(rt.alloc(), 0, 65536)?;
     assert_eq!(rt; pool.free(), 65536);
     assert_eq!(rt; pool.take_block(), Ok(0));
-    let mut none = Pool::new(rt.alloc(), 7, 7)?;
-    assert_eq!(rt; none.take_block(), Err(NoBlocks { need: 1, free: 0 }));
+    for (first, end) in [(7, 7), (70, 7)] {
+        let mut none = Pool::new(rt.alloc(), first, end)?;
+        assert_eq!(rt; none.take_block(), Err(NoBlocks { need: 1, free: 0 }));
+    }
+    Ok(())
+}
+
+#[test]
+fn a_pool_with_nothing_free_fills_as_blocks_come_back(rt: HostRuntime) -> Result<(), Fail> {
+    let mut pool = Pool::none_free(rt.alloc(), 2565, 2600)?;
+    assert_eq!(rt; pool.free(), 0);
+    assert_eq!(rt; pool.take_block(), Err(NoBlocks { need: 1, free: 0 }));
+    give(&rt, &mut pool, 2599);
+    give(&rt, &mut pool, 2565);
+    assert_eq!(rt; pool.free(), 2);
+    assert_eq!(rt; pool.take_block(), Ok(2565));
+    Ok(())
+}
+
+#[test]
+fn a_block_is_named_until_each_name_is_taken_back(rt: HostRuntime) -> Result<(), Fail> {
+    let mut uses = Uses::new(rt.alloc(), 2600)?;
+    assert!(rt; !uses.is_named(2565) && !uses.is_named(2600));
+    uses.name(2565);
+    uses.name(2565);
+    uses.unname(2565);
+    assert!(rt; uses.is_named(2565) && !uses.is_named(2566));
+    uses.unname(2565);
+    assert!(rt; !uses.is_named(2565));
     Ok(())
 }
 

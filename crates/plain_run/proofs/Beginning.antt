@@ -12,7 +12,7 @@ use Rattle.hop_model.specs.Output.{output_of}
 use Rattle.hop_model.specs.Scripts.{ContainerTable, LocusTable, Script, container_named, locus_named, number_of, place_of}
 use Rattle.hop_model.specs.State.{Supply, Text, AtlasState, Cell, NotBorn, AtlasCell, KernelState, empty_state, no_atlas}
 use Rattle.hop_model.specs.Steps.{atlas_in}
-use Rattle.script_read.specs.Rules.{IsScript}
+use Rattle.script_form.specs.Rules.{IsScript}
 use Rattle.history_model.proofs.EmptyLemmas.{sound_empty}
 use Rattle.history_model.proofs.PlainSteps.{same_sound}
 use Rattle.history_model.specs.Born.{AreEdges}
@@ -20,13 +20,8 @@ use Rattle.history_model.specs.Plains.{atlas_of, cells_by, cells_of, edges_of}
 use Rattle.history_model.specs.declared.plain.Edge.{Edge}
 use Rattle.history_model.specs.declared.plain.Plain.{Plain}
 use Rattle.plain_run.specs.Fitting.{Fits}
-use Rattle.hop_base.specs.declared.instructions.Instr.{Instr}
-use Rattle.hop_base.specs.declared.instructions.Instr.TheVariants.{Snap}
-use Rattle.hop_model.proofs.Basics.{and_left, and_right, both}
-use Rattle.history_model.specs.FiveActs.{has_five, is_one_of_five}
-use Rattle.plain_run.specs.Opening.{HasFirstForm, container_a, form_by}
 use Rattle.plain_run.specs.Plays.{IsPlay}
-use Rattle.plain_run.specs.Snaps.{HasNoSnapTables, code_of, has_no_snap, is_no_snap}
+use Rattle.plain_run.specs.Snaps.{HasNoSnapTables, code_of, has_no_snap}
 use Rattle.plain_run.specs.Standing.{CanBegin, Stands, settled}
 use Rattle.plain_run.specs.declared.serial.SerialRun.{SerialRun}
 use Rattle.plain_run.proofs.Placing.{zeros_at}
@@ -111,23 +106,3 @@ few_entries s script w run es h =
     longer : (o : Option ℕ) → length es ≤ length (settled o es)
     longer None = omega arith
     longer (Some actor) = let n = length-append es (mark Stable actor 0 ∷ []) in omega (arith, n)
-
--- none of the five acts is a snap
-no_snap_five : (i : Instr) → is_one_of_five i ≡ true → is_no_snap i ≡ true
-no_snap_five (Snap c) five = five
-no_snap_five i five = refl
-
-no_snaps_five : (code : List Instr) → IsTrue (has_five code) → IsTrue (has_no_snap code)
-no_snaps_five [] five = refl
-no_snaps_five (i ∷ code) five =
-    both (is_no_snap i) (has_no_snap code) (no_snap_five i (and_left (is_one_of_five i) (has_five code) five)) (no_snaps_five code (and_right (is_one_of_five i) (has_five code) five))
-
--- scripts of the first form have no snaps
-pub form_code : (script : Script) → HasFirstForm script → HasNoSnapTables script
-form_code script form = by script.containers refl form
-  where
-    by : (ts : List ContainerTable) → script.containers ≡ ts → form_by script ts → HasNoSnapTables script
-    by [] is e = subst (λ (ts : List ContainerTable). All (λ (t : ContainerTable). IsTrue (has_no_snap t.code)) ts) (sym is) (All-nil (λ (t : ContainerTable). IsTrue (has_no_snap t.code)))
-    by (t ∷ ts) is h =
-        subst HasNoSnapTables (sym h.is)
-        (All-cons (λ (t : ContainerTable). IsTrue (has_no_snap t.code)) (container_a h.code) [] (no_snaps_five h.code h.five) (All-nil (λ (t : ContainerTable). IsTrue (has_no_snap t.code))))

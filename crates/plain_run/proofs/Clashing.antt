@@ -1,14 +1,14 @@
 -- The tables of a script, looked through one by one.
-use Rattle.std.proofs.Common.{◌≡◌, ℕ, zero, suc, ◌+◌, ◌<◌, ◌≤◌, Bool, true, false, if◌then◌else◌, List, [], ◌∷◌, length, map, drop, take, get_or, Option, Some, None, is_some, is_none, string_bytes, refl, sym, ap, ◌∙◌, arith}
+use Rattle.std.proofs.Common.{◌≡◌, ℕ, zero, suc, ◌+◌, ◌<◌, Bool, true, false, if◌then◌else◌, List, [], ◌∷◌, length, map, drop, get_or, Option, Some, None, is_some, string_bytes, refl, sym, ap, ◌∙◌, arith}
 use Rattle.std.specs.List.{All}
 use Rattle.std.proofs.lemmas.List.Elements.{All-cons, All-nil}
-use Rattle.hop_model.specs.Scripts.{ContainerTable, LocusTable, container_named, locus_named, number_of}
+use Rattle.hop_model.specs.Scripts.{ContainerTable, LocusTable, container_named, locus_named}
 use Rattle.hop_model.specs.State.{AtlasState}
-use Rattle.script_read.specs.Scripts.{container_of, locus_of}
-use Rattle.script_read.specs.declared.ScriptContainer.{ScriptContainer}
-use Rattle.script_read.specs.declared.ScriptLocus.{ScriptLocus}
-use Rattle.plain_run.specs.Fitting.{container_clash, locus_clash, new_containers, new_loci}
-use Rattle.plain_run.proofs.KnownNames.{more_containers, more_loci, some_none, true_false}
+use Rattle.script_form.specs.Scripts.{container_of, locus_of}
+use Rattle.script_form.specs.declared.ScriptContainer.{ScriptContainer}
+use Rattle.script_form.specs.declared.ScriptLocus.{ScriptLocus}
+use Rattle.plain_run.specs.Fitting.{container_clash, locus_clash}
+use Rattle.plain_run.proofs.KnownNames.{some_none, true_false}
 
 -- where a table stands by a search from k on
 pub container_here : (a : AtlasState) (ts : List ScriptContainer) (k n : ℕ) (t : ScriptContainer) → k < length ts → t ≡ get_or ts k t → is_some (locus_named a (string_bytes t.name)) ≡ true → container_clash a (map container_of (drop k ts)) n ≡ Some n
@@ -54,39 +54,3 @@ loci_apart a (t ∷ ts) n none =
       | true ↦ λ is e. some_none n e
       | false ↦ λ is e. All-cons (λ (t : LocusTable). container_named a t.name ≡ None) t ts (none_named (container_named a t.name) is) (loci_apart a ts (n + 1) e)
     ] refl none
-
--- COUNTS
-
-pub containers_counted : (a : AtlasState) (ts : List ScriptContainer) (k : ℕ) (t : ScriptContainer) → k < length ts → t ≡ get_or ts k t
-    → new_containers a (map container_of (take (k + 1) ts)) ≡ new_containers a (map container_of (take k ts)) + (if is_none (number_of a (string_bytes t.name)) then 1 else 0)
-containers_counted a [] k t h at = absurd (omega (arith, h))
-containers_counted a (u ∷ ts) zero t h at =
-    let m = more_containers a (container_of u) [] in
-    let e = ap (λ (x : ScriptContainer). is_none (number_of a (string_bytes x.name))) (sym at) in
-    rw (sym e) (omega (arith, m))
-containers_counted a (u ∷ ts) (suc k) t h at =
-    let e : suc k + 1 ≡ suc (k + 1) = omega arith in
-    let m = more_containers a (container_of u) (map container_of (take (k + 1) ts)) in
-    let n = more_containers a (container_of u) (map container_of (take k ts)) in
-    let rest = containers_counted a ts k t (omega (arith, h)) at in
-    ap (λ i. new_containers a (map container_of (take i (u ∷ ts)))) e ∙ omega (arith, m, n, rest)
-
-pub loci_counted : (a : AtlasState) (ts : List ScriptLocus) (k : ℕ) (t : ScriptLocus) → k < length ts → t ≡ get_or ts k t
-    → new_loci a (map locus_of (take (k + 1) ts)) ≡ new_loci a (map locus_of (take k ts)) + (if is_none (number_of a (string_bytes t.name)) then 1 else 0)
-loci_counted a [] k t h at = absurd (omega (arith, h))
-loci_counted a (u ∷ ts) zero t h at =
-    let m = more_loci a (locus_of u) [] in
-    let e = ap (λ (x : ScriptLocus). is_none (number_of a (string_bytes x.name))) (sym at) in
-    rw (sym e) (omega (arith, m))
-loci_counted a (u ∷ ts) (suc k) t h at =
-    let e : suc k + 1 ≡ suc (k + 1) = omega arith in
-    let m = more_loci a (locus_of u) (map locus_of (take (k + 1) ts)) in
-    let n = more_loci a (locus_of u) (map locus_of (take k ts)) in
-    let rest = loci_counted a ts k t (omega (arith, h)) at in
-    ap (λ i. new_loci a (map locus_of (take i (u ∷ ts)))) e ∙ omega (arith, m, n, rest)
-
-pub take_end : {X : Type 0} (xs : List X) (k : ℕ) → length xs ≤ k → take k xs ≡ xs
-take_end [] zero h = refl
-take_end [] (suc k) h = refl
-take_end (x ∷ xs) zero h = absurd (omega (arith, h))
-take_end (x ∷ xs) (suc k) h = ap (λ ys. x ∷ ys) (take_end xs k (omega (arith, h)))

@@ -16,12 +16,13 @@ use Rattle.hop_model.specs.Steps.{atlas_in}
 use Rattle.hop_model.specs.Words.{or_else}
 use Rattle.hop_model.proofs.Faithful.{free_container_is, free_locus_is}
 use Rattle.hop_model.proofs.Writes.{cell_with, changed_cell}
-use Rattle.script_read.specs.Rules.{AreContainerTables, AreLocusTables, IsScript, container_names, is_among, locus_names}
+use Rattle.script_form.specs.Rules.{AreContainerTables, AreLocusTables, IsScript, container_names, is_among, locus_names}
 use Rattle.history_model.specs.Born.{IsUndefined}
 use Rattle.history_model.specs.Events.{state_with}
-use Rattle.history_model.proofs.BornLemmas.{container_named_born}
-use Rattle.history_model.proofs.EdgeLemmas.{model_containers, model_loci}
-use Rattle.history_model.proofs.ScriptLemmas.{birth_at, named_container, named_locus, text_same}
+use Rattle.sound_runs.proofs.Tables.{container_named_born}
+use Rattle.sound_runs.proofs.TableEdges.{model_containers, model_loci}
+use Rattle.history_model.proofs.ScriptLemmas.{birth_at, named_container, named_locus}
+use Rattle.sound_runs.proofs.Found.{text_same}
 use Rattle.plain_run.specs.Fitting.{Fits, new_containers, new_loci}
 use Rattle.plain_run.specs.Standing.{names_born}
 use Rattle.plain_run.proofs.Goings.{acts_made}
@@ -329,7 +330,7 @@ all_loci_by P Q (t ∷ ts) f all =
     or_second false q e = e
 
 -- a name of the containers is none of the loci's
-apart_texts : (xs ys : List Text) (x y : Text) → Rattle.script_read.specs.Rules.AreDifferent (xs ++ ys) → IsTrue (is_among xs x) → IsTrue (is_among ys y) → text_eq x y ≡ false
+apart_texts : (xs ys : List Text) (x y : Text) → Rattle.script_form.specs.Rules.AreDifferent (xs ++ ys) → IsTrue (is_among xs x) → IsTrue (is_among ys y) → text_eq x y ≡ false
 apart_texts xs ys x y different front back = by_test (text_eq x y) refl
   where
     by_test : (b : Bool) → text_eq x y ≡ b → text_eq x y ≡ false

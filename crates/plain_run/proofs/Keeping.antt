@@ -7,8 +7,8 @@ use Rattle.hop_model.specs.Soundness.{is_given_name}
 use Rattle.hop_model.specs.State.{Text, AtlasState}
 use Rattle.hop_model.specs.Words.{or_else}
 use Rattle.history_model.specs.Lists.{IsFront, KeepsNames}
-use Rattle.history_model.proofs.ScriptLemmas.{text_same}
-use Rattle.script_read.specs.Rules.{AreLocusTables, IsScript, container_names, is_among, locus_names}
+use Rattle.sound_runs.proofs.Found.{text_same}
+use Rattle.script_form.specs.Rules.{AreLocusTables, IsScript, container_names, is_among, locus_names}
 use Rattle.plain_run.specs.Fitting.{Fits}
 use Rattle.plain_run.proofs.Growing.{grown_known, not_atlas, place_more}
 use Rattle.plain_run.proofs.KnownNames.{is_named, loci_known, none_some, or_cases, some_none, true_false}

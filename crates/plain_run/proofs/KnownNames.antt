@@ -7,9 +7,9 @@ use Rattle.hop_model.specs.Births.{knows_caps, knows_regions}
 use Rattle.hop_model.specs.Scripts.{CapTable, ContainerTable, LocusTable, RegionTable, Script, atlas_name, container_named, container_table, locus_named, locus_table, next_container_name, next_locus_name, next_name, number_in, number_of, text_eq}
 use Rattle.hop_model.specs.State.{Text, AtlasState}
 use Rattle.hop_model.specs.Words.{or_else}
-use Rattle.script_read.specs.Rules.{AreContainerTables, AreDifferent, AreLocusTables, IsCapTable, IsRegionTable, IsScript, container_names, is_among, locus_names}
+use Rattle.script_form.specs.Rules.{AreContainerTables, AreDifferent, AreLocusTables, IsCapTable, IsRegionTable, IsScript, container_names, is_among, locus_names}
 use Rattle.history_model.specs.Born.{KnowsContainer, KnowsLocus, KnowsNames}
-use Rattle.history_model.proofs.ScriptLemmas.{text_same}
+use Rattle.sound_runs.proofs.Found.{text_same}
 use Rattle.plain_run.specs.Fitting.{new_containers, new_loci}
 
 -- TEXTS AND TESTS

@@ -6,10 +6,10 @@ use Rattle.std.proofs.lemmas.List.Elements.{All-head, All-tail}
 use Rattle.hop_model.specs.Scripts.{ContainerTable, LocusTable, Script, container_named, locus_named}
 use Rattle.hop_model.specs.State.{AtlasState}
 use Rattle.hop_model.specs.Words.{or_else}
-use Rattle.script_read.specs.declared.refusals.ScriptFault.{ScriptFault}
-use Rattle.script_read.specs.declared.refusals.ScriptFault.TheVariants.{Refused, Memory}
-use Rattle.script_read.specs.declared.refusals.Why.{Why}
-use Rattle.script_read.specs.declared.refusals.Why.TheVariants.{Clash, NoRoom}
+use Rattle.script_form.specs.declared.refusals.ScriptFault.{ScriptFault}
+use Rattle.script_form.specs.declared.refusals.ScriptFault.TheVariants.{Refused, Memory}
+use Rattle.script_form.specs.declared.refusals.Why.{Why}
+use Rattle.script_form.specs.declared.refusals.Why.TheVariants.{Clash, NoRoom}
 use Rattle.plain_run.specs.Fitting.{Fits, IsClash, IsMisfit, IsNoRoom, clash_key, container_clash, locus_clash, name_key, new_containers, new_loci, room_key}
 use Rattle.plain_run.proofs.Clashing.{containers_apart, loci_apart}
 use Rattle.plain_run.proofs.KnownNames.{some_none}
@@ -91,13 +91,3 @@ room_is a script (Refused r) none h = (
   λ fits. some_none (string_bytes r.key) (sym h.1 ∙ fits_room a script fits),
 )
 room_is a script Memory none h = h
-
--- the key where a table clashes
-pub container_key : (a : AtlasState) (script : Script) (i : ℕ) → container_clash a script.containers 0 ≡ Some i → clash_key a script ≡ Some (name_key (codes "container") i)
-container_key a script i is = ap (λ o. or_else (option_map (name_key (codes "container")) o) (option_map (name_key (codes "locus")) (locus_clash a script.loci 0))) is
-
-pub locus_key : (a : AtlasState) (script : Script) (i : ℕ) → container_clash a script.containers 0 ≡ None → locus_clash a script.loci 0 ≡ Some i → clash_key a script ≡ Some (name_key (codes "locus") i)
-locus_key a script i none is = (λ j. or_else (option_map (name_key (codes "container")) (none j)) (option_map (name_key (codes "locus")) (is j)))
-
-pub no_key : (a : AtlasState) (script : Script) → container_clash a script.containers 0 ≡ None → locus_clash a script.loci 0 ≡ None → clash_key a script ≡ None
-no_key a script none blank = (λ j. or_else (option_map (name_key (codes "container")) (none j)) (option_map (name_key (codes "locus")) (blank j)))

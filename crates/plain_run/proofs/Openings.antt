@@ -14,7 +14,7 @@ use Rattle.hop_model.specs.State.{Supply, Text, AtlasState, Cell, KernelState}
 use Rattle.hop_model.specs.Steps.{atlas_in}
 use Rattle.history_model.specs.Events.{Bears, Has}
 use Rattle.history_model.specs.Lists.{KeepsNames}
-use Rattle.script_read.specs.Rules.{IsScript}
+use Rattle.script_form.specs.Rules.{IsScript}
 use Rattle.plain_run.specs.Fitting.{Fits}
 use Rattle.plain_run.specs.Snaps.{HasNoSnaps}
 use Rattle.plain_run.specs.Standing.{HasLooked, IsLow, IsQuiet, Reaches, opened_atlas, opening_from, run_from, settled}

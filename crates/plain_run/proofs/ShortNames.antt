@@ -4,7 +4,7 @@ use Rattle.std.specs.List.{list_all}
 use Rattle.std.proofs.lemmas.Bool.Decides.{nat_tests}
 use Rattle.std.proofs.lemmas.Fmt.{length-decimal-le}
 use Rattle.std.proofs.lemmas.List.Elements.{All-cons}
-use Rattle.history_model.proofs.ScriptLemmas.{text_same}
+use Rattle.sound_runs.proofs.Found.{text_same}
 use Rattle.hop_model.specs.Outcomes.{made_name}
 use Rattle.hop_model.specs.Scripts.{text_eq}
 use Rattle.hop_model.specs.Soundness.{IsSound, are_names_from, begins_with_letter, is_given_name, is_name_byte, is_name_of}

@@ -2,7 +2,7 @@
 use Rattle.std.proofs.Common.{◌≡◌, subst, sym, rules}
 use Rattle.std.proofs.lemmas.List.Elements.{All-cons, All-nil}
 use Rattle.hop_model.specs.Scripts.{Script}
-use Rattle.script_read.specs.Rules.{IsScript}
+use Rattle.script_form.specs.Rules.{IsScript}
 use Rattle.plain_run.specs.Snaps.{HasNoSnapTables}
 use Rattle.plain_run.specs.TestScripts.{two_tables}
 

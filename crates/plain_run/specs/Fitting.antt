@@ -4,10 +4,10 @@ use Rattle.hop_model.specs.Scripts.{ContainerTable, LocusTable, Script, containe
 use Rattle.hop_model.specs.State.{Text, AtlasState}
 use Rattle.hop_model.specs.Words.{or_else}
 use Rattle.history_model.specs.Born.{AreOfOneKind}
-use Rattle.script_read.specs.declared.refusals.ScriptFault.{ScriptFault}
-use Rattle.script_read.specs.declared.refusals.ScriptFault.TheVariants.{Refused, Memory}
-use Rattle.script_read.specs.declared.refusals.Why.{Why}
-use Rattle.script_read.specs.declared.refusals.Why.TheVariants.{Clash, NoRoom}
+use Rattle.script_form.specs.declared.refusals.ScriptFault.{ScriptFault}
+use Rattle.script_form.specs.declared.refusals.ScriptFault.TheVariants.{Refused, Memory}
+use Rattle.script_form.specs.declared.refusals.Why.{Why}
+use Rattle.script_form.specs.declared.refusals.Why.TheVariants.{Clash, NoRoom}
 
 -- the names of a kind that are not born yet
 abbrev pub new_containers : AtlasState → List ContainerTable → ℕ

@@ -14,7 +14,7 @@ use Rattle.history_model.specs.Events.{Has}
 use Rattle.history_model.specs.Lists.{KeepsNames}
 use Rattle.history_model.specs.Plains.{atlas_of, cells_of}
 use Rattle.history_model.specs.declared.plain.Plain.{Plain}
-use Rattle.script_read.specs.Rules.{IsScript}
+use Rattle.script_form.specs.Rules.{IsScript}
 use Rattle.plain_run.specs.Fitting.{Fits}
 use Rattle.plain_run.specs.Snaps.{HasNoSnaps, HasNoSnapTables}
 use Rattle.plain_run.specs.declared.serial.Place.{Place}

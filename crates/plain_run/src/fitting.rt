@@ -4,22 +4,14 @@ ghost use Rattle.hop_model.specs.Scripts.{container_named as container_number, l
 ghost use Rattle.history_model.specs.Born.{HasFewNames};
 ghost use Rattle.history_model.specs.Plains.{atlas_of};
 ghost use Rattle.plain_run.specs.Fitting.{Fits, IsClash, IsMisfit, IsNoRoom, clash_key, container_clash as clash_of_containers, locus_clash as clash_of_loci, name_key as key_of_name, new_containers as new_of_containers, new_loci as new_of_loci, room_key};
-ghost use Rattle.script_read.specs.Scripts.{container_of, locus_of, tables_of};
-ghost use Rattle.script_read.specs.declared.refusals.Why.{Why as AWhy};
+ghost use Rattle.script_form.specs.Scripts.{container_of, locus_of, tables_of};
+ghost use Rattle.script_form.specs.declared.refusals.Why.{Why as AWhy};
 
 use history_model::{PlainAtlas, container_named, number_among, number_of};
+use hop_base::{FIRST_LOCUS, MOST_CONTAINERS, MOST_LOCI};
 use itoa::Buffer;
-use script_read::{Refusal, Script, ScriptContainer, ScriptFault, ScriptLocus, Why};
+use script_form::{Refusal, Script, ScriptContainer, ScriptFault, ScriptLocus, Why};
 use std::alloc::{AllocError, Global};
-
-/// The first number of a locus.
-const FIRST_LOCUS: u8 = 41;
-
-/// As many containers as have numbers.
-const MOST_CONTAINERS: usize = 40;
-
-/// As many loci as have numbers.
-const MOST_LOCI: usize = 23;
 
 /// The first container's table whose name is a locus.
 fn container_clash(tables: &[ScriptContainer], atlas: &PlainAtlas) -> Option<usize>

@@ -6,19 +6,13 @@ ghost use Rattle.history_model.specs.Plains.{atlas_of, locus_cell};
 ghost use Rattle.plain_run.specs.Looking.{AllIdle, Idles, IsInRounds, IsPastBirths, IsReadySomewhere, Stills, Turns, owed_after, wants_stable as stable_wanted};
 ghost use Rattle.plain_run.specs.Standing.{GoesOn, IsLow, IsOver, IsStanding, Keeps};
 ghost use Rattle.plain_run.specs.declared.serial.Place.TheVariants.{Pick as AtPick, Round as AtRound};
-ghost use Rattle.script_read.specs.Scripts.{tables_of};
+ghost use Rattle.script_form.specs.Scripts.{tables_of};
 
 use crate::serial::{Place, SerialRun};
 use history_model::{PlainLocus, number_among, plain_step};
-use hop_base::{Answer, Entity, Entry, Instr, Reply};
-use script_read::Script;
+use hop_base::{Answer, Entity, Entry, FIRST_LOCUS, Instr, MOST_ENTITIES, Reply};
+use script_form::Script;
 use std::alloc::AllocError;
-
-/// The first number of a locus.
-const FIRST_LOCUS: u8 = 41;
-
-/// As many entities as have numbers.
-const MOST_ENTITIES: u8 = 64;
 
 /// Whether the next instruction of this locus is a stabilise.
 fn wants_stable(loci: &[PlainLocus], locus: Entity) -> bool

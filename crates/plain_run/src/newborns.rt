@@ -10,14 +10,14 @@ ghost use Rattle.plain_run.specs.Fitting.{Fits};
 ghost use Rattle.plain_run.specs.Standing.{GoesOn, IsLow, IsStanding, Keeps};
 ghost use Rattle.plain_run.specs.Looking.{IsPastBirths, ended};
 ghost use Rattle.plain_run.specs.declared.serial.Place.TheVariants.{Births as AtBirths};
-ghost use Rattle.script_read.specs.Rules.{IsScript};
-ghost use Rattle.script_read.specs.Scripts.{tables_of};
+ghost use Rattle.script_form.specs.Rules.{IsScript};
+ghost use Rattle.script_form.specs.Scripts.{tables_of};
 
 use crate::names::next_name;
 use crate::serial::{Place, SerialRun};
 use history_model::{Plain, plain_birth};
 use hop_base::{Entity, Entry};
-use script_read::Script;
+use script_form::Script;
 use std::alloc::{AllocError, Global};
 
 /// The birth of the script's next name. A script that fits always has one that is defined.

@@ -7,13 +7,13 @@ ghost use Rattle.history_model.specs.Plains.{atlas_of, cells_of};
 ghost use Rattle.plain_run.specs.Plays.{IsPlay, Makes, Records, Replays};
 ghost use Rattle.plain_run.specs.Snaps.{HasNoSnapTables};
 ghost use Rattle.plain_run.specs.Standing.{IsStanding, Stands};
-ghost use Rattle.script_read.specs.Rules.{IsScript};
-ghost use Rattle.script_read.specs.Scripts.{tables_of};
+ghost use Rattle.script_form.specs.Rules.{IsScript};
+ghost use Rattle.script_form.specs.Scripts.{tables_of};
 
 use crate::serial::SerialRun;
 use history_model::{Plain, PlainAtlas};
 use hop_base::Entry;
-use script_read::Script;
+use script_form::Script;
 use std::alloc::{AllocError, Global};
 
 /// Goes on for so many entries. False exactly where the serial history has fewer left; then, and on want of memory, as many

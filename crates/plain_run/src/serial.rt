@@ -5,13 +5,13 @@ ghost use Rattle.hop_model.specs.Histories.{mark};
 ghost use Rattle.hop_model.specs.Scripts.{Script as Tables};
 ghost use Rattle.hop_model.specs.State.{Supply, KernelState};
 ghost use Rattle.plain_run.specs.Standing.{CanBegin, GoesOn, IsOver, IsStanding, Keeps, Stands};
-ghost use Rattle.script_read.specs.Scripts.{tables_of};
+ghost use Rattle.script_form.specs.Scripts.{tables_of};
 
 use crate::looks::{next_in_rounds, next_pick};
 use crate::newborns::next_birth;
 use history_model::Plain;
 use hop_base::{Answer, Entity, Entry, Event, Touched};
-use script_read::Script;
+use script_form::Script;
 use std::alloc::{AllocError, Global};
 
 /// What comes next in the serial history.

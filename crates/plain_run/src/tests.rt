@@ -1,12 +1,12 @@
 ghost use Rattle.std.specs.Prelude.{◌≡◌, ℕ, ◌<◌, ◌^◌, IfOk};
-ghost use Rattle.script_read.specs.Scripts.{container_of, locus_of, tables_of};
+ghost use Rattle.script_form.specs.Scripts.{container_of, locus_of, tables_of};
 ghost use Rattle.plain_run.specs.TestScripts.{container_table, locus_table, two_tables};
 
 use crate::fitting::against;
 use crate::plays::{Played, play};
 use history_model::PlainAtlas;
 use hop_base::{Answer, Instr};
-use script_read::{Script, ScriptContainer, ScriptFault, ScriptLocus, Why};
+use script_form::{Script, ScriptContainer, ScriptFault, ScriptLocus, Why};
 use std::alloc::{AllocError, Global};
 use std::test::Fail;
 

@@ -2,7 +2,7 @@
 ghost use Rattle.std.specs.Prelude.{◌≡◌, ◌<◌, ◌≤◌, ◌^◌, ◌*◌, ℕ, OnErr};
 ghost use Rattle.std.specs.List.{flat_map};
 ghost use Rattle.hop_base.specs.Edges.{upto};
-ghost use Rattle.stream_edge.specs.Counts.{Rose};
+ghost use Rattle.disk_trait.specs.Counts.{Rose};
 ghost use Rattle.stream_edge.specs.Streams.{Puts};
 ghost use Rattle.hop_model.specs.State.{Supply};
 ghost use Rattle.history_model.specs.Plains.{atlas_of, container_of};
@@ -10,11 +10,8 @@ ghost use Rattle.plain_show.specs.Show.{changed_word, container_line, container_
 
 use crate::lines::{put_caps, put_named, put_number, put_optional, put_region};
 use history_model::{PlainAtlas, PlainContainer};
-use hop_base::{Entity, Region};
+use hop_base::{Entity, PAGE_WORDS, Region};
 use stream_edge::{Sink, SinkFault};
-
-/// Words in a page.
-const PAGE: u64 = 128;
 
 /// Puts the first line of a container.
 fn put_head<W: Sink>(
@@ -82,7 +79,11 @@ fn changed_word<S: Fn(u64, u32, u16) -> u64>(
     ensures { result ≡ changed_word s (container_of s c.now) address }
 {
     let word = *c.words.get(&address)?;
-    let supplied = supply(c.tag, (address / PAGE) as u32, (address % PAGE) as u16);
+    let supplied = supply(
+        c.tag,
+        (address / PAGE_WORDS) as u32,
+        (address % PAGE_WORDS) as u16,
+    );
     if word == supplied { None } else { Some(word) }
 }
 
@@ -124,7 +125,7 @@ fn put_words<W: Sink, S: Fn(u64, u32, u16) -> u64>(
     ensures count { W.faults sink.old ≤ W.faults sink.new }
     ensures cause { OnErr result (Rose (W.faults sink.old) (W.faults sink.new)) }
 {
-    for address in 0..PAGE * c.pages as u64 {
+    for address in 0..PAGE_WORDS * c.pages as u64 {
         put_word_line(
             sink,
             atlas,

@@ -1,6 +1,6 @@
 //! Words of a line, and what both kinds of entities show.
 ghost use Rattle.std.specs.Prelude.{◌≡◌, ◌≤◌, [], OnErr, decimal, map, slice_get, string_bytes, unwrap_or};
-ghost use Rattle.stream_edge.specs.Counts.{Rose};
+ghost use Rattle.disk_trait.specs.Counts.{Rose};
 ghost use Rattle.stream_edge.specs.Streams.{Puts};
 ghost use Rattle.history_model.specs.Plains.{atlas_of};
 ghost use Rattle.instr_set.specs.Spelling.{rights};
@@ -9,16 +9,10 @@ ghost use Rattle.plain_show.specs.Show.{cap_line, cap_lines, region_words};
 
 use arrayvec::ArrayString;
 use history_model::PlainAtlas;
-use hop_base::{Cap, Entity, Kind, Region, Rights};
+use hop_base::{Cap, Entity, FIRST_CONTAINER, FIRST_LOCUS, Kind, Region, Rights};
 use instr_set::write_rights;
 use itoa::Buffer;
 use stream_edge::{Sink, SinkFault};
-
-/// The first number of a container.
-const FIRST_CONTAINER: u8 = 1;
-
-/// The first number of a locus.
-const FIRST_LOCUS: u8 = 41;
 
 /// The name at a place of a list, or none.
 fn name_at(names: &[String], place: u8) -> &str

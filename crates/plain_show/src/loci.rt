@@ -1,7 +1,7 @@
 //! What is shown of a locus.
 ghost use Rattle.std.specs.Prelude.{◌≡◌, ◌≤◌, OnErr};
 ghost use Rattle.std.specs.List.{flat_map};
-ghost use Rattle.stream_edge.specs.Counts.{Rose};
+ghost use Rattle.disk_trait.specs.Counts.{Rose};
 ghost use Rattle.stream_edge.specs.Streams.{Puts};
 ghost use Rattle.history_model.specs.Plains.{atlas_of, locus_of};
 ghost use Rattle.plain_show.specs.Lines.{condition_word, word};

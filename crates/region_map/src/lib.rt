@@ -7,17 +7,14 @@ ghost use Rattle.std.specs.List.{list_any};
 ghost use Rattle.arrayvec.specs.ArrayVec.{array_vec_len};
 ghost use Rattle.region_map.specs.Regions.{IsRegion, AreRegions, covers, overlaps, insert_region, begins_at, add_answer};
 
-mod kept;
-
 use arrayvec::ArrayVec;
 use hop_base::{Region, Reply};
-use kept::Kept;
 use std::marker::Model;
 
 /// At most `N` regions, ascending by their first page, none of which overlap.
 #[derive(Drop, Debug)]
 pub struct RegionMap<const N: usize> {
-    regions: ArrayVec<Kept, N>,
+    regions: ArrayVec<Region, N>,
 }
 
 impl<const N: usize> Model for RegionMap<N> {
@@ -50,11 +47,11 @@ fn overlap(a: &Region, b: &Region) -> bool
     a_at < b_at + u32::from(b.count) && b_at < a_at + u32::from(a.count)
 }
 
-fn overlaps_any(region: &Region, regions: &[Kept]) -> bool
+fn overlaps_any(region: &Region, regions: &[Region]) -> bool
     ensures { result ≡ list_any (overlaps region.now) regions.now }
 {
     for kept in regions {
-        if overlap(region, &kept.region()) {
+        if overlap(region, kept) {
             return true;
         }
     }
@@ -62,12 +59,12 @@ fn overlaps_any(region: &Region, regions: &[Kept]) -> bool
 }
 
 /// The place of the first region that begins after the page, or their number.
-fn place_behind(region: &Region, regions: &[Kept]) -> usize
+fn place_behind(region: &Region, regions: &[Region]) -> usize
     ensures within { result ≤ length regions.now }
     ensures place { insert_region region.now regions.now ≡ insert regions.now result region.now }
 {
     for (place, kept) in regions.iter().enumerate() {
-        if region.at < kept.region().at {
+        if region.at < kept.at {
             return place;
         }
     }
@@ -75,13 +72,13 @@ fn place_behind(region: &Region, regions: &[Kept]) -> usize
 }
 
 /// The place of the region that begins at the page.
-fn place_at(at: u64, regions: &[Kept]) -> Option<usize>
+fn place_at(at: u64, regions: &[Region]) -> Option<usize>
     ensures some { IfSome result
         (λ place. IsSomeAnd (slice_get regions.now place) (λ region. IsTrue (begins_at at region))) }
     ensures none { IfNone result (find (begins_at at) regions.now ≡ None) }
 {
     for (place, kept) in regions.iter().enumerate() {
-        if u64::from(kept.region().at) == at {
+        if u64::from(kept.at) == at {
             return Some(place);
         }
     }
@@ -89,13 +86,12 @@ fn place_at(at: u64, regions: &[Kept]) -> Option<usize>
 }
 
 /// The region that covers the page.
-fn find_covering(page: u64, regions: &[Kept]) -> Option<Region>
+fn find_covering(page: u64, regions: &[Region]) -> Option<Region>
     ensures { result ≡ find (λ region. covers region page) regions.now }
 {
-    for kept in regions {
-        let region = kept.region();
-        if is_covered(&region, page) {
-            return Some(region);
+    for region in regions {
+        if is_covered(region, page) {
+            return Some(*region);
         }
     }
     None
@@ -111,11 +107,20 @@ impl<const N: usize> RegionMap<N> {
         }
     }
 
+    /// All regions in their order.
+    pub fn as_slice(&self) -> &[Region]
+        ensures all { result.now ≡ self.now }
+        ensures few { length self.now ≤ N }
+        ensures regions { AreRegions self.now }
+    {
+        self.regions.as_slice()
+    }
+
     /// Whether the region overlaps one that is there.
     pub fn overlaps(&self, region: &Region) -> bool
         ensures { result ≡ list_any (overlaps region.now) self.now }
     {
-        overlaps_any(region, self.regions.as_slice())
+        overlaps_any(region, self.as_slice())
     }
 
     /// Whether there are `N` regions.
@@ -135,14 +140,14 @@ impl<const N: usize> RegionMap<N> {
         ensures refused { OnErr result (self.new ≡ self.old) }
         ensures regions { AreRegions self.new }
     {
-        if overlaps_any(&region, self.regions.as_slice()) {
+        if self.overlaps(&region) {
             return Err(Reply::Overlap);
         }
-        if self.regions.is_full() {
+        if self.is_full() {
             return Err(Reply::ListFull);
         }
-        let place = place_behind(&region, self.regions.as_slice());
-        self.regions.insert(place, Kept::new(region));
+        let place = place_behind(&region, self.as_slice());
+        self.regions.insert(place, region);
         Ok(())
     }
 
@@ -153,8 +158,8 @@ impl<const N: usize> RegionMap<N> {
         ensures refused { OnErr result (self.new ≡ self.old) }
         ensures regions { AreRegions self.new }
     {
-        match place_at(at, self.regions.as_slice()) {
-            Some(place) => Ok(self.regions.remove(place).region()),
+        match place_at(at, self.as_slice()) {
+            Some(place) => Ok(self.regions.remove(place)),
             None => Err(Reply::NoRegion),
         }
     }
@@ -163,10 +168,7 @@ impl<const N: usize> RegionMap<N> {
     pub fn get(&self, place: usize) -> Option<Region>
         ensures { result ≡ slice_get self.now place }
     {
-        match self.regions.as_slice().get(place) {
-            Some(kept) => Some(kept.region()),
-            None => None,
-        }
+        self.as_slice().get(place).copied()
     }
 
     /// The region that covers the page.
@@ -174,7 +176,7 @@ impl<const N: usize> RegionMap<N> {
         ensures covering { result ≡ find (λ region. covers region page) self.now }
         ensures regions { AreRegions self.now }
     {
-        find_covering(page, self.regions.as_slice())
+        find_covering(page, self.as_slice())
     }
 }
 
@@ -212,6 +214,7 @@ mod tests {
         assert_eq!(rt; map.covering(3), Some(region(3, 1)));
         assert_eq!(rt; map.get(1), Some(region(4, 2)));
         assert_eq!(rt; map.get(2), None);
+        assert_eq!(rt; map.as_slice(), [region(3, 1), region(4, 2)].as_slice());
         assert_eq!(rt; map.remove(4), Ok(region(4, 2)));
         assert_eq!(rt; map.add(region(4, 252)), Ok(()));
         assert_eq!(rt; map.covering(255), Some(region(4, 252)));

@@ -23,12 +23,12 @@ use Rattle.script_read.specs.Reading.{Reading, Reads, ◌>>=◌, refused, or_ref
 use Rattle.script_read.specs.Strings.{RegionForm, cut, number_of, name_form, access_of, region_form, named_form, placed_form, sized_form, cap_form}
 use Rattle.script_read.specs.Fields.{a_string, a_table, a_list, a_number, a_name, only, text_at, number_at, number_or, name_at, item_key, each}
 use Rattle.script_read.specs.Meaning.{Program, Source, a_line, a_program, more_programs, programs_at, carried_out, is_carried_out, code_named, overlap, is_within, fits, table_of_region, placed_region, a_region, regions_at, known_cap, a_cap, caps_at, names_of, known_names, every_at, sized_container, code_at, entry_at, coded_container, whole_container, container_keys, a_container, containers_at, host_at, whole_locus, locus_keys, a_locus, loci_at, a_pick, order_at, top_keys, entities_at, tree_meaning, script_meaning}
-use Rattle.script_read.specs.Rules.{is_among, AreDifferent, IsRegionTable, AreApart, AreAllApart, IsCapTable, IsContainerTable, IsLocusTable, container_names, locus_names, AreContainerTables, AreLocusTables, IsScript}
-use Rattle.script_read.specs.declared.refusals.Why.TheVariants.{NotToml, Name, Unknown, Range, BadCode, Long}
-use Rattle.script_read.specs.Scripts.{tables_of}
+use Rattle.script_form.specs.Rules.{is_among, AreDifferent, IsRegionTable, AreApart, AreAllApart, IsCapTable, IsContainerTable, IsLocusTable, container_names, locus_names, AreContainerTables, AreLocusTables, IsScript}
+use Rattle.script_form.specs.declared.refusals.Why.TheVariants.{NotToml, Name, Unknown, Range, BadCode, Long}
+use Rattle.script_form.specs.Scripts.{tables_of}
 use Rattle.script_read.specs.Views.{source_of}
-use Rattle.script_read.specs.declared.Script.{Script}
-use Rattle.script_read.specs.declared.refusals.ScriptFault.{ScriptFault}
+use Rattle.script_form.specs.declared.Script.{Script}
+use Rattle.script_form.specs.declared.refusals.ScriptFault.{ScriptFault}
 use Rattle.script_read.proofs.Lists.{any_of_append}
 use Rattle.script_read.proofs.Readings.{then_ok, or_ok, same_ok, test_ok, err_is_not_ok, a_number_ok, number_at_ok, number_or_ok, a_list_ok, list_keeps, each_keeps, each_length}
 

@@ -13,12 +13,12 @@ use Rattle.instr_set.specs.Reader.{instr_of}
 use Rattle.script_read.specs.Reading.{Reading, ◌>>=◌, refused, or_refused, optional, dotted, Reads}
 use Rattle.script_read.specs.Fields.{a_string, a_table, a_list, number_or, only, item_key, each, list_at}
 use Rattle.script_read.specs.Meaning.{Program, Source, a_line, a_program, more_programs, programs_at, carried_out, is_carried_out, code_named, regions_at, caps_at, known_names, code_at, entry_at, sized_container, coded_container, whole_container, container_keys, a_container, containers_at, loci_at, order_at, top_keys, entities_at, tree_meaning, script_meaning}
-use Rattle.script_read.specs.Rules.{container_names, locus_names}
-use Rattle.script_read.specs.Scripts.{tables_of}
+use Rattle.script_form.specs.Rules.{container_names, locus_names}
+use Rattle.script_form.specs.Scripts.{tables_of}
 use Rattle.script_read.specs.Views.{source_of}
-use Rattle.script_read.specs.declared.Script.{Script}
-use Rattle.script_read.specs.declared.refusals.ScriptFault.{ScriptFault}
-use Rattle.script_read.specs.declared.refusals.Why.TheVariants.{NotToml, Unknown, BadCode, Long}
+use Rattle.script_form.specs.declared.Script.{Script}
+use Rattle.script_form.specs.declared.refusals.ScriptFault.{ScriptFault}
+use Rattle.script_form.specs.declared.refusals.Why.TheVariants.{NotToml, Unknown, BadCode, Long}
 use Rattle.script_read.proofs.Readings.{err_is_not_ok, same_ok, then_ok, or_ok, each_keeps, list_keeps}
 
 -- each instruction is carried out

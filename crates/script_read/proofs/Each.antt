@@ -1,6 +1,6 @@
 -- Readings in sequence: of two, and of the items of a list.
-use Rattle.std.proofs.Common.{◌≡◌, ℕ, ◌+◌, ◌<◌, ◌≤◌, List, [], ◌∷◌, ◌++◌, length, drop, map, get_or, Result, Ok, Err, Some, IsErr, if◌then◌else◌, string_bytes, sym, ap, ◌∙◌, subst}
-use Rattle.std.proofs.lemmas.List.{map_push, at_drop_more, at_drop_all, get_or-map, length-map}
+use Rattle.std.proofs.Common.{◌≡◌, ℕ, ◌+◌, ◌<◌, List, [], ◌∷◌, ◌++◌, length, drop, map, get_or, Result, Ok, Err, Some, IsErr, if◌then◌else◌, string_bytes, sym, ap, ◌∙◌, subst}
+use Rattle.std.proofs.lemmas.List.{map_push, at_drop_more, get_or-map, length-map}
 use Rattle.std.specs.Result.{IsErrAnd}
 use Rattle.hop_model.specs.Scripts.{text_eq}
 use Rattle.hop_model.specs.State.{Text}
@@ -12,8 +12,8 @@ use Rattle.toml.specs.View.{view}
 use Rattle.toml.specs.declared.value.Value.{Value}
 use Rattle.script_read.specs.Fields.{each}
 use Rattle.script_read.specs.Reading.{Reading, ◌>>=◌, IsFaultOf, Reads}
-use Rattle.script_read.specs.declared.refusals.ScriptFault.{ScriptFault}
-use Rattle.script_read.specs.declared.refusals.ScriptFault.TheVariants.{Refused, Memory}
+use Rattle.script_form.specs.declared.refusals.ScriptFault.{ScriptFault}
+use Rattle.script_form.specs.declared.refusals.ScriptFault.TheVariants.{Refused, Memory}
 
 -- a fault of the first is one of both
 pub passes_on : {A B : Type 0} (r : Reading A) (next : A → Reading B) (e : ScriptFault) → IsFaultOf r e → IsFaultOf (r >>= next) e
@@ -43,10 +43,6 @@ pub each_fault : {A : Type 0} (read : List A → Data → Reading A) (vs : List 
     → IsFaultOf (each read done (drop i (map view vs))) e
 each_fault read vs i v done e lt is h =
     fault_by _ _ e (each_at read vs i v done lt is) (passes_on (read done (view v)) (λ x. each read (done ++ x ∷ []) (drop (i + 1) (map view vs))) e h)
-
--- no item is left
-pub each_end : {A : Type 0} (read : List A → Data → Reading A) (vs : List Value) (i : ℕ) (done : List A) → length vs ≤ i → each read done (drop i (map view vs)) ≡ Ok done
-each_end read vs i done le = at_drop_all (each read done) (map view vs) i (rw length-map le)
 
 -- a fault that is handed on by `?`
 pub handed_on : {A T : Type 0} (model : T → A) (reading : Reading A) (result : Result T ScriptFault) (e : ScriptFault) → IsErr result × IsErrAnd result (λ f. f ≡ e) → IsFaultOf reading e → Reads model reading result

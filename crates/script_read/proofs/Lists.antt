@@ -8,10 +8,10 @@ use Rattle.toml.specs.View.{view, items_view}
 use Rattle.toml.specs.declared.value.Value.{Value}
 use Rattle.script_read.specs.Fields.{list_of, at_most}
 use Rattle.script_read.specs.Reading.{Reading, refused, IsFaultOf, IsBlamed}
-use Rattle.script_read.specs.declared.refusals.Why.{Why}
-use Rattle.script_read.specs.declared.refusals.Why.TheVariants.{TooMany}
-use Rattle.script_read.specs.declared.refusals.ScriptFault.{ScriptFault}
-use Rattle.script_read.specs.declared.refusals.ScriptFault.TheVariants.{Refused, Memory}
+use Rattle.script_form.specs.declared.refusals.Why.{Why}
+use Rattle.script_form.specs.declared.refusals.Why.TheVariants.{TooMany}
+use Rattle.script_form.specs.declared.refusals.ScriptFault.{ScriptFault}
+use Rattle.script_form.specs.declared.refusals.ScriptFault.TheVariants.{Refused, Memory}
 
 pub any_of_map : {A B : Type 0} (test : B → Bool) (f : A → B) (xs : List A) → list_any (λ x. test (f x)) xs ≡ list_any test (map f xs)
 any_of_map test f [] = refl

@@ -6,8 +6,8 @@ use Rattle.hop_model.specs.State.{Text}
 use Rattle.toml.specs.Data.{Data, Members, get_member, as_integer}
 use Rattle.script_read.specs.Reading.{Blame, Reading, ◌>>=◌, refused, or_refused, optional, dotted}
 use Rattle.script_read.specs.Fields.{at_most, a_list, in_range, a_number, required, number_at, number_or, list_at, each}
-use Rattle.script_read.specs.declared.refusals.Why.{Why}
-use Rattle.script_read.specs.declared.refusals.Why.TheVariants.{Kind, Range, TooMany}
+use Rattle.script_form.specs.declared.refusals.Why.{Why}
+use Rattle.script_form.specs.declared.refusals.Why.TheVariants.{Kind, Range, TooMany}
 
 pub err_is_not_ok : {A : Type 0} (b : Blame) (x : A) → ◌≡◌ {A = Reading A} (Err b) (Ok x) → ⊥
 err_is_not_ok b x e = cc
@@ -30,9 +30,6 @@ test_ok true x y why key h = (refl, same_ok x y h)
 test_ok false x y why key h = absurd (err_is_not_ok _ y h)
 
 -- NUMBERS
-
-abbrev IsBetween : ℕ → ℕ → ℕ → Type 0
-IsBetween low high n = (low ≤ n) × (n ≤ high)
 
 pub in_range_ok : (low high : ℕ) (key : Text) (z : ℤ) (n : ℕ) → in_range low high key z ≡ Ok n → (low ≤ n) × (n ≤ high)
 in_range_ok low high key (pos m) n h =

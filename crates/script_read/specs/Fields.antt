@@ -4,8 +4,8 @@ use Rattle.hop_model.specs.State.{Text}
 use Rattle.hop_model.specs.Soundness.{is_given_name}
 use Rattle.toml.specs.Data.{Data, Items, no_items, item, Members, no_members, member, get_member, as_str, as_integer, as_array, as_table}
 use Rattle.script_read.specs.Reading.{Reading, ◌>>=◌, refused, or_refused, optional, dotted}
-use Rattle.script_read.specs.Rules.{is_among}
-use Rattle.script_read.specs.declared.refusals.Why.TheVariants.{Missing, Kind, Name, Unknown, Range, TooMany}
+use Rattle.script_form.specs.Rules.{is_among}
+use Rattle.script_form.specs.declared.refusals.Why.TheVariants.{Missing, Kind, Name, Unknown, Range, TooMany}
 
 -- KINDS
 

@@ -1,6 +1,3 @@
-pub mod Scripts
-pub mod Rules
-pub mod Refusals
 pub mod Reading
 pub mod Strings
 pub mod Fields

@@ -12,8 +12,8 @@ use Rattle.instr_set.specs.Reader.{instr_of}
 use Rattle.script_read.specs.Reading.{Reading, ◌>>=◌, refused, or_refused, optional, dotted}
 use Rattle.script_read.specs.Strings.{RegionForm, CapForm, region_form, cap_form}
 use Rattle.script_read.specs.Fields.{a_string, a_table, a_list, a_number, only, text_at, number_at, number_or, list_at, name_at, item_key, each}
-use Rattle.script_read.specs.Rules.{is_among, container_names, locus_names}
-use Rattle.script_read.specs.declared.refusals.Why.TheVariants.{NotToml, Unknown, Range, BadCode, Long}
+use Rattle.script_form.specs.Rules.{is_among, container_names, locus_names}
+use Rattle.script_form.specs.declared.refusals.Why.TheVariants.{NotToml, Unknown, Range, BadCode, Long}
 
 -- PROGRAMS
 

@@ -3,9 +3,9 @@ use Rattle.std.specs.Prelude.{◌≤◌, List, map, string_bytes}
 use Rattle.hop_model.specs.State.{Text}
 use Rattle.script_read.specs.declared.links.Known.{Known}
 use Rattle.script_read.specs.Meaning.{Program, Source, known_names}
-use Rattle.script_read.specs.Scripts.{tables_of, container_of, locus_of}
+use Rattle.script_form.specs.Scripts.{tables_of, container_of, locus_of}
 use Rattle.script_read.specs.Strings.{RegionForm, CapForm}
-use Rattle.script_read.specs.declared.Script.{Script}
+use Rattle.script_form.specs.declared.Script.{Script}
 use Rattle.script_read.specs.declared.programs.Program.{Program as CodeProgram}
 use Rattle.script_read.specs.declared.strings.RegionWords.{RegionWords}
 use Rattle.script_read.specs.declared.strings.CapWords.{CapWords}

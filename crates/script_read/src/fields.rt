@@ -4,11 +4,11 @@ ghost use Rattle.toml.specs.Data.{get_member};
 ghost use Rattle.toml.specs.View.{view, table_view};
 ghost use Rattle.script_read.specs.Fields.{a_string, a_table, a_list, a_number, only, required, text_at, number_at, number_or, list_at, item_key};
 ghost use Rattle.script_read.specs.Reading.{dotted, Reads};
-ghost use Rattle.script_read.specs.Rules.{is_among};
+ghost use Rattle.script_form.specs.Rules.{is_among};
 
 use crate::keys::{refuse, refuse_item};
-use crate::refusals::{ScriptFault, Why};
 use crate::strings::is_same;
+use script_form::{ScriptFault, Why};
 use std::alloc::Global;
 use toml::{Table, Value};
 

@@ -3,8 +3,8 @@ ghost use Rattle.std.specs.Prelude.{◌≡◌, IfOk, string_bytes};
 ghost use Rattle.script_read.specs.Fields.{item_key};
 ghost use Rattle.script_read.specs.Reading.{dotted, IsBlamed};
 
-use crate::refusals::{Refusal, ScriptFault, Why};
 use itoa::Buffer;
+use script_form::{Refusal, ScriptFault, Why};
 use std::alloc::{AllocError, Global};
 
 /// The key of a name in the table with this key, which is empty at the top.

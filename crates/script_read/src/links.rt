@@ -5,23 +5,17 @@ ghost use Rattle.hop_model.specs.Scripts.{CapTable};
 ghost use Rattle.toml.specs.View.{view, table_view};
 ghost use Rattle.script_read.specs.Meaning.{overlap, is_within, fits, a_region, regions_at, a_cap, caps_at, names_of};
 ghost use Rattle.script_read.specs.Reading.{Reads};
-ghost use Rattle.script_read.specs.Rules.{is_among, container_names, locus_names};
-ghost use Rattle.script_read.specs.Scripts.{region_of, cap_of, container_of, locus_of};
+ghost use Rattle.script_form.specs.Rules.{is_among, container_names, locus_names};
+ghost use Rattle.script_form.specs.Scripts.{region_of, cap_of, container_of, locus_of};
 ghost use Rattle.script_read.specs.Views.{region_form_of, AreSmall, names_known};
 
 use crate::fields::{list_at, string_item};
 use crate::keys::{dotted, refuse_item};
-use crate::refusals::{ScriptFault, Why};
 use crate::strings::{CapWords, RegionWords, cap_words, is_same, region_words};
-use crate::{ScriptCap, ScriptContainer, ScriptLocus, ScriptRegion};
+use hop_base::{MOST_CAPS, MOST_REGIONS};
+use script_form::{ScriptCap, ScriptContainer, ScriptFault, ScriptLocus, ScriptRegion, Why};
 use std::alloc::Global;
 use toml::{Table, Value};
-
-/// How many regions a container may have.
-const MOST_REGIONS: usize = 16;
-
-/// How many capabilities a table may give.
-const MOST_CAPS: usize = 32;
 
 pub(crate) fn has_container(containers: &[ScriptContainer], name: &str) -> bool
     ensures { result ≡ is_among (container_names (map container_of containers.now)) name.now }

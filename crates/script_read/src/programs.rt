@@ -10,10 +10,10 @@ ghost use Rattle.script_read.specs.Views.{program_of};
 
 use crate::fields::{a_list, a_table, find, string_item};
 use crate::keys::{dotted, refuse_item};
-use crate::refusals::{ScriptFault, Why};
 use crate::strings::is_same;
 use hop_base::Instr;
 use instr_set::read_line;
+use script_form::{ScriptFault, Why};
 use std::alloc::Global;
 use toml::{Table, Value};
 

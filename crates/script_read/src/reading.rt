@@ -9,23 +9,20 @@ ghost use Rattle.script_read.specs.Carried.{HasCarriedCode};
 ghost use Rattle.script_read.specs.Meaning.{a_pick, order_at, entities_at, top_keys, tree_meaning, meaning_by, script_meaning};
 ghost use Rattle.script_read.specs.Fields.{only};
 ghost use Rattle.script_read.specs.Reading.{or_refused, Reads};
-ghost use Rattle.script_read.specs.Rules.{IsScript, locus_names};
-ghost use Rattle.script_read.specs.Scripts.{tables_of, locus_of};
+ghost use Rattle.script_form.specs.Rules.{IsScript, locus_names};
+ghost use Rattle.script_form.specs.Scripts.{tables_of, locus_of};
 ghost use Rattle.script_read.specs.Views.{source_of, program_of};
 
 use crate::fields::{Limits, list_at, number_or, only, string_item};
 use crate::keys::{refuse, refuse_item};
 use crate::links::has_locus;
 use crate::programs::{Program, read_programs};
-use crate::refusals::{ScriptFault, Why};
 use crate::tables::{read_containers, read_loci};
-use crate::{Script, ScriptLocus};
+use hop_base::MOST_SCRIPT_BYTES;
+use script_form::{Script, ScriptFault, ScriptLocus, Why};
 use std::alloc::Global;
 use std::str;
 use toml::{Table, Value};
-
-/// How many bytes a source may have.
-const MOST_BYTES: usize = 1_048_576;
 
 /// How many names an order may have.
 const MOST_PICKS: usize = 4096;
@@ -125,7 +122,7 @@ fn parse(alloc: Global, text: &str) -> Result<Table, ScriptFault>
 fn read_source(alloc: Global, bytes: &[u8]) -> Result<Script, ScriptFault>
     ensures { (spelled : Text → Option AnInstr) → IsReader spelled → Reads source_of (meaning_by spelled bytes.now) result }
 {
-    if bytes.len() > MOST_BYTES {
+    if bytes.len() > MOST_SCRIPT_BYTES {
         return Err(refuse(alloc, Why::Long, "", "-"));
     }
     let Ok(text) = str::from_utf8(bytes) else {

@@ -4,7 +4,7 @@ ghost use Rattle.toml.specs.View.{view, table_view};
 ghost use Rattle.script_read.specs.Fields.{name_at, only};
 ghost use Rattle.script_read.specs.Meaning.{names_of, every_at, code_at, entry_at, sized_container, coded_container, whole_container, container_keys, a_container, containers_at, host_at, whole_locus, locus_keys, a_locus, loci_at};
 ghost use Rattle.script_read.specs.Reading.{Reads};
-ghost use Rattle.script_read.specs.Scripts.{container_of, locus_of};
+ghost use Rattle.script_form.specs.Scripts.{container_of, locus_of};
 ghost use Rattle.script_read.specs.Views.{program_of};
 
 use crate::fields::{
@@ -13,18 +13,11 @@ use crate::fields::{
 use crate::keys::{item_key, refuse};
 use crate::links::{Known, has_container, is_taken, read_caps, read_regions};
 use crate::programs::{Program, code_named};
-use crate::refusals::{ScriptFault, Why};
 use crate::strings::is_given_name;
-use crate::{ScriptContainer, ScriptLocus};
-use hop_base::Instr;
+use hop_base::{Instr, MOST_CONTAINERS, MOST_LOCI};
+use script_form::{ScriptContainer, ScriptFault, ScriptLocus, Why};
 use std::alloc::Global;
 use toml::{Table, Value};
-
-/// How many containers a script may have.
-const MOST_CONTAINERS: usize = 40;
-
-/// How many loci a script may have.
-const MOST_LOCI: usize = 23;
 
 const PAGES: Limits = Limits { low: 1, high: 256 };
 

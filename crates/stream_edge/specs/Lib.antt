@@ -1,4 +1,3 @@
-pub mod Counts
 pub mod FileLaws
 pub mod Files
 pub mod Memory

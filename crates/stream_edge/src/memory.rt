@@ -1,6 +1,6 @@
 // A source and a sink in memory, whose calls can be made to fail.
 ghost use Rattle.std.specs.Prelude.{◌≡◌, ◌↔◌, ◌⊎◌, ◌+◌, ◌<◌, ◌≤◌, ◌++◌, [], List, ℕ, length, min, take, drop, Some, Contains, IsTrue, IsErr, IfOk, OnOk, OnErr};
-ghost use Rattle.stream_edge.specs.Counts.{raised, Rose};
+ghost use Rattle.disk_trait.specs.Counts.{raised, Rose};
 ghost use Rattle.stream_edge.specs.Streams.{Takes, Puts};
 ghost use Rattle.stream_edge.specs.Memory.{SourceState, SinkState};
 

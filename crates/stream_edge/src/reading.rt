@@ -1,7 +1,7 @@
 // Reading a source to its end.
 ghost use Rattle.std.specs.Prelude.{◌≡◌, ◌<◌, ◌≤◌, ℕ, List, length, vec_len, IfOk, IfErr, IfSome, OnOk, OnErr, IsErrOf};
 ghost use Rattle.std.specs.Io.KnownBytes.{Consumes, IsAtEnd};
-ghost use Rattle.stream_edge.specs.Counts.{Rose};
+ghost use Rattle.disk_trait.specs.Counts.{Rose};
 ghost use Rattle.stream_edge.specs.Reading.{IsFault};
 ghost use Rattle.stream_edge.specs.declared.reading.ReadStop.TheVariants.{Source as FromSource, Memory as OutOfMemory};
 

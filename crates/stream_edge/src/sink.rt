@@ -1,5 +1,5 @@
 ghost use Rattle.std.specs.Prelude.{◌≤◌, ℕ, List, OnErr, Option};
-ghost use Rattle.stream_edge.specs.Counts.{Rose};
+ghost use Rattle.disk_trait.specs.Counts.{Rose};
 ghost use Rattle.stream_edge.specs.Streams.{Puts};
 
 use std::error::Error;

@@ -1,7 +1,7 @@
 // Std's readers and writers as a source and a sink.
 ghost use Rattle.std.specs.Prelude.{◌≡◌, ◌<◌, ◌≤◌, length, take, IfOk, OnOk, OnErr};
 ghost use Rattle.std.specs.Io.KnownBytes.{Keeps, Appends};
-ghost use Rattle.stream_edge.specs.Counts.{raised, Rose};
+ghost use Rattle.disk_trait.specs.Counts.{raised, Rose};
 ghost use Rattle.stream_edge.specs.Streams.{Takes, Puts, AppendsPart};
 
 use crate::{Sink, SinkFault, Source, SourceFault};

@@ -2,9 +2,11 @@ ghost use Rattle.std.specs.Prelude.{◌≤◌, length, take, IfOk};
 ghost use Rattle.std.specs.Io.{ReadsAtMost, WritesAtMost};
 
 use crate::{
-    MemorySink, MemorySource, ReadSource, ReadStop, Sink, SinkFault, Source, SourceFault,
+    FileDisk, MemorySink, MemorySource, ReadSource, ReadStop, Sink, SinkFault, Source, SourceFault,
     WriteSink, read_all,
 };
+use disk_trait::Disk;
+use std::fs::{self, Files, OpenOptions};
 use std::io;
 use std::io::{ErrorKind, Read, Write};
 use std::test::Fail;
@@ -153,5 +155,45 @@ fn a_writer_is_a_sink(rt: HostRuntime) -> Result<(), Fail> {
     let mut sink = WriteSink::new(Narrow { room: 3 });
     assert_eq!(rt; sink.put(b"ab"), Ok(()));
     assert_eq!(rt; sink.put(b"cd"), Err(SinkFault));
+    Ok(())
+}
+
+// An empty file for one test.
+fn empty_file<R: Files>(files: &R) -> io::Result<R::File> {
+    OpenOptions::new()
+        .read(true)
+        .write(true)
+        .create(true)
+        .truncate(true)
+        .open(files, "a_file_is_a_disk.img")
+}
+
+#[test]
+fn a_file_is_a_disk(rt: HostRuntime) -> Result<(), Fail> {
+    let zeros = [0; 1024];
+    let mut block = [9; 1024];
+    let mut disk = FileDisk::new(empty_file(&rt)?);
+    assert_eq!(rt; disk.read(0, &mut block), Ok(()));
+    assert_eq!(rt; block.as_slice(), zeros.as_slice());
+
+    let mut file = empty_file(&rt)?;
+    file.write_all(b"abc")?;
+    let mut ends_inside = zeros;
+    ends_inside[0] = b'a';
+    ends_inside[1] = b'b';
+    ends_inside[2] = b'c';
+    let mut disk = FileDisk::new(file);
+    assert_eq!(rt; disk.read(0, &mut block), Ok(()));
+    assert_eq!(rt; block.as_slice(), ends_inside.as_slice());
+
+    assert_eq!(rt; disk.write(2, &[7; 1024]), Ok(()));
+    assert_eq!(rt; disk.sync(), Ok(()));
+    assert_eq!(rt; disk.read(2, &mut block), Ok(()));
+    assert_eq!(rt; block.as_slice(), [7; 1024].as_slice());
+    assert_eq!(rt; disk.read(1, &mut block), Ok(()));
+    assert_eq!(rt; block.as_slice(), zeros.as_slice());
+    assert_eq!(rt; disk.read(0, &mut block), Ok(()));
+    assert_eq!(rt; block.as_slice(), ends_inside.as_slice());
+    fs::remove_file(&rt, "a_file_is_a_disk.img")?;
     Ok(())
 }

@@ -44,6 +44,15 @@ impl Stamp {
         self.0[entity.number() as usize] += 1;
     }
 
+    /// Tells at least this version of the entity.
+    pub fn raise(&mut self, entity: Entity, version: u64)
+        ensures raised { component self.new entity ≡ max (component self.old entity) version }
+        ensures others { (y : ℕ) → y ≢ entity → component self.new y ≡ component self.old y }
+    {
+        let place = entity.number() as usize;
+        self.0[place] = self.0[place].max(version);
+    }
+
     /// Whether the stamp tells at least these versions.
     pub fn covers(&self, versions: &[u64; 64]) -> bool
         ensures { IsTrue result ↔ ((y : ℕ) → slice_index versions.now y ≤ component self.now y) }
@@ -60,5 +69,28 @@ impl Default for Stamp {
 
     fn default() -> Stamp {
         Stamp::new()
+    }
+}
+
+#[cfg(test)]
+mod tests {
+    use super::*;
+    use hop_base::Entity;
+
+    #[test]
+    fn a_stamp_tells_what_it_met_and_was_raised_to(rt: HostRuntime) {
+        let mut stamp = Stamp::new();
+        stamp.tick(Entity::ATLAS);
+        stamp.raise(Entity::of(63), 7);
+        stamp.raise(Entity::of(63), 5);
+        let mut other = Stamp::default();
+        other.tick(Entity::of(1));
+        assert!(rt; !stamp.covers(&other.0));
+        stamp.meet(&other);
+        assert!(rt; stamp.covers(&other.0));
+        assert_eq!(rt; stamp.at(Entity::ATLAS), 1);
+        assert_eq!(rt; stamp.at(Entity::of(1)), 1);
+        assert_eq!(rt; stamp.at(Entity::of(63)), 7);
+        assert_eq!(rt; stamp.at(Entity::of(2)), 0);
     }
 }

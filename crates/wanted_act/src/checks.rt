@@ -4,12 +4,9 @@ ghost use Rattle.hop_model.specs.Refusals.{no_slot as slot_check, no_container a
 ghost use Rattle.hop_model.specs.Words.{first as first_there, unless as reply_unless, denied, free_slot as lowest_free};
 ghost use Rattle.wanted_act.specs.Views.{view_of, meets};
 
-use crate::reads::{PAGE, named_cap, named_entity, named_rights, private_at, register};
+use crate::reads::{named_cap, named_entity, named_rights, private_at, register};
 use crate::view::LocusView;
-use hop_base::{Cap, Kind, Region, Reply, Rights};
-
-/// The most pages of a container.
-const MOST_PAGES: u64 = 256;
+use hop_base::{Cap, Kind, MOST_PAGES, PAGE_WORDS, Region, Reply, Rights};
 
 /// The first refusal that is there.
 pub(crate) fn first_of(checks: &[Option<Reply>]) -> Option<Reply>
@@ -138,7 +135,7 @@ pub(crate) fn first_look_denied(l: &LocusView, address: u64, needed: Rights) -> 
     if l.walk.is_some() {
         return None;
     }
-    match private_at(l, address / PAGE) {
+    match private_at(l, address / PAGE_WORDS) {
         Some(p) => denial(p.region.rights, needed),
         None => None,
     }

@@ -6,10 +6,7 @@ ghost use Rattle.hop_model.specs.Words.{covers};
 ghost use Rattle.wanted_act.specs.Views.{view_of, IsReadyLocus};
 
 use crate::view::LocusView;
-use hop_base::{Cap, Entity, Instr, Private, Region, Rights};
-
-/// Words in a page.
-pub const PAGE: u64 = 128;
+use hop_base::{Cap, Entity, Instr, PAGE_WORDS, Private, Region, Rights};
 
 /// What stands in a register.
 pub fn register(l: &LocusView, r: u8) -> u64
@@ -89,7 +86,7 @@ pub fn next_container(l: &LocusView, address: u64) -> Entity
 {
     match l.walk {
         Some(walk) => walk.at,
-        None => match private_at(l, address / PAGE) {
+        None => match private_at(l, address / PAGE_WORDS) {
             Some(p) => p.region.target,
             None => l.host,
         },

@@ -10,10 +10,7 @@ use crate::checks::{
 };
 use crate::reads::{named_entity, register};
 use crate::view::LocusView;
-use hop_base::{Entity, Instr, Reply, Rights};
-
-/// The most private regions of a locus.
-const MOST_PRIVATES: usize = 16;
+use hop_base::{Entity, Instr, MOST_PRIVATES, Reply, Rights};
 
 #[tactic(auto, unfolding(hop_model::specs::Refusals::refusal))]
 fn load_refused(l: &LocusView, d: u8, a: u8) -> Option<Reply>

@@ -1,5 +1,5 @@
-use Rattle.std.proofs.Common.{ap, refl, arith}
-use Rattle.frame_table.proofs.Kept.{residents, absent_key, sound_placed, pages_placed}
+use Rattle.std.proofs.Common.{refl, arith}
+use Rattle.frame_table.proofs.Kept.{residents, absent_key, sound_placed, placed}
 use Rattle.frame_table.proofs.Frames.place.Goals as goal
 
 pub insert_reserved-key-requires : goal.insert_reserved-key-requires
@@ -11,13 +11,12 @@ pub invariant_of-self : goal.invariant_of-self
 invariant_of-self c =
     let room = rw (← c.self.view_is) at c.requires.room in
     let absent = absent_key _ _ _ c.self.invariant c.args.page (omega arith) (rw (← c.self.view_is) at c.requires.absent) in
-    let placed = c.insert_reserved-key.ensures in
-    sound_placed _ _ _ c.self.invariant _ c.args.page _ _ (omega arith) absent placed.was_vacant refl c.told-words placed.updates placed.len placed.capacity (omega (arith, residents _ _ _ c.self.invariant))
+    let done = c.insert_reserved-key.ensures in
+    sound_placed _ _ _ c.self.invariant _ c.args.page _ _ (omega arith) absent done.was_vacant refl c.told-words done.updates done.len done.capacity (omega (arith, residents _ _ _ c.self.invariant))
 
 pub returns : goal.returns
 returns c =
     let absent = absent_key _ _ _ c.self.invariant c.args.page (omega arith) (rw (← c.self.view_is) at c.requires.absent) in
-    let placed = c.insert_reserved-key.ensures in
+    let done = c.insert_reserved-key.ensures in
     rw (← c.self.view_is)
-    (ap (λ pages. record { frames = c.self.inside.frames; pages = pages })
-    (pages_placed _ _ _ c.self.invariant _ c.args.page _ _ (omega arith) absent placed.was_vacant refl c.told-words placed.updates))
+    (placed _ _ _ c.self.invariant _ c.args.page _ _ (omega arith) absent done.was_vacant refl c.told-words done.updates c.self.inside.hand refl refl)

@@ -11,6 +11,6 @@ invariant_of-self c =
 
 pub returns : goal.returns
 returns c =
-    let written = table_set _ _ _ c.self.invariant c.args.page c.in-Some.key c.index_mut-frame.result.now _ (omega arith) c.in-Some.is c.index_mut-frame.ensures.value refl (length-set _ _ _) in
+    let written = table_set _ _ _ c.self.invariant c.args.page c.in-Some.key c.index_mut-frame.result.now _ (omega arith) c.in-Some.is c.index_mut-frame.ensures.value refl (length-set _ _ _) c.self.inside.hand in
     let words = words_seen _ _ _ c.self.invariant c.args.page c.in-Some.key c.index_mut-frame.result.now (omega arith) c.in-Some.is c.index_mut-frame.ensures.value in
-    rw (← c.self.view_is) (written ∙ ap (λ w. with_resident (table_of c.self.inside.frames c.self.inside.table c.self.inside.held) c.args.page (set w c.args.place c.args.word) true) (sym words))
+    rw (← c.self.view_is) (written ∙ ap (λ w. with_resident (table_of c.self.inside.frames c.self.inside.table c.self.inside.held c.self.inside.hand) c.args.page (set w c.args.place c.args.word) true true) (sym words))

@@ -1,6 +1,6 @@
-use Rattle.std.proofs.Common.{refl, ap, subst, arith}
-use Rattle.frame_table.specs.FrameTable.{IsResident}
-use Rattle.frame_table.proofs.Kept.{empty_frame, no_empty_frame, some_taken, sound_same, frame_resident, pages_same}
+use Rattle.std.proofs.Common.{refl, arith}
+use Rattle.frame_table.proofs.Kept.{empty_frame, no_empty_frame, some_taken, victim_resident}
+use Rattle.frame_table.proofs.Victims.{victim_is}
 use Rattle.frame_table.proofs.Frames.victim.Goals as goal
 
 pub returns-then-len-self-clause-none : goal.returns-then-len-self-clause-none
@@ -16,6 +16,8 @@ returns-clause-none c =
 pub returns-clause-resident : goal.returns-clause-resident
 returns-clause-resident c =
     let kept = c.in-Some.ensures.kept in
-    let resident = frame_resident _ _ _ (sound_same _ _ _ c.self.invariant _ kept) c.in-Some.key c.index.result.now c.index.ensures in
-    let same = ap (λ pages. record { frames = c.self.inside.frames; pages = pages }) (pages_same _ _ _ c.self.invariant _ kept) in
-    rw (← c.self.view_is) (subst (λ t. IsResident t c.index.result.now.page) same resident)
+    rw (← c.self.view_is) (victim_resident _ _ _ c.self.invariant _ kept c.in-Some.key c.index.result.now c.index.ensures)
+
+pub returns-clause-victim : goal.returns-clause-victim
+returns-clause-victim c =
+    rw (← c.self.view_is) (victim_is _ _ _ _ c.self.invariant c.in-Some.ensures.kept c.self.inside.hand c.in-Some.key c.index.result.now c.index.ensures c.in-Some.ensures.chosen)

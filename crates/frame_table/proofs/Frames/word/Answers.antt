@@ -1,12 +1,18 @@
-use Rattle.std.proofs.Common.{ap, ◌∙◌}
-use Rattle.frame_table.proofs.Kept.{same_marked, sound_same, pages_same}
+use Rattle.std.proofs.Common.{ap, ◌∙◌, sym, refl, true, arith}
+use Rattle.frame_table.specs.FrameTable.{with_resident, words_at}
+use Rattle.frame_table.specs.Held.{table_of}
+use Rattle.frame_table.proofs.Kept.{sound_set, table_set, words_seen, changed_seen}
 use Rattle.frame_table.proofs.Frames.word.Goals as goal
 
 pub invariant_of-self : goal.invariant_of-self
-invariant_of-self c = sound_same _ _ _ c.self.invariant _ (same_marked _ _ _ _ c.index_mut-frame.ensures.value)
+invariant_of-self c =
+    sound_set _ _ _ c.self.invariant c.args.page c.in-Some.key c.index_mut-read.result.now _ (omega arith) c.in-Some.is c.index_mut-read.ensures.value refl refl
 
-pub returns-clause-same : goal.returns-clause-same
-returns-clause-same c =
-    ap (λ pages. record { frames = c.self.inside.frames; pages = pages })
-    (pages_same _ _ _ c.self.invariant _ (same_marked _ _ _ _ c.index_mut-frame.ensures.value))
-    ∙ c.self.view_is
+pub returns-clause-marked : goal.returns-clause-marked
+returns-clause-marked c =
+    let written = table_set _ _ _ c.self.invariant c.args.page c.in-Some.key c.index_mut-read.result.now _ (omega arith) c.in-Some.is c.index_mut-read.ensures.value refl refl c.self.inside.hand in
+    let words = words_seen _ _ _ c.self.invariant c.args.page c.in-Some.key c.index_mut-read.result.now (omega arith) c.in-Some.is c.index_mut-read.ensures.value in
+    let changed = changed_seen _ _ _ c.self.invariant c.args.page c.in-Some.key c.index_mut-read.result.now (omega arith) c.in-Some.is c.index_mut-read.ensures.value in
+    rw (← c.self.view_is) (written
+    ∙ ap (λ w. with_resident (table_of c.self.inside.frames c.self.inside.table c.self.inside.held c.self.inside.hand) c.args.page w c.index_mut-read.result.now.changed true) (sym words)
+    ∙ ap (λ b. with_resident (table_of c.self.inside.frames c.self.inside.table c.self.inside.held c.self.inside.hand) c.args.page (words_at (table_of c.self.inside.frames c.self.inside.table c.self.inside.held 0) c.args.page) b true) (sym changed))

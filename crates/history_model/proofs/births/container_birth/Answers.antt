@@ -3,11 +3,11 @@ use Rattle.std.proofs.lemmas.List.{map_push}
 use Rattle.hop_model.specs.Births.{regions_from}
 use Rattle.hop_model.specs.Scripts.{number_in}
 use Rattle.hop_model.specs.State.{Supply, ContainerState}
-use Rattle.script_read.specs.Scripts.{container_of as table_of}
+use Rattle.script_form.specs.Scripts.{container_of as table_of}
 use Rattle.history_model.specs.Born.{edges_below}
 use Rattle.history_model.specs.Plains.{atlas_of, edges_of}
-use Rattle.history_model.proofs.BornLemmas.{length_regions}
-use Rattle.history_model.proofs.PlainBirths.{ContainerAdded, added_bears, added_edges, added_five, added_sound, few_names, still_sound}
+use Rattle.sound_runs.proofs.Tables.{length_regions}
+use Rattle.history_model.proofs.PlainBirths.{ContainerAdded, added_bears, added_edges, added_sound, few_names, still_sound}
 use Rattle.history_model.proofs.births.container_birth.Goals as goal
 
 pub edges_from-requires : goal.edges_from-requires
@@ -47,9 +47,6 @@ pub returns-clause-birth : goal.returns-clause-birth
 returns-clause-birth c s =
     added_bears s c.args.state.now c.add_container.new.state (table_of c.args.table.now) c.in-Some.newborn c.in_ok-container.container (added s c)
     c.args.versions.now c.container_entry.new.versions c.container_entry.result (omega arith) c.container_entry.ensures.entry c.container_entry.ensures.versions
-
-pub returns-clause-five : goal.returns-clause-five
-returns-clause-five c s = added_five s c.args.state.now c.add_container.new.state (table_of c.args.table.now) c.in-Some.newborn c.in_ok-container.container (added s c)
 
 pub container_from-requires-clause-names : goal.container_from-requires-clause-names
 container_from-requires-clause-names c = few_names c.args.state.now c.requires.sound

@@ -3,9 +3,9 @@ use Rattle.std.proofs.lemmas.List.{map_push}
 use Rattle.std.proofs.lemmas.Option.{slice_get_read, slice_get_within}
 use Rattle.hop_model.specs.Births.{locus_from}
 use Rattle.hop_model.specs.Scripts.{container_named, number_in}
-use Rattle.script_read.specs.Scripts.{locus_of as table_of}
+use Rattle.script_form.specs.Scripts.{locus_of as table_of}
 use Rattle.history_model.specs.Plains.{atlas_of, edges_of}
-use Rattle.history_model.proofs.PlainBirths.{LocusAdded, few_names, host_place, locus_added_bears, locus_added_five, locus_added_sound, locus_number, still_sound}
+use Rattle.history_model.proofs.PlainBirths.{LocusAdded, few_names, host_place, locus_added_bears, locus_added_sound, locus_number, still_sound}
 use Rattle.hop_model.specs.State.{Supply}
 use Rattle.history_model.proofs.births.locus_birth.Goals as goal
 
@@ -77,9 +77,6 @@ pub returns-clause-birth : goal.returns-clause-birth
 returns-clause-birth c s =
     locus_added_bears s c.args.state.now c.add_locus.new.state (table_of c.args.table.now) c.in-Some.host c.in-Some-free_locus.newborn c.index.result.now c.in_ok-locus.locus (added s c)
     c.args.versions.now c.locus_entry.new.versions c.locus_entry.result (omega arith) c.locus_entry.ensures.entry c.locus_entry.ensures.versions
-
-pub returns-clause-five : goal.returns-clause-five
-returns-clause-five c s = locus_added_five s c.args.state.now c.add_locus.new.state (table_of c.args.table.now) c.in-Some.host c.in-Some-free_locus.newborn c.index.result.now c.in_ok-locus.locus (added s c)
 
 pub container_named-requires : goal.container_named-requires
 container_named-requires c = few_names c.args.state.now c.requires.sound

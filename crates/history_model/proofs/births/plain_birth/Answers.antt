@@ -1,15 +1,13 @@
-use Rattle.std.proofs.Common.{◌≡◌, ◌∙◌, false, List, Option, Some, None, is_some, IsTrue, option_map, find, map, string_bytes, refl, sym, ap}
+use Rattle.std.proofs.Common.{◌≡◌, ◌∙◌, false, List, Option, Some, None, is_some, option_map, find, map, string_bytes, refl, sym, ap}
 use Rattle.hop_model.specs.Scripts.{container_table as container_table_by, locus_table as locus_table_by, text_eq}
 use Rattle.hop_model.specs.State.{Text}
-use Rattle.hop_model.specs.Scripts.{ContainerTable}
-use Rattle.history_model.specs.FiveActs.{has_five}
-use Rattle.script_read.specs.Scripts.{container_of, locus_of, tables_of}
-use Rattle.script_read.specs.declared.ScriptContainer.{ScriptContainer}
-use Rattle.script_read.specs.declared.ScriptLocus.{ScriptLocus}
+use Rattle.script_form.specs.Scripts.{container_of, locus_of, tables_of}
+use Rattle.script_form.specs.declared.ScriptContainer.{ScriptContainer}
+use Rattle.script_form.specs.declared.ScriptLocus.{ScriptLocus}
 use Rattle.history_model.specs.Plains.{atlas_of, cells_of}
 use Rattle.history_model.proofs.ActLemmas.{ok_by, some_by, none_by}
 use Rattle.history_model.proofs.PlainBirths.{few_names}
-use Rattle.history_model.proofs.ScriptLemmas.{bears_container, bears_locus, container_found, found_holds, full_containers, locus_found, named_container, named_known, named_locus, named_nothing, no_locus_born, none_where_undefined, ready_container, ready_locus_table, undefined_at}
+use Rattle.history_model.proofs.ScriptLemmas.{bears_container, bears_locus, container_found, full_containers, locus_found, named_container, named_known, named_locus, named_nothing, no_locus_born, none_where_undefined, ready_container, ready_locus_table, undefined_at}
 use Rattle.history_model.proofs.births.plain_birth.Goals as goal
 
 no_number : {A : Type 0} (o : Option A) → is_some o ≡ false → o ≡ None
@@ -94,11 +92,6 @@ returns-in-None-clause-undefined c =
           (λ w. named_nothing s (tables_of c.args.script.now) c.args.name.now w a none absent nor),
       λ _. refl,
     )
-
-pub returns-in-Some-clause-five : goal.returns-in-Some-clause-five
-returns-in-Some-clause-five c s old five =
-    let is = container_is c.args.script.now.containers.items c.deref.result.now c.args.name.now (Some c.in-Some.table.now) c.deref.ensures.value c.in-Some.ensures in
-    c.container_birth.ensures.five s old (found_holds (λ (t : ContainerTable). IsTrue (has_five t.code)) (tables_of c.args.script.now).containers c.args.name.now (container_of c.in-Some.table.now) five is)
 
 pub number_of-requires : goal.number_of-requires
 number_of-requires c = few_names c.args.state.now c.requires.sound

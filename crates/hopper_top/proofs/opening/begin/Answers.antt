@@ -6,7 +6,7 @@ use Rattle.history_model.specs.Plains.{atlas_of}
 use Rattle.journal.specs.Text.{KeptRun, blocks_needed, kept_runs}
 use Rattle.std.proofs.Common.{ℕ, List}
 use Rattle.plain_run.specs.Fitting.{Fits}
-use Rattle.script_read.specs.Scripts.{tables_of}
+use Rattle.script_form.specs.Scripts.{tables_of}
 use Rattle.hopper_top.proofs.Beginnings.{if_err_at, short_with, unfit_by}
 use Rattle.hopper_top.proofs.opening.begin.Goals as goal
 

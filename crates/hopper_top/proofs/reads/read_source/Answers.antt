@@ -1,4 +1,4 @@
-use Rattle.script_read.specs.Scripts.{tables_of}
+use Rattle.script_form.specs.Scripts.{tables_of}
 use Rattle.hopper_top.proofs.Ends.{accepted_by}
 use Rattle.hopper_top.proofs.reads.read_source.Goals as goal
 

@@ -2,7 +2,7 @@ use Rattle.std.proofs.Common.{subst}
 use Rattle.journal.specs.Journal.{Keeps}
 use Rattle.journal.specs.Text.{kept_runs}
 use Rattle.kept_run.specs.Meaning.{Means}
-use Rattle.script_read.specs.Scripts.{tables_of}
+use Rattle.script_form.specs.Scripts.{tables_of}
 use Rattle.hopper_top.proofs.Beginnings.{begun_of, unbegun_of}
 use Rattle.hopper_top.proofs.runs.open_run.Goals as goal
 

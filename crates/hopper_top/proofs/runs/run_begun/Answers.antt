@@ -10,8 +10,8 @@ use Rattle.kept_run.specs.Running.{IsCutBy, IsUncut, Origin, beginning}
 use Rattle.kept_run.proofs.Starting.{kept_start}
 use Rattle.plain_run.specs.Standing.{Stands}
 use Rattle.plain_run.proofs.ShortNames.{sound_short}
-use Rattle.script_read.specs.Scripts.{tables_of}
-use Rattle.stream_edge.specs.Counts.{Rose}
+use Rattle.script_form.specs.Scripts.{tables_of}
+use Rattle.disk_trait.specs.Counts.{Rose}
 use Rattle.hop_model.specs.State.{AtlasCell}
 use Rattle.hopper_top.specs.Ends.{IsPut}
 use Rattle.hopper_top.proofs.Beginnings.{clock_after}

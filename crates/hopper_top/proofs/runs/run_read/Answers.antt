@@ -1,12 +1,11 @@
 use Rattle.std.proofs.Common.{◌≡◌, ◌≤◌, ◌++◌, ◌∷◌, [], ℕ, List, Some, sym, ap, subst, ◌∙◌, arith}
 use Rattle.hop_model.specs.State.{KernelState}
-use Rattle.journal.specs.Faults.{Rose as DiskRose}
 use Rattle.journal.specs.Journal.{Keeps}
 use Rattle.journal.specs.Text.{blocks_needed, kept_runs}
 use Rattle.kept_run.specs.Meaning.{Means}
-use Rattle.script_read.specs.Scripts.{tables_of}
-use Rattle.script_read.specs.declared.Script.{Script}
-use Rattle.stream_edge.specs.Counts.{Rose}
+use Rattle.script_form.specs.Scripts.{tables_of}
+use Rattle.script_form.specs.declared.Script.{Script}
+use Rattle.disk_trait.specs.Counts.{Rose}
 use Rattle.hopper_top.specs.Leaving.{IsComplete, RunLeaves}
 use Rattle.hopper_top.specs.Opening.{HasBegun}
 use Rattle.hopper_top.specs.Runs.{Ran}
@@ -116,7 +115,7 @@ returns-in-Err-clause-leaves g c =
     let after = g.W.Sink.held c.end_with.new.sink in
     let rose = Rose (g.W.Sink.faults c.args.sink.now) (g.W.Sink.faults c.end_with.new.sink) in
     let left = leaves_unbegun g.s (Some c.args.read.bytes.items) (seen g.s disk.tells disk.reading disk.may_leave disk.left_since disk.clock c.args.disk mid) c.end_with.result.history.items c.end_with.result.marks.items held after rose (tables_of c.args.read.script) c.requires.1.1.1.1.1.0
-    (disk.reading c.args.disk) (disk.may_leave c.args.disk) (λ h. (c.in-Err.ensures.reading, h)) (λ h. h) (DiskRose (disk.faults c.args.disk) (disk.faults mid)) c.in-Err.fault c.end_with.ensures.unrun c.in-Err.ensures.fault
+    (disk.reading c.args.disk) (disk.may_leave c.args.disk) (λ h. (c.in-Err.ensures.reading, h)) (λ h. h) (Rose (disk.faults c.args.disk) (disk.faults mid)) c.in-Err.fault c.end_with.ensures.unrun c.in-Err.ensures.fault
     (λ t k was. c.in-Err.ensures.still was.0 k (still_left disk.tells disk.clock disk.may_leave disk.left_since since mid c.in-Err.ensures.clock (λ a b k t le h. laws.counts_later mid a b k t le h) (λ k t h. laws.only_now mid k t h) t k was)) in
     subst (λ d. RunLeaves g.s (Some c.args.read.bytes.items) (seen g.s disk.tells disk.reading disk.may_leave disk.left_since disk.clock c.args.disk d) c.end_with.result.status c.end_with.result.history.items c.end_with.result.marks.items held after rose) (sym c.end_with.ensures.disk)
     (subst (λ (st : Status). RunLeaves g.s (Some c.args.read.bytes.items) (seen g.s disk.tells disk.reading disk.may_leave disk.left_since disk.clock c.args.disk mid) st c.end_with.result.history.items c.end_with.result.marks.items held after rose) (sym c.end_with.ensures.status) left)
@@ -129,8 +128,8 @@ returns-in-Err-clause-complete g c can calm quiet =
     let means = known.2 in
     let image = disk.reading c.args.disk in
     subst IsComplete (sym c.end_with.ensures.status)
-    (complete_unbegun (tables_of c.args.read.script) (λ w. disk.tells → Means g.s image w) (disk.tells → (w : KernelState) → Means g.s image w → ⊥) (DiskRose (disk.faults c.args.disk) (disk.faults c.open_run.new.disk)) c.in-Err.fault c.in-Err.ensures.fault
-    (λ none. none t means.0 means.1) (λ rose. calm (subst (λ d. DiskRose (disk.faults c.args.disk) (disk.faults d)) (sym c.end_with.ensures.disk) rose))
+    (complete_unbegun (tables_of c.args.read.script) (λ w. disk.tells → Means g.s image w) (disk.tells → (w : KernelState) → Means g.s image w → ⊥) (Rose (disk.faults c.args.disk) (disk.faults c.open_run.new.disk)) c.in-Err.fault c.in-Err.ensures.fault
+    (λ none. none t means.0 means.1) (λ rose. calm (subst (λ d. Rose (disk.faults c.args.disk) (disk.faults d)) (sym c.end_with.ensures.disk) rose))
     (λ w opened. fits_any g.s image c.args.read.bytes.items can.1.0 (tables_of c.args.read.script) known.0 means.0 w can.1.1 c.requires.1.1.1.1.1.0 known.1 means.1 (opened t) means.2))
 
 pub returns-in-Ok-clause-no_source : goal.returns-in-Ok-clause-no_source
@@ -145,5 +144,5 @@ pub returns-in-Err-clause-no_source : goal.returns-in-Err-clause-no_source
 returns-in-Err-clause-no_source g c is =
     let disk = g.D.Disk in
     let image = disk.reading c.args.disk in
-    no_source_unbegun (tables_of c.args.read.script) (λ w. disk.tells → Means g.s image w) (disk.tells → (w : KernelState) → Means g.s image w → ⊥) (DiskRose (disk.faults c.args.disk) (disk.faults c.open_run.new.disk)) c.in-Err.fault c.in-Err.ensures.fault
+    no_source_unbegun (tables_of c.args.read.script) (λ w. disk.tells → Means g.s image w) (disk.tells → (w : KernelState) → Means g.s image w → ⊥) (Rose (disk.faults c.args.disk) (disk.faults c.open_run.new.disk)) c.in-Err.fault c.in-Err.ensures.fault
     (sym c.end_with.ensures.status ∙ is)

@@ -1,5 +1,5 @@
 use Rattle.std.proofs.Common.{Err, ap, subst, sym, ◌∙◌}
-use Rattle.journal.specs.Faults.{Rose as DiskRose}
+use Rattle.disk_trait.specs.Counts.{Rose}
 use Rattle.journal.specs.Text.{kept_runs}
 use Rattle.history_model.specs.Plains.{cells_of}
 use Rattle.hopper_top.specs.Seen.{seen}
@@ -25,4 +25,4 @@ returns-in-Err-clause-complete g c can calm quiet =
     let disk = g.D.Disk in
     complete_unopened c.in-Err.fault c.from.result c.end_with.result.status c.from.ensures c.end_with.ensures.status
     (λ is. c.open_image.ensures.foreign can.0 (c.in-Err.is ∙ ap Err is) can.1.0 can.1.1)
-    (λ is. calm (subst (λ d. DiskRose (disk.faults c.args.disk) (disk.faults d)) (sym c.end_with.ensures.disk) (c.open_image.ensures.cause (c.in-Err.is ∙ ap Err is))))
+    (λ is. calm (subst (λ d. Rose (disk.faults c.args.disk) (disk.faults d)) (sym c.end_with.ensures.disk) (c.open_image.ensures.cause (c.in-Err.is ∙ ap Err is))))

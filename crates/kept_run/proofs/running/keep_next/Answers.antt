@@ -8,7 +8,7 @@ use Rattle.kept_run.proofs.Trying.{below_tried, count_tried, leaves_same}
 use Rattle.hop_model.specs.Histories.{AllBelow64}
 use Rattle.run_cuts.specs.Marks.{completes}
 use Rattle.plain_run.specs.Standing.{Stands}
-use Rattle.script_read.specs.Scripts.{tables_of}
+use Rattle.script_form.specs.Scripts.{tables_of}
 use Rattle.kept_run.proofs.running.keep_next.Goals as goal
 
 pub returns-in_err-make_room-clause-cut : goal.returns-in_err-make_room-clause-cut

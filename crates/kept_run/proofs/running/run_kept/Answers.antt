@@ -6,7 +6,7 @@ use Rattle.kept_run.proofs.Looping.{fits_on, kept_run_of, left_of_kept, runs_sta
 use Rattle.kept_run.proofs.Marked.{marked_start, marks_of}
 use Rattle.plain_run.specs.Standing.{Stands}
 use Rattle.plain_run.proofs.Beginning.{few_entries}
-use Rattle.script_read.specs.Scripts.{tables_of}
+use Rattle.script_form.specs.Scripts.{tables_of}
 use Rattle.kept_run.proofs.running.run_kept.Goals as goal
 
 pub loop-more-init : goal.loop-more-init

@@ -1,5 +1,5 @@
 use Rattle.std.proofs.Common.{◌-◌, vec_len}
-use Rattle.script_read.specs.Scripts.{tables_of}
+use Rattle.script_form.specs.Scripts.{tables_of}
 use Rattle.kept_run.proofs.Looping.{RunsOn}
 use Rattle.kept_run.proofs.running.run_kept.Given as goal
 

@@ -4,7 +4,7 @@ use Rattle.history_model.specs.Plains.{atlas_of}
 use Rattle.journal.specs.Text.{kept}
 use Rattle.journal.specs.declared.kinds.ReadFault.TheVariants.{Foreign, Memory}
 use Rattle.kept_run.specs.Meaning.{BeginsWith}
-use Rattle.script_read.specs.Scripts.{tables_of}
+use Rattle.script_form.specs.Scripts.{tables_of}
 use Rattle.opened_image.proofs.Chains.{too_short}
 use Rattle.opened_image.proofs.Reaching.{begins_here, opened_begins, reached_there, replayed_short, replayed_whole}
 use Rattle.opened_image.proofs.replays.replay_item.Goals as goal

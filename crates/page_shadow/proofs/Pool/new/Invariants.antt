@@ -9,4 +9,5 @@ invariant-loop-block l = record {
   on : (b : ℕ) → l.first ≤ b → b < l.block → bit_of l.words.items b ≡ 1;
   before : (b : ℕ) → b < l.first → bit_of l.words.items b ≡ 0;
   after : (b : ℕ) → l.block ≤ b → bit_of l.words.items b ≡ 0;
+  past : (b : ℕ) → l.end ≤ b → bit_of l.words.items b ≡ 0;
 }

@@ -1,6 +1,7 @@
 use Rattle.std.proofs.Common.{◌∙◌, ap, length, arith}
 use Rattle.std.proofs.lemmas.List.{with_items_is}
 use Rattle.page_shadow.proofs.BitLemmas.{none_free, some_free, sound_lowest, lowest_blocks}
+use Rattle.page_shadow.proofs.Members.{members_taken}
 use Rattle.page_shadow.proofs.Pool.take_block.Goals as goal
 
 pub returns-in_default-clause-none : goal.returns-in_default-clause-none
@@ -21,3 +22,9 @@ returns-clause-lowest c =
     let len = c.clear_bit.auto.words ∙ ap length c.deref_mut.ensures.value in
     rw (← c.self.view_is, with_items_is c.self.inside.words c.clear_bit.new.words (omega arith))
     (lowest_blocks _ _ _ _ _ c.self.invariant _ c.in-Some.block len (rw c.deref.ensures.value at c.in-Some.ensures.found) (rw c.deref_mut.ensures.value at c.clear_bit.ensures) (rw c.deref.ensures.value at c.in-Some.ensures.lowest))
+
+pub returns-clause-takes : goal.returns-clause-takes
+returns-clause-takes c =
+    let len = c.clear_bit.auto.words ∙ ap length c.deref_mut.ensures.value in
+    rw (← c.self.view_is, with_items_is c.self.inside.words c.clear_bit.new.words (omega arith))
+    (members_taken _ _ _ _ _ c.self.invariant _ c.in-Some.block len (rw c.deref.ensures.value at c.in-Some.ensures.found) (rw c.deref_mut.ensures.value at c.clear_bit.ensures))

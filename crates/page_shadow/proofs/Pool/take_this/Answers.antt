@@ -1,6 +1,7 @@
 use Rattle.std.proofs.Common.{◌∙◌, ap, length, arith}
 use Rattle.std.proofs.lemmas.List.{with_items_is}
 use Rattle.page_shadow.proofs.BitLemmas.{set_free, some_free, word_of, sound_taken, taken_blocks}
+use Rattle.page_shadow.proofs.Members.{members_taken}
 use Rattle.page_shadow.proofs.Pool.take_this.Goals as goal
 
 pub clear_bit-requires : goal.clear_bit-requires
@@ -20,10 +21,17 @@ invariant_of-self c =
     rw (with_items_is c.self.inside.words c.clear_bit.new.words (omega arith))
     (sound_taken _ _ _ _ _ c.self.invariant _ c.args.block len on (rw c.deref_mut.ensures.value at c.clear_bit.ensures))
 
-pub returns : goal.returns
-returns c =
+pub returns-clause-value : goal.returns-clause-value
+returns-clause-value c =
     let on = set_free _ _ _ _ _ c.self.invariant c.args.block (rw (← c.self.view_is) at c.requires) in
     let len = c.clear_bit.auto.words ∙ ap length c.deref_mut.ensures.value in
     let blocks = taken_blocks _ _ _ _ _ c.self.invariant _ c.args.block len on (rw c.deref_mut.ensures.value at c.clear_bit.ensures) in
     rw (← c.self.view_is, with_items_is c.self.inside.words c.clear_bit.new.words (omega arith))
     (ap (λ bs. record { first = c.self.inside.first; end = c.self.inside.end; blocks = bs }) blocks)
+
+pub returns-clause-takes : goal.returns-clause-takes
+returns-clause-takes c =
+    let on = set_free _ _ _ _ _ c.self.invariant c.args.block (rw (← c.self.view_is) at c.requires) in
+    let len = c.clear_bit.auto.words ∙ ap length c.deref_mut.ensures.value in
+    rw (← c.self.view_is, with_items_is c.self.inside.words c.clear_bit.new.words (omega arith))
+    (members_taken _ _ _ _ _ c.self.invariant _ c.args.block len on (rw c.deref_mut.ensures.value at c.clear_bit.ensures))

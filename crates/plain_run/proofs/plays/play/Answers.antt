@@ -3,7 +3,7 @@ use Rattle.hop_base.specs.declared.histories.Entry.{Entry}
 use Rattle.hop_model.specs.Serial.{IsSerial}
 use Rattle.hop_model.specs.State.{KernelState, empty_state}
 use Rattle.history_model.specs.Plains.{atlas_of, cells_of}
-use Rattle.script_read.specs.Scripts.{tables_of}
+use Rattle.script_form.specs.Scripts.{tables_of}
 use Rattle.plain_run.specs.Standing.{Stands}
 use Rattle.plain_run.proofs.Beginning.{play_of}
 use Rattle.plain_run.proofs.ShortNames.{sound_short}

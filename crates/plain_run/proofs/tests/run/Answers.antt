@@ -1,4 +1,4 @@
-use Rattle.script_read.specs.Scripts.{tables_of}
+use Rattle.script_form.specs.Scripts.{tables_of}
 use Rattle.plain_run.proofs.TestFacts.{code_of, rules_of}
 use Rattle.plain_run.proofs.tests.run.Goals as goal
 

@@ -2,15 +2,15 @@ use Rattle.region_map.proofs.RegionLemmas.{Removed, removed}
 use Rattle.region_map.proofs.RegionMap.remove.Given.{Over}
 use Rattle.region_map.proofs.RegionMap.remove.Goals as goal
 
-taken_out : (g : Over) (c : goal.After-region g) → Removed c.args.at c.self.inside.regions.items c.remove.result c.remove.new.self.items
+taken_out : (g : Over) (c : goal.After-remove g) → Removed c.args.at c.self.inside.regions.items c.remove.result c.remove.new.self.items
 taken_out g c =
-    removed c.args.at c.self.inside.regions.items c.in-Some.place c.remove.result c.remove.new.self.items c.self.invariant (rw c.as_slice.ensures.value at c.in-Some.ensures.some) c.remove.ensures.value c.remove.ensures.items
+    removed c.args.at c.self.inside.regions.items c.in-Some.place c.remove.result c.remove.new.self.items c.self.invariant (rw (c.as_slice.ensures.all, ← c.self.view_is) at c.in-Some.ensures.some) c.remove.ensures.value c.remove.ensures.items
 
 pub invariant_of-self : goal.invariant_of-self
 invariant_of-self g c = (taken_out g c).kept
 
 pub returns-in-Some-clause-answer : goal.returns-in-Some-clause-answer
-returns-in-Some-clause-answer g c = rw (← c.self.view_is, (taken_out g c).was, c.region.ensures)
+returns-in-Some-clause-answer g c = rw (← c.self.view_is, (taken_out g c).was)
 
 pub returns-in-Some-clause-ok : goal.returns-in-Some-clause-ok
 returns-in-Some-clause-ok g c = rw (← c.self.view_is) (taken_out g c).left

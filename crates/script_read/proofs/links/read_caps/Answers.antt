@@ -5,7 +5,7 @@ use Rattle.toml.specs.View.{view, table_view}
 use Rattle.script_read.specs.Fields.{each}
 use Rattle.script_read.specs.Meaning.{a_cap, caps_at}
 use Rattle.script_read.specs.Reading.{dotted, IsFaultOf, ◌>>=◌}
-use Rattle.script_read.specs.Scripts.{cap_of}
+use Rattle.script_form.specs.Scripts.{cap_of}
 use Rattle.script_read.specs.Views.{names_known}
 use Rattle.script_read.proofs.Each.{each_done, each_handed_on}
 use Rattle.script_read.proofs.links.read_caps.Goals as goal

@@ -4,8 +4,8 @@ use Rattle.toml.specs.View.{view, table_view}
 use Rattle.script_read.specs.Fields.{each}
 use Rattle.script_read.specs.Meaning.{a_region, regions_at}
 use Rattle.script_read.specs.Reading.{dotted, IsFaultOf, ◌>>=◌}
-use Rattle.script_read.specs.Rules.{container_names}
-use Rattle.script_read.specs.Scripts.{region_of, container_of}
+use Rattle.script_form.specs.Rules.{container_names}
+use Rattle.script_form.specs.Scripts.{region_of, container_of}
 use Rattle.script_read.proofs.Each.{each_done, each_handed_on}
 use Rattle.script_read.proofs.links.read_regions.Goals as goal
 

@@ -3,8 +3,8 @@ use Rattle.std.proofs.Common.{◌≡◌, [], drop, map, string_bytes}
 use Rattle.toml.specs.View.{view}
 use Rattle.script_read.specs.Fields.{each}
 use Rattle.script_read.specs.Meaning.{a_region}
-use Rattle.script_read.specs.Rules.{container_names}
-use Rattle.script_read.specs.Scripts.{region_of, container_of}
+use Rattle.script_form.specs.Rules.{container_names}
+use Rattle.script_form.specs.Scripts.{region_of, container_of}
 use Rattle.script_read.proofs.links.read_regions.Given as goal
 
 abbrev pub invariant-loop-value : goal.invariant-loop-value

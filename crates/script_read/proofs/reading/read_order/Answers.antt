@@ -5,8 +5,8 @@ use Rattle.toml.specs.View.{view, table_view}
 use Rattle.script_read.specs.Fields.{each}
 use Rattle.script_read.specs.Meaning.{a_pick, order_at}
 use Rattle.script_read.specs.Reading.{IsFaultOf, ◌>>=◌}
-use Rattle.script_read.specs.Rules.{locus_names}
-use Rattle.script_read.specs.Scripts.{locus_of}
+use Rattle.script_form.specs.Rules.{locus_names}
+use Rattle.script_form.specs.Scripts.{locus_of}
 use Rattle.script_read.proofs.Each.{each_done, each_handed_on}
 use Rattle.script_read.proofs.reading.read_order.Goals as goal
 

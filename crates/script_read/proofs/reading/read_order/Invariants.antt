@@ -3,8 +3,8 @@ use Rattle.std.proofs.Common.{◌≡◌, [], drop, map, string_bytes}
 use Rattle.toml.specs.View.{view}
 use Rattle.script_read.specs.Fields.{each}
 use Rattle.script_read.specs.Meaning.{a_pick}
-use Rattle.script_read.specs.Rules.{locus_names}
-use Rattle.script_read.specs.Scripts.{locus_of}
+use Rattle.script_form.specs.Rules.{locus_names}
+use Rattle.script_form.specs.Scripts.{locus_of}
 use Rattle.script_read.proofs.reading.read_order.Given as goal
 
 abbrev pub invariant-loop-value : goal.invariant-loop-value

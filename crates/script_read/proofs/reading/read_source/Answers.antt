@@ -7,14 +7,14 @@ use Rattle.toml.specs.View.{table_view}
 use Rattle.script_read.specs.Meaning.{Source, tree_meaning, meaning_by}
 use Rattle.script_read.specs.Reading.{Reading, ◌>>=◌, or_refused, Reads}
 use Rattle.script_read.specs.Views.{source_of}
-use Rattle.script_read.specs.declared.refusals.Why.TheVariants.{NotToml}
+use Rattle.script_form.specs.declared.refusals.Why.TheVariants.{NotToml}
 use Rattle.script_read.proofs.Lists.{blamed}
 use Rattle.script_read.proofs.reading.read_source.Goals as goal
 
 pub returns-in_default : goal.returns-in_default
 returns-in_default c spelled reader =
     let bytes = c.args.bytes.now in
-    let few : nat_le (length bytes) 1048576 ≡ true = le-leb (length bytes) 1048576 (omega (arith, c.if-bytes-gt-MOST_BYTES.false)) in
+    let few : nat_le (length bytes) 1048576 ≡ true = le-leb (length bytes) 1048576 (omega (arith, c.if-bytes-gt-MOST_SCRIPT_BYTES.false)) in
     let by : (b : Bool) → is_utf8 bytes ≡ b → is_utf8 bytes ≡ false = λ b. elim b as (λ t. is_utf8 bytes ≡ t → is_utf8 bytes ≡ false) [
       | true ↦ λ e. absurd (c.in_default.ensures.cases.0 (IsUtf8-from_is_utf8 bytes e))
       | false ↦ λ e. e
@@ -24,7 +24,7 @@ returns-in_default c spelled reader =
 pub returns : goal.returns
 returns c spelled reader =
     let bytes = c.args.bytes.now in
-    let few : nat_le (length bytes) 1048576 ≡ true = le-leb (length bytes) 1048576 (omega (arith, c.if-bytes-gt-MOST_BYTES.false)) in
+    let few : nat_le (length bytes) 1048576 ≡ true = le-leb (length bytes) 1048576 (omega (arith, c.if-bytes-gt-MOST_SCRIPT_BYTES.false)) in
     let utf8 : is_utf8 bytes ≡ true = is_utf8-from_IsUtf8 bytes c.in-Ok.ensures.cases.1 in
     let parsed : or_refused NotToml (codes "-") (parse_document bytes) ≡ Ok (table_view c.in_ok-table.table) =
     ap (λ t. or_refused NotToml (codes "-") (parse_document t)) (sym c.in-Ok.ensures.cases.0) ∙ c.in_ok-table.ensures in

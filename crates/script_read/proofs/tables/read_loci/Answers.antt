@@ -4,7 +4,7 @@ use Rattle.toml.specs.View.{view, table_view}
 use Rattle.script_read.specs.Fields.{each}
 use Rattle.script_read.specs.Meaning.{a_locus, loci_at}
 use Rattle.script_read.specs.Reading.{IsFaultOf, ◌>>=◌}
-use Rattle.script_read.specs.Scripts.{container_of, locus_of}
+use Rattle.script_form.specs.Scripts.{container_of, locus_of}
 use Rattle.script_read.proofs.Each.{each_done, each_handed_on}
 use Rattle.script_read.proofs.tables.read_loci.Goals as goal
 

@@ -1,0 +1,3 @@
+pub mod ClosedParts
+pub mod Touching
+pub mod Pasts

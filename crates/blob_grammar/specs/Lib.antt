@@ -1,0 +1,6 @@
+pub mod Spelling
+pub mod Shapes
+pub mod Forms
+pub mod Places
+pub mod Laws
+pub mod Examples

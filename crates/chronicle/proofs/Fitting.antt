@@ -1,0 +1,72 @@
+-- What views know after one or two of them change, and that there is one chronicle.
+use Rattle.std.proofs.Common.{◌≡◌, ◌≢◌, ℕ, zero, suc, true, false, true≢false, List, [], ◌∷◌, ◌++◌, set, refl, ap, sym, ◌∙◌, subst, ⊎_elim}
+use mathlib.Core.Option.{some, some-ne-none, some-injective}
+use mathlib.Core.List.{IsPrefix}
+use mathlib.Core.Logic.{dite}
+use native.Mathlib.Decide.{ℕ_discrete}
+use lib.ListN.{get_elem?}
+use Rattle.chronicle.specs.declared.views.View.{View}
+use Rattle.chronicle.specs.declared.views.Role.{Role}
+use Rattle.chronicle.specs.declared.views.Role.TheVariants.{Chronicler, Share, Note, NoteOf, Spent}
+use Rattle.atomic_table.proofs.Lists.{at_set, set_else, at_longer}
+use Rattle.chronicle.specs.Rules.{Story, Knows, Fits, AllFit, IsChroniclers, IsTaken}
+use Rattle.chronicle.proofs.Lists.{prefix_self}
+
+pub off : {X : Type 0} → false ≡ true → X
+off e = absurd (true≢false (sym e))
+
+module _ {A : Type 0} where
+  -- a change of one view
+  pub all_fit_set : (t now : Story A) (views : List (View A)) (id : ℕ) (w : View A) → AllFit t views → ((j : ℕ) (u : View A) → j ≢ id → Fits t j u → Fits now j u) → Fits now id w → AllFit now (set views id w)
+  all_fit_set t now views id w all others mine j u e =
+      ⊎_elim
+      (λ (x : (j ≡ id) × (w ≡ u)). subst (λ (y : ℕ × View A). Fits now y.0 y.1) (λ i. (sym x.0 i, x.1 i)) mine)
+      (λ (x : (j ≢ id) × (get_elem? views j ≡ some u)). others j u x.0 (all j u x.1))
+      (at_set views id j w u e)
+
+  pub all_fit_set_two : (t now : Story A) (views : List (View A)) (id other : ℕ) (w u : View A) → AllFit t views → ((j : ℕ) (x : View A) → j ≢ id → j ≢ other → Fits t j x → Fits now j x) → Fits now id w → Fits now other u → AllFit now (set (set views id w) other u)
+  all_fit_set_two t now views id other w u all others mine theirs j y e =
+      ⊎_elim
+      (λ (x : (j ≡ other) × (u ≡ y)). subst (λ (z : ℕ × View A). Fits now z.0 z.1) (λ i. (sym x.0 i, x.1 i)) theirs)
+      (λ (x : (j ≢ other) × (get_elem? (set views id w) j ≡ some y)).
+      ⊎_elim
+      (λ (z : (j ≡ id) × (w ≡ y)). subst (λ (q : ℕ × View A). Fits now q.0 q.1) (λ i. (sym z.0 i, z.1 i)) mine)
+      (λ (z : (j ≢ id) × (get_elem? views j ≡ some y)). others j y z.0 x.0 (all j y z.1))
+      (at_set views id j w y x.1))
+      (at_set (set views id w) other j u y e)
+
+  -- each view is a beginning of the chronicle's
+  pub known : (t : Story A) (id : ℕ) (v : View A) (r : Role) → Knows t id v r → IsPrefix v.since t.since
+  known t id v Chronicler k = subst (λ es. IsPrefix es t.since) (sym k.1) (prefix_self t.since)
+  known t id v (Share x) k = k.2
+  known t id v Note k = k
+  known t id v (NoteOf x) k = k.1
+  known t id v Spent k = k
+
+-- ONE CHRONICLE
+set_at : {X : Type 0} (l : List X) (i : ℕ) (a b : X) → get_elem? l i ≡ some b → get_elem? (set l i a) i ≡ some a
+set_at [] i a b e = absurd (some-ne-none b (sym e))
+set_at (x ∷ xs) zero a b e = refl
+set_at (x ∷ xs) (suc i) a b e = set_at xs i a b e
+
+-- the chronicle's view stays one where a seat's view changes, and where one comes to be
+module _ {A : Type 0} (views : List (View A)) (c : ℕ) where
+  pub chronicle_set : (id : ℕ) (v w : View A) → get_elem? views id ≡ some v → (v.role ≡ Chronicler → w.role ≡ Chronicler) → IsChroniclers c views → IsChroniclers c (set views id w)
+  chronicle_set id v w at keeps there =
+      dite (ℕ_discrete c id)
+      (λ same.
+      let is : v ≡ there.0 = some-injective v there.0 (sym at ∙ ap (get_elem? views) (sym same) ∙ there.1) in
+      (w, subst (λ k. get_elem? (set views id w) k ≡ some w) (sym same) (set_at views id w v at), keeps (ap (λ (u : View A). u.role) is ∙ there.2)))
+      (λ other. (there.0, set_else views id c w other ∙ there.1, there.2))
+
+  pub chronicle_more : (w : View A) → IsChroniclers c views → IsChroniclers c (views ++ w ∷ [])
+  chronicle_more w there = (there.0, at_longer views (w ∷ []) c there.0 there.1, there.2)
+
+  -- what is no chronicle's may be spent
+  pub chronicle_spent : (other : ℕ) (w u : View A) → get_elem? views other ≡ some w → IsTaken w.role → IsChroniclers c views → IsChroniclers c (set views other u)
+  chronicle_spent other w u at taken there =
+      dite (ℕ_discrete c other)
+      (λ same.
+      let is : w ≡ there.0 = some-injective w there.0 (sym at ∙ ap (get_elem? views) (sym same) ∙ there.1) in
+      absurd (subst IsTaken (ap (λ (u : View A). u.role) is ∙ there.2) taken))
+      (λ differ. (there.0, set_else views other c u differ ∙ there.1, there.2))

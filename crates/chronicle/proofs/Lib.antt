@@ -1,0 +1,11 @@
+pub mod Counting
+pub mod Fitting
+pub mod Joining
+pub mod Lists
+pub mod Numbers
+pub mod Ordering
+pub mod Quiet
+pub mod Ready
+pub mod Splitting
+pub mod States
+pub mod Telling

@@ -1,0 +1,79 @@
+use Rattle.std.proofs.Common.{◌≡◌, ◌<◌, ◌+◌, ◌++◌, ◌∷◌, [], ℕ, length, set, ap, ◌∙◌, sym, subst, arith}
+use Rattle.std.proofs.lemmas.List.{length-append}
+use Rattle.disk_trait.specs.Image.{Image}
+use Rattle.disk_trait.proofs.Phases.{IsImage-reading, told}
+use Rattle.disk_tally.proofs.Counting.{CountsOn-then}
+use Rattle.image_blocks.specs.Layout.{slot_count, slot_gate_at}
+use Rattle.image_blocks.specs.Logs.{HasSlots}
+use Rattle.commit_log.proofs.Through.{first_half, reads_added, second_half}
+use Rattle.commit_log.proofs.log.Log.append.Goals as goal
+
+pub returns-in_err-write_body-clause-any_moment : goal.returns-in_err-write_body-clause-any_moment
+returns-in_err-write_body-clause-any_moment g c t working recs stands =
+    let disk = g.met.D.Disk in
+    let laws = told t disk.counts_now disk.only_now in
+    let room : c.args.self.now.used < slot_count = (let a = c.args.self.now.few in let b = c.if-self-eq-SLOT_COUNT.false in omega (arith, a, b)) in
+    first_half laws g.D.Disk.reading c.args.self.now.area recs c.args.rec.now c.args.self.now.used c.args.disk.now c.write_body.new.disk stands.used stands.left room (c.write_body.ensures.any_moment t)
+
+pub returns-in_err-write_and_sync-clause-any_moment : goal.returns-in_err-write_and_sync-clause-any_moment
+returns-in_err-write_and_sync-clause-any_moment g c t working recs stands =
+    let disk = g.met.D.Disk in
+    let laws = told t disk.counts_now disk.only_now in
+    let room : c.args.self.now.used < slot_count = (let a = c.args.self.now.few in let b = c.if-self-eq-SLOT_COUNT.false in omega (arith, a, b)) in
+    let first = first_half laws g.D.Disk.reading c.args.self.now.area recs c.args.rec.now c.args.self.now.used c.args.disk.now c.write_body.new.disk stands.used stands.left room (c.write_body.ensures.any_moment t) in
+    let gate : c.body_of-at.result + 1 ≡ slot_gate_at c.args.self.now.area c.args.self.now.used = (let e = c.body_of-at.ensures.at in omega (arith, e)) in
+    second_half laws g.D.Disk.reading (λ d. disk.reads_now d t) c.args.self.now.area recs c.args.rec.now c.args.disk.now c.write_body.new.disk c.write_and_sync.new.disk (c.body_of-at.result + 1) c.args.self.now.used stands.used
+    (record { room = room; same = c.write_body.ensures.reading t; body = c.in_ok-write_body.ensures.body t ∙ c.body_block.ensures; next = c.in_ok-write_body.ensures.next t; gate = gate })
+    stands.slots (c.in_ok-write_body.ensures.stable t) first (c.write_and_sync.ensures.any_moment t)
+
+pub returns-in_err-write_body-clause-begins : goal.returns-in_err-write_body-clause-begins
+returns-in_err-write_body-clause-begins g c = record {
+  count = c.write_body.ensures.count;
+  few = (let a = c.write_body.ensures.few in omega (arith, a));
+  counts = c.write_body.ensures.counts;
+  later = c.write_body.ensures.cause.later;
+}
+
+pub returns-in_err-write_and_sync-clause-begins : goal.returns-in_err-write_and_sync-clause-begins
+returns-in_err-write_and_sync-clause-begins g c = record {
+  count = c.write_and_sync.ensures.count ∙ c.write_body.ensures.count;
+  few = (let a = c.write_body.ensures.few in let b = c.write_and_sync.ensures.few in omega (arith, a, b));
+  counts = CountsOn-then _ _ _ _ _ _ c.write_body.ensures.counts c.write_and_sync.ensures.counts;
+  later = (let a = c.write_body.ensures.cause.later in let b = c.write_and_sync.ensures.cause.later in omega (arith, a, b));
+}
+
+pub returns-clause-any_moment : goal.returns-clause-any_moment
+returns-clause-any_moment g c t working recs stands =
+    let disk = g.met.D.Disk in
+    let laws = told t disk.counts_now disk.only_now in
+    let room : c.args.self.now.used < slot_count = (let a = c.args.self.now.few in let b = c.if-self-eq-SLOT_COUNT.false in omega (arith, a, b)) in
+    let first = first_half laws g.D.Disk.reading c.args.self.now.area recs c.args.rec.now c.args.self.now.used c.args.disk.now c.write_body.new.disk stands.used stands.left room (c.write_body.ensures.any_moment t) in
+    let gate : c.body_of-at.result + 1 ≡ slot_gate_at c.args.self.now.area c.args.self.now.used = (let e = c.body_of-at.ensures.at in omega (arith, e)) in
+    second_half laws g.D.Disk.reading (λ d. disk.reads_now d t) c.args.self.now.area recs c.args.rec.now c.args.disk.now c.write_body.new.disk c.write_and_sync.new.disk (c.body_of-at.result + 1) c.args.self.now.used stands.used
+    (record { room = room; same = c.write_body.ensures.reading t; body = c.in_ok-write_body.ensures.body t ∙ c.body_block.ensures; next = c.in_ok-write_body.ensures.next t; gate = gate })
+    stands.slots (c.in_ok-write_body.ensures.stable t) first (c.write_and_sync.ensures.any_moment t)
+
+pub returns-clause-begins : goal.returns-clause-begins
+returns-clause-begins g c = record {
+  count = c.write_and_sync.ensures.count ∙ c.write_body.ensures.count;
+  few = (let a = c.write_body.ensures.few in let b = c.write_and_sync.ensures.few in omega (arith, a, b));
+  counts = CountsOn-then _ _ _ _ _ _ c.write_body.ensures.counts c.write_and_sync.ensures.counts;
+  later = (let a = c.write_body.ensures.cause.later in let b = c.write_and_sync.ensures.cause.later in omega (arith, a, b));
+}
+
+pub returns-clause-added : goal.returns-clause-added
+returns-clause-added g c t recs stands =
+    let disk = g.met.D.Disk in
+    let room : c.args.self.now.used < slot_count = (let a = c.args.self.now.few in let b = c.if-self-eq-SLOT_COUNT.false in omega (arith, a, b)) in
+    let gate : c.body_of-at.result + 1 ≡ slot_gate_at c.args.self.now.area c.args.self.now.used = (let e = c.body_of-at.ensures.at in omega (arith, e)) in
+    let whole = IsImage-reading g.D.Disk.reading t disk.reads_now disk.counts_now disk.whole c.write_body.new.disk in
+    let within : c.body_of-at.result + 1 < length (g.D.Disk.reading c.write_body.new.disk) = (let a = c.body_of-at.ensures.low in let b = c.requires.enough in let e = c.write_body.ensures.count in let f = whole.len in omega (arith, a, b, e, f)) in
+    let slots : HasSlots c.args.self.now.area (recs ++ c.args.rec.now ∷ []) (g.D.Disk.reading c.write_and_sync.new.disk) =
+    reads_added c.args.self.now.area recs c.args.rec.now (g.D.Disk.reading c.args.disk.now) (g.D.Disk.reading c.write_body.new.disk) (g.D.Disk.reading c.write_and_sync.new.disk) (c.body_of-at.result + 1) c.args.self.now.used stands.used
+    (record { room = room; same = c.write_body.ensures.reading t; body = c.in_ok-write_body.ensures.body t ∙ c.body_block.ensures; next = c.in_ok-write_body.ensures.next t; gate = gate })
+    stands.slots within (c.in_ok-write_and_sync.ensures.block t ∙ ap (λ b. set (g.D.Disk.reading c.write_body.new.disk) (c.body_of-at.result + 1) b) c.open_gate.ensures) in
+    record {
+      used = (let e = stands.used in let f = length-append recs (c.args.rec.now ∷ []) in omega (arith, e, f));
+      slots = slots;
+      left = λ image may. subst (λ (i : Image). HasSlots c.args.self.now.area (recs ++ c.args.rec.now ∷ []) i) (sym (c.in_ok-write_and_sync.ensures.stable t image may)) slots;
+    }

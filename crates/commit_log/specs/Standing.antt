@@ -1,0 +1,22 @@
+-- What a log of one area stands for on a disk.
+use Rattle.std.specs.Prelude.{◌≡◌, ◌+◌, true, false, List, length, Result, OnOk, OnErr, IsErrOf}
+use Rattle.disk_trait.specs.Image.{Image}
+use Rattle.hop_base.specs.declared.records.Rec.{Rec}
+use Rattle.image_blocks.specs.Logs.{HasSlots}
+use Rattle.commit_log.specs.declared.log.Log.{Log}
+use Rattle.commit_log.specs.declared.log.LogFault.{LogFault}
+use Rattle.commit_log.specs.declared.log.LogFault.TheVariants.{WriteFault}
+
+-- the disk's area reads as a log with these records, and so it does in each image that a stop now may leave
+pub record Stands {D : Type 0} (reading : D → Image) (may_leave : D → Image → Type 0) (log : Log) (recs : List Rec) (disk : D) : Type 0 where
+  pub used : length recs ≡ log.used
+  pub slots : HasSlots log.area recs (reading disk)
+  pub left : (c : Image) → may_leave disk c → HasSlots log.area recs c
+
+-- what an append leaves of the log itself: one slot more is used, or as many as before
+pub record HasAppended {T : Type 0} (result : Result T LogFault) (old new : Log) : Type 0 where
+  pub area : new.area ≡ old.area
+  pub used : OnOk result (new.used ≡ old.used + 1)
+  pub same_used : OnErr result (new.used ≡ old.used)
+  pub working : OnOk result (new.failed ≡ false)
+  pub failed : IsErrOf result WriteFault → new.failed ≡ true

@@ -1,0 +1,120 @@
+// The log of one area.
+ghost use Rattle.std.specs.Prelude.{◌≡◌, ◌⊎◌, ◌≤◌, ◌∷◌, ◌++◌, [], List, true, false, OnOk};
+ghost use Rattle.disk_trait.specs.Disk.{Only};
+ghost use Rattle.disk_trait.specs.Image.{SameOutside};
+ghost use Rattle.disk_trait.specs.Moments.{LeavesOnly};
+ghost use Rattle.hop_base.specs.declared.records.Rec.{Rec as Record};
+ghost use Rattle.disk_tally.specs.Counts.{Begins, shown};
+ghost use Rattle.disk_trait.specs.Counts.{Rose};
+ghost use Rattle.image_blocks.specs.Layout.{pool_at, slot_count};
+ghost use Rattle.image_blocks.specs.Logs.{IsAppending, IsNextSlot};
+
+use crate::slots::write_body;
+use disk_tally::Tally;
+use disk_trait::{Disk, DiskFault};
+use hop_base::Rec;
+use image_blocks::{Area, SLOT_COUNT, body_block, body_of, open_gate};
+
+/// Why a log was not appended to, or not turned.
+#[derive(Clone, Copy, Debug, PartialEq, Eq, Drop)]
+pub enum LogFault {
+    /// All 640 slots are used.
+    SlotsFull,
+    /// A read, a write or a sync failed. The record may be found later, or not.
+    WriteFault,
+    /// An earlier call failed so.
+    Shut,
+}
+
+impl From<DiskFault> for LogFault {
+    ghost use Rattle.commit_log.specs.declared.log.LogFault.TheVariants.{WriteFault};
+
+    ghost from_gives = { λ _ e. e ≡ WriteFault };
+
+    fn from(_fault: DiskFault) -> LogFault {
+        LogFault::WriteFault
+    }
+}
+
+/// The log of one area: how many of its slots are used, whether a call has failed, and how many writes and syncs were begun.
+#[derive(Clone, Copy, Debug)]
+pub struct Log {
+    pub area: Area,
+    pub used: u16,
+    pub failed: bool,
+    pub tally: Tally,
+    ghost few: { used ≤ slot_count },
+}
+
+impl Log {
+    ghost use Rattle.commit_log.specs.Answers.{AppendAnswers};
+    ghost use Rattle.commit_log.specs.Standing.{HasAppended, Stands};
+
+    /// The log of an area with so many slots used, up to 640.
+    pub fn new(area: Area, used: u16) -> Log
+        requires { used ≤ slot_count }
+        ensures area { result.area ≡ area }
+        ensures used { result.used ≡ used }
+        ensures open { result.failed ≡ false }
+        ensures none_begun { result.tally.0 ≡ 0 }
+    {
+        Log {
+            area,
+            used,
+            failed: false,
+            tally: Tally(0),
+        }
+    }
+
+    /// Appends a record. Its body is written, the gate behind it is written closed, and both are synced; its gate is opened,
+    /// and synced: 5 writes and syncs at most. A stop at any moment leaves the log with the record or without it.
+    ///
+    /// `SlotsFull` comes exactly where all 640 slots are used, `Shut` exactly after an earlier `WriteFault` of this value,
+    /// and then nothing is changed. `WriteFault` comes only where a call of the disk failed.
+    pub fn append<D: Disk>(&mut self, disk: &mut D, rec: &Rec) -> Result<(), LogFault>
+        requires enough { pool_at ≤ D.block_count disk.old }
+        requires stands { D.tells → self.old.failed ≡ false → (recs : List Record) × Stands D.reading D.may_leave self.old recs disk.old }
+
+        ensures added { D.tells → (recs : List Record) → Stands D.reading D.may_leave self.old recs disk.old
+            → OnOk result (Stands D.reading D.may_leave self.new (recs ++ rec.now ∷ []) disk.new) }
+        ensures outside { D.tells → SameOutside (IsNextSlot self.old.area self.old.used) (D.reading disk.old) (D.reading disk.new) }
+        ensures stable { D.tells → OnOk result (Only (D.reading disk.new) (D.may_leave disk.new)) }
+
+        // A stop at any moment of the call leaves the old log, or the new one with all that was written before the call.
+        ensures any_moment { D.tells → self.old.failed ≡ false → (recs : List Record) → Stands D.reading D.may_leave self.old recs disk.old
+            → LeavesOnly D.clock D.left_since disk.old disk.new (IsAppending D.may_leave D.reading self.old.area recs rec.now disk.old) }
+
+        ensures answers { AppendAnswers self.old.failed self.old.used (Rose (D.faults disk.old) (D.faults disk.new)) result }
+        ensures log { HasAppended result self.old self.new }
+        ensures untouched { (self.old.failed ≡ true) ⊎ (self.old.used ≡ slot_count) → (disk.new ≡ disk.old) × (self.new ≡ self.old) }
+        ensures begins { Begins 5 (shown D.block_count D.clock D.faults disk.old self.old.tally.0) (shown D.block_count D.clock D.faults disk.new self.new.tally.0) }
+    {
+        if self.failed {
+            return Err(LogFault::Shut);
+        }
+        if self.used == SLOT_COUNT {
+            return Err(LogFault::SlotsFull);
+        }
+        let at = body_of(self.area, self.used);
+        self.failed = true;
+        write_body(
+            &mut self.tally,
+            disk,
+            self.area,
+            self.used,
+            &body_block(rec),
+        )?;
+        self.tally.write_and_sync(disk, at + 1, &open_gate())?;
+        self.failed = false;
+        self.used += 1;
+        Ok(())
+    }
+
+    /// How many slots are used.
+    pub fn used(&self) -> u16
+        ensures used { result ≡ self.now.used }
+        ensures few { result ≤ slot_count }
+    {
+        self.used
+    }
+}

@@ -1,0 +1,10 @@
+pub mod Rest
+pub mod Firsts
+pub mod Filling
+pub mod Reading
+pub mod Spelling
+pub mod Fits
+pub mod Opening
+mod LastVersions
+mod FirstBlock
+mod Worked

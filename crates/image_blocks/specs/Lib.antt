@@ -1,0 +1,6 @@
+pub use Rattle.block_code.specs.Fields
+pub mod Layout
+pub mod Bodies
+pub mod Checks
+pub mod Logs
+pub mod Examples

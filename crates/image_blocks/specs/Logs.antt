@@ -1,0 +1,153 @@
+-- Images that have a log, and the stages of an image while a record is appended or the log is turned.
+use Rattle.std.specs.Prelude.{◌≡◌, ◌≢◌, ◌⊎◌, ℕ, ◌+◌, ◌<◌, ◌≤◌, true, false, List, [], ◌∷◌, ◌++◌, length, take, slice_get, slice_index, Some, None}
+use Rattle.disk_trait.specs.Image.{Image, IsImage, SameOutside, block_at}
+use Rattle.hop_base.specs.declared.records.Rec.{Rec}
+use Rattle.image_blocks.specs.Layout.{other, header_at, header_block, gate_at, body_at, slot_gate_at, slot_count, is_open, epoch_in, last_number, most_blocks, most_length, pool_at, IsOfArea}
+use Rattle.image_blocks.specs.Bodies.{blocks_for, body_block, record_in}
+use Rattle.image_blocks.specs.Checks.{active_area, body_fault, check_1, count_in, header_fault, last_version, log_in, records_fault}
+use Rattle.image_blocks.specs.declared.areas.Area.{Area}
+
+-- ONE AREA
+
+-- the area's log is these records, each in the block of its body, and the next gate is closed
+pub record HasSlots (area : Area) (recs : List Rec) (image : Image) : Type 0 where
+  pub few : length recs ≤ slot_count
+  pub bodies : (i : ℕ) (r : Rec) → slice_get recs i ≡ Some r → block_at image (body_at area i) ≡ body_block r
+  pub gates : (i : ℕ) → i < length recs → is_open image (slot_gate_at area i) ≡ true
+  pub closed : length recs < slot_count → is_open image (slot_gate_at area (length recs)) ≡ false
+
+-- BOTH AREAS
+
+-- where a log stands
+pub record Place : Type 0 where
+  pub active : Area
+  pub epoch : ℕ
+
+-- this area is active with this epoch: its gate is open, and the other's is closed or its epoch is less
+pub record IsActive (p : Place) (image : Image) : Type 0 where
+  pub gate : is_open image (gate_at p.active) ≡ true
+  pub epoch : epoch_in image p.active ≡ p.epoch
+  pub above : is_open image (gate_at (other p.active)) ≡ true → epoch_in image (other p.active) < p.epoch
+
+-- the log that the image stands for is these records, at this place
+pub record HasLog (p : Place) (recs : List Rec) (image : Image) : Type 0 where
+  pub active : IsActive p image
+  pub slots : HasSlots p.active recs image
+
+-- THE IMAGE HAS A LOG: checks 1 to 3 find nothing bad in it, and these are its records
+pub record HasRecords (recs : List Rec) (image : Image) : Type 0 where
+  pub good : records_fault image ≡ None
+  pub area : Area
+  pub active : active_area image ≡ Some area
+  pub log : log_in image area ≡ recs
+
+-- WHAT A STOP LEAVES OF AN APPEND
+
+-- the blocks that an append of the record after so many others may write
+abbrev pub IsNextSlot : Area → ℕ → ℕ → Type 0
+IsNextSlot area used n = (n ≡ body_at area used) ⊎ (n ≡ slot_gate_at area used) ⊎ ((used + 1 < slot_count) × (n ≡ slot_gate_at area (used + 1)))
+
+-- The old log still stands, in an image that could be left at the start, with any bytes in the next slot and gate.
+pub record IsNotYet {D : Type 0} (may_leave : D → Image → Type 0) (area : Area) (recs : List Rec) (old : D) (c : Image) : Type 0 where
+  pub from : Image
+  pub could : may_leave old from
+  pub same : SameOutside (IsNextSlot area (length recs)) from c
+  pub slots : HasSlots area recs c
+
+-- All that was written before the call is there, and the log has the new record.
+pub record IsAdded (area : Area) (recs : List Rec) (rec : Rec) (reading : Image) (c : Image) : Type 0 where
+  pub same : SameOutside (IsNextSlot area (length recs)) reading c
+  pub slots : HasSlots area (recs ++ rec ∷ []) c
+
+-- The old log stands, and all that was written before the call is there too.
+pub record IsKept (area : Area) (recs : List Rec) (reading : Image) (c : Image) : Type 0 where
+  pub same : SameOutside (IsNextSlot area (length recs)) reading c
+  pub slots : HasSlots area recs c
+
+-- THE STAGES OF AN APPEND
+abbrev pub IsAppending : {D : Type 0} → (D → Image → Type 0) → (D → Image) → Area → List Rec → Rec → D → Image → Type 0
+IsAppending may_leave reading area recs rec old c = IsNotYet may_leave area recs old c ⊎ IsAdded area recs rec (reading old) c
+
+-- WHAT A STOP LEAVES OF A TURN
+
+-- the blocks that a turn from this area may write: the other area's, and the gate of its own
+abbrev pub IsTurned : Area → ℕ → Type 0
+IsTurned active n = IsOfArea (other active) n ⊎ (n ≡ gate_at active)
+
+abbrev pub next_place : Place → Place
+next_place p = record { active = other p.active; epoch = p.epoch + 1 }
+
+-- the kept log, in the other area: its whole header is as it is written
+pub record IsKeptLog (p : Place) (kept : List Rec) (c : Image) : Type 0 where
+  pub log : HasLog (next_place p) kept c
+  pub header : block_at c (header_at (other p.active)) ≡ header_block (p.epoch + 1)
+
+-- THE STAGES OF A TURN: in an image that could be left at the start, the old log or the kept one, with any bytes in the other blocks of the areas
+pub record IsTurning {D : Type 0} (may_leave : D → Image → Type 0) (p : Place) (recs kept : List Rec) (old : D) (c : Image) : Type 0 where
+  pub from : Image
+  pub could : may_leave old from
+  pub same : SameOutside (IsTurned p.active) from c
+  pub log : HasLog p recs c ⊎ IsKeptLog p kept c
+
+-- WHICH RECORDS FIT: what check 3 asks of a record behind others, in an image of so many blocks; HasLog with this for each is HasRecords
+
+-- a record that check 3 accepts behind others, in an image of so many blocks
+pub record IsFitting (count : ℕ) (before : List Rec) (r : Rec) : Type 0 where
+  pub good : body_fault count before (body_block r) ≡ None
+  pub back : record_in (body_block r) ≡ r
+
+-- a record in range behind others, in an image of so many blocks
+pub record IsInRange (count : ℕ) (before : List Rec) (r : Rec) : Type 0 where
+  pub entity : r.entity < 64
+  pub lengths : (1 ≤ r.length) × (r.length ≤ most_length)
+  pub versions : (1 ≤ r.version) × (r.version ≤ last_number)
+  pub newer : last_version before r.entity < r.version
+  pub components : length r.stamp ≡ 64
+  pub own : slice_index r.stamp r.entity ≡ r.version
+  pub small : (y : ℕ) → y < 64 → slice_index r.stamp y ≤ last_number
+  pub numbers : length r.blocks ≡ 8
+  -- as many different blocks of the pool as the blob needs, and 0 behind them
+  pub needed : (i : ℕ) → i < blocks_for r.length → (pool_at ≤ slice_index r.blocks i) × (slice_index r.blocks i < count)
+  pub different : (i k : ℕ) → i < blocks_for r.length → k < i → slice_index r.blocks k ≢ slice_index r.blocks i
+  pub unused : (i : ℕ) → blocks_for r.length ≤ i → slice_index r.blocks i ≡ 0
+
+-- each of these behind the ones before it
+abbrev pub AreFitting : ℕ → List Rec → Type 0
+AreFitting count recs = (i : ℕ) (r : Rec) → slice_get recs i ≡ Some r → IsFitting count (take i recs) r
+
+-- the superblock and the header are good, so that only the log counts
+pub record HasFront (count : ℕ) (p : Place) (image : Image) : Type 0 where
+  pub first : check_1 image ≡ None
+  pub count_is : count_in image ≡ count
+  pub header : header_fault (block_at image (header_at p.active)) ≡ None
+
+-- LAWS of logs, to be contracts
+
+-- an image with a good front and a log of fitting records has these records
+abbrev pub LogLaw : Type 0
+LogLaw = (count : ℕ) (p : Place) (recs : List Rec) (image : Image) → HasFront count p image → HasLog p recs image → AreFitting count recs → HasRecords recs image
+
+-- and the other way round: an image of whole blocks with records has them as the log of its active area
+abbrev pub LogBackLaw : Type 0
+LogBackLaw = (recs : List Rec) (blocks : ℕ) (image : Image) → IsImage blocks image → HasRecords recs image → (p : Place) × HasFront (count_in image) p image × HasLog p recs image × AreFitting (count_in image) recs
+
+-- a record in range fits
+abbrev pub FittingLaw : Type 0
+FittingLaw = (count : ℕ) (before : List Rec) (r : Rec) → count ≤ most_blocks → IsInRange count before r → IsFitting count before r
+
+-- a body or a gate of the log, or the closed gate behind it
+abbrev pub IsLogBlock : Area → ℕ → ℕ → Type 0
+IsLogBlock area used n = (slot : ℕ) × (((slot < used) × (n ≡ body_at area slot)) ⊎ ((slot ≤ used) × (slot < slot_count) × (n ≡ slot_gate_at area slot)))
+
+-- the blocks of headers and area gates that are looked at
+abbrev pub IsAreaBlock : Image → Area → ℕ → Type 0
+IsAreaBlock image area n = (n ≡ 2) ⊎ (n ≡ 4) ⊎ (n ≡ header_at area) ⊎ ((is_open image (gate_at (other area)) ≡ true) × (n ≡ header_at (other area)))
+
+-- THE RECORDS OF AN IMAGE REST ON THIS BLOCK
+abbrev pub RecordsRestOn : Image → Area → ℕ → ℕ → Type 0
+RecordsRestOn image area used n = (n ≡ 0) ⊎ IsAreaBlock image area n ⊎ IsLogBlock area used n
+
+-- THE RESTS-ON LAW of records: an image with as many blocks that agrees there has the same records
+abbrev pub RecordsRestLaw : Type 0
+RecordsRestLaw = (recs : List Rec) (image c : Image) (h : HasRecords recs image) → length c ≡ length image
+    → ((n : ℕ) → RecordsRestOn image h.area (length recs) n → block_at c n ≡ block_at image n) → (g : HasRecords recs c) × (g.area ≡ h.area)

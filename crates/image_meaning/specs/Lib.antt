@@ -1,0 +1,8 @@
+pub mod Parts
+pub mod Fits
+pub mod Meaning
+pub mod Foreign
+pub mod Resting
+pub mod Stores
+pub mod Describing
+pub mod Empty

@@ -1,0 +1,166 @@
+use crate::images::{append, empty_image, log_at, log_of, open_b, record, records, turn};
+use crate::quiet_disk::QuietDisk;
+use commit_log::LogFault;
+use disk_trait::Torn;
+use hop_base::Rec;
+use image_blocks::Area;
+use log_turn::Areas;
+use std::alloc::Global;
+use std::process::Abort;
+use std::test::Fail;
+
+// Appends the records in order.
+fn append_all(
+    rt: &impl Abort,
+    areas: &mut Areas,
+    disk: &mut QuietDisk,
+    recs: &[Rec],
+) -> Result<(), Fail> {
+    for rec in recs {
+        assert_eq!(rt; append(areas, disk, rec)?, Ok(()), "{}", rec.version);
+    }
+    Ok(())
+}
+
+// The disk reads as this log.
+fn reads_as(
+    rt: &impl Abort,
+    alloc: Global,
+    disk: &mut QuietDisk,
+    place: (Area, u64),
+    recs: &[Rec],
+) -> Result<(), Fail> {
+    let log = log_of(alloc, disk)?;
+    assert_eq!(rt; (log.area, log.epoch), place);
+    assert_eq!(rt; log.recs.len(), recs.len());
+    assert_eq!(rt; log.recs.as_slice(), recs);
+    Ok(())
+}
+
+#[test]
+fn a_full_log_is_turned_and_turned_back(rt: HostRuntime) -> Result<(), Fail> {
+    let alloc = rt.alloc();
+    let mut disk = empty_image(alloc, 5000, &[])?;
+    let mut areas = Areas::new(Area::A, 1, 0);
+    let all = records(alloc, 1, 640)?;
+    append_all(&rt, &mut areas, &mut disk, &all)?;
+    // Five writes and syncs each, but the last record has no gate behind it; five more made the image.
+    assert_eq!(rt; disk.memory.moments(), 3204);
+    let full = Err(LogFault::SlotsFull);
+    assert_eq!(rt; append(&mut areas, &mut disk, &record(641))?, full);
+    assert_eq!(rt; disk.memory.moments(), 3204);
+    reads_as(&rt, alloc, &mut disk, (Area::A, 1), &all)?;
+    assert_eq!(rt; turn(&mut areas, &mut disk, &all)?, Ok(()));
+    reads_as(&rt, alloc, &mut disk, (Area::B, 2), &all)?;
+    assert_eq!(rt; append(&mut areas, &mut disk, &record(641))?, full);
+    // The slots of area A behind the two that are kept there stand open from before.
+    assert_eq!(rt;
+        turn(&mut areas, &mut disk, &records(alloc, 1, 2)?)?,
+        Ok(())
+    );
+    reads_as(&rt, alloc, &mut disk, (Area::A, 3), &records(alloc, 1, 2)?)?;
+    assert_eq!(rt; append(&mut areas, &mut disk, &record(3))?, Ok(()));
+    reads_as(&rt, alloc, &mut disk, (Area::A, 3), &records(alloc, 1, 3)?)
+}
+
+// The log is shut, and no call of the disk is made.
+fn is_shut(rt: &impl Abort, areas: &mut Areas, disk: &mut QuietDisk) -> Result<(), Fail> {
+    let calls = disk.memory.calls();
+    let shut = Err(LogFault::Shut);
+    assert_eq!(rt; append(areas, disk, &record(9))?, shut);
+    assert_eq!(rt; turn(areas, disk, &[])?, shut);
+    assert_eq!(rt; disk.memory.calls(), calls);
+    Ok(())
+}
+
+#[test]
+fn a_call_that_fails_shuts_the_log(rt: HostRuntime) -> Result<(), Fail> {
+    let alloc = rt.alloc();
+    let fault = Err(LogFault::WriteFault);
+    let two = records(alloc, 1, 2)?;
+    let kept = records(alloc, 2, 2)?;
+    // An image is five calls, and each append five; the record's gate is the fourth.
+    for failing in 11..=15 {
+        let mut disk = empty_image(alloc, 40, &[failing])?;
+        let mut areas = Areas::new(Area::A, 1, 0);
+        append_all(&rt, &mut areas, &mut disk, &records(alloc, 1, 1)?)?;
+        assert_eq!(rt;
+            append(&mut areas, &mut disk, &record(2))?,
+            fault,
+            "{failing}"
+        );
+        is_shut(&rt, &mut areas, &mut disk)?;
+        let last = if failing < 15 { 1 } else { 2 };
+        reads_as(
+            &rt,
+            alloc,
+            &mut disk,
+            (Area::A, 1),
+            &records(alloc, 1, last)?,
+        )?;
+    }
+    // A turn that keeps one record is ten calls; the seventh opens the gate of area B.
+    for failing in 16..=25 {
+        let mut disk = empty_image(alloc, 40, &[failing])?;
+        let mut areas = Areas::new(Area::A, 1, 0);
+        append_all(&rt, &mut areas, &mut disk, &two)?;
+        assert_eq!(rt; turn(&mut areas, &mut disk, &kept)?, fault, "{failing}");
+        is_shut(&rt, &mut areas, &mut disk)?;
+        if failing <= 22 {
+            reads_as(&rt, alloc, &mut disk, (Area::A, 1), &two)?;
+        } else {
+            reads_as(&rt, alloc, &mut disk, (Area::B, 2), &kept)?;
+        }
+    }
+    Ok(())
+}
+
+// A stop at each moment since that one leaves the old log or the new one; at the first the old, at the last the new.
+fn stops_leave(
+    rt: &impl Abort,
+    alloc: Global,
+    disk: &QuietDisk,
+    start: u64,
+    logs: ((Area, &[Rec]), (Area, &[Rec])),
+) -> Result<(), Fail> {
+    let (old, new) = logs;
+    let end = disk.memory.moments();
+    for moment in start..=end {
+        for torn in [Torn::Old, Torn::New, Torn::Fill(1)] {
+            let log = log_at(alloc, disk, moment, torn)?;
+            let is_old = log.area == old.0 && log.recs.as_slice() == old.1;
+            let is_new = log.area == new.0 && log.recs.as_slice() == new.1;
+            assert!(rt;
+                (is_old && moment < end) || (is_new && start < moment),
+                "moment {moment}, {torn:?}"
+            );
+        }
+    }
+    Ok(())
+}
+
+#[test]
+fn a_stop_at_any_moment_leaves_the_old_log_or_the_new_one(rt: HostRuntime) -> Result<(), Fail> {
+    let alloc = rt.alloc();
+    let two = records(alloc, 1, 2)?;
+    let three = records(alloc, 1, 3)?;
+    let kept = records(alloc, 2, 3)?;
+    for was_open in [false, true] {
+        let mut disk = empty_image(alloc, 60, &[])?;
+        if was_open {
+            open_b(&mut disk)?;
+        }
+        let mut areas = Areas::new(Area::A, 1, 0);
+        append_all(&rt, &mut areas, &mut disk, &two)?;
+        let start = disk.memory.moments();
+        append_all(&rt, &mut areas, &mut disk, &records(alloc, 3, 3)?)?;
+        assert_eq!(rt; disk.memory.moments(), start.saturating_add(5));
+        let logs = ((Area::A, two.as_slice()), (Area::A, three.as_slice()));
+        stops_leave(&rt, alloc, &disk, start, logs)?;
+        let start = disk.memory.moments();
+        assert_eq!(rt; turn(&mut areas, &mut disk, &kept)?, Ok(()));
+        let logs = ((Area::A, three.as_slice()), (Area::B, kept.as_slice()));
+        stops_leave(&rt, alloc, &disk, start, logs)?;
+    }
+    Ok(())
+}

@@ -1,0 +1,37 @@
+// Why a log could not be read.
+ghost use Rattle.std.specs.Prelude.{◌≡◌};
+
+use disk_trait::DiskFault;
+use image_blocks::Bad;
+use std::alloc::AllocFailed;
+
+/// Why a log could not be read.
+#[derive(Clone, Copy, Debug, PartialEq, Eq, Drop)]
+pub enum ReadingFault {
+    /// The disk holds no image with a log: its first bad place.
+    Foreign(Bad),
+    /// A read failed.
+    Disk,
+    /// Memory ran out.
+    Memory,
+}
+
+impl From<DiskFault> for ReadingFault {
+    ghost use Rattle.log_reading.specs.declared.faults.ReadingFault.TheVariants.{Disk};
+
+    ghost from_gives = { λ _ e. e ≡ Disk };
+
+    fn from(_fault: DiskFault) -> ReadingFault {
+        ReadingFault::Disk
+    }
+}
+
+impl<T: Drop> From<AllocFailed<T>> for ReadingFault {
+    ghost use Rattle.log_reading.specs.declared.faults.ReadingFault.TheVariants.{Memory};
+
+    ghost from_gives = { λ _ e. e ≡ Memory };
+
+    fn from(_error: AllocFailed<T>) -> ReadingFault {
+        ReadingFault::Memory
+    }
+}

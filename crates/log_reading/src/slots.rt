@@ -1,0 +1,65 @@
+// The slots of an area.
+ghost use Rattle.std.specs.Prelude.{◌≡◌, ◌<◌, ◌≤◌, true, false, None, Some, length, IfOk, IsErrOf, MatchOption};
+ghost use Rattle.disk_trait.specs.Disk.{HasCause};
+ghost use Rattle.image_blocks.specs.Checks.{Bad as BadPlace, body_in, count_in, log_fault, log_in};
+ghost use Rattle.disk_trait.specs.Counts.{Rose};
+ghost use Rattle.image_blocks.specs.Layout.{is_open as opens, pool_at, slot_count, slot_gate_at};
+ghost use Rattle.log_reading.specs.Reads.{ReadsOnly};
+
+use crate::ReadingFault;
+use crate::looks::block_of;
+use disk_trait::{Disk, DiskFault};
+use hop_base::Rec;
+use image_blocks::{Area, Bad, SLOT_COUNT, body_of, is_open, read_body};
+use std::alloc::Global;
+
+// The body of a slot, where its gate is open.
+fn slot_of<D: Disk>(disk: &mut D, area: Area, slot: u16) -> Result<Option<[u8; 1024]>, DiskFault>
+    requires enough { pool_at ≤ D.block_count disk.old }
+    requires slot { slot < slot_count }
+    ensures slot { D.tells → IfOk result (λ o. MatchOption o (opens (D.reading disk.old) (slot_gate_at area slot) ≡ false)
+        (λ b. (opens (D.reading disk.old) (slot_gate_at area slot) ≡ true) × (b ≡ body_in (D.reading disk.old) area slot))) }
+    ensures cause { HasCause (D.faults disk.old) (D.faults disk.new) result }
+    ensures same { ReadsOnly D.tells D.block_count D.reading D.may_leave D.left_since D.clock D.faults disk.old disk.new }
+{
+    let at = body_of(area, slot);
+    let gate = block_of(disk, at + 1)?;
+    if !is_open(&gate) {
+        return Ok(None);
+    }
+    let body = block_of(disk, at)?;
+    Ok(Some(body))
+}
+
+// The records of an area's log, in an image of so many blocks.
+pub(crate) fn records_of<D: Disk>(
+    alloc: Global,
+    disk: &mut D,
+    count: u32,
+    area: Area,
+) -> Result<Vec<Rec>, ReadingFault>
+    requires { pool_at ≤ D.block_count disk.old }
+    ensures recs { D.tells → count ≡ count_in (D.reading disk.old)
+        → IfOk result (λ recs. (log_fault (D.reading disk.old) (Some area) ≡ None) × (recs.items ≡ log_in (D.reading disk.old) area)) }
+    ensures foreign { D.tells → count ≡ count_in (D.reading disk.old) → (bad : BadPlace) → IsErrOf result (ReadingFault.Foreign bad)
+        → log_fault (D.reading disk.old) (Some area) ≡ Some bad }
+    ensures few { IfOk result (λ recs. length recs.items ≤ slot_count) }
+    ensures cause { IsErrOf result ReadingFault.Disk → Rose (D.faults disk.old) (D.faults disk.new) }
+    ensures same { ReadsOnly D.tells D.block_count D.reading D.may_leave D.left_since D.clock D.faults disk.old disk.new }
+{
+    let mut recs = Vec::new(alloc);
+    for slot in 0..SLOT_COUNT {
+        let body = match slot_of(disk, area, slot)? {
+            Some(body) => body,
+            None => return Ok(recs),
+        };
+        match read_body(count, &recs, &body) {
+            Ok(rec) => recs.push(rec)?,
+            Err(place) => {
+                let block = body_of(area, slot);
+                return Err(ReadingFault::Foreign(Bad { block, place }));
+            }
+        }
+    }
+    Ok(recs)
+}

@@ -1,0 +1,85 @@
+-- An append, with the log's place.
+use Rattle.std.proofs.Common.{◌≡◌, ◌==◌, ◌<◌, ℕ, inl, inr, List, length, sym, ap, subst, ◌∙◌, arith}
+use Rattle.std.specs.Prelude.{Result, Ok, Err, OnOk}
+use Rattle.disk_trait.specs.Disk.{Only}
+use Rattle.disk_trait.specs.Image.{Image, SameOutside, block_at}
+use Rattle.disk_trait.specs.Moments.{LeavesOnly}
+use Rattle.disk_trait.proofs.Phases.{LeavesOnly-weaker, Moments}
+use Rattle.hop_base.specs.declared.records.Rec.{Rec}
+use Rattle.image_blocks.specs.Layout.{epoch_in, first_number, gate_at, header_at, other}
+use Rattle.image_blocks.specs.Logs.{HasLog, IsActive, IsAppending, IsNextSlot, Place}
+use Rattle.image_blocks.specs.declared.areas.Area.{Area}
+use Rattle.image_blocks.specs.declared.areas.Area.TheVariants.{A, B}
+use Rattle.commit_log.specs.Standing.{Stands as LogStands}
+use Rattle.commit_log.specs.declared.log.Log.{Log}
+use Rattle.log_turn.specs.Stages.{IsLogging}
+use Rattle.log_turn.specs.Standing.{Stands, place_of}
+use Rattle.log_turn.specs.declared.areas.Areas.{Areas}
+
+front_not_next : (area : Area) (used n : ℕ) → n < 5 → IsNextSlot area used n → ⊥
+front_not_next A used n low (inl is) = absurd (omega (arith, is, low))
+front_not_next A used n low (inr (inl is)) = absurd (omega (arith, is, low))
+front_not_next A used n low (inr (inr here)) = absurd (let is = here.1 in omega (arith, is, low))
+front_not_next B used n low (inl is) = absurd (omega (arith, is, low))
+front_not_next B used n low (inr (inl is)) = absurd (omega (arith, is, low))
+front_not_next B used n low (inr (inr here)) = absurd (let is = here.1 in omega (arith, is, low))
+
+header_low : (area : Area) → header_at area < 5
+header_low A = omega arith
+header_low B = omega arith
+
+gate_low : (area : Area) → gate_at area < 5
+gate_low A = omega arith
+gate_low B = omega arith
+
+pub active_same : (p : Place) (used : ℕ) (d c : Image) → SameOutside (IsNextSlot p.active used) d c → IsActive p d → IsActive p c
+active_same p used d c same has =
+    let header = λ (area : Area). same.same (header_at area) (front_not_next p.active used (header_at area) (header_low area)) in
+    let gate = λ (area : Area). ap (λ (b : List ℕ). first_number b == 1) (same.same (gate_at area) (front_not_next p.active used (gate_at area) (gate_low area))) in
+    record {
+      gate = gate p.active ∙ has.gate;
+      epoch = ap first_number (header p.active) ∙ has.epoch;
+      above = λ opens. (let lt = has.above (sym (gate (other p.active)) ∙ opens) in let e : epoch_in c (other p.active) ≡ epoch_in d (other p.active) = ap first_number (header (other p.active)) in omega (arith, lt, e));
+    }
+
+module _ {D : Type 0} {clock : D → ℕ} {may_leave : D → Image → Type 0} {left_since : D → ℕ → Image → Type 0} (laws : Moments clock may_leave left_since) (reading : D → Image) where
+  pub log_stands : (areas : Areas) (recs : List Rec) (disk : D) → Stands reading may_leave areas recs disk → LogStands reading may_leave areas.log recs disk
+  log_stands areas recs disk s = record { used = s.used; slots = s.log.slots; left = λ c may. (s.left c may).0.slots }
+
+  logging : (areas : Areas) (recs : List Rec) (rec : Rec) (old : D) → Stands reading may_leave areas recs old → (c : Image) → IsAppending may_leave reading areas.log.area recs rec old c → IsLogging may_leave reading (place_of areas) recs rec old c
+  logging areas recs rec old s c (inl not_yet) = inl (record {
+    from = not_yet.from;
+    could = not_yet.could;
+    same = not_yet.same;
+    log = record { active = active_same (place_of areas) (length recs) not_yet.from c not_yet.same (s.left not_yet.from not_yet.could).0.active; slots = not_yet.slots };
+  })
+  logging areas recs rec old s c (inr added) = inr (record {
+    same = added.same;
+    log = record { active = active_same (place_of areas) (length recs) (reading old) c added.same s.log.active; slots = added.slots };
+  })
+
+  pub moments_logging : (areas : Areas) (recs : List Rec) (rec : Rec) (old new : D) → Stands reading may_leave areas recs old → LeavesOnly clock left_since old new (IsAppending may_leave reading areas.log.area recs rec old)
+      → LeavesOnly clock left_since old new (IsLogging may_leave reading (place_of areas) recs rec old)
+  moments_logging areas recs rec old new s so_far = LeavesOnly-weaker laws (IsLogging may_leave reading (place_of areas) recs rec old) (logging areas recs rec old s) so_far
+
+-- the areas stand with one record more
+pub stands_more : {D : Type 0} (may_leave : D → Image → Type 0) (reading : D → Image) (areas : Areas) (log : Log) (recs more : List Rec) (old new : D) → Stands reading may_leave areas recs old → log.area ≡ areas.log.area
+    → SameOutside (IsNextSlot areas.log.area areas.log.used) (reading old) (reading new) → LogStands reading may_leave log more new → Only (reading new) (may_leave new)
+    → Stands reading may_leave (record { log = log; epoch = areas.epoch }) more new
+stands_more may_leave reading areas log recs more old new s area outside after only =
+    let active : IsActive (record { active = log.area; epoch = areas.epoch }) (reading new) =
+    subst (λ (a : Area). IsActive (record { active = a; epoch = areas.epoch }) (reading new)) (sym area) (active_same (place_of areas) areas.log.used (reading old) (reading new) outside s.log.active) in
+    let whole : HasLog (record { active = log.area; epoch = areas.epoch }) more (reading new) = record { active = active; slots = after.slots } in
+    record {
+      used = after.used;
+      log = whole;
+      left = λ c may.
+          let e = only c may in (
+            subst (λ (i : Image). HasLog (record { active = log.area; epoch = areas.epoch }) more i) (sym e) whole,
+            record { header = λ a. ap (λ (i : Image). block_at i (header_at a)) e; gate = λ a. ap (λ (i : Image). block_at i (gate_at a)) e },
+          );
+    }
+
+pub on_ok_two : {T E P Q R : Type 0} (r : Result T E) → (P → Q → R) → OnOk r P → OnOk r Q → OnOk r R
+on_ok_two (Ok x) f p q = f p q
+on_ok_two (Err e) f p q = p

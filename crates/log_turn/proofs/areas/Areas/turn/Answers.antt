@@ -1,0 +1,178 @@
+use Rattle.std.proofs.Common.{◌<◌, ◌+◌, ◌^◌, ◌∙◌, refl, ap, sym, subst, arith}
+use Rattle.disk_trait.specs.Image.{Image, block_at}
+use Rattle.disk_trait.proofs.Phases.{told}
+use Rattle.disk_tally.proofs.Counting.{CountsOn-then}
+use Rattle.image_blocks.specs.Layout.{gate_at, header_at}
+use Rattle.image_blocks.specs.Logs.{HasLog}
+use Rattle.log_turn.specs.Standing.{place_of}
+use Rattle.log_turn.proofs.Turning.{Closing, Switching, Writing, moments_closing, moments_switching, moments_writing, outside_closing, outside_switch, outside_writing, reads_turned}
+use Rattle.log_turn.proofs.areas.Areas.turn.Goals as goal
+
+pub returns-in_err-close_area-clause-any_moment : goal.returns-in_err-close_area-clause-any_moment
+returns-in_err-close_area-clause-any_moment g c t working recs stands =
+    let disk = g.met.D.Disk in
+    let reading = g.D.Disk.reading in
+    let laws = told t disk.counts_now disk.only_now in
+    let o = c.other_area-next.result in
+    let is = c.other_area-next.ensures in
+    let p = place_of c.args.self.now in
+    let fits : c.args.self.now.epoch + 1 < 2 ^ 64 = (let e = c.requires.epoch in omega (arith, e)) in
+    let closing : Closing g.D.Disk.clock g.D.Disk.may_leave g.D.Disk.left_since reading p c.args.kept.now o c.args.disk.now c.close_area.new.disk = record { same = c.close_area.ensures.reading t; quiet = c.close_area.ensures.any_moment t } in
+    moments_closing laws reading (λ d. disk.reads_now d t) p fits recs c.args.kept.now c.args.disk.now stands.left o is c.close_area.new.disk closing
+
+pub returns-in_err-write_kept-clause-any_moment : goal.returns-in_err-write_kept-clause-any_moment
+returns-in_err-write_kept-clause-any_moment g c t working recs stands =
+    let disk = g.met.D.Disk in
+    let reading = g.D.Disk.reading in
+    let laws = told t disk.counts_now disk.only_now in
+    let o = c.other_area-next.result in
+    let is = c.other_area-next.ensures in
+    let p = place_of c.args.self.now in
+    let fits : c.args.self.now.epoch + 1 < 2 ^ 64 = (let e = c.requires.epoch in omega (arith, e)) in
+    let closing : Closing g.D.Disk.clock g.D.Disk.may_leave g.D.Disk.left_since reading p c.args.kept.now o c.args.disk.now c.close_area.new.disk = record { same = c.close_area.ensures.reading t; quiet = c.close_area.ensures.any_moment t } in
+    let writing : Writing g.D.Disk.clock g.D.Disk.may_leave g.D.Disk.left_since reading p c.args.kept.now o c.args.disk.now c.close_area.new.disk c.write_kept.new.disk = record {
+      closing = closing;
+      closed = c.in_ok-close_area.ensures.closed t;
+      stable = c.in_ok-close_area.ensures.stable t;
+      same = c.write_kept.ensures.reading t;
+      quiet = c.write_kept.ensures.any_moment t;
+    } in
+    moments_writing laws reading (λ d. disk.reads_now d t) p fits recs c.args.kept.now c.args.disk.now stands.left o is c.close_area.new.disk c.write_kept.new.disk writing
+
+pub returns-in_err-switch-clause-any_moment : goal.returns-in_err-switch-clause-any_moment
+returns-in_err-switch-clause-any_moment g c t working recs stands =
+    let disk = g.met.D.Disk in
+    let reading = g.D.Disk.reading in
+    let laws = told t disk.counts_now disk.only_now in
+    let o = c.other_area-next.result in
+    let is = c.other_area-next.ensures in
+    let p = place_of c.args.self.now in
+    let fits : c.args.self.now.epoch + 1 < 2 ^ 64 = (let e = c.requires.epoch in omega (arith, e)) in
+    let closing : Closing g.D.Disk.clock g.D.Disk.may_leave g.D.Disk.left_since reading p c.args.kept.now o c.args.disk.now c.close_area.new.disk = record { same = c.close_area.ensures.reading t; quiet = c.close_area.ensures.any_moment t } in
+    let writing : Writing g.D.Disk.clock g.D.Disk.may_leave g.D.Disk.left_since reading p c.args.kept.now o c.args.disk.now c.close_area.new.disk c.write_kept.new.disk = record {
+      closing = closing;
+      closed = c.in_ok-close_area.ensures.closed t;
+      stable = c.in_ok-close_area.ensures.stable t;
+      same = c.write_kept.ensures.reading t;
+      quiet = c.write_kept.ensures.any_moment t;
+    } in
+    let switching : Switching g.D.Disk.clock g.D.Disk.may_leave g.D.Disk.left_since reading p c.args.kept.now o c.args.disk.now c.close_area.new.disk c.write_kept.new.disk c.switch.new.disk = record {
+      writing = writing;
+      header = c.in_ok-write_kept.ensures.header t;
+      slots = c.in_ok-write_kept.ensures.slots t;
+      moments = c.switch.ensures.any_moment t;
+    } in
+    moments_switching laws reading (λ d. disk.reads_now d t) p fits recs c.args.kept.now c.args.disk.now stands.left o is c.close_area.new.disk c.write_kept.new.disk c.switch.new.disk switching
+
+pub returns-clause-any_moment : goal.returns-clause-any_moment
+returns-clause-any_moment g c t working recs stands =
+    let disk = g.met.D.Disk in
+    let reading = g.D.Disk.reading in
+    let laws = told t disk.counts_now disk.only_now in
+    let o = c.other_area-next.result in
+    let is = c.other_area-next.ensures in
+    let p = place_of c.args.self.now in
+    let fits : c.args.self.now.epoch + 1 < 2 ^ 64 = (let e = c.requires.epoch in omega (arith, e)) in
+    let closing : Closing g.D.Disk.clock g.D.Disk.may_leave g.D.Disk.left_since reading p c.args.kept.now o c.args.disk.now c.close_area.new.disk = record { same = c.close_area.ensures.reading t; quiet = c.close_area.ensures.any_moment t } in
+    let writing : Writing g.D.Disk.clock g.D.Disk.may_leave g.D.Disk.left_since reading p c.args.kept.now o c.args.disk.now c.close_area.new.disk c.write_kept.new.disk = record {
+      closing = closing;
+      closed = c.in_ok-close_area.ensures.closed t;
+      stable = c.in_ok-close_area.ensures.stable t;
+      same = c.write_kept.ensures.reading t;
+      quiet = c.write_kept.ensures.any_moment t;
+    } in
+    let switching : Switching g.D.Disk.clock g.D.Disk.may_leave g.D.Disk.left_since reading p c.args.kept.now o c.args.disk.now c.close_area.new.disk c.write_kept.new.disk c.switch.new.disk = record {
+      writing = writing;
+      header = c.in_ok-write_kept.ensures.header t;
+      slots = c.in_ok-write_kept.ensures.slots t;
+      moments = c.switch.ensures.any_moment t;
+    } in
+    moments_switching laws reading (λ d. disk.reads_now d t) p fits recs c.args.kept.now c.args.disk.now stands.left o is c.close_area.new.disk c.write_kept.new.disk c.switch.new.disk switching
+
+pub returns-clause-turned : goal.returns-clause-turned
+returns-clause-turned g c t working =
+    let disk = g.met.D.Disk in
+    let reading = g.D.Disk.reading in
+    let laws = told t disk.counts_now disk.only_now in
+    let o = c.other_area-next.result in
+    let is = c.other_area-next.ensures in
+    let p = place_of c.args.self.now in
+    let fits : c.args.self.now.epoch + 1 < 2 ^ 64 = (let e = c.requires.epoch in omega (arith, e)) in
+    let recs = (c.requires.stands t working).0 in
+    let stands = (c.requires.stands t working).1 in
+    let closing : Closing g.D.Disk.clock g.D.Disk.may_leave g.D.Disk.left_since reading p c.args.kept.now o c.args.disk.now c.close_area.new.disk = record { same = c.close_area.ensures.reading t; quiet = c.close_area.ensures.any_moment t } in
+    let writing : Writing g.D.Disk.clock g.D.Disk.may_leave g.D.Disk.left_since reading p c.args.kept.now o c.args.disk.now c.close_area.new.disk c.write_kept.new.disk = record {
+      closing = closing;
+      closed = c.in_ok-close_area.ensures.closed t;
+      stable = c.in_ok-close_area.ensures.stable t;
+      same = c.write_kept.ensures.reading t;
+      quiet = c.write_kept.ensures.any_moment t;
+    } in
+    let switching : Switching g.D.Disk.clock g.D.Disk.may_leave g.D.Disk.left_since reading p c.args.kept.now o c.args.disk.now c.close_area.new.disk c.write_kept.new.disk c.switch.new.disk = record {
+      writing = writing;
+      header = c.in_ok-write_kept.ensures.header t;
+      slots = c.in_ok-write_kept.ensures.slots t;
+      moments = c.switch.ensures.any_moment t;
+    } in
+    let read = (reads_turned laws reading (λ d. disk.reads_now d t) p fits recs c.args.kept.now c.args.disk.now stands.left o is c.close_area.new.disk c.write_kept.new.disk c.switch.new.disk switching (c.switch.ensures.reading t) (c.in_ok-switch.ensures.opened t)) in
+    let log = read.0 in
+    record {
+      stands = record {
+        used = refl;
+        log = log;
+        left = λ image may.
+            let e = c.in_ok-switch.ensures.stable t image may in (
+              subst (λ (i : Image). HasLog (record { active = o; epoch = c.args.self.now.epoch + 1 }) c.args.kept.now i) (sym e) log,
+              record { header = λ area. ap (λ (i : Image). block_at i (header_at area)) e; gate = λ area. ap (λ (i : Image). block_at i (gate_at area)) e },
+            );
+      };
+      header = read.1;
+    }
+
+pub returns-in_err-close_area-clause-outside : goal.returns-in_err-close_area-clause-outside
+returns-in_err-close_area-clause-outside g c t =
+    outside_closing c.args.self.now.log.area c.other_area-next.result _ _ c.other_area-next.ensures (c.close_area.ensures.reading t)
+
+pub returns-in_err-write_kept-clause-outside : goal.returns-in_err-write_kept-clause-outside
+returns-in_err-write_kept-clause-outside g c t =
+    outside_writing c.args.self.now.log.area c.other_area-next.result _ _ _ c.other_area-next.ensures (outside_closing c.args.self.now.log.area c.other_area-next.result _ _ c.other_area-next.ensures (c.close_area.ensures.reading t)) (c.write_kept.ensures.reading t)
+
+pub returns-in_err-switch-clause-outside : goal.returns-in_err-switch-clause-outside
+returns-in_err-switch-clause-outside g c t =
+    outside_switch c.args.self.now.log.area _ _ _ (outside_writing c.args.self.now.log.area c.other_area-next.result _ _ _ c.other_area-next.ensures (outside_closing c.args.self.now.log.area c.other_area-next.result _ _ c.other_area-next.ensures (c.close_area.ensures.reading t)) (c.write_kept.ensures.reading t)) (c.switch.ensures.reading t)
+
+pub returns-clause-outside : goal.returns-clause-outside
+returns-clause-outside g c t =
+    outside_switch c.args.self.now.log.area _ _ _ (outside_writing c.args.self.now.log.area c.other_area-next.result _ _ _ c.other_area-next.ensures (outside_closing c.args.self.now.log.area c.other_area-next.result _ _ c.other_area-next.ensures (c.close_area.ensures.reading t)) (c.write_kept.ensures.reading t)) (c.switch.ensures.reading t)
+
+pub returns-in_err-close_area-clause-begins : goal.returns-in_err-close_area-clause-begins
+returns-in_err-close_area-clause-begins g c = record {
+  count = c.close_area.ensures.count;
+  few = (let f0 = c.close_area.ensures.few in omega (arith, f0));
+  counts = c.close_area.ensures.counts;
+  later = (let l0 = c.close_area.ensures.cause.later in omega (arith, l0));
+}
+
+pub returns-in_err-write_kept-clause-begins : goal.returns-in_err-write_kept-clause-begins
+returns-in_err-write_kept-clause-begins g c = record {
+  count = c.write_kept.ensures.count ∙ c.close_area.ensures.count;
+  few = (let f0 = c.close_area.ensures.few in let f1 = c.write_kept.ensures.few in omega (arith, f0, f1));
+  counts = CountsOn-then _ _ _ _ _ _ c.close_area.ensures.counts c.write_kept.ensures.counts;
+  later = (let l0 = c.close_area.ensures.cause.later in let l1 = c.write_kept.ensures.cause.later in omega (arith, l0, l1));
+}
+
+pub returns-in_err-switch-clause-begins : goal.returns-in_err-switch-clause-begins
+returns-in_err-switch-clause-begins g c = record {
+  count = c.switch.ensures.count ∙ c.write_kept.ensures.count ∙ c.close_area.ensures.count;
+  few = (let f0 = c.close_area.ensures.few in let f1 = c.write_kept.ensures.few in let f2 = c.switch.ensures.few in omega (arith, f0, f1, f2));
+  counts = CountsOn-then _ _ _ _ _ _ (CountsOn-then _ _ _ _ _ _ c.close_area.ensures.counts c.write_kept.ensures.counts) c.switch.ensures.counts;
+  later = (let l0 = c.close_area.ensures.cause.later in let l1 = c.write_kept.ensures.cause.later in let l2 = c.switch.ensures.cause.later in omega (arith, l0, l1, l2));
+}
+
+pub returns-clause-begins : goal.returns-clause-begins
+returns-clause-begins g c = record {
+  count = c.switch.ensures.count ∙ c.write_kept.ensures.count ∙ c.close_area.ensures.count;
+  few = (let f0 = c.close_area.ensures.few in let f1 = c.write_kept.ensures.few in let f2 = c.switch.ensures.few in omega (arith, f0, f1, f2));
+  counts = CountsOn-then _ _ _ _ _ _ (CountsOn-then _ _ _ _ _ _ c.close_area.ensures.counts c.write_kept.ensures.counts) c.switch.ensures.counts;
+  later = (let l0 = c.close_area.ensures.cause.later in let l1 = c.write_kept.ensures.cause.later in let l2 = c.switch.ensures.cause.later in omega (arith, l0, l1, l2));
+}

@@ -1,0 +1,77 @@
+-- What the two areas stand for on a disk.
+use Rattle.std.specs.Prelude.{◌≡◌, ℕ, ◌+◌, Bool, true, false, List, length, Result, OnOk, OnErr, IsErrOf}
+use Rattle.disk_trait.specs.Image.{Image, block_at}
+use Rattle.hop_base.specs.declared.records.Rec.{Rec}
+use Rattle.image_blocks.specs.Layout.{gate_at, header_at, header_block, other}
+use Rattle.image_blocks.specs.Logs.{HasLog, Place}
+use Rattle.image_blocks.specs.declared.areas.Area.{Area}
+use Rattle.commit_log.specs.declared.log.LogFault.{LogFault}
+use Rattle.commit_log.specs.declared.log.LogFault.TheVariants.{WriteFault}
+use Rattle.log_turn.specs.declared.areas.Areas.{Areas}
+
+-- the headers and gates of both areas are the same
+pub record SameAreas (old new : Image) : Type 0 where
+  pub header : (area : Area) → block_at new (header_at area) ≡ block_at old (header_at area)
+  pub gate : (area : Area) → block_at new (gate_at area) ≡ block_at old (gate_at area)
+
+-- WHAT THE AREAS SHOW
+
+-- the active area, its epoch, and how many of its slots are used
+abbrev pub area_of : Areas → Area
+area_of areas = areas.log.area
+
+abbrev pub epoch_of : Areas → ℕ
+epoch_of areas = areas.epoch
+
+abbrev pub used_of : Areas → ℕ
+used_of areas = areas.log.used
+
+-- whether a call has answered WriteFault
+abbrev pub has_failed : Areas → Bool
+has_failed areas = areas.log.failed
+
+-- how many writes and syncs were begun
+abbrev pub begun_of : Areas → ℕ
+begun_of areas = areas.log.tally.0
+
+abbrev pub place_of : Areas → Place
+place_of areas = record { active = areas.log.area; epoch = areas.epoch }
+
+-- the disk reads as a log with these records, and each image that a stop now may leave agrees with that in headers, gates and log
+pub record Stands {D : Type 0} (reading : D → Image) (may_leave : D → Image → Type 0) (areas : Areas) (recs : List Rec) (disk : D) : Type 0 where
+  pub used : length recs ≡ areas.log.used
+  pub log : HasLog (place_of areas) recs (reading disk)
+  pub left : (c : Image) → may_leave disk c → HasLog (place_of areas) recs c × SameAreas (reading disk) c
+
+-- WHAT CALLS LEAVE
+
+-- after a turn the areas stand with the kept records, behind a whole header with the next epoch
+pub record IsTurnedTo {D : Type 0} (reading : D → Image) (may_leave : D → Image → Type 0) (kept : List Rec) (old new : Areas) (disk : D) : Type 0 where
+  pub stands : Stands reading may_leave new kept disk
+  pub header : block_at (reading disk) (header_at (other (area_of old))) ≡ header_block (epoch_of old + 1)
+
+-- of the areas themselves: the other one is active with the next epoch and so many slots used, or all that is as before
+pub record HasTurned {T : Type 0} (kept : ℕ) (result : Result T LogFault) (old new : Areas) : Type 0 where
+  pub area : OnOk result (area_of new ≡ other (area_of old))
+  pub epoch : OnOk result (epoch_of new ≡ epoch_of old + 1)
+  pub used : OnOk result (used_of new ≡ kept)
+  pub working : OnOk result (has_failed new ≡ false)
+  pub same_area : OnErr result (area_of new ≡ area_of old)
+  pub same_epoch : OnErr result (epoch_of new ≡ epoch_of old)
+  pub same_used : OnErr result (used_of new ≡ used_of old)
+  pub failed : IsErrOf result WriteFault → has_failed new ≡ true
+
+-- after an append one slot more is used, or as many as before
+pub record HasGrown {T : Type 0} (result : Result T LogFault) (old new : Areas) : Type 0 where
+  pub area : area_of new ≡ area_of old
+  pub epoch : epoch_of new ≡ epoch_of old
+  pub used : OnOk result (used_of new ≡ used_of old + 1)
+  pub same_used : OnErr result (used_of new ≡ used_of old)
+  pub working : OnOk result (has_failed new ≡ false)
+  pub failed : IsErrOf result WriteFault → has_failed new ≡ true
+
+-- only the count of writes and syncs may be another
+pub record HasCounted (old new : Areas) : Type 0 where
+  pub same_place : place_of new ≡ place_of old
+  pub same_used : used_of new ≡ used_of old
+  pub same_failed : has_failed new ≡ has_failed old

@@ -1,0 +1,9 @@
+pub mod Counts
+pub mod Fresh
+pub mod Flags
+pub mod Wishes
+pub mod Fullness
+pub mod Commits
+pub mod Records
+pub mod Ascending
+pub mod CutStates

@@ -1,0 +1,79 @@
+-- What a commit holds is what its entity was at that version.
+use Rattle.std.proofs.Common.{◌≡◌, ℕ, true, false, ◌==◌, if◌then◌else◌, List, [], ◌∷◌, ◌++◌, Option, inl, inr, refl, sym, ap, subst, ◌∙◌, arith, eq-eqb, eqb-true}
+use Rattle.hop_base.specs.declared.histories.Entry.{Entry}
+use Rattle.hop_model.specs.State.{Supply, EntityState, KernelState}
+use Rattle.hop_model.specs.Scripts.{Script}
+use Rattle.hop_model.specs.Choices.{Commit}
+use Rattle.hop_model.specs.Fronts.{tried_commits}
+use Rattle.hop_model.specs.Histories.{Policy, IsLegalRun, event_of, start_run}
+use Rattle.hop_model.specs.LocalEvents.{IsLocal}
+use Rattle.hop_model.specs.Parts.{IsPlayed, after, after_entry, thing_at}
+use Rattle.hop_model.specs.Vectors.{IsStamped, vector_at}
+use Rattle.hop_model.proofs.ChosenVectors.{Moves, moves}
+use Rattle.hop_model.proofs.CommitStamps.{AllCommits, IsMadeIn, all_made, vector_at_front}
+use Rattle.hop_model.proofs.LegalRuns.{event_of_local, event_of_stamped, legal_played, legal_vectors}
+use Rattle.hop_model.proofs.StableCuts.{versions_rise_over}
+use Rattle.run_rules.specs.Records.{AreRecordsOf, IsRecordOf}
+
+module _ (act : Entry → KernelState → Option (Entry × KernelState)) (local : (e : Entry) → IsLocal (λ (b : EntityState). b.version) (act e)) (stamped : (e : Entry) → IsStamped (act e)) where
+  -- an entity that ends with the version with which it began is as it was
+  unmoved : (es : List Entry) (w : KernelState) (x : ℕ) → IsPlayed act w es → (w x).version ≡ (after act w es x).version → after act w es x ≡ w x
+  unfolding Moves
+  unmoved [] w x played e = refl
+  unmoved (d ∷ es) w x played e =
+      let low = versions_rise_over act local stamped es (after_entry act w d) played.1 x in
+      elim (moves act local stamped w d played.0 x) as (λ _. after act (after_entry act w d) es x ≡ w x) [
+        | inl k ↦ unmoved es (after_entry act w d) x played.1 (ap (λ (b : EntityState). b.version) k ∙ e) ∙ k
+        | inr k ↦ (let f = k.0 in absurd (omega (arith, low, f, e)))
+      ]
+
+  -- what an entity was at the version that it has behind a front
+  thing_at_front : (front rest : List Entry) (w : KernelState) (x : ℕ) → IsPlayed act w (front ++ rest)
+      → thing_at act (λ (b : EntityState). b.version) w (front ++ rest) x (after act w front x).version ≡ after act w front x
+  thing_at_front [] [] w x played = refl
+  thing_at_front [] (d ∷ rest) w x played =
+      let same : ((w x).version == (w x).version) ≡ true = eq-eqb _ _ refl in
+      ap (λ b. if b then w x else thing_at act (λ (b : EntityState). b.version) (after_entry act w d) rest x (w x).version) same
+  thing_at_front (d ∷ front) rest w x played =
+      let n = (after act (after_entry act w d) front x).version in
+      elim ((w x).version == n) as (λ b. ((w x).version == n) ≡ b
+      → (if◌then◌else◌ {A = EntityState} b (w x) (thing_at act (λ (b : EntityState). b.version) (after_entry act w d) (front ++ rest) x n)) ≡ after act (after_entry act w d) front x) [
+        | true ↦ λ is. sym (unmoved (d ∷ front) w x (front_played (d ∷ front) rest w played) (eqb-true _ _ is))
+        | false ↦ λ is. thing_at_front front rest (after_entry act w d) x played.1
+      ] refl
+    where
+      front_played : (front rest : List Entry) (w : KernelState) → IsPlayed act w (front ++ rest) → IsPlayed act w front
+      front_played [] rest w played = tt
+      front_played (d ∷ front) rest w played = (played.0, front_played front rest (after_entry act w d) played.1)
+
+  thing_of_made : (w : KernelState) (es : List Entry) (c : Commit) (m : IsMadeIn act w es c) → IsPlayed act w es → thing_at act (λ (b : EntityState). b.version) w es c.entity c.version ≡ after act w m.front c.entity
+  thing_of_made w es c m played =
+      ap (λ gs. thing_at act (λ (b : EntityState). b.version) w gs c.entity c.version) m.split
+      ∙ ap (thing_at act (λ (b : EntityState). b.version) w (m.front ++ m.rest) c.entity) m.version
+      ∙ thing_at_front m.front m.rest w c.entity (subst (IsPlayed act w) m.split played)
+
+  vector_of_made : (w : KernelState) (es : List Entry) (c : Commit) → IsPlayed act w es → IsMadeIn act w es c → vector_at act w es c.entity c.version ≡ c.stamp
+  vector_of_made w es c played m =
+      subst (λ gs. vector_at act w gs c.entity c.version ≡ c.stamp) (sym m.split)
+      (ap (vector_at act w (m.front ++ m.rest) c.entity) m.version ∙ vector_at_front act local stamped m.front m.rest w c.entity (subst (IsPlayed act w) m.split played) ∙ sym m.stamp)
+
+module _ (s : Supply) (policy : Policy) (script : Script) (w : KernelState) (es : List Entry) (legal : IsLegalRun s policy w script es) where
+  pub record_of : (c : Commit) → IsMadeIn (event_of s script) w es c → IsRecordOf s script w es c
+  record_of c m =
+      let act = event_of s script in
+      let local = event_of_local s policy script in
+      let stamped = event_of_stamped s policy script in
+      let played = legal_played s policy script (start_run w) es legal in
+      let there = thing_of_made act local stamped w es c m played in
+      record {
+        version = ap (λ (b : EntityState). b.version) there ∙ sym m.version;
+        stamp = ap (λ (b : EntityState). b.stamp) there ∙ sym m.stamp;
+        vector = λ y. ap (λ (f : ℕ → ℕ). f y) (sym (vector_of_made act local stamped w es c played m)) ∙ legal_vectors s policy script w es c.entity c.version y legal;
+      }
+
+  records_of : (cs : List Commit) → AllCommits (IsMadeIn (event_of s script) w es) cs → AreRecordsOf s script w es cs
+  records_of [] all = tt
+  records_of (c ∷ cs) all = (record_of c all.0, records_of cs all.1)
+
+  pub commits_recorded : AreRecordsOf s script w es (tried_commits s script w es)
+  commits_recorded = records_of (tried_commits s script w es) (all_made s policy script w es)

@@ -1,0 +1,4 @@
+pub mod Newest
+pub mod Wishes
+pub mod Commits
+pub mod Records

@@ -1,0 +1,45 @@
+-- The kept records are those of the log at or above its greatest closed choice.
+use Rattle.std.proofs.Common.{◌≡◌, ℕ, Bool, true, false, List, [], ◌∷◌, nat_le, if◌then◌else◌, refl, sym, ap, ◌∙◌}
+use Rattle.std.specs.Prelude.{filter, map}
+use Rattle.disk_trait.specs.Image.{Image}
+use Rattle.hop_base.specs.declared.records.Rec.{Rec}
+use Rattle.hop_model.proofs.Lowering.{greatest_is}
+use Rattle.hop_model.specs.Choices.{IsNarrow}
+use Rattle.cut_laws.specs.Agreeing.{nothing}
+use Rattle.cut_laws.specs.Records.{AgreeInRecs, commits_of, is_rec_from, recs_from}
+use Rattle.image_meaning.specs.Stores.{recs_of}
+use Rattle.store_model.specs.Books.{Books, Logged, cut_in, kept_for, kept_of, logged_recs, recs_in}
+
+abbrev at_or_above : (ℕ → ℕ) → Logged → Bool
+at_or_above cut l = nat_le (cut l.rec.entity) l.rec.version
+
+one_more : (image : Image) (l : Logged) (ls : List Logged) (rs : List Rec) (b : Bool) → recs_of (map (kept_for image) ls) ≡ rs
+    → recs_of (map (kept_for image) (if b then l ∷ ls else ls)) ≡ (if b then l.rec ∷ rs else rs)
+one_more image l ls rs true e = ap (λ (qs : List Rec). l.rec ∷ qs) e
+one_more image l ls rs false e = e
+
+kept_recs_by : (image : Image) (cut : ℕ → ℕ) (ls : List Logged) → recs_of (map (kept_for image) (filter (at_or_above cut) ls)) ≡ recs_from cut (logged_recs ls)
+kept_recs_by image cut [] = refl
+kept_recs_by image cut (l ∷ ls) =
+    one_more image l (filter (at_or_above cut) ls) (recs_from cut (logged_recs ls)) (at_or_above cut l) (kept_recs_by image cut ls)
+
+pub kept_recs : (image : Image) (b : Books) → recs_of (kept_of image b) ≡ recs_from (cut_in b) (recs_in b)
+kept_recs image b = kept_recs_by image (cut_in b) b.logged
+
+above_by : (cut : ℕ → ℕ) (r : Rec) (rs : List Rec) (b : Bool) → is_rec_from cut r ≡ b → recs_from cut (recs_from cut rs) ≡ recs_from cut rs
+    → recs_from cut (if b then r ∷ recs_from cut rs else recs_from cut rs) ≡ (if b then r ∷ recs_from cut rs else recs_from cut rs)
+above_by cut r rs true e rest =
+    ap (λ (b : Bool). if b then r ∷ recs_from cut (recs_from cut rs) else recs_from cut (recs_from cut rs)) e ∙ ap (λ (qs : List Rec). r ∷ qs) rest
+above_by cut r rs false e rest = rest
+
+-- those at or above a choice are all at or above it
+above_again : (cut : ℕ → ℕ) (rs : List Rec) → recs_from cut (recs_from cut rs) ≡ recs_from cut rs
+above_again cut [] = refl
+above_again cut (r ∷ rs) = above_by cut r rs (is_rec_from cut r) refl (above_again cut rs)
+
+pub kept_agree : (image : Image) (b : Books) → IsNarrow (commits_of (recs_in b)) → AgreeInRecs (recs_in b) (recs_of (kept_of image b))
+kept_agree image b narrow = record {
+  cut = cut_in b;
+  greatest = greatest_is nothing (commits_of (recs_in b)) narrow;
+  same = sym (above_again (cut_in b) (recs_in b)) ∙ sym (ap (recs_from (cut_in b)) (kept_recs image b));
+}

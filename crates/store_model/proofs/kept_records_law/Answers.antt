@@ -1,0 +1,8 @@
+use Rattle.store_model.proofs.Keeping.{kept_agree, kept_recs}
+use Rattle.store_model.proofs.kept_records_law.Goals as goal
+
+pub returns-clause-kept : goal.returns-clause-kept
+returns-clause-kept c = kept_recs
+
+pub returns-clause-agree : goal.returns-clause-agree
+returns-clause-agree c = kept_agree

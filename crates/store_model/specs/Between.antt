@@ -1,0 +1,120 @@
+-- What lies between two moments of a store at which nothing was committed.
+use Rattle.std.specs.Prelude.{◌≡◌, ◌⊎◌, ℕ, Bool, ◌+◌, ◌<◌, ◌≤◌, true, false, All}
+use Rattle.std.proofs.Common.{inl, inr, ap, arith, refl, sym, subst, ◌∙◌}
+use Rattle.disk_trait.specs.Image.{Image}
+use Rattle.disk_trait.specs.Moments.{LeavesOnly}
+use Rattle.image_blocks.proofs.Reading.{log_law}
+use Rattle.image_blocks.specs.Layout.{last_number}
+use Rattle.image_meaning.specs.Stores.{Stores}
+use Rattle.disk_tally.specs.Counts.{CountsOn}
+use Rattle.disk_tally.proofs.Counting.{CountsOn-stay, CountsOn-then}
+use Rattle.store_model.specs.Books.{AreSmall, AreTrue, Books, IsSmall, kept_of, logged_recs, recs_in}
+
+-- stretches behind one another
+pub LeavesOnly-join : {D : Type 0} (clock : D → ℕ) (left_since : D → ℕ → Image → Type 0) (P : Image → Type 0) (a b c : D)
+    → LeavesOnly clock left_since a b P → LeavesOnly clock left_since b c P → LeavesOnly clock left_since a c P
+LeavesOnly-join clock left_since P a b c first second = record {
+  later = (let one = first.later in let two = second.later in omega arith);
+  each = λ image left. LeavesOnly-each (second.before (clock a) image first.later left);
+  before = λ t image le left. LeavesOnly-before t image le (second.before t image (let one = first.later in omega (arith, le, one)) left);
+}
+  where
+    LeavesOnly-each : {image : Image} → left_since b (clock a) image ⊎ P image → P image
+    LeavesOnly-each {image = image} (inl h) = first.each image h
+    LeavesOnly-each (inr h) = h
+
+    LeavesOnly-before : (t : ℕ) (image : Image) → t ≤ clock a → left_since b t image ⊎ P image → left_since a t image ⊎ P image
+    LeavesOnly-before t image le (inl h) = first.before t image le h
+    LeavesOnly-before t image le (inr h) = inr h
+
+-- NOTHING WAS COMMITTED. From the one store to the other only pages were read, written, taken and given back: the log and the kept
+-- records are the same, and a stop at any moment leaves an image that stores just them.
+pub record OnlyPages {D : Type 0} (tells : Type 0) (clock : D → ℕ) (reading : D → Image) (may_leave : D → Image → Type 0) (left_since : D → ℕ → Image → Type 0) (old_disk new_disk : D) (old new : Books) (old_written new_written : ℕ) : Type 0 where
+  pub same_logged : new.logged ≡ old.logged
+  pub same_place : new.place ≡ old.place
+  pub same_count : new.count ≡ old.count
+  pub same_found : new.found ≡ old.found
+  pub same_kept : tells → kept_of (reading new_disk) new ≡ kept_of (reading old_disk) old
+  pub true_books : tells → AreTrue reading may_leave old old_disk → AreTrue reading may_leave new new_disk
+  -- a store that is shut does nothing to its disk
+  pub shut : old.shut ≡ true → (new.shut ≡ true) × (new_disk ≡ old_disk)
+  pub moments : tells → AreTrue reading may_leave old old_disk → AreSmall old → old.shut ≡ false
+      → LeavesOnly clock left_since old_disk new_disk (Stores old.count (kept_of (reading old_disk) old))
+  pub later : clock old_disk ≤ clock new_disk
+  pub begun : old.begun ≤ new.begun
+  pub written : old_written ≤ new_written
+  pub few : new.begun + old_written ≤ old.begun + new_written
+  pub counts : CountsOn (clock old_disk) (clock new_disk) old.begun new.begun
+
+-- THE LAWS of that relation: it holds of a store and itself, and goes on
+module _ {D : Type 0} (tells : Type 0) (clock : D → ℕ) (reading : D → Image) (may_leave : D → Image → Type 0) (left_since : D → ℕ → Image → Type 0) where
+  abbrev pub Between : D → D → Books → Books → ℕ → ℕ → Type 0
+  Between a b old new m n = OnlyPages tells clock reading may_leave left_since a b old new m n
+
+  LeavesOnly-stay : (P : Image → Type 0) (a : D) → ((c : Image) → left_since a (clock a) c → P c) → LeavesOnly clock left_since a a P
+  LeavesOnly-stay P a each = record { later = omega arith; each = each; before = λ t c le left. inl left }
+
+  -- each image that a stop may leave of true books stores the kept records
+  pub stores_left : (a : D) (b : Books) → AreTrue reading may_leave b a → AreSmall b → b.shut ≡ false → (c : Image) → may_leave a c → Stores b.count (kept_of (reading a) b) c
+  stores_left a b right small working c may =
+      let s = right.stored small working in
+      record {
+        recs = recs_in b;
+        has = log_law b.count b.place (recs_in b) c (s.front c may) (s.left c may) s.fit;
+        agree = s.agree;
+        held = s.held c may;
+        blocks = (s.front c may).count_is;
+      }
+
+  pub Between-stay : (a : D) (old : Books) (n : ℕ) → ((c : Image) → tells → left_since a (clock a) c → may_leave a c) → Between a a old old n n
+  Between-stay a old n only_now = record {
+    same_logged = refl;
+    same_place = refl;
+    same_count = refl;
+    same_found = refl;
+    same_kept = λ told. refl;
+    true_books = λ told right. right;
+    shut = λ shut. (shut, refl);
+    moments = λ told right small working. LeavesOnly-stay _ a (λ c left. stores_left a old right small working c (only_now c told left));
+    later = omega arith;
+    begun = omega arith;
+    written = omega arith;
+    few = omega arith;
+    counts = CountsOn-stay (clock a) old.begun;
+  }
+
+  small_on : (old new : Books) → new.logged ≡ old.logged → new.place ≡ old.place → AreSmall old → AreSmall new
+  small_on old new logged place small = record {
+    epoch = subst (λ p. p.epoch < last_number) (sym place) small.epoch;
+    recs = subst (λ ls. All IsSmall (logged_recs ls)) (sym logged) small.recs;
+  }
+
+  on_stores : (a b : D) (x y : Books) (k m : ℕ) → tells → Between a b x y k m → Stores y.count (kept_of (reading b) y) ≡ Stores x.count (kept_of (reading a) x)
+  on_stores a b x y k m told p = ap (λ n. Stores n (kept_of (reading b) y)) p.same_count ∙ ap (Stores x.count) (p.same_kept told)
+
+  -- the second stretch of a store that works, and of one that is shut
+  moments_join : (a b c : D) (x y z : Books) (k m n : ℕ) → Between a b x y k m → Between b c y z m n → tells → AreTrue reading may_leave x a → AreSmall x → x.shut ≡ false
+      → (shut : Bool) → y.shut ≡ shut → LeavesOnly clock left_since a c (Stores x.count (kept_of (reading a) x))
+  moments_join a b c x y z k m n p q told right small working false e =
+      LeavesOnly-join clock left_since (Stores x.count (kept_of (reading a) x)) a b c (p.moments told right small working)
+      (subst (λ (P : Image → Type 0). LeavesOnly clock left_since b c P) (on_stores a b x y k m told p)
+      (q.moments told (p.true_books told right) (small_on x y p.same_logged p.same_place small) e))
+  moments_join a b c x y z k m n p q told right small working true e =
+      subst (λ d. LeavesOnly clock left_since a d (Stores x.count (kept_of (reading a) x))) (sym (q.shut e).1) (p.moments told right small working)
+
+  pub Between-join : (a b c : D) (x y z : Books) (k m n : ℕ) → Between a b x y k m → Between b c y z m n → Between a c x z k n
+  Between-join a b c x y z k m n p q = record {
+    same_logged = q.same_logged ∙ p.same_logged;
+    same_place = q.same_place ∙ p.same_place;
+    same_count = q.same_count ∙ p.same_count;
+    same_found = q.same_found ∙ p.same_found;
+    same_kept = λ told. q.same_kept told ∙ p.same_kept told;
+    true_books = λ told right. q.true_books told (p.true_books told right);
+    shut = λ shut. ((q.shut (p.shut shut).0).0, (q.shut (p.shut shut).0).1 ∙ (p.shut shut).1);
+    moments = λ told right small working. moments_join a b c x y z k m n p q told right small working y.shut refl;
+    later = (let one = p.later in let two = q.later in omega arith);
+    begun = (let one = p.begun in let two = q.begun in omega arith);
+    written = (let one = p.written in let two = q.written in omega arith);
+    few = (let one = p.few in let two = q.few in omega arith);
+    counts = CountsOn-then (clock a) (clock b) (clock c) x.begun y.begun z.begun p.counts q.counts;
+  }

@@ -1,0 +1,153 @@
+-- What a store keeps in memory of its image, and what that says of the image.
+use Rattle.std.specs.Prelude.{◌≡◌, ◌≢◌, ◌⊎◌, ℕ, ◌+◌, ◌*◌, ◌-◌, ◌^◌, ◌<◌, ◌≤◌, Bool, true, false, not, ◌&&◌, ◌||◌, ◌==◌, nat_le, if◌then◌else◌, List, [], ◌∷◌, ◌++◌, filter, count_by, length, map, All, slice_index}
+use Rattle.std.specs.List.{AllByRecursion, flat_map, list_any, range_with_len}
+use Rattle.disk_trait.specs.Image.{Image, block_at}
+use Rattle.cut_laws.specs.Records.{AgreeInRecs}
+use Rattle.hop_base.specs.Edges.{upto}
+use Rattle.hop_base.specs.declared.records.Rec.{Rec}
+use Rattle.image_blocks.specs.Bodies.{blob_blocks, blob_in, number_at}
+use Rattle.image_blocks.specs.Layout.{last_number, pool_at}
+use Rattle.image_blocks.specs.Logs.{AreFitting, HasFront, HasLog, Place}
+use Rattle.image_meaning.specs.Parts.{cut_of}
+use Rattle.image_meaning.specs.Stores.{IsHeld, Kept, Page, Stores, recs_of}
+
+-- a record of the log, with the block of each page that its blob names, 0 for none
+pub record Logged : Type 0 where
+  pub rec : Rec
+  pub table : List ℕ
+
+-- THE BOOKS OF A STORE: how many blocks the image has, the records of its log in order, where the log stands, the blocks that are held,
+-- whether records were found whose blobs aren't read yet, whether the disk failed, and how many writes and syncs were begun
+pub record Books : Type 0 where
+  pub count : ℕ
+  pub logged : List Logged
+  pub place : Place
+  pub held : ℕ → Bool
+  pub found : Bool
+  pub shut : Bool
+  pub begun : ℕ
+
+abbrev pub logged_recs : List Logged → List Rec
+logged_recs ls = map (λ (l : Logged). l.rec) ls
+
+abbrev pub recs_in : Books → List Rec
+recs_in b = logged_recs b.logged
+
+-- the greatest closed choice over all records of the log
+abbrev pub cut_in : Books → ℕ → ℕ
+cut_in b = cut_of (recs_in b)
+
+-- the kept records: those at or above it
+abbrev pub kept_in : Books → List Logged
+kept_in b = filter (λ (l : Logged). nat_le (cut_in b l.rec.entity) l.rec.version) b.logged
+
+-- a record names the block, by its blob or by a page
+abbrev pub names : ℕ → Logged → Bool
+names n l = not (n == 0) && (list_any (λ m. m == n) (blob_blocks l.rec) || list_any (λ m. m == n) l.table)
+
+-- a kept record names the block; until the blobs of found records are read each block counts as named
+abbrev pub kept_names : Books → ℕ → Bool
+kept_names b n = b.found || list_any (names n) (kept_in b)
+
+-- IN USE: a kept record or a working page table names it
+abbrev pub is_used : Books → ℕ → Bool
+is_used b n = b.held n || kept_names b n
+
+abbrev pub free_in : Books → ℕ
+free_in b = count_by (λ n. not (is_used b n)) (range_with_len pool_at (b.count - pool_at))
+
+-- WHAT THE BLOCKS HOLD
+
+abbrev pub words_of_bytes : List ℕ → List ℕ
+words_of_bytes bytes = map (λ i. number_at (8 * i) 8 bytes) (upto 128)
+
+abbrev pub page_for : Image → ℕ → List Page
+page_for image n = if n == 0 then [] else record { block = n; bytes = block_at image n } ∷ []
+
+-- a record with its blob and pages as they stand in an image
+abbrev pub kept_for : Image → Logged → Kept
+kept_for image l = record { rec = l.rec; blob = blob_in image l.rec; pages = flat_map (page_for image) l.table }
+
+-- THE KEPT RECORDS of the books, as the image holds them
+abbrev pub kept_of : Image → Books → List Kept
+kept_of image b = map (kept_for image) (kept_in b)
+
+-- no block of the record's blob and of its pages is one of these
+pub record IsApart (these : ℕ → Type 0) (k : Kept) : Type 0 where
+  pub blob : AllByRecursion (λ n. these n → ⊥) (blob_blocks k.rec)
+  pub pages : AllByRecursion (λ (p : Page). these p.block → ⊥) k.pages
+
+abbrev pub AreApartFrom : (ℕ → Type 0) → List Kept → Type 0
+AreApartFrom these ks = AllByRecursion (IsApart these) ks
+
+-- a block before the pool
+abbrev pub IsBeforePool : ℕ → Type 0
+IsBeforePool n = n < pool_at
+
+-- a record of which check 3 finds no number too large
+pub record IsSmall (r : Rec) : Type 0 where
+  pub version : r.version ≤ last_number
+  pub stamp : (y : ℕ) → slice_index r.stamp y ≤ last_number
+
+-- no number of the log is too large for an image that is accepted, and one more turn makes none
+pub record AreSmall (b : Books) : Type 0 where
+  pub epoch : b.place.epoch < last_number
+  pub recs : All IsSmall (recs_in b)
+
+-- WHAT A STOP NOW LEAVES: in each image the front is good, the log at this place is these records, which fit, and the kept ones stand,
+-- in the pool. The records agree with the kept ones from the greatest closed choice on. This is what goes on from one write to the
+-- next; that each image stores the kept records follows from it.
+pub record AreStored {D : Type 0} (may_leave : D → Image → Type 0) (count : ℕ) (p : Place) (recs : List Rec) (ks : List Kept) (disk : D) : Type 0 where
+  pub fit : AreFitting count recs
+  pub agree : AgreeInRecs recs (recs_of ks)
+  pub pool : AreApartFrom IsBeforePool ks
+  pub left : (c : Image) → may_leave disk c → HasLog p recs c
+  pub front : (c : Image) → may_leave disk c → HasFront count p c
+  pub held : (c : Image) → may_leave disk c → AllByRecursion (IsHeld c) ks
+
+-- THE BOOKS ARE TRUE of the disk: what reads is the log; and while no number is too large and the disk hasn't failed, the kept records
+-- are stored in each image that a stop now may leave
+pub record AreTrue {D : Type 0} (reading : D → Image) (may_leave : D → Image → Type 0) (b : Books) (disk : D) : Type 0 where
+  pub log : HasLog b.place (recs_in b) (reading disk)
+  pub stored : AreSmall b → b.shut ≡ false → AreStored may_leave b.count b.place (recs_in b) (kept_of (reading disk) b) disk
+
+-- each page that has a block has one that is held
+abbrev pub AreHeldPages : (ℕ → Bool) → List ℕ → Type 0
+AreHeldPages held table = (page : ℕ) → slice_index table page ≢ 0 → held (slice_index table page) ≡ true
+
+-- each nonzero block once
+abbrev pub AreApart : List ℕ → Type 0
+AreApart table = (p q : ℕ) → slice_index table p ≢ 0 → slice_index table p ≡ slice_index table q → p ≡ q
+
+-- the version of the entity's newest record, 0 for none
+abbrev pub newest_in : List Rec → ℕ → ℕ
+newest_in [] x = 0
+newest_in (r ∷ rs) x = if list_any (λ (s : Rec). s.entity == x) rs then newest_in rs x else if r.entity == x then r.version else 0
+
+-- WHAT A COMMIT LEAVES
+pub record Commits (entity version : ℕ) (stamp blob table : List ℕ) (reading : Image) (old new : Books) : Type 0 where
+  pub rec : Rec
+  pub entity_is : rec.entity ≡ entity
+  pub version_is : rec.version ≡ version
+  pub stamp_is : rec.stamp ≡ stamp
+  pub length_is : rec.length ≡ length blob
+  pub blob_is : blob_in reading rec ≡ blob
+  -- the log has the new record behind the kept ones, whether it was turned or not
+  pub log : (new.logged ≡ old.logged ++ record { rec = rec; table = table } ∷ []) ⊎ (new.logged ≡ kept_in old ++ record { rec = rec; table = table } ∷ [])
+  pub same_held : new.held ≡ old.held
+  pub same_found : new.found ≡ old.found
+  pub same_count : new.count ≡ old.count
+
+-- the record that a commit makes, for some blocks of its blob
+pub record IsNewKept (entity version : ℕ) (stamp blob table : List ℕ) (reading : Image) (k : Kept) : Type 0 where
+  pub entity_is : k.rec.entity ≡ entity
+  pub version_is : k.rec.version ≡ version
+  pub stamp_is : k.rec.stamp ≡ stamp
+  pub blob_is : k.blob ≡ blob
+  pub pages_are : k.pages ≡ flat_map (page_for reading) table
+
+-- THE STAGES OF A COMMIT: the image stores what was kept, or that and the new record
+pub record StoresMore (count : ℕ) (ks : List Kept) (entity version : ℕ) (stamp blob table : List ℕ) (reading c : Image) : Type 0 where
+  pub new : Kept
+  pub is : IsNewKept entity version stamp blob table reading new
+  pub stores : Stores count (ks ++ new ∷ []) c
