@@ -16,6 +16,7 @@ use Rattle.image_blocks.specs.Logs.{HasSlots, IsAdded, IsAppending, IsNextSlot, 
 use Rattle.image_blocks.specs.declared.areas.Area.{Area}
 use Rattle.image_blocks.specs.declared.areas.Area.TheVariants.{A, B}
 use Rattle.commit_log.specs.Bodies.{IsBodyBlock}
+use Rattle.commit_log.specs.Standing.{HasGates}
 
 -- GATES
 
@@ -131,7 +132,7 @@ pub record IsPrepared (area : Area) (rec : Rec) (old mid : Image) (at used : ℕ
   pub room : used < slot_count
   pub same : SameOutside (IsBodyBlock area used) old mid
   pub body : block_at mid (body_at area used) ≡ body_block rec
-  pub next : used + 1 < slot_count → is_open mid (slot_gate_at area (used + 1)) ≡ false
+  pub next : used + 1 < slot_count → block_at mid (slot_gate_at area (used + 1)) ≡ closed_gate
   pub gate : at ≡ slot_gate_at area used
 
 through : (area : Area) (recs : List Rec) (rec : Rec) (old mid c : Image) (at : ℕ) → IsPrepared area rec old mid at (length recs) → SameOutside (λ n. n ≡ at) mid c → SameOutside (IsNextSlot area (length recs)) old c
@@ -148,7 +149,7 @@ now_added area recs rec old mid c at p same has gate =
     added area recs rec old c (through area recs rec old mid c at p same) p.room
     (same.same (body_at area (length recs)) (λ is. absurd (omega (arith, is, g))) ∙ p.body)
     gate
-    (λ more. same_gate mid c (slot_gate_at area (length recs + 1)) (same.same (slot_gate_at area (length recs + 1)) (λ is. absurd (omega (arith, is, g)))) ∙ p.next more)
+    (λ more. gate_closed c (slot_gate_at area (length recs + 1)) (same.same (slot_gate_at area (length recs + 1)) (λ is. absurd (omega (arith, is, g))) ∙ p.next more))
     has
 
 module _ {D : Type 0} {clock : D → ℕ} {may_leave : D → Image → Type 0} {left_since : D → ℕ → Image → Type 0} (laws : Moments clock may_leave left_since) (reading : D → Image) (reads_now : (d : D) → may_leave d (reading d)) where
@@ -169,10 +170,17 @@ module _ {D : Type 0} {clock : D → ℕ} {may_leave : D → Image → Type 0} {
       (subst (λ (image : Image). SameOutside (λ n. n ≡ at) image c) (only d could) same) has (is_open c (slot_gate_at area (length recs))) refl)
 
 -- what reads at the end
+pub gates_written : (area : Area) (rec : Rec) (old mid new : Image) (at used : ℕ) → IsPrepared area rec old mid at used → at < length mid → new ≡ set mid at open_gate → HasGates area used new
+gates_written area rec old mid new at used p within wrote =
+    let same : SameOutside (λ n. n ≡ at) mid new = subst (λ (image : Image). SameOutside (λ n. n ≡ at) mid image) (sym wrote) (SameOutside-set mid at open_gate) in
+    record {
+      own = subst (λ n. block_at new n ≡ open_gate) p.gate (ap (λ (image : Image). block_at image at) wrote ∙ get_or-set_same mid at open_gate [] within);
+      next = λ more. same.same (slot_gate_at area (used + 1)) (λ is. absurd (let g = p.gate in omega (arith, is, g))) ∙ p.next more;
+    }
+
 pub reads_added : (area : Area) (recs : List Rec) (rec : Rec) (old mid new : Image) (at used : ℕ) → length recs ≡ used → IsPrepared area rec old mid at used → HasSlots area recs old
     → at < length mid → new ≡ set mid at open_gate → HasSlots area (recs ++ rec ∷ []) new
 reads_added area recs rec old mid new at used is p has within wrote =
     let q : IsPrepared area rec old mid at (length recs) = subst (IsPrepared area rec old mid at) (sym is) p in
-    let gate : block_at new (slot_gate_at area (length recs)) ≡ open_gate =
-    subst (λ n. block_at new n ≡ open_gate) q.gate (ap (λ (image : Image). block_at image at) wrote ∙ get_or-set_same mid at open_gate [] within) in
-    now_added area recs rec old mid new at q (subst (λ (image : Image). SameOutside (λ n. n ≡ at) mid image) (sym wrote) (SameOutside-set mid at open_gate)) has (gate_open new (slot_gate_at area (length recs)) gate)
+    now_added area recs rec old mid new at q (subst (λ (image : Image). SameOutside (λ n. n ≡ at) mid image) (sym wrote) (SameOutside-set mid at open_gate)) has
+    (gate_open new (slot_gate_at area (length recs)) (gates_written area rec old mid new at (length recs) q within wrote).own)

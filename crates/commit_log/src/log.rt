@@ -48,7 +48,7 @@ pub struct Log {
 
 impl Log {
     ghost use Rattle.commit_log.specs.Answers.{AppendAnswers};
-    ghost use Rattle.commit_log.specs.Standing.{HasAppended, Stands};
+    ghost use Rattle.commit_log.specs.Standing.{HasAppended, HasGates, Stands};
 
     /// The log of an area with so many slots used, up to 640.
     pub fn new(area: Area, used: u16) -> Log
@@ -66,17 +66,19 @@ impl Log {
         }
     }
 
-    /// Appends a record. Its body is written, the gate behind it is written closed, and both are synced; its gate is opened,
-    /// and synced: 5 writes and syncs at most. A stop at any moment leaves the log with the record or without it.
+    /// Appends a record. Its body is written, the next slot's gate is written closed where there is one, and both are synced;
+    /// its own gate is opened, and synced: 5 writes and syncs at most. A stop at any moment leaves the log with the record or
+    /// without it.
     ///
     /// `SlotsFull` comes exactly where all 640 slots are used, `Shut` exactly after an earlier `WriteFault` of this value,
-    /// and then nothing is changed. `WriteFault` comes only where a call of the disk failed.
+    /// and then nothing is changed. `WriteFault` comes only where the disk's count of faults rose.
     pub fn append<D: Disk>(&mut self, disk: &mut D, rec: &Rec) -> Result<(), LogFault>
         requires enough { pool_at ≤ D.block_count disk.old }
         requires stands { D.tells → self.old.failed ≡ false → (recs : List Record) × Stands D.reading D.may_leave self.old recs disk.old }
 
         ensures added { D.tells → (recs : List Record) → Stands D.reading D.may_leave self.old recs disk.old
             → OnOk result (Stands D.reading D.may_leave self.new (recs ++ rec.now ∷ []) disk.new) }
+        ensures gates { D.tells → OnOk result (HasGates self.old.area self.old.used (D.reading disk.new)) }
         ensures outside { D.tells → SameOutside (IsNextSlot self.old.area self.old.used) (D.reading disk.old) (D.reading disk.new) }
         ensures stable { D.tells → OnOk result (Only (D.reading disk.new) (D.may_leave disk.new)) }
 
@@ -116,5 +118,12 @@ impl Log {
         ensures few { result ≤ slot_count }
     {
         self.used
+    }
+
+    /// How many writes and syncs this value has begun, failed ones included. It stands still at 2^64 - 1.
+    pub fn begun(&self) -> u64
+        ensures { result ≡ self.now.tally.0 }
+    {
+        self.tally.0
     }
 }

@@ -1,10 +1,10 @@
 // The blocks of a slot.
-ghost use Rattle.std.specs.Prelude.{◌≡◌, ◌≤◌, ◌<◌, ◌+◌, false, OnOk, slice_set};
+ghost use Rattle.std.specs.Prelude.{◌≡◌, ◌≤◌, ◌<◌, ◌+◌, OnOk, slice_set};
 ghost use Rattle.disk_trait.specs.Disk.{HasCause, Only};
 ghost use Rattle.disk_trait.specs.Image.{SameOutside, block_at};
 ghost use Rattle.disk_trait.specs.Moments.{Quiet};
 ghost use Rattle.disk_tally.specs.Counts.{CountsOn};
-ghost use Rattle.image_blocks.specs.Layout.{body_at, is_open, pool_at, slot_count, slot_gate_at};
+ghost use Rattle.image_blocks.specs.Layout.{body_at, closed_gate as closed_block, pool_at, slot_count, slot_gate_at};
 ghost use Rattle.commit_log.specs.Bodies.{IsBodyBlock};
 
 use disk_tally::Tally;
@@ -13,7 +13,7 @@ use image_blocks::{Area, SLOT_COUNT, body_of, closed_gate};
 
 const LAST_SLOT: u16 = SLOT_COUNT - 1;
 
-// Writes the body of a slot, and the gate behind it closed, and makes that stable.
+// Writes the body of a slot, and the next slot's gate closed where there is one, and makes that stable.
 pub(crate) fn write_body<D: Disk>(
     tally: &mut Tally,
     disk: &mut D,
@@ -28,7 +28,7 @@ pub(crate) fn write_body<D: Disk>(
     ensures counts { CountsOn (D.clock disk.old) (D.clock disk.new) tally.old.0 tally.new.0 }
     ensures cause { HasCause (D.faults disk.old) (D.faults disk.new) result }
     ensures body { D.tells → OnOk result (block_at (D.reading disk.new) (body_at area slot) ≡ body.now) }
-    ensures next { D.tells → OnOk result (slot + 1 < slot_count → is_open (D.reading disk.new) (slot_gate_at area (slot + 1)) ≡ false) }
+    ensures next { D.tells → OnOk result (slot + 1 < slot_count → block_at (D.reading disk.new) (slot_gate_at area (slot + 1)) ≡ closed_block) }
     ensures reading { D.tells → SameOutside (IsBodyBlock area slot) (D.reading disk.old) (D.reading disk.new) }
     ensures stable { D.tells → OnOk result (Only (D.reading disk.new) (D.may_leave disk.new)) }
     ensures any_moment { D.tells → Quiet D.clock D.may_leave D.left_since (IsBodyBlock area slot) disk.old disk.new }

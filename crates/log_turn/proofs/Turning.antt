@@ -189,8 +189,8 @@ pub switch_same : (a : Area) (old one c : Image) → SameOutside (λ n. n ≡ ga
 switch_same a old one c first second =
     SameOutside-trans (IsEitherGate a) old one c (SameOutside-weaker (λ n. n ≡ gate_at (other a)) (IsEitherGate a) old one (λ n is. inl is) first) (SameOutside-weaker (λ n. n ≡ gate_at a) (IsEitherGate a) one c (λ n is. inr is) second)
 
-pub still_open : (a : Area) (one c : Image) → SameOutside (λ n. n ≡ gate_at a) one c → is_open one (gate_at (other a)) ≡ true → is_open c (gate_at (other a)) ≡ true
-still_open a one c same opens = same_gate one c (gate_at (other a)) (same.same (gate_at (other a)) (λ is. gates_apart a (sym is))) ∙ opens
+pub other_gate_same : (a : Area) (one c : Image) → SameOutside (λ n. n ≡ gate_at a) one c → block_at c (gate_at (other a)) ≡ block_at one (gate_at (other a))
+other_gate_same a one c same = same.same (gate_at (other a)) (λ is. gates_apart a (sym is))
 
 -- LOGS that stay
 
@@ -385,7 +385,7 @@ module _ {D : Type 0} {clock : D → ℕ} {may_leave : D → Image → Type 0} {
   switch_closing new stable reads opens second =
       LeavesOnly-quiet laws switch_opening second (λ d c could same.
       let there : SameOutside (λ n. n ≡ gate_at a) (reading one) c = subst (λ (i : Image). SameOutside (λ n. n ≡ gate_at a) i c) (stable d could) same in
-      inr (switch_same a (reading old) (reading one) c reads there, still_open a (reading one) c there opens))
+      inr (switch_same a (reading old) (reading one) c reads there, same_gate (reading one) c (gate_at (other a)) (other_gate_same a (reading one) c there) ∙ opens))
 
 -- WHAT READS, outside the blocks of a turn
 pub outside_closing : (a o : Area) (old one : Image) → o ≡ other a → SameOutside (IsClosing old o) old one → SameOutside (IsTurned a) old one

@@ -2,7 +2,7 @@
 use Rattle.std.specs.Prelude.{◌≡◌, ℕ, ◌+◌, Bool, true, false, List, length, Result, OnOk, OnErr, IsErrOf}
 use Rattle.disk_trait.specs.Image.{Image, block_at}
 use Rattle.hop_base.specs.declared.records.Rec.{Rec}
-use Rattle.image_blocks.specs.Layout.{gate_at, header_at, header_block, other}
+use Rattle.image_blocks.specs.Layout.{closed_gate, gate_at, header_at, header_block, open_gate, other}
 use Rattle.image_blocks.specs.Logs.{HasLog, Place}
 use Rattle.image_blocks.specs.declared.areas.Area.{Area}
 use Rattle.commit_log.specs.declared.log.LogFault.{LogFault}
@@ -45,10 +45,12 @@ pub record Stands {D : Type 0} (reading : D → Image) (may_leave : D → Image 
 
 -- WHAT CALLS LEAVE
 
--- after a turn the areas stand with the kept records, behind a whole header with the next epoch
+-- after a turn the areas stand with the kept records, behind a whole header with the next epoch; of the area gates the new one is written open, and the old one closed
 pub record IsTurnedTo {D : Type 0} (reading : D → Image) (may_leave : D → Image → Type 0) (kept : List Rec) (old new : Areas) (disk : D) : Type 0 where
   pub stands : Stands reading may_leave new kept disk
   pub header : block_at (reading disk) (header_at (other (area_of old))) ≡ header_block (epoch_of old + 1)
+  pub opened : block_at (reading disk) (gate_at (other (area_of old))) ≡ open_gate
+  pub closed : block_at (reading disk) (gate_at (area_of old)) ≡ closed_gate
 
 -- of the areas themselves: the other one is active with the next epoch and so many slots used, or all that is as before
 pub record HasTurned {T : Type 0} (kept : ℕ) (result : Result T LogFault) (old new : Areas) : Type 0 where

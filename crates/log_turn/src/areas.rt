@@ -28,6 +28,7 @@ impl Areas {
     ghost use Rattle.log_turn.specs.Answers.{TurnAnswers};
     ghost use Rattle.log_turn.specs.Standing.{HasCounted, HasGrown, HasTurned, IsTurnedTo, Stands, area_of, begun_of, epoch_of, has_failed, place_of, used_of};
     ghost use Rattle.commit_log.specs.Answers.{AppendAnswers};
+    ghost use Rattle.commit_log.specs.Standing.{HasGates};
 
     /// The areas, of which this one is active, with this epoch up to 2^62 and so many slots used, up to 640.
     pub fn new(active: Area, epoch: u64, used: u16) -> Areas
@@ -67,6 +68,13 @@ impl Areas {
         self.log.used()
     }
 
+    /// How many writes and syncs this value has begun, failed ones included. It stands still at 2^64 - 1.
+    pub fn begun(&self) -> u64
+        ensures { result ≡ begun_of self.now }
+    {
+        self.log.begun()
+    }
+
     /// Makes the kept records the whole log, in order, in the other area. A stop at any moment leaves the old log or the kept
     /// one.
     ///
@@ -75,7 +83,7 @@ impl Areas {
     /// and synced. For so many records that is twice as many writes and syncs, and 9 more at most.
     ///
     /// `Shut` comes exactly after an earlier `WriteFault` of this value, and then nothing is changed. `WriteFault` comes only
-    /// where a call of the disk failed, that read of the gate included.
+    /// where the disk's count of faults rose, by that read of the gate too.
     pub fn turn<D: Disk>(&mut self, disk: &mut D, kept: &[Rec]) -> Result<(), LogFault>
         requires enough { pool_at ≤ D.block_count disk.old }
         requires few { length kept.now ≤ slot_count }
@@ -120,6 +128,7 @@ impl Areas {
 
         ensures added { D.tells → (recs : List Record) → Stands D.reading D.may_leave self.old recs disk.old
             → OnOk result (Stands D.reading D.may_leave self.new (recs ++ rec.now ∷ []) disk.new) }
+        ensures gates { D.tells → OnOk result (HasGates (area_of self.old) (used_of self.old) (D.reading disk.new)) }
         ensures outside { D.tells → SameOutside (IsNextSlot (area_of self.old) (used_of self.old)) (D.reading disk.old) (D.reading disk.new) }
         ensures stable { D.tells → OnOk result (Only (D.reading disk.new) (D.may_leave disk.new)) }
 

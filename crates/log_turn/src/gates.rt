@@ -1,10 +1,10 @@
 // The gates of areas.
 ghost use Rattle.std.specs.Prelude.{◌≡◌, ◌≤◌, ◌+◌, true, false, OnOk};
 ghost use Rattle.disk_trait.specs.Disk.{HasCause, Only};
-ghost use Rattle.disk_trait.specs.Image.{SameOutside};
+ghost use Rattle.disk_trait.specs.Image.{SameOutside, block_at};
 ghost use Rattle.disk_trait.specs.Moments.{LeavesOnly, Quiet};
 ghost use Rattle.disk_tally.specs.Counts.{CountsOn};
-ghost use Rattle.image_blocks.specs.Layout.{gate_at, is_open as opens, other, pool_at};
+ghost use Rattle.image_blocks.specs.Layout.{closed_gate as closed_block, gate_at, is_open as opens, open_gate as open_block, other, pool_at};
 ghost use Rattle.log_turn.specs.Stages.{IsClosing, IsEitherGate, IsSwitching};
 
 use disk_tally::Tally;
@@ -49,7 +49,8 @@ pub(crate) fn switch<D: Disk>(
     ensures few { tally.new.0 ≤ tally.old.0 + 4 }
     ensures counts { CountsOn (D.clock disk.old) (D.clock disk.new) tally.old.0 tally.new.0 }
     ensures cause { HasCause (D.faults disk.old) (D.faults disk.new) result }
-    ensures opened { D.tells → OnOk result (opens (D.reading disk.new) (gate_at (other active)) ≡ true) }
+    ensures opened { D.tells → OnOk result (block_at (D.reading disk.new) (gate_at (other active)) ≡ open_block) }
+    ensures closed { D.tells → OnOk result (block_at (D.reading disk.new) (gate_at active) ≡ closed_block) }
     ensures reading { D.tells → SameOutside (IsEitherGate active) (D.reading disk.old) (D.reading disk.new) }
     ensures stable { D.tells → OnOk result (Only (D.reading disk.new) (D.may_leave disk.new)) }
     ensures any_moment { D.tells → LeavesOnly D.clock D.left_since disk.old disk.new (IsSwitching active (D.reading disk.old)) }

@@ -105,10 +105,10 @@ pub record AreStored {D : Type 0} (may_leave : D → Image → Type 0) (count : 
   pub front : (c : Image) → may_leave disk c → HasFront count p c
   pub held : (c : Image) → may_leave disk c → AllByRecursion (IsHeld c) ks
 
--- THE BOOKS ARE TRUE of the disk: what reads is the log; and while no number is too large and the disk hasn't failed, the kept records
--- are stored in each image that a stop now may leave
+-- THE BOOKS ARE TRUE of the disk: until it has failed, what reads is the log; and while no number is too large either, the kept
+-- records are stored in each image that a stop now may leave
 pub record AreTrue {D : Type 0} (reading : D → Image) (may_leave : D → Image → Type 0) (b : Books) (disk : D) : Type 0 where
-  pub log : HasLog b.place (recs_in b) (reading disk)
+  pub log : b.shut ≡ false → HasLog b.place (recs_in b) (reading disk)
   pub stored : AreSmall b → b.shut ≡ false → AreStored may_leave b.count b.place (recs_in b) (kept_of (reading disk) b) disk
 
 -- each page that has a block has one that is held

@@ -4,7 +4,7 @@ use Rattle.disk_trait.specs.Image.{Image, block_at}
 use Rattle.disk_trait.proofs.Phases.{IsImage-reading, Quiet-start, Quiet-sync, Quiet-write, told}
 use Rattle.image_blocks.specs.Layout.{closed_gate, slot_count, slot_gate_at}
 use Rattle.commit_log.specs.Bodies.{IsBodyBlock}
-use Rattle.commit_log.proofs.Through.{gate_closed, gate_low}
+use Rattle.commit_log.proofs.Through.{gate_low}
 use Rattle.commit_log.proofs.slots.write_body.Goals as goal
 
 pub returns-in_err-write-clause-any_moment : goal.returns-in_err-write-clause-any_moment
@@ -61,7 +61,6 @@ returns-clause-next g c t more =
     let at : c.body_of-at.result + 3 ≡ slot_gate_at c.args.area (c.args.slot + 1) = (let e = c.body_of-at.ensures.at in omega (arith, e)) in
     let within : c.body_of-at.result + 3 < length (g.D.Disk.reading c.write.new.disk) =
     (let a = c.body_of-at.ensures.at in let b = c.requires.enough in let e = c.write.ensures.count in let f = whole.len in let r = more in let l = gate_low c.args.area (c.args.slot + 1) more in omega (arith, a, b, e, f, l)) in
-    gate_closed (g.D.Disk.reading c.sync-2.new.disk) (slot_gate_at c.args.area (c.args.slot + 1))
-    (subst (λ n. block_at (g.D.Disk.reading c.sync-2.new.disk) n ≡ closed_gate) at
+    subst (λ n. block_at (g.D.Disk.reading c.sync-2.new.disk) n ≡ closed_gate) at
     (ap (λ (image : Image). block_at image (c.body_of-at.result + 3)) (c.sync-2.ensures.reading t ∙ c.in_ok-write-2.ensures.block t)
-    ∙ (get_or-set_same (g.D.Disk.reading c.write.new.disk) (c.body_of-at.result + 3) _ [] within ∙ c.closed_gate.ensures)))
+    ∙ (get_or-set_same (g.D.Disk.reading c.write.new.disk) (c.body_of-at.result + 3) _ [] within ∙ c.closed_gate.ensures))

@@ -5,7 +5,7 @@ use Rattle.disk_trait.proofs.Phases.{IsImage-reading, told}
 use Rattle.disk_tally.proofs.Counting.{CountsOn-then}
 use Rattle.image_blocks.specs.Layout.{slot_count, slot_gate_at}
 use Rattle.image_blocks.specs.Logs.{HasSlots}
-use Rattle.commit_log.proofs.Through.{first_half, reads_added, second_half}
+use Rattle.commit_log.proofs.Through.{first_half, gates_written, reads_added, second_half}
 use Rattle.commit_log.proofs.log.Log.append.Goals as goal
 
 pub returns-in_err-write_body-clause-any_moment : goal.returns-in_err-write_body-clause-any_moment
@@ -52,6 +52,17 @@ returns-clause-any_moment g c t working recs stands =
     second_half laws g.D.Disk.reading (λ d. disk.reads_now d t) c.args.self.now.area recs c.args.rec.now c.args.disk.now c.write_body.new.disk c.write_and_sync.new.disk (c.body_of-at.result + 1) c.args.self.now.used stands.used
     (record { room = room; same = c.write_body.ensures.reading t; body = c.in_ok-write_body.ensures.body t ∙ c.body_block.ensures; next = c.in_ok-write_body.ensures.next t; gate = gate })
     stands.slots (c.in_ok-write_body.ensures.stable t) first (c.write_and_sync.ensures.any_moment t)
+
+pub returns-clause-gates : goal.returns-clause-gates
+returns-clause-gates g c t =
+    let disk = g.met.D.Disk in
+    let room : c.args.self.now.used < slot_count = (let a = c.args.self.now.few in let b = c.if-self-eq-SLOT_COUNT.false in omega (arith, a, b)) in
+    let gate : c.body_of-at.result + 1 ≡ slot_gate_at c.args.self.now.area c.args.self.now.used = (let e = c.body_of-at.ensures.at in omega (arith, e)) in
+    let whole = IsImage-reading g.D.Disk.reading t disk.reads_now disk.counts_now disk.whole c.write_body.new.disk in
+    let within : c.body_of-at.result + 1 < length (g.D.Disk.reading c.write_body.new.disk) = (let a = c.body_of-at.ensures.low in let b = c.requires.enough in let e = c.write_body.ensures.count in let f = whole.len in omega (arith, a, b, e, f)) in
+    gates_written c.args.self.now.area c.args.rec.now (g.D.Disk.reading c.args.disk.now) (g.D.Disk.reading c.write_body.new.disk) (g.D.Disk.reading c.write_and_sync.new.disk) (c.body_of-at.result + 1) c.args.self.now.used
+    (record { room = room; same = c.write_body.ensures.reading t; body = c.in_ok-write_body.ensures.body t ∙ c.body_block.ensures; next = c.in_ok-write_body.ensures.next t; gate = gate })
+    within (c.in_ok-write_and_sync.ensures.block t ∙ ap (λ b. set (g.D.Disk.reading c.write_body.new.disk) (c.body_of-at.result + 1) b) c.open_gate.ensures)
 
 pub returns-clause-begins : goal.returns-clause-begins
 returns-clause-begins g c = record {

@@ -2,8 +2,9 @@ use Rattle.std.proofs.Common.{◌<◌, ◌+◌, ◌^◌, ◌∙◌, refl, ap, sy
 use Rattle.disk_trait.specs.Image.{Image, block_at}
 use Rattle.disk_trait.proofs.Phases.{told}
 use Rattle.disk_tally.proofs.Counting.{CountsOn-then}
-use Rattle.image_blocks.specs.Layout.{gate_at, header_at}
+use Rattle.image_blocks.specs.Layout.{gate_at, header_at, other}
 use Rattle.image_blocks.specs.Logs.{HasLog}
+use Rattle.commit_log.proofs.Through.{gate_open}
 use Rattle.log_turn.specs.Standing.{place_of}
 use Rattle.log_turn.proofs.Turning.{Closing, Switching, Writing, moments_closing, moments_switching, moments_writing, outside_closing, outside_switch, outside_writing, reads_turned}
 use Rattle.log_turn.proofs.areas.Areas.turn.Goals as goal
@@ -114,7 +115,9 @@ returns-clause-turned g c t working =
       slots = c.in_ok-write_kept.ensures.slots t;
       moments = c.switch.ensures.any_moment t;
     } in
-    let read = (reads_turned laws reading (λ d. disk.reads_now d t) p fits recs c.args.kept.now c.args.disk.now stands.left o is c.close_area.new.disk c.write_kept.new.disk c.switch.new.disk switching (c.switch.ensures.reading t) (c.in_ok-switch.ensures.opened t)) in
+    let opened = c.in_ok-switch.ensures.opened t in
+    let opens = gate_open (reading c.switch.new.disk) (gate_at (other c.args.self.now.log.area)) opened in
+    let read = (reads_turned laws reading (λ d. disk.reads_now d t) p fits recs c.args.kept.now c.args.disk.now stands.left o is c.close_area.new.disk c.write_kept.new.disk c.switch.new.disk switching (c.switch.ensures.reading t) opens) in
     let log = read.0 in
     record {
       stands = record {
@@ -127,6 +130,8 @@ returns-clause-turned g c t working =
             );
       };
       header = read.1;
+      opened = opened;
+      closed = c.in_ok-switch.ensures.closed t;
     }
 
 pub returns-in_err-close_area-clause-outside : goal.returns-in_err-close_area-clause-outside

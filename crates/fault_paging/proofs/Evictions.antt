@@ -1,0 +1,199 @@
+-- A page leaves its frame: the clock's victim, after it was saved. No word changes.
+use Rattle.std.proofs.Common.{◌≡◌, ◌≢◌, ◌↔◌, ℕ, ◌<◌, Bool, true, false, ◌&&◌, ◌||◌, ◌==◌, List, length, set, Option, Some, None, Result, is_some, IsSome, IsErrOf, OnSome, count_by, refl, sym, ap, ◌∙◌, inl, inr, subst, arith}
+use Rattle.std.proofs.lemmas.Bool.{cases_eq}
+use Rattle.hop_model.specs.State.{Supply}
+use Rattle.page_store.specs.declared.faults.PageFault.{PageFault}
+use Rattle.page_store.specs.declared.faults.PageFault.TheVariants.{NoBlocks}
+use Rattle.frame_table.specs.FrameTable.{FrameTable, Resident, HasEmptyFrame, IsBounded, IsResident, IsVictim, Removes, changed_at, page_at, page_taken, resident_changed, unmarked}
+use Rattle.frame_table.proofs.Pages.{count-set_gone}
+use Rattle.fault_paging.specs.declared.paged.PagedMemory.{PagedMemory}
+use Rattle.fault_paging.specs.Words.{block_at, needs_block, AreCleanTrue, IsSoundTable}
+use Rattle.fault_paging.specs.Calls.{AllStay, Chooses, Keeps, KeepsPages, Saves, Stands}
+use Rattle.fault_paging.proofs.Pages.{Same, at_other, at_page, removed, resident_within, stands, stands_trans, untouched}
+use Rattle.fault_paging.proofs.Blocks.{resident_is}
+
+some_same : {X : Type 0} (x y : X) → Some x ≡ Some y → x ≡ y
+some_same x y e = cc
+
+-- a page seen alike but for its mark of use is changed alike, and resident alike
+pub marked_changed : (o o' : Option Resident) → unmarked o' ≡ unmarked o → resident_changed o' ≡ resident_changed o
+marked_changed None None e = refl
+marked_changed None (Some r') e = absurd (cc e)
+marked_changed (Some r) None e = absurd (cc e)
+marked_changed (Some r) (Some r') e = ap (λ x. x.1) (some_same _ _ e)
+
+marked_resident : (o o' : Option Resident) → unmarked o' ≡ unmarked o → is_some o' ≡ is_some o
+marked_resident None None e = refl
+marked_resident None (Some r') e = absurd (cc e)
+marked_resident (Some r) None e = absurd (cc e)
+marked_resident (Some r) (Some r') e = refl
+
+pub none_from : (o : Option Resident) → is_some o ≡ false → o ≡ None
+none_from None e = refl
+none_from (Some r) e = absurd (cc e)
+
+-- MARKS OF USE
+
+module _ (m : PagedMemory) (t : FrameTable) (marked : (p : ℕ) → unmarked (page_at t p) ≡ unmarked (page_at m.frames p)) where
+  pub marked_stands : (s : Supply) (words : ℕ → List ℕ) → AreCleanTrue s words m → Stands s words words m (record m { frames = t })
+  marked_stands s words = stands s words words m (record m { frames = t }) (λ p. untouched s words words m (record m { frames = t }) p refl refl (marked p) (λ _ _. refl))
+
+  pub marked_none : (p : ℕ) → page_at m.frames p ≡ None → page_at t p ≡ None
+  marked_none p none = none_from (page_at t p) (marked_resident (page_at m.frames p) (page_at t p) (marked p) ∙ ap is_some none)
+
+  pub marked_some : (p : ℕ) → IsResident m.frames p → IsResident t p
+  marked_some p there = marked_resident (page_at m.frames p) (page_at t p) (marked p) ∙ there
+
+  pub marked_table : (held : ℕ → Bool) → IsSoundTable held m → IsSoundTable held (record m { frames = t })
+  marked_table held table = record {
+    few = table.few;
+    len = table.len;
+    none_past = λ p past. let none = table.none_past p past in (none.0, marked_none p none.1);
+    held_blocks = table.held_blocks;
+    differ = table.differ;
+  }
+
+  pub marked_needs : (kept : ℕ → Bool) (p : ℕ) → needs_block kept (record m { frames = t }) p ≡ needs_block kept m p
+  marked_needs kept p = ap (λ x. x && (block_at m p == 0 || kept (block_at m p))) (marked_changed (page_at m.frames p) (page_at t p) (marked p))
+
+  pub marked_pages : (kept : ℕ → Bool) (m' : PagedMemory) → t.frames ≡ m.frames.frames → KeepsPages kept (record m { frames = t }) m' → KeepsPages kept m m'
+  marked_pages kept m' frames pages = record {
+    same_tag = pages.same_tag;
+    same_pages = pages.same_pages;
+    same_frames = pages.same_frames ∙ frames;
+    same_blocks = λ p none. pages.same_blocks p (marked_needs kept p ∙ none);
+    none_changed = λ p e. sym (marked_changed (page_at m.frames p) (page_at t p) (marked p)) ∙ pages.none_changed p e;
+  }
+
+-- only the frames differ from where the first call began
+pub keeps_from : {B : Type 0} (tells : Type 0) (held kept : B → ℕ → Bool) (words : B → ℕ → List ℕ) (m m' : PagedMemory) (t t' : FrameTable) (b b' : B) → Keeps tells held kept words (record m { frames = t }) m' b b' → Keeps tells held kept words m (record m' { frames = t' }) b b'
+keeps_from tells held kept words m m' t t' b b' k = record {
+  same_kept = k.same_kept;
+  held_stay = k.held_stay;
+  no_others = k.no_others;
+  held_words = k.held_words;
+  kept_words = k.kept_words;
+}
+
+-- THE PAGE LEAVES
+
+module _ (m : PagedMemory) (t : FrameTable) (page : ℕ) (there : IsResident m.frames page) (unchanged : changed_at m.frames page ≡ false) (removes : Removes page m.frames t) where
+  without : t.pages ≡ set m.frames.pages page None
+  without = ap (λ (x : FrameTable). x.pages) removes.is
+
+  within : page < length m.frames.pages
+  within = resident_within m.frames page there
+
+  pub gone_here : page_at t page ≡ None
+  gone_here = at_page m.frames t page None within without
+
+  gone_other : (p : ℕ) → p ≢ page → page_at t p ≡ page_at m.frames p
+  gone_other p differs = at_other m.frames t page p None differs without
+
+  pub gone_none : (p : ℕ) → page_at m.frames p ≡ None → page_at t p ≡ None
+  gone_none p none = elim (cases_eq p page) [
+    | inl same ↦ ap (page_at t) same ∙ gone_here
+    | inr differs ↦ gone_other p differs ∙ none
+  ]
+
+  pub gone_stands : (s : Supply) (words : ℕ → List ℕ) → AreCleanTrue s words m → Stands s words words m (record m { frames = t })
+  gone_stands s words = stands s words words m (record m { frames = t }) each
+    where
+      each : (p : ℕ) → Same s words words m (record m { frames = t }) p
+      each p = elim (cases_eq p page) [
+        | inl same ↦
+            let r = resident_is (page_at m.frames page) there in
+            subst (λ q. Same s words words m (record m { frames = t }) q) (sym same)
+            (removed s words words m (record m { frames = t }) page refl r.0 refl r.1 (sym (ap resident_changed r.1) ∙ unchanged) gone_here refl)
+        | inr differs ↦
+            untouched s words words m (record m { frames = t }) p refl refl (ap unmarked (gone_other p differs)) (λ _ _. refl)
+      ]
+
+  pub gone_table : (held : ℕ → Bool) → IsSoundTable held m → IsSoundTable held (record m { frames = t })
+  gone_table held table = record {
+    few = table.few;
+    len = table.len;
+    none_past = λ p past. let none = table.none_past p past in (none.0, gone_none p none.1);
+    held_blocks = table.held_blocks;
+    differ = table.differ;
+  }
+
+  pub gone_pages : (kept : ℕ → Bool) (from : PagedMemory) → KeepsPages kept from m → KeepsPages kept from (record m { frames = t })
+  gone_pages kept from pages = record {
+    same_tag = pages.same_tag;
+    same_pages = pages.same_pages;
+    same_frames = ap (λ (x : FrameTable). x.frames) removes.is ∙ pages.same_frames;
+    same_blocks = pages.same_blocks;
+    none_changed = λ p e. elim (cases_eq p page) [
+      | inl same ↦ let clash : true ≡ false = sym e ∙ ap (changed_at t) same ∙ ap resident_changed gone_here in absurd (cc clash)
+      | inr differs ↦ pages.none_changed p (sym (ap resident_changed (gone_other p differs)) ∙ e)
+    ];
+  }
+
+  -- its frame is empty then
+  pub room_made : IsBounded m.frames → HasEmptyFrame t
+  room_made bounded =
+      let r = resident_is (page_at m.frames page) there in
+      let fewer = count-set_gone m.frames.pages page within r.0 r.1 in
+      let count : count_by is_some t.pages ≡ count_by is_some (set m.frames.pages page None) = ap (count_by is_some) without in
+      let frames : t.frames ≡ m.frames.frames = ap (λ (x : FrameTable). x.frames) removes.is in
+      omega (arith, fewer, count, frames, bounded.fits)
+
+-- THE WHOLE
+
+pub chooses_from : {T : Type 0} (m : PagedMemory) (t : FrameTable) (kept : ℕ → Bool) (free page : ℕ) (result : Result T PageFault) → IsVictim page m.frames t → (IsErrOf result (NoBlocks (record { need = 1; free = 0 })) ↔ ((needs_block kept (record m { frames = t }) page ≡ true) × (free ≡ 0))) → Chooses kept free m result
+chooses_from m t kept free page result is exact = record {
+  victim = page;
+  after = t;
+  is = is;
+  exact = (
+    λ none. let both = exact.0 none in (sym (marked_needs m t is.same_pages kept page) ∙ both.0, both.1),
+    λ both. exact.1 (marked_needs m t is.same_pages kept page ∙ both.0, both.1),
+  );
+}
+
+-- what is taken of a resident page is something
+pub on_taken : {P : Type 0} (o : Option Resident) (r : Option (List ℕ × Bool)) → r ≡ page_taken o → IsSome o → OnSome r P → P
+on_taken None r e there p = let clash : IsSome {T = Resident} None = there in absurd (cc clash)
+on_taken (Some x) None e there p = absurd (cc e)
+on_taken (Some x) (Some y) e there p = p
+
+module _ {B : Type 0} (tells : Type 0) (held kept : B → ℕ → Bool) (words : B → ℕ → List ℕ) (m : PagedMemory) (t : FrameTable) (page : ℕ) (is : IsVictim page m.frames t) (resident : IsResident m.frames page) (b b' : B) (m' : PagedMemory) where
+  abbrev marked : PagedMemory
+  marked = record m { frames = t }
+
+  pub stands_saved : (tells → (s : Supply) → AreCleanTrue s (words b) marked → Stands s (words b) (words b') marked m') → tells → (s : Supply) → AreCleanTrue s (words b) m → Stands s (words b) (words b') m m'
+  stands_saved saved ts s clean =
+      let first = marked_stands m t is.same_pages s (words b) clean in
+      stands_trans s (words b) (words b) (words b') m marked m' first (saved ts s first.clean)
+
+  pub pages_saved : KeepsPages (kept b) marked m' → KeepsPages (kept b) m m'
+  pages_saved pages = marked_pages m t is.same_pages (kept b) m' is.same_frames pages
+
+  -- the page was saved, and leaves
+  module _ (saves : Saves page marked m') (t' : FrameTable) (removes : Removes page m'.frames t') where
+    there : IsResident m'.frames page
+    there = saves.residents page ∙ marked_some m t is.same_pages page resident
+
+    pub left_stands : (tells → (s : Supply) → AreCleanTrue s (words b) marked → Stands s (words b) (words b') marked m') → tells → (s : Supply) → AreCleanTrue s (words b) m → Stands s (words b) (words b') m (record m' { frames = t' })
+    left_stands saved ts s clean =
+        let before = stands_saved saved ts s clean in
+        stands_trans s (words b) (words b') (words b') m m' (record m' { frames = t' }) before (gone_stands m' t' page there saves.unchanged removes s (words b') before.clean)
+
+    pub left_table : IsSoundTable (held b') m' → IsSoundTable (held b') (record m' { frames = t' })
+    left_table = gone_table m' t' page there saves.unchanged removes (held b')
+
+    pub left_pages : KeepsPages (kept b) marked m' → KeepsPages (kept b) m (record m' { frames = t' })
+    left_pages pages = gone_pages m' t' page there saves.unchanged removes (kept b) m (pages_saved pages)
+
+    pub left_room : IsBounded m'.frames → HasEmptyFrame t'
+    left_room = room_made m' t' page there saves.unchanged removes
+
+    pub left_gone : AllStay m (record m' { frames = t' }) → ⊥
+    left_gone stay = let clash : true ≡ false = sym (stay page resident) ∙ ap is_some (gone_here m' t' page there saves.unchanged removes) in cc clash
+
+    pub left_absent : (p : ℕ) → page_at m.frames p ≡ None → page_at t' p ≡ None
+    left_absent p none = gone_none m' t' page there saves.unchanged removes p (none_from _ (saves.residents p ∙ ap is_some (marked_none m t is.same_pages p none)))
+
+    pub left_blocks : (p : ℕ) → page_at m.frames p ≡ None → block_at m' p ≡ block_at m p
+    left_blocks p none = (saves.others p (λ same. let clash : true ≡ false = sym resident ∙ ap (λ q. is_some (page_at m.frames q)) (sym same) ∙ ap is_some none in cc clash)).1

@@ -1,0 +1,125 @@
+use Rattle.std.proofs.Common.{◌≡◌, ◌≢◌, is_some, refl, ap, ◌∙◌, arith}
+use Rattle.std.proofs.lemmas.Result.{err_from_is_err_and}
+use Rattle.frame_table.specs.FrameTable.{page_at}
+use Rattle.fault_paging.specs.declared.paged.PagedMemory.{PagedMemory}
+use Rattle.fault_paging.specs.Words.{need_at, needs_block}
+use Rattle.fault_paging.proofs.Pages.{stands_trans}
+use Rattle.fault_paging.proofs.Saved.{keeps_trans, need_more, need_none, never_wanting, none_past_end, none_wanting, one_more_clean, same_need_at, same_needs, write_cause, write_fault}
+use Rattle.fault_paging.proofs.paged.PagedMemory.flush.Goals as goal
+
+pub loop-page-init : goal.loop-page-init
+loop-page-init g c = record {
+  stands = λ _ s clean. record { same = refl; clean = clean };
+  table = c.requires.table;
+  others = record {
+    same_kept = refl;
+    held_stay = λ n h out. (h, out);
+    no_others = λ n h out. (h, out);
+    held_words = λ _ _ _ _. refl;
+    kept_words = λ _ _ _. refl;
+  };
+  container = (refl, refl);
+  residents = λ p. refl;
+  clean = λ p below. absurd (omega arith);
+  rest = λ p past. (refl, refl);
+  room = omega (arith, need_none (g.B.PageStore.kept_names c.args.store.now) c.args.self.now, c.requires.room);
+  later = record { faults_rise = omega arith; writes_rise = omega arith; stays_shut = λ e. e };
+  same_shut = refl;
+  writes = omega arith;
+  reads = refl;
+  between = g.met.B.PageStore.stays c.args.store.now;
+}
+
+pub loop-page-preserved : goal.loop-page-preserved
+loop-page-preserved g c =
+    let inv = c.loop-page.invariant in
+    let done = c.in_ok-save.ensures in
+    let page = c.loop-page.page in
+    let rest = inv.rest page (omega arith) in
+    let same : needs_block (g.B.PageStore.kept_names c.loop-page.store) c.loop-page.self page ≡ needs_block (g.B.PageStore.kept_names c.args.store.now) c.args.self.now page = same_needs (g.B.PageStore.kept_names c.args.store.now) (g.B.PageStore.kept_names c.loop-page.store) c.args.self.now c.loop-page.self page inv.others.same_kept rest.0 rest.1 in
+    let need : need_at (g.B.PageStore.kept_names c.loop-page.store) c.loop-page.self page ≡ need_at (g.B.PageStore.kept_names c.args.store.now) c.args.self.now page = same_need_at (g.B.PageStore.kept_names c.args.store.now) (g.B.PageStore.kept_names c.loop-page.store) c.args.self.now c.loop-page.self page same in
+    record {
+      stands = λ t s clean. (let first = inv.stands t s clean in stands_trans s (g.B.PageStore.words c.args.store.now) (g.B.PageStore.words c.loop-page.store) (g.B.PageStore.words c.save.new.store) c.args.self.now c.loop-page.self c.save.new.self first (done.stands t s first.clean));
+      table = done.table;
+      others = keeps_trans g.B.PageStore.tells g.B.PageStore.held g.B.PageStore.kept_names g.B.PageStore.words c.args.self.now c.loop-page.self c.save.new.self c.args.store.now c.loop-page.store c.save.new.store inv.others done.others;
+      container = (done.pages.same_tag ∙ inv.container.0, done.pages.same_pages ∙ inv.container.1);
+      residents = λ p. done.saves.residents p ∙ inv.residents p;
+      clean = one_more_clean c.loop-page.self c.save.new.self page done.saves.unchanged (λ p differs. (done.saves.others p differs).0) inv.clean;
+      rest = λ p past. (
+          let differs : p ≢ page = omega arith in
+          let now = done.saves.others p differs in
+          let before = inv.rest p (omega arith) in
+          (now.0 ∙ before.0, now.1 ∙ before.1)
+          );
+      room = omega (arith, inv.room, done.free, need, need_more (g.B.PageStore.kept_names c.args.store.now) c.args.self.now page);
+      later = record {
+        faults_rise = omega (arith, inv.later.faults_rise, done.later.faults_rise);
+        writes_rise = omega (arith, inv.later.writes_rise, done.later.writes_rise);
+        stays_shut = λ e. done.later.stays_shut (inv.later.stays_shut e);
+      };
+      same_shut = done.same_shut ∙ inv.same_shut;
+      writes = omega (arith, inv.writes, done.one_write);
+      reads = done.reads ∙ inv.reads;
+      between = g.met.B.PageStore.goes_on c.args.store.now c.loop-page.store c.save.new.store inv.between done.between;
+    }
+
+pub returns-in_err-save-clause-stands : goal.returns-in_err-save-clause-stands
+returns-in_err-save-clause-stands g c =
+    let inv = c.loop-page.invariant in
+    let done = c.in_err-save.ensures in
+    λ t s clean. (let first = inv.stands t s clean in stands_trans s (g.B.PageStore.words c.args.store.now) (g.B.PageStore.words c.loop-page.store) (g.B.PageStore.words c.save.new.store) c.args.self.now c.loop-page.self c.save.new.self first (done.stands t s first.clean))
+
+pub returns-in_err-save-clause-residents : goal.returns-in_err-save-clause-residents
+returns-in_err-save-clause-residents g c =
+    let inv = c.loop-page.invariant in
+    let done = c.in_err-save.ensures in
+    λ p. ap (λ (x : PagedMemory). is_some (page_at x.frames p)) done.failed ∙ inv.residents p
+
+pub returns-in_err-save-clause-others : goal.returns-in_err-save-clause-others
+returns-in_err-save-clause-others g c =
+    let inv = c.loop-page.invariant in
+    let done = c.in_err-save.ensures in
+    keeps_trans g.B.PageStore.tells g.B.PageStore.held g.B.PageStore.kept_names g.B.PageStore.words c.args.self.now c.loop-page.self c.save.new.self c.args.store.now c.loop-page.store c.save.new.store inv.others done.others
+
+pub returns-in_err-save-clause-few_writes : goal.returns-in_err-save-clause-few_writes
+returns-in_err-save-clause-few_writes g c =
+    let inv = c.loop-page.invariant in
+    let done = c.in_err-save.ensures in
+    omega (arith, inv.writes, done.one_write)
+
+pub returns-in_err-save-clause-between : goal.returns-in_err-save-clause-between
+returns-in_err-save-clause-between g c =
+    let inv = c.loop-page.invariant in
+    let done = c.in_err-save.ensures in
+    g.met.B.PageStore.goes_on c.args.store.now c.loop-page.store c.save.new.store inv.between done.between
+
+pub returns-in_err-save-clause-fault : goal.returns-in_err-save-clause-fault
+returns-in_err-save-clause-fault g c =
+    let inv = c.loop-page.invariant in
+    let done = c.in_err-save.ensures in
+    let page = c.loop-page.page in
+    let rest = inv.rest page (omega arith) in
+    let same : needs_block (g.B.PageStore.kept_names c.loop-page.store) c.loop-page.self page ≡ needs_block (g.B.PageStore.kept_names c.args.store.now) c.args.self.now page = same_needs (g.B.PageStore.kept_names c.args.store.now) (g.B.PageStore.kept_names c.loop-page.store) c.args.self.now c.loop-page.self page inv.others.same_kept rest.0 rest.1 in
+    let p = err_from_is_err_and c.from_residual.result c.from_residual.ensures.1 in
+    rw (p.1, p.2) (write_fault _ done.fault (never_wanting _ _ _ _ _ _ done.cause (λ wanting. none_wanting (g.B.PageStore.kept_names c.args.store.now) (g.B.PageStore.kept_names c.loop-page.store) c.args.self.now c.loop-page.self page _ (omega arith) same inv.room (done.exact.0 wanting))))
+
+pub returns-in_err-save-clause-cause : goal.returns-in_err-save-clause-cause
+returns-in_err-save-clause-cause g c =
+    let inv = c.loop-page.invariant in
+    let done = c.in_err-save.ensures in
+    let page = c.loop-page.page in
+    let rest = inv.rest page (omega arith) in
+    let same : needs_block (g.B.PageStore.kept_names c.loop-page.store) c.loop-page.self page ≡ needs_block (g.B.PageStore.kept_names c.args.store.now) c.args.self.now page = same_needs (g.B.PageStore.kept_names c.args.store.now) (g.B.PageStore.kept_names c.loop-page.store) c.args.self.now c.loop-page.self page inv.others.same_kept rest.0 rest.1 in
+    let p = err_from_is_err_and c.from_residual.result c.from_residual.ensures.1 in
+    rw (p.1, p.2) (write_cause _ _ _ _ _ _ _ _ _ (write_fault _ done.fault (never_wanting _ _ _ _ _ _ done.cause (λ wanting. none_wanting (g.B.PageStore.kept_names c.args.store.now) (g.B.PageStore.kept_names c.loop-page.store) c.args.self.now c.loop-page.self page _ (omega arith) same inv.room (done.exact.0 wanting)))) inv.later.faults_rise done.later.faults_rise inv.same_shut done.cause)
+
+pub returns-clause-unchanged : goal.returns-clause-unchanged
+returns-clause-unchanged g c =
+    let inv = c.loop-page.invariant in
+    none_past_end (g.B.PageStore.held c.loop-page.store) c.loop-page.self inv.table (λ p below. inv.clean p (omega arith))
+
+pub returns-in_err-save-clause-container : goal.returns-in_err-save-clause-container
+returns-in_err-save-clause-container g c =
+    let inv = c.loop-page.invariant in
+    let done = c.in_err-save.ensures in
+    (done.pages.same_tag ∙ inv.container.0, done.pages.same_pages ∙ inv.container.1)
