@@ -15,6 +15,8 @@ mod beside;
 #[cfg(test)]
 mod both;
 #[cfg(test)]
+mod by_hand;
+#[cfg(test)]
 mod kernel;
 #[cfg(test)]
 mod made;

@@ -1,15 +1,9 @@
 // The kernel's locus or container from the plain kernel's. Whether it is the same is seen afterwards.
-use cap_list::CapList;
+use cap_list::{CapList, SLOTS};
 use history_model::{PlainContainer, PlainLocus};
 use hop_base::{Call, Cap, Entity, Instr, Private, Region, Rights};
 use locus_machine::{Chain, Code, Head, Locus, MOST_CALLS, Privates};
 use region_map::RegionMap;
-
-/// What stands for a moment in a slot that is to be empty.
-const NO_CAP: Cap = Cap {
-    entity: Entity::ATLAS,
-    rights: Rights(0),
-};
 
 fn code_from(code: &[Instr]) -> Option<Code> {
     if code.len() > 128 {
@@ -40,20 +34,11 @@ fn privates_from(items: &[Private]) -> Option<Privates> {
     Some(list)
 }
 
-/// Each of these slots is filled.
-fn filled(slots: &[Option<Cap>]) -> CapList {
-    let mut list = CapList::new();
-    for slot in slots {
-        let _put = list.put(slot.unwrap_or(NO_CAP));
-    }
-    list
-}
-
 fn caps_from(slots: &[Option<Cap>]) -> CapList {
-    let mut list = filled(slots);
+    let mut list = CapList::new();
     for (slot, held) in slots.iter().enumerate() {
-        if held.is_none() {
-            let _cleared = list.clear(slot as u64);
+        if slot < SLOTS {
+            list.set(slot as u8, *held);
         }
     }
     list

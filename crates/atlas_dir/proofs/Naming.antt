@@ -44,12 +44,12 @@ number_added f k new (x ∷ xs) l e = by (λ g. number_added (f + 1) k new xs (o
 -- THE NAME OF A NUMBER
 
 module _ (a : Directory) (n : ℕ) where
-  container_name : 0 < n → n < 41 → name_of a n ≡ slice_get a.containers (n - 1)
+  pub container_name : 0 < n → n < 41 → name_of a n ≡ slice_get a.containers (n - 1)
   container_name some small =
       ap (λ b. if b then Some (codes "atlas") else if nat_lt n 41 then slice_get a.containers (n - 1) else slice_get a.loci (n - 41)) (ne_eqb n 0 (omega arith))
       ∙ ap (λ b. if b then slice_get a.containers (n - 1) else slice_get a.loci (n - 41)) (lt-ltb n 41 small)
 
-  locus_name : 41 ≤ n → name_of a n ≡ slice_get a.loci (n - 41)
+  pub locus_name : 41 ≤ n → name_of a n ≡ slice_get a.loci (n - 41)
   locus_name large =
       ap (λ b. if b then Some (codes "atlas") else if nat_lt n 41 then slice_get a.containers (n - 1) else slice_get a.loci (n - 41)) (ne_eqb n 0 (omega arith))
       ∙ ap (λ b. if b then slice_get a.containers (n - 1) else slice_get a.loci (n - 41)) (le_not 41 n large)

@@ -1,12 +1,12 @@
-mod Telling
-mod Instructions
-mod Fields
+pub mod Telling
+pub mod Instructions
+pub mod Fields
 mod Edges
 pub mod Values
-mod Sizes
+pub mod Sizes
 mod AtlasSizes
 pub mod Joins
 pub mod Placing
-mod KindSizes
+pub mod KindSizes
 pub mod Smallest
 mod Worked

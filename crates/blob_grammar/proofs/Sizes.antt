@@ -21,7 +21,7 @@ same_items item n each (x ∷ xs) =
     let grown : (length xs + 1) * n ≡ length xs * n + n = omega arith in
     omega (arith, here, behind, joined, grown)
 
-numbers_len : (width : ℕ) (xs : List ℕ) → length (flat_map (little_bytes width) xs) ≡ length xs * width
+pub numbers_len : (width : ℕ) (xs : List ℕ) → length (flat_map (little_bytes width) xs) ≡ length xs * width
 numbers_len width xs = same_items (little_bytes width) width (length-bytes_low_first 0 width) xs
 
 -- CAPABILITIES
@@ -30,13 +30,13 @@ used_few n [] = omega arith
 used_few n (None ∷ caps) = let few = used_few (n + 1) caps in omega (arith, few)
 used_few n (Some cap ∷ caps) = let few = used_few (n + 1) caps in omega (arith, few)
 
-caps_len : (caps : List (Option Cap)) → length caps ≡ 32 → length (caps_bytes caps) ≤ 97
+pub caps_len : (caps : List (Option Cap)) → length caps ≡ 32 → length (caps_bytes caps) ≤ 97
 caps_len caps slots =
     let items = same_items slot_bytes 3 (λ s. refl) (used_slots 0 caps) in
     let few = used_few 0 caps in
     omega (arith, items, few, slots)
 
-code_len : (code : List Instr) → length code ≤ 128 → length (listed instr_bytes code) ≤ 2049
+pub code_len : (code : List Instr) → length code ≤ 128 → length (listed instr_bytes code) ≤ 2049
 code_len code few = let items = same_items instr_bytes 16 length-instr_bytes code in omega (arith, items, few)
 
 -- A CONTAINER

@@ -1,9 +1,13 @@
-//! Numbers in blocks of bytes: fields of 1, 2, 4 or 8 bytes at a place, the lowest byte first.
+//! Numbers in bytes, the lowest byte first: fields of 1, 2, 4 or 8 bytes at a place of a block, and blobs that are
+//! written one number behind another.
 #![tactic(auto)]
 
 ghost use Rattle.std.specs.Prelude.{◌≡◌, ◌≤◌, ◌+◌, length, drop, IfOk, IfErr, OnOk, OnErr};
 ghost use Rattle.block_code.specs.Fields.{HasNumber, PutsNumber, EndsPast};
 
+mod blob;
+
+pub use blob::{Blob, MOST_BLOB_BYTES};
 use byteorder::{ByteOrder, LittleEndian};
 
 /// A field that ends past the bytes: where it begins, and how many bytes it has.
@@ -114,6 +118,7 @@ fn field(bytes: &[u8], at: usize, width: usize) -> Result<&[u8], Past>
 #[cfg(test)]
 mod tests {
     use super::*;
+    use std::test::Fail;
 
     #[test]
     fn a_field_past_the_end_is_refused(rt: HostRuntime) {
@@ -140,5 +145,23 @@ mod tests {
         assert_eq!(rt; get_u16(&bytes, 1), Ok(0x0203));
         assert_eq!(rt; get_u32(&bytes, 3), Ok(0x0405_0607));
         assert_eq!(rt; get_u64(&bytes, 7), Ok(0x0809_0a0b_0c0d_0e0f));
+    }
+
+    #[test]
+    fn a_blob_is_written_number_behind_number(rt: HostRuntime) -> Result<(), Fail> {
+        let mut blob = Blob::new(rt.alloc())?;
+        blob.push(0x01);
+        blob.put_u16(0x0203);
+        blob.put_u32(0x0405_0607);
+        blob.put_u64(0x0809_0a0b_0c0d_0e0f);
+        blob.put_bytes(&[0xff, 0xff]);
+        let low_first = [
+            1, 3, 2, 7, 6, 5, 4, 15, 14, 13, 12, 11, 10, 9, 8, 0xff, 0xff,
+        ];
+        assert_eq!(rt; blob.as_slice(), low_first.as_slice());
+        assert_eq!(rt; blob.len(), 17);
+        blob.clear();
+        assert_eq!(rt; blob.len(), 0);
+        Ok(())
     }
 }

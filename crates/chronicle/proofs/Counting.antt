@@ -1,32 +1,19 @@
 -- Each step that adds one to a word keeps the rule.
-use Rattle.std.proofs.Common.{◌≡◌, ◌≢◌, ℕ, ◌+◌, ◌%◌, ◌^◌, ◌<◌, Bool, true, false, cond, eqb, eq-eqb, ne_eqb, length-append, List, [], ◌∷◌, ◌++◌, length, set, refl, ap, sym, ◌∙◌, subst, Option, Some, arith}
+use Rattle.std.proofs.Common.{◌≡◌, ◌≢◌, ℕ, ◌+◌, ◌%◌, ◌^◌, ◌<◌, Bool, true, false, cond, length-append, List, [], ◌∷◌, ◌++◌, length, set, refl, ap, sym, ◌∙◌, subst, Option, Some, arith}
 use Rattle.std.specs.Prelude.{slice_index}
 use Rattle.std.proofs.lemmas.List.{append-nil}
-use Rattle.std.proofs.Math.Nat.{mod-eq_of_lt}
 use mathlib.Core.Option.{none}
 use mathlib.Core.List.{IsPrefix}
-use mathlib.Core.Logic.{dite}
-use native.Mathlib.Decide.{ℕ_discrete}
 use Rattle.chronicle.specs.declared.views.View.{View}
 use Rattle.chronicle.specs.declared.views.Role.{Role}
 use Rattle.chronicle.specs.declared.views.Role.TheVariants.{Chronicler, Share, Note, NoteOf, Spent}
 use Rattle.atomic_table.specs.Table.{step, keeps, Allows}
 use Rattle.chronicle.specs.Rules.{Story, Knows, IsKept, IsTaken, concerning, share_view, announced_view, appended_view, Enrolled, Announced, Appended}
 use Rattle.chronicle.specs.Seats.{IsToldNext}
-use Rattle.chronicle.proofs.Lists.{prefix_push, concerning-push}
+use Rattle.chronicle.proofs.Lists.{prefix_push, concerning-push, at_number, at_number_of, raised}
 use Rattle.chronicle.proofs.Fitting.{all_fit_set, known, chronicle_set}
 
 module _ {A : Type 0} (concerns : A → ℕ → Bool) where
-  -- a function with another value at one number
-  abbrev at_number : {X : Type 0} → (ℕ → X) → ℕ → X → ℕ → X
-  at_number f n a y = cond (eqb y n) a (f y)
-
-  at_number_of : {X : Type 0} (P : X → Type 0) (f : ℕ → X) (n : ℕ) (a : X) (y : ℕ) → (y ≡ n → P a) → (y ≢ n → P (f y)) → P (at_number f n a y)
-  at_number_of P f n a y here elsewhere = dite (ℕ_discrete y n) (λ e. subst (λ b. P (cond b a (f y))) (sym (eq-eqb y n e)) (here e)) (λ ne. subst (λ b. P (cond b a (f y))) (sym (ne_eqb y n ne)) (elsewhere ne))
-
-  raised : (n : ℕ) → n + 1 < 18446744073709551616 → (n + 1) % 2 ^ 64 ≡ n + 1
-  raised n lt = mod-eq_of_lt (omega arith)
-
   -- DRAWING A NUMBER
   abbrev enrolled : Story A → ℕ → Story A
   enrolled t id = record { chronicler = t.chronicler; since = t.since; told = t.told; lists = t.lists; owner = at_number t.owner t.shares id; shares = t.shares + 1; enroller = t.enroller; back = t.back }

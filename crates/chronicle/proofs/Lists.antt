@@ -1,9 +1,12 @@
 -- Beginnings of lists, the entries that write an entity, and what is told of each number.
-use Rattle.std.proofs.Common.{◌≡◌, ◌≢◌, ℕ, zero, suc, ◌<◌, ◌≤◌, Bool, true, false, cond, nat_le, List, [], ◌∷◌, ◌++◌, length, set, get_or, refl, ap, sym, ◌∙◌, arith, append_assoc, length-append}
+use Rattle.std.proofs.Common.{◌≡◌, ◌≢◌, ℕ, zero, suc, ◌+◌, ◌%◌, ◌^◌, ◌<◌, ◌≤◌, Bool, true, false, cond, eqb, eq-eqb, ne_eqb, subst, nat_le, List, [], ◌∷◌, ◌++◌, length, set, get_or, refl, ap, sym, ◌∙◌, arith, append_assoc, length-append}
 use Rattle.std.proofs.lemmas.List.{append-nil}
 use Rattle.std.proofs.lemmas.List.Elements.{filter-append}
 use Rattle.std.proofs.lemmas.Bool.Decides.{nat_tests}
+use Rattle.std.proofs.Math.Nat.{mod-eq_of_lt}
 use mathlib.Core.List.{IsPrefix}
+use mathlib.Core.Logic.{dite}
+use native.Mathlib.Decide.{ℕ_discrete}
 use Rattle.chronicle.specs.Rules.{concerning, longer, told_of, tell}
 
 module _ {A : Type 0} where
@@ -116,3 +119,15 @@ module _ {A : Type 0} where
   tell_else (l ∷ ls) zero (suc y) m n = refl
   tell_else (l ∷ ls) (suc x) zero m n = refl
   tell_else (l ∷ ls) (suc x) (suc y) m n = tell_else ls x y m (λ e. n (ap suc e))
+
+-- NUMBERS
+-- a function with another value at one number
+abbrev pub at_number : {X : Type 0} → (ℕ → X) → ℕ → X → ℕ → X
+at_number f n a y = cond (eqb y n) a (f y)
+
+pub at_number_of : {X : Type 0} (P : X → Type 0) (f : ℕ → X) (n : ℕ) (a : X) (y : ℕ) → (y ≡ n → P a) → (y ≢ n → P (f y)) → P (at_number f n a y)
+at_number_of P f n a y here elsewhere = dite (ℕ_discrete y n) (λ e. subst (λ b. P (cond b a (f y))) (sym (eq-eqb y n e)) (here e)) (λ ne. subst (λ b. P (cond b a (f y))) (sym (ne_eqb y n ne)) (elsewhere ne))
+
+-- a word below its end goes up by one
+pub raised : (n : ℕ) → n + 1 < 18446744073709551616 → (n + 1) % 2 ^ 64 ≡ n + 1
+raised n lt = mod-eq_of_lt (omega arith)

@@ -6,8 +6,6 @@ ghost use Rattle.command_words.specs.Commands.{IsCommand};
 
 mod forms;
 mod sizes;
-#[cfg(test)]
-mod tests;
 
 use std::alloc::{AllocError, Global};
 

@@ -1,21 +1,20 @@
 -- Logs through writes into the next slot.
-use Rattle.std.proofs.Common.{◌≡◌, ◌≢◌, ◌≤◌, ◌<◌, ◌+◌, ◌-◌, ◌*◌, ℕ, Bool, true, false, ◌==◌, ◌⊎◌, inl, inr, List, [], ◌∷◌, ◌++◌, length, set, get_or, Option, Some, refl, sym, ap, subst, ◌∙◌, arith}
+use Rattle.std.proofs.Common.{◌≡◌, ◌<◌, ◌+◌, ◌-◌, ℕ, Bool, true, false, ◌==◌, ◌⊎◌, inl, inr, List, [], ◌∷◌, ◌++◌, length, set, get_or, Some, refl, sym, ap, subst, ◌∙◌, arith}
 use Rattle.std.specs.Prelude.{slice_get}
 use Rattle.std.proofs.lemmas.Bool.{cases_lt, cases_eq}
-use Rattle.std.proofs.lemmas.List.{get_or-set_same, get_or-set_other, get_or_append_left, get_or-append_right, length-append}
+use Rattle.std.proofs.lemmas.List.{get_or-set_same, get_or_append_left, get_or-append_right, length-append}
 use Rattle.std.proofs.lemmas.Option.{slice_get_within, slice_get-get_or, get_or_from_slice_get}
-use Rattle.disk_trait.specs.Disk.{Only}
 use Rattle.disk_trait.specs.Image.{Image, SameOutside, block_at}
-use Rattle.disk_trait.specs.Moments.{LeavesOnly, Quiet, WasLeft}
+use Rattle.disk_trait.specs.Moments.{LeavesOnly, Quiet}
 use Rattle.disk_trait.proofs.Images.{SameOutside-set, SameOutside-trans, SameOutside-weaker}
-use Rattle.disk_trait.proofs.Phases.{LeavesOnly-from_quiet, LeavesOnly-quiet, Moments}
+use Rattle.disk_trait.proofs.Phases.{LeavesOnly-from_quiet, LeavesOnly-now, LeavesOnly-then, LeavesOnly-weaker, Moments}
 use Rattle.hop_base.specs.declared.records.Rec.{Rec}
 use Rattle.image_blocks.specs.Bodies.{body_block}
-use Rattle.image_blocks.specs.Layout.{body_at, slot_gate_at, slots_at, slot_count, first_number, is_open, closed_gate, open_gate}
-use Rattle.image_blocks.specs.Logs.{HasSlots, IsAdded, IsAppending, IsNextSlot, IsNotYet}
+use Rattle.image_blocks.specs.Layout.{body_at, slot_gate_at, slot_count, first_number, is_open, closed_gate, open_gate}
+use Rattle.image_blocks.specs.Logs.{HasSlots, IsAppending, IsNextSlot}
 use Rattle.image_blocks.specs.declared.areas.Area.{Area}
 use Rattle.image_blocks.specs.declared.areas.Area.TheVariants.{A, B}
-use Rattle.commit_log.specs.Bodies.{IsBodyBlock}
+use Rattle.commit_log.specs.Bodies.{IsBodyBlock, IsOpening}
 use Rattle.commit_log.specs.Standing.{HasGates}
 
 -- GATES
@@ -127,7 +126,7 @@ first_half laws reading area recs rec used old mid is left room quiet =
     subst (λ k. is_open c (slot_gate_at area k) ≡ is_open d (slot_gate_at area k)) (sym is) (same_gate d c (slot_gate_at area used) (same.same (slot_gate_at area used) (gate_not_body area used))) in
     inl (record { from = d; could = could; same = same_next; slots = stays area recs d c same_next (λ lt. gate ∙ (left d could).closed lt) (left d could) }))
 
--- what stands when the body is written and stable
+-- what stands when the body is written
 pub record IsPrepared (area : Area) (rec : Rec) (old mid : Image) (at used : ℕ) : Type 0 where
   pub room : used < slot_count
   pub same : SameOutside (IsBodyBlock area used) old mid
@@ -160,14 +159,17 @@ module _ {D : Type 0} {clock : D → ℕ} {may_leave : D → Image → Type 0} {
       let next = through area recs rec (reading old) mid c at p same in
       inl (record { from = reading old; could = reads_now old; same = next; slots = stays area recs (reading old) c next (λ lt. e) has })
 
+  opening : (area : Area) (recs : List Rec) (rec : Rec) (old mid : D) (at : ℕ) → IsPrepared area rec (reading old) (reading mid) at (length recs) → HasSlots area recs (reading old)
+      → LeavesOnly clock left_since old mid (IsAppending may_leave reading area recs rec old) → (c : Image) → IsOpening may_leave reading at mid c → IsAppending may_leave reading area recs rec old c
+  opening area recs rec old mid at p has first c (inl could) = LeavesOnly-now laws first c could
+  opening area recs rec old mid at p has first c (inr same) = torn area recs rec old (reading mid) c at p same has (is_open c (slot_gate_at area (length recs))) refl
+
   -- MOMENTS of the whole
   pub second_half : (area : Area) (recs : List Rec) (rec : Rec) (old mid new : D) (at used : ℕ) → length recs ≡ used → IsPrepared area rec (reading old) (reading mid) at used → HasSlots area recs (reading old)
-      → Only (reading mid) (may_leave mid) → LeavesOnly clock left_since old mid (IsAppending may_leave reading area recs rec old)
-      → Quiet clock may_leave left_since (λ n. n ≡ at) mid new → LeavesOnly clock left_since old new (IsAppending may_leave reading area recs rec old)
-  second_half area recs rec old mid new at used is p has only first quiet =
-      LeavesOnly-quiet laws first quiet (λ d c could same.
-      torn area recs rec old (reading mid) c at (subst (IsPrepared area rec (reading old) (reading mid) at) (sym is) p)
-      (subst (λ (image : Image). SameOutside (λ n. n ≡ at) image c) (only d could) same) has (is_open c (slot_gate_at area (length recs))) refl)
+      → LeavesOnly clock left_since old mid (IsAppending may_leave reading area recs rec old)
+      → LeavesOnly clock left_since mid new (IsOpening may_leave reading at mid) → LeavesOnly clock left_since old new (IsAppending may_leave reading area recs rec old)
+  second_half area recs rec old mid new at used is p has first second =
+      LeavesOnly-then laws first (LeavesOnly-weaker laws (IsAppending may_leave reading area recs rec old) (opening area recs rec old mid at (subst (IsPrepared area rec (reading old) (reading mid) at) (sym is) p) has first) second)
 
 -- what reads at the end
 pub gates_written : (area : Area) (rec : Rec) (old mid new : Image) (at used : ℕ) → IsPrepared area rec old mid at used → at < length mid → new ≡ set mid at open_gate → HasGates area used new

@@ -1,5 +1,5 @@
 -- What a log of one area stands for on a disk.
-use Rattle.std.specs.Prelude.{◌≡◌, ℕ, ◌+◌, ◌<◌, true, false, List, length, Result, OnOk, OnErr, IsErrOf}
+use Rattle.std.specs.Prelude.{◌≡◌, ℕ, ◌+◌, ◌<◌, Bool, true, false, List, length, Result, OnOk, OnErr, IsErrOf}
 use Rattle.disk_trait.specs.Image.{Image, block_at}
 use Rattle.hop_base.specs.declared.records.Rec.{Rec}
 use Rattle.image_blocks.specs.Layout.{closed_gate, open_gate, slot_count, slot_gate_at}
@@ -9,11 +9,24 @@ use Rattle.commit_log.specs.declared.log.Log.{Log}
 use Rattle.commit_log.specs.declared.log.LogFault.{LogFault}
 use Rattle.commit_log.specs.declared.log.LogFault.TheVariants.{WriteFault}
 
+-- WHAT A LOG SHOWS
+
+-- its area, and how many of its slots are used
+abbrev pub area_of : Log → Area
+area_of log = log.area
+
+abbrev pub used_of : Log → ℕ
+used_of log = log.used
+
+-- whether it is shut
+abbrev pub has_failed : Log → Bool
+has_failed log = log.failed
+
 -- the disk's area reads as a log with these records, and so it does in each image that a stop now may leave
 pub record Stands {D : Type 0} (reading : D → Image) (may_leave : D → Image → Type 0) (log : Log) (recs : List Rec) (disk : D) : Type 0 where
-  pub used : length recs ≡ log.used
-  pub slots : HasSlots log.area recs (reading disk)
-  pub left : (c : Image) → may_leave disk c → HasSlots log.area recs c
+  pub used : length recs ≡ used_of log
+  pub slots : HasSlots (area_of log) recs (reading disk)
+  pub left : (c : Image) → may_leave disk c → HasSlots (area_of log) recs c
 
 -- the gates that an append into this slot writes: the slot's own has the bytes of an open one, and the next slot's, where there is one, those of a closed one
 pub record HasGates (area : Area) (slot : ℕ) (image : Image) : Type 0 where
@@ -22,8 +35,8 @@ pub record HasGates (area : Area) (slot : ℕ) (image : Image) : Type 0 where
 
 -- what an append leaves of the log itself: one slot more is used, or as many as before
 pub record HasAppended {T : Type 0} (result : Result T LogFault) (old new : Log) : Type 0 where
-  pub area : new.area ≡ old.area
-  pub used : OnOk result (new.used ≡ old.used + 1)
-  pub same_used : OnErr result (new.used ≡ old.used)
-  pub working : OnOk result (new.failed ≡ false)
-  pub failed : IsErrOf result WriteFault → new.failed ≡ true
+  pub area : area_of new ≡ area_of old
+  pub used : OnOk result (used_of new ≡ used_of old + 1)
+  pub same_used : OnErr result (used_of new ≡ used_of old)
+  pub working : OnOk result (has_failed new ≡ false)
+  pub failed : IsErrOf result WriteFault → has_failed new ≡ true

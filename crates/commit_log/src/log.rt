@@ -9,11 +9,11 @@ ghost use Rattle.disk_trait.specs.Counts.{Rose};
 ghost use Rattle.image_blocks.specs.Layout.{pool_at, slot_count};
 ghost use Rattle.image_blocks.specs.Logs.{IsAppending, IsNextSlot};
 
-use crate::slots::write_body;
+use crate::slots::{open_slot, write_body};
 use disk_tally::Tally;
 use disk_trait::{Disk, DiskFault};
 use hop_base::Rec;
-use image_blocks::{Area, SLOT_COUNT, body_block, body_of, open_gate};
+use image_blocks::{Area, SLOT_COUNT, body_block, body_of};
 
 /// Why a log was not appended to, or not turned.
 #[derive(Clone, Copy, Debug, PartialEq, Eq, Drop)]
@@ -36,60 +36,62 @@ impl From<DiskFault> for LogFault {
     }
 }
 
-/// The log of one area: how many of its slots are used, whether a call has failed, and how many writes and syncs were begun.
+/// The log of one area: how many of its slots are used, and whether a call has failed.
 #[derive(Clone, Copy, Debug)]
 pub struct Log {
-    pub area: Area,
-    pub used: u16,
-    pub failed: bool,
-    pub tally: Tally,
+    area: Area,
+    used: u16,
+    failed: bool,
     ghost few: { used ≤ slot_count },
 }
 
 impl Log {
     ghost use Rattle.commit_log.specs.Answers.{AppendAnswers};
-    ghost use Rattle.commit_log.specs.Standing.{HasAppended, HasGates, Stands};
+    ghost use Rattle.commit_log.specs.Standing.{HasAppended, HasGates, Stands, area_of, has_failed, used_of};
 
     /// The log of an area with so many slots used, up to 640.
     pub fn new(area: Area, used: u16) -> Log
         requires { used ≤ slot_count }
-        ensures area { result.area ≡ area }
-        ensures used { result.used ≡ used }
-        ensures open { result.failed ≡ false }
-        ensures none_begun { result.tally.0 ≡ 0 }
+        ensures area { area_of result ≡ area }
+        ensures used { used_of result ≡ used }
+        ensures working { has_failed result ≡ false }
     {
         Log {
             area,
             used,
             failed: false,
-            tally: Tally(0),
         }
     }
 
-    /// Appends a record. Its body is written, the next slot's gate is written closed where there is one, and both are synced;
-    /// its own gate is opened, and synced: 5 writes and syncs at most. A stop at any moment leaves the log with the record or
-    /// without it.
+    /// Appends a record, and counts the writes and syncs. Its body is written, the next slot's gate is written closed where
+    /// there is one, and both are synced; its own gate is opened, and synced: 5 writes and syncs at most. A stop at any moment
+    /// leaves the log with the record or without it.
     ///
-    /// `SlotsFull` comes exactly where all 640 slots are used, `Shut` exactly after an earlier `WriteFault` of this value,
-    /// and then nothing is changed. `WriteFault` comes only where the disk's count of faults rose.
-    pub fn append<D: Disk>(&mut self, disk: &mut D, rec: &Rec) -> Result<(), LogFault>
+    /// `SlotsFull` comes exactly where all 640 slots are used, `Shut` exactly after an earlier `WriteFault` of this value or
+    /// after `shut`, and then nothing is changed. `WriteFault` comes only where the disk's count of faults rose.
+    pub fn append<D: Disk>(
+        &mut self,
+        tally: &mut Tally,
+        disk: &mut D,
+        rec: &Rec,
+    ) -> Result<(), LogFault>
         requires enough { pool_at ≤ D.block_count disk.old }
-        requires stands { D.tells → self.old.failed ≡ false → (recs : List Record) × Stands D.reading D.may_leave self.old recs disk.old }
+        requires stands { D.tells → has_failed self.old ≡ false → (recs : List Record) × Stands D.reading D.may_leave self.old recs disk.old }
 
         ensures added { D.tells → (recs : List Record) → Stands D.reading D.may_leave self.old recs disk.old
             → OnOk result (Stands D.reading D.may_leave self.new (recs ++ rec.now ∷ []) disk.new) }
-        ensures gates { D.tells → OnOk result (HasGates self.old.area self.old.used (D.reading disk.new)) }
-        ensures outside { D.tells → SameOutside (IsNextSlot self.old.area self.old.used) (D.reading disk.old) (D.reading disk.new) }
+        ensures gates { D.tells → OnOk result (HasGates (area_of self.old) (used_of self.old) (D.reading disk.new)) }
+        ensures outside { D.tells → SameOutside (IsNextSlot (area_of self.old) (used_of self.old)) (D.reading disk.old) (D.reading disk.new) }
         ensures stable { D.tells → OnOk result (Only (D.reading disk.new) (D.may_leave disk.new)) }
 
         // A stop at any moment of the call leaves the old log, or the new one with all that was written before the call.
-        ensures any_moment { D.tells → self.old.failed ≡ false → (recs : List Record) → Stands D.reading D.may_leave self.old recs disk.old
-            → LeavesOnly D.clock D.left_since disk.old disk.new (IsAppending D.may_leave D.reading self.old.area recs rec.now disk.old) }
+        ensures any_moment { D.tells → has_failed self.old ≡ false → (recs : List Record) → Stands D.reading D.may_leave self.old recs disk.old
+            → LeavesOnly D.clock D.left_since disk.old disk.new (IsAppending D.may_leave D.reading (area_of self.old) recs rec.now disk.old) }
 
-        ensures answers { AppendAnswers self.old.failed self.old.used (Rose (D.faults disk.old) (D.faults disk.new)) result }
+        ensures answers { AppendAnswers (has_failed self.old) (used_of self.old) (Rose (D.faults disk.old) (D.faults disk.new)) result }
         ensures log { HasAppended result self.old self.new }
-        ensures untouched { (self.old.failed ≡ true) ⊎ (self.old.used ≡ slot_count) → (disk.new ≡ disk.old) × (self.new ≡ self.old) }
-        ensures begins { Begins 5 (shown D.block_count D.clock D.faults disk.old self.old.tally.0) (shown D.block_count D.clock D.faults disk.new self.new.tally.0) }
+        ensures untouched { (has_failed self.old ≡ true) ⊎ (used_of self.old ≡ slot_count) → (disk.new ≡ disk.old) × (tally.new ≡ tally.old) × (self.new ≡ self.old) }
+        ensures begins { Begins 5 (shown D.block_count D.clock D.faults disk.old tally.old.0) (shown D.block_count D.clock D.faults disk.new tally.new.0) }
     {
         if self.failed {
             return Err(LogFault::Shut);
@@ -99,31 +101,41 @@ impl Log {
         }
         let at = body_of(self.area, self.used);
         self.failed = true;
-        write_body(
-            &mut self.tally,
-            disk,
-            self.area,
-            self.used,
-            &body_block(rec),
-        )?;
-        self.tally.write_and_sync(disk, at + 1, &open_gate())?;
+        write_body(tally, disk, self.area, self.used, &body_block(rec))?;
+        open_slot(tally, disk, at + 1)?;
         self.failed = false;
         self.used += 1;
         Ok(())
     }
 
+    /// Shuts the log: from now on an append answers `Shut`. Nothing opens it again.
+    pub fn shut(&mut self)
+        ensures failed { has_failed self.new ≡ true }
+        ensures area { area_of self.new ≡ area_of self.old }
+        ensures used { used_of self.new ≡ used_of self.old }
+    {
+        self.failed = true;
+    }
+
+    /// Whether it is shut: a call has answered `WriteFault`, or `shut` was called.
+    pub fn is_shut(&self) -> bool
+        ensures { result ≡ has_failed self.now }
+    {
+        self.failed
+    }
+
+    /// The area.
+    pub fn area(&self) -> Area
+        ensures { result ≡ area_of self.now }
+    {
+        self.area
+    }
+
     /// How many slots are used.
     pub fn used(&self) -> u16
-        ensures used { result ≡ self.now.used }
+        ensures used { result ≡ used_of self.now }
         ensures few { result ≤ slot_count }
     {
         self.used
-    }
-
-    /// How many writes and syncs this value has begun, failed ones included. It stands still at 2^64 - 1.
-    pub fn begun(&self) -> u64
-        ensures { result ≡ self.now.tally.0 }
-    {
-        self.tally.0
     }
 }

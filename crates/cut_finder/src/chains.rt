@@ -1,30 +1,40 @@
-ghost use Rattle.std.specs.Prelude.{ℕ, ◌<◌, ◌≤◌, length};
+ghost use Rattle.std.specs.Prelude.{◌≡◌, ℕ, ◌<◌, ◌≤◌, length};
+ghost use Rattle.cut_finder.specs.Records.{choice};
 ghost use Rattle.cut_finder.specs.Searches.{place_at, entity_at, IsLastOf, IsChain};
 
-use hop_base::Rec;
+use crate::MOST_RECORDS;
+use hop_base::{Cut, Rec};
 
-/// The records of each entity, linked from the newest to the oldest by their places in the list.
+/// The records of each entity above a start, linked from the newest to the oldest by their places in the list.
 #[derive(Drop)]
 pub struct Chains {
+    pub start: Cut,
     pub newest: [Option<u16>; 64],
     /// For each record the one before it of the same entity.
-    pub before: [Option<u16>; 640],
+    pub before: [Option<u16>; MOST_RECORDS],
 }
 
 impl Chains {
-    pub fn of(recs: &[Rec]) -> Chains
-        requires { length recs.now ≤ 640 }
-        ensures newest { (x : ℕ) → x < 64 → IsLastOf recs.now (length recs.now) x (place_at result.newest x) }
-        ensures before { IsChain recs.now (length recs.now) result.before }
+    pub fn of(start: &Cut, recs: &[Rec]) -> Chains
+        requires { length recs.now ≤ MOST_RECORDS }
+        ensures start { result.start ≡ start.now }
+        ensures newest { (x : ℕ) → x < 64 → IsLastOf (choice start.now) recs.now (length recs.now) x (place_at result.newest x) }
+        ensures before { IsChain (choice start.now) recs.now (length recs.now) result.before }
         ensures entities { (i : ℕ) → i < length recs.now → entity_at recs.now i < 64 }
     {
         let mut newest = [None; 64];
-        let mut before = [None; 640];
+        let mut before = [None; MOST_RECORDS];
         for (i, rec) in recs.iter().enumerate() {
             let x = rec.entity.number() as usize;
             before[i] = newest[x];
-            newest[x] = Some(i as u16);
+            if start.0[x] < rec.version {
+                newest[x] = Some(i as u16);
+            }
         }
-        Chains { newest, before }
+        Chains {
+            start: *start,
+            newest,
+            before,
+        }
     }
 }

@@ -3,7 +3,8 @@
 #![tactic(auto)]
 
 ghost use Rattle.std.specs.Prelude.{◌≤◌, ◌↔◌, length, IsTrue};
-ghost use Rattle.hop_model.specs.Choices.{IsGreatest};
+ghost use Rattle.hop_model.specs.Choices.{IsClosedChoice, IsGreatest};
+ghost use Rattle.cut_laws.specs.Agreeing.{nothing};
 ghost use Rattle.cut_laws.specs.Records.{commits_of};
 ghost use Rattle.cut_finder.specs.Records.{choice, IsAscending};
 
@@ -13,6 +14,9 @@ mod search;
 use chains::Chains;
 use hop_base::{Cut, Rec};
 use search::Search;
+
+/// The records of a log at most.
+pub const MOST_RECORDS: usize = 640;
 
 /// Whether no version of an entity is below an earlier one of it in the list.
 pub fn is_ascending(recs: &[Rec]) -> bool
@@ -29,23 +33,48 @@ pub fn is_ascending(recs: &[Rec]) -> bool
     true
 }
 
-/// Per entity the version of the record that the greatest closed choice takes, and 0 where it takes none. A choice is
-/// closed where the stamp of each chosen record asks for no later version of any entity than the choice has.
+/// The greatest closed choice, per entity the version of the record that it takes, or that at the start where it takes none. A
+/// choice is closed where the stamp of each chosen record asks for no later version of any entity than the choice has.
 ///
-/// One pass links the records of each entity. Then a record is looked at only when its entity's choice falls to it, and
-/// once at the start if it is its entity's newest: so each stamp is compared with the choice at most once. After each fall
-/// of an entity, of which there are at most as many as records, its component is looked at in each chosen stamp.
-pub fn greatest(recs: &[Rec]) -> Cut
-    requires few { length recs.now ≤ 640 }
+/// One pass, which looks at no stamp, links the records of each entity above its start. Then a stamp is compared with the
+/// choice when its entity's choice falls to that record, and once at the start if it is its entity's newest: so once at most,
+/// and never that of a record at or below the start. After each fall of an entity, of which there are at most as many as
+/// records above the start, its component is looked at in each chosen stamp.
+pub fn greatest_from(start: &Cut, recs: &[Rec]) -> Cut
+    requires few { length recs.now ≤ MOST_RECORDS }
     requires ascending { IsAscending recs.now }
-    ensures { IsGreatest (λ _. 0) (commits_of recs.now) (choice result) }
+    ensures { IsGreatest (choice start.now) (commits_of recs.now) (choice result) }
 {
-    let chains = Chains::of(recs);
-    let mut search = Search::new(recs, chains.newest);
+    let chains = Chains::of(start, recs);
+    let mut search = Search::new(recs, &chains);
     while let Some(x) = search.uncovered() {
-        search.lower(recs, &chains.before, x);
+        search.lower(recs, &chains, x);
     }
     Cut(search.cut.0)
+}
+
+/// The greatest closed choice, where an entity without a chosen record has 0. What it costs is said at [`greatest_from`].
+pub fn greatest(recs: &[Rec]) -> Cut
+    requires few { length recs.now ≤ MOST_RECORDS }
+    requires ascending { IsAscending recs.now }
+    ensures { IsGreatest nothing (commits_of recs.now) (choice result) }
+{
+    greatest_from(&Cut([0; 64]), recs)
+}
+
+/// The greatest closed choice, from one that is closed: that of all records from the greatest one of those before the last.
+///
+/// No stamp of a record at or below `old` is looked at, and one above it once at most. So the stamps that are looked at don't
+/// grow with the log, but with the records that wait above `old`: where each cut takes the last record, there is one. The pass
+/// over `recs` looks at entity and version of each. Whoever keeps a long log hands over what stands at or above `old`, and what
+/// follows: the choice is the same (`cut_laws::raise_law`), and these are at most one record an entity and those that wait.
+pub fn raise(recs: &[Rec], old: &Cut) -> Cut
+    requires few { length recs.now ≤ MOST_RECORDS }
+    requires ascending { IsAscending recs.now }
+    requires closed { IsClosedChoice nothing (commits_of recs.now) (choice old.now) }
+    ensures { IsGreatest nothing (commits_of recs.now) (choice result) }
+{
+    greatest_from(old, recs)
 }
 
 #[cfg(test)]
@@ -96,11 +125,26 @@ mod tests {
             (a_version_that_no_record_reaches.as_slice(), [0, 0, 0]),
             (two_that_need_each_other.as_slice(), [2, 1, 0]),
             (a_fall_that_makes_another_fall.as_slice(), [0, 0, 0]),
+            (&five_of_three_entities[..4], [2, 2, 0]),
             (five_of_three_entities.as_slice(), [2, 2, 4]),
         ] {
-            assert!(rt; recs.len() <= 640 && is_ascending(recs));
+            assert!(rt; recs.len() <= MOST_RECORDS && is_ascending(recs));
             assert_eq!(rt; greatest(recs), cut(versions));
+            assert_eq!(rt; raised(recs), cut(versions));
         }
+    }
+
+    /// The cut, raised as the records come one by one.
+    fn raised(recs: &[Rec]) -> Cut
+        requires few { length recs.now ≤ MOST_RECORDS }
+        requires ascending { IsAscending recs.now }
+        ensures { IsGreatest nothing (commits_of recs.now) (choice result) }
+    {
+        let mut cut = Cut([0; 64]);
+        for i in 0..recs.len() {
+            cut = raise(&recs[..=i], &cut);
+        }
+        cut
     }
 
     #[test]
@@ -154,7 +198,9 @@ mod tests {
             let needs = [[n % 4, n / 4 % 4], [n / 16 % 4, n / 64]];
             let recs = records_of(needs);
             assert!(rt; is_ascending(&recs));
-            assert_eq!(rt; greatest(&recs), by_all_choices(needs), "at {n}");
+            let best = by_all_choices(needs);
+            assert_eq!(rt; greatest(&recs), best, "at {n}");
+            assert_eq!(rt; raised(&recs), best, "at {n}");
         }
     }
 }

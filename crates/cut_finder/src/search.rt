@@ -1,9 +1,11 @@
 ghost use Rattle.std.specs.Prelude.{◌≡◌, ℕ, ◌<◌, ◌≤◌, ◌||◌, false, true, length, MatchOption};
 ghost use Rattle.vector_stamps.specs.Stamps.{component};
-ghost use Rattle.cut_finder.specs.Records.{IsAscending};
+ghost use Rattle.cut_finder.specs.Records.{choice, IsAscending};
 ghost use Rattle.cut_finder.specs.Searches.{place_at, entity_at, mark_at, version_at, needs_more, falls_left, IsLastOf, IsChain, IsWithin, IsCovered, IsLoweredTo, IsMarked, IsSearch};
 
-use hop_base::Rec;
+use crate::MOST_RECORDS;
+use crate::chains::Chains;
+use hop_base::{Cut, Rec};
 use vector_stamps::Stamp;
 
 /// What is chosen so far: per entity the place of the chosen record, its version, and whether its stamp asks for more
@@ -15,30 +17,30 @@ pub struct Search {
     lacking: [bool; 64],
 }
 
-/// The version of the record at the place, 0 for none.
-fn version_of(recs: &[Rec], place: Option<u16>) -> u64
+/// The version of the record at the place, that of the start for none.
+fn version_of(recs: &[Rec], place: Option<u16>, start: u64) -> u64
     requires { IsWithin recs.now place }
-    ensures { result ≡ version_at recs.now place }
+    ensures { result ≡ version_at recs.now start place }
 {
     match place {
         Some(i) => recs[i as usize].version,
-        None => 0,
+        None => start,
     }
 }
 
 /// The newest record that stands before the one at k, is of the same entity, and asks for no more than is chosen.
-fn lowered(recs: &[Rec], before: &[Option<u16>; 640], k: u16, cut: &Stamp) -> Option<u16>
-    requires few { length recs.now ≤ 640 }
-    requires chain { IsChain recs.now (length recs.now) before.now }
+fn lowered(recs: &[Rec], chains: &Chains, k: u16, cut: &Stamp) -> Option<u16>
+    requires few { length recs.now ≤ MOST_RECORDS }
+    requires chain { IsChain (choice chains.now.start) recs.now (length recs.now) chains.now.before }
     requires within { k < length recs.now }
-    ensures { IsLoweredTo recs.now k (component cut.now) result }
+    ensures { IsLoweredTo (choice chains.now.start) recs.now k (component cut.now) result }
 {
-    let mut place = before[k as usize];
+    let mut place = chains.before[k as usize];
     while let Some(i) = place {
         if cut.covers(&recs[i as usize].stamp) {
             break;
         }
-        place = before[i as usize];
+        place = chains.before[i as usize];
     }
     place
 }
@@ -66,13 +68,13 @@ fn asks_for_later(recs: &[Rec], place: Option<u16>, x: usize, version: u64) -> b
     }
 }
 
-fn versions_of(recs: &[Rec], places: &[Option<u16>; 64]) -> Stamp
+fn versions_of(start: &Cut, recs: &[Rec], places: &[Option<u16>; 64]) -> Stamp
     requires { (x : ℕ) → IsWithin recs.now (place_at places.now x) }
-    ensures { (x : ℕ) → component result x ≡ version_at recs.now (place_at places.now x) }
+    ensures { (x : ℕ) → component result x ≡ version_at recs.now (choice start.now x) (place_at places.now x) }
 {
     let mut cut = Stamp::new();
     for (x, version) in cut.0.iter_mut().enumerate() {
-        *version = version_of(recs, places[x]);
+        *version = version_of(recs, places[x], start.0[x]);
     }
     cut
 }
@@ -107,17 +109,17 @@ fn mark_later(
 }
 
 impl Search {
-    /// The newest record of each entity.
-    pub fn new(recs: &[Rec], newest: [Option<u16>; 64]) -> Search
-        requires newest { (x : ℕ) → x < 64 → IsLastOf recs.now (length recs.now) x (place_at newest x) }
+    /// The newest record of each entity, or its start.
+    pub fn new(recs: &[Rec], chains: &Chains) -> Search
+        requires newest { (x : ℕ) → x < 64 → IsLastOf (choice chains.now.start) recs.now (length recs.now) x (place_at chains.now.newest x) }
         requires entities { (i : ℕ) → i < length recs.now → entity_at recs.now i < 64 }
         requires ascending { IsAscending recs.now }
-        ensures { IsSearch recs.now (place_at result.chosen) (component result.cut) (mark_at result.lacking) }
+        ensures { IsSearch (choice chains.now.start) recs.now (place_at result.chosen) (component result.cut) (mark_at result.lacking) }
     {
-        let cut = versions_of(recs, &newest);
-        let lacking = marks_of(recs, &newest, &cut);
+        let cut = versions_of(&chains.start, recs, &chains.newest);
+        let lacking = marks_of(recs, &chains.newest, &cut);
         Search {
-            chosen: newest,
+            chosen: chains.newest,
             cut,
             lacking,
         }
@@ -132,20 +134,20 @@ impl Search {
         self.lacking.iter().position(|lacking| *lacking)
     }
 
-    /// Chooses an older record of the entity, one that asks for no more than is chosen, or none.
-    pub fn lower(&mut self, recs: &[Rec], before: &[Option<u16>; 640], x: usize)
-        requires few { length recs.now ≤ 640 }
+    /// Chooses an older record of the entity, one that asks for no more than is chosen, or the start.
+    pub fn lower(&mut self, recs: &[Rec], chains: &Chains, x: usize)
+        requires few { length recs.now ≤ MOST_RECORDS }
         requires ascending { IsAscending recs.now }
-        requires chain { IsChain recs.now (length recs.now) before.now }
-        requires search { IsSearch recs.now (place_at self.old.chosen) (component self.old.cut) (mark_at self.old.lacking) }
+        requires chain { IsChain (choice chains.now.start) recs.now (length recs.now) chains.now.before }
+        requires search { IsSearch (choice chains.now.start) recs.now (place_at self.old.chosen) (component self.old.cut) (mark_at self.old.lacking) }
         requires entity { x < 64 }
         requires lacking { mark_at self.old.lacking x ≡ true }
-        ensures search { IsSearch recs.now (place_at self.new.chosen) (component self.new.cut) (mark_at self.new.lacking) }
+        ensures search { IsSearch (choice chains.now.start) recs.now (place_at self.new.chosen) (component self.new.cut) (mark_at self.new.lacking) }
         ensures falls { falls_left self.new.chosen < falls_left self.old.chosen }
     {
         if let Some(k) = self.chosen[x] {
-            let place = lowered(recs, before, k, &self.cut);
-            let version = version_of(recs, place);
+            let place = lowered(recs, chains, k, &self.cut);
+            let version = version_of(recs, place, chains.start.0[x]);
             self.chosen[x] = place;
             self.cut.0[x] = version;
             self.lacking[x] = false;

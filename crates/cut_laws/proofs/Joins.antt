@@ -1,10 +1,12 @@
 -- Closed choices of lists that agree from a cut on.
-use Rattle.std.proofs.Common.{◌≡◌, ℕ, ◌≤◌, Bool, true, false, ◌⊎◌, inl, inr, List, [], ◌∷◌, if◌then◌else◌, max, sym, subst, ◌∙◌, arith}
+use Rattle.std.proofs.Common.{◌≡◌, ℕ, ◌≤◌, Bool, true, false, ◌⊎◌, inl, inr, List, [], ◌∷◌, ◌++◌, if◌then◌else◌, max, refl, sym, subst, ◌∙◌, arith}
 use Rattle.std.proofs.Math.Nat.{le-max_left, le-max_right}
 use Rattle.std.proofs.lemmas.Bool.{le-leb, cases_lt, false≢true}
 use Rattle.std.specs.Prelude.{filter}
+use Rattle.hop_model.proofs.Among.{among_more}
 use Rattle.hop_model.specs.Choices.{Commit, Among, IsBelow, IsClosedChoice, IsGreatest}
-use Rattle.cut_laws.specs.Agreeing.{is_from, from_cut, AreFromStart, HoldsStart, nothing}
+use Rattle.cut_laws.specs.Agreeing.{is_from, from_cut, HoldsStart, nothing}
+use Rattle.cut_laws.proofs.Filters.{more, kept}
 
 max_cases : (a b : ℕ) → (max a b ≡ a) ⊎ (max a b ≡ b)
 max_cases a b = elim (cases_lt a b) as (λ _. (max a b ≡ a) ⊎ (max a b ≡ b)) [ inl h ↦ inr (omega arith) | inr h ↦ inl (omega arith) ]
@@ -107,6 +109,9 @@ start_taken start cs x holds = elim (cases_lt 0 (start x)) as (λ _. (start x �
 start_closed : (start : ℕ → ℕ) (cs : List Commit) → HoldsStart start cs → IsClosedChoice nothing cs start
 start_closed start cs holds x = start_taken start cs x holds
 
+start_itself : (start : ℕ → ℕ) (cs : List Commit) → IsClosedChoice start cs start
+start_itself start cs x = inl refl
+
 -- a choice of the start is one of nothing, where it is at or above the start
 down_at : (start p : ℕ → ℕ) (cs : List Commit) (x : ℕ) → HoldsStart start cs → IsBelow start p → (p x ≡ start x) ⊎ Among cs (Takes p x) → (p x ≡ 0) ⊎ Among cs (Takes p x)
 down_at start p cs x holds above (inr h) = inr h
@@ -126,30 +131,45 @@ up_at start p cs x le (inr h) = inr h
 up : (start p : ℕ → ℕ) (cs : List Commit) → IsBelow start p → IsClosedChoice nothing cs p → IsClosedChoice start cs p
 up start p cs above closed x = up_at start p cs x (above x) (closed x)
 
--- no choice of the start takes less
-taken_above : (start : ℕ → ℕ) (cs : List Commit) (p : ℕ → ℕ) (x : ℕ) → AreFromStart start cs → Among cs (Takes p x) → start x ≤ p x
-taken_above start [] p x from h = elim h [ ]
-taken_above start (c ∷ cs) p x (low, from) (inl (is, at, covered)) = let e : start x ≤ c.version = subst (λ y. start y ≤ c.version) is low in omega arith
-taken_above start (c ∷ cs) p x (low, from) (inr h) = taken_above start cs p x from h
-
-above_start : (start : ℕ → ℕ) (cs : List Commit) (p : ℕ → ℕ) (x : ℕ) → AreFromStart start cs → (p x ≡ start x) ⊎ Among cs (Takes p x) → start x ≤ p x
-above_start start cs p x from (inl h) = omega arith
-above_start start cs p x from (inr h) = taken_above start cs p x from h
-
 -- THE LAW: where the records of the start are in the list, it makes no difference whether a choice begins at the start or at nothing
-pub from_nothing : (start : ℕ → ℕ) (cs : List Commit) (p : ℕ → ℕ) → HoldsStart start cs → AreFromStart start cs → IsGreatest nothing cs p → IsGreatest start cs p
-from_nothing start cs p holds from g = record {
-  closed = up start p cs (g.greatest start (start_closed start cs holds)) g.closed;
-  greatest = λ q closed. g.greatest q (down start q cs holds (λ x. above_start start cs q x from (closed x)) closed);
-}
-
-pub to_nothing : (start : ℕ → ℕ) (cs : List Commit) (p : ℕ → ℕ) → HoldsStart start cs → AreFromStart start cs → IsGreatest start cs p → IsGreatest nothing cs p
-to_nothing start cs p holds from g =
-    let above : IsBelow start p = λ x. above_start start cs p x from (g.closed x) in record {
-      closed = down start p cs holds above g.closed;
+pub from_nothing : (start : ℕ → ℕ) (cs : List Commit) (p : ℕ → ℕ) → HoldsStart start cs → IsGreatest nothing cs p → IsGreatest start cs p
+from_nothing start cs p holds g =
+    let base : IsClosedChoice nothing cs start = start_closed start cs holds in record {
+      closed = up start p cs (g.greatest start base) g.closed;
       greatest = λ q closed x.
-          let joined : IsClosedChoice nothing cs (join start q) = join_closed nothing cs start q (start_closed start cs holds) closed in
-          let top : join start q x ≤ p x = g.greatest (join start q) (up start (join start q) cs (λ y. le-max_left (start y) (q y)) joined) x in
+          let joined : IsClosedChoice nothing cs (join start q) = down start (join start q) cs holds (λ y. le-max_left (start y) (q y)) (join_closed start cs start q (start_itself start cs) closed) in
+          let top : join start q x ≤ p x = g.greatest (join start q) joined x in
           let part : q x ≤ join start q x = le-max_right (start x) (q x) in
           omega arith;
     }
+
+pub to_nothing : (start : ℕ → ℕ) (cs : List Commit) (p : ℕ → ℕ) → HoldsStart start cs → IsGreatest start cs p → IsGreatest nothing cs p
+to_nothing start cs p holds g = record {
+  closed = down start p cs holds (g.greatest start (start_itself start cs)) g.closed;
+  greatest = λ q closed x.
+      let joined : IsClosedChoice nothing cs (join start q) = join_closed nothing cs start q (start_closed start cs holds) closed in
+      let top : join start q x ≤ p x = g.greatest (join start q) (up start (join start q) cs (λ y. le-max_left (start y) (q y)) joined) x in
+      let part : q x ≤ join start q x = le-max_right (start x) (q x) in
+      omega arith;
+}
+
+-- MORE COMMITS
+
+more_at : (start : ℕ → ℕ) (cs ds : List Commit) (p : ℕ → ℕ) (x : ℕ) → (p x ≡ start x) ⊎ Among cs (Takes p x) → (p x ≡ start x) ⊎ Among (cs ++ ds) (Takes p x)
+more_at start cs ds p x (inl h) = inl h
+more_at start cs ds p x (inr h) = inr (among_more cs ds (Takes p x) h)
+
+-- what is closed stays so
+pub closed_more : (start : ℕ → ℕ) (cs ds : List Commit) (p : ℕ → ℕ) → IsClosedChoice start cs p → IsClosedChoice start (cs ++ ds) p
+closed_more start cs ds p closed x = more_at start cs ds p x (closed x)
+
+-- a closed choice is a start from which the greatest one is the same
+pub holds_closed : (start : ℕ → ℕ) (cs : List Commit) → IsClosedChoice nothing cs start → HoldsStart start cs
+holds_closed start cs closed x some = elim (closed x) as (λ _. Among cs (Takes start x)) [ inl none ↦ absurd (omega arith) | inr taken ↦ taken ]
+
+-- what follows a list, and what is left of the list from its greatest closed choice on, have the greatest choice of all
+pub greatest_of_kept : (start cut p : ℕ → ℕ) (cs ds : List Commit) → IsGreatest start cs cut → IsGreatest start (from_cut cut cs ++ ds) p → IsGreatest start (cs ++ ds) p
+greatest_of_kept start cut p cs ds g h =
+    let same : IsGreatest start (from_cut cut cs) cut = same_greatest start cut cs (from_cut cut cs) (kept cut cs) g in
+    let above : IsBelow cut p = h.greatest cut (closed_more start (from_cut cut cs) ds cut same.closed) in
+    same_greatest start p (from_cut cut cs ++ ds) (cs ++ ds) (sym (more cut p cs (from_cut cut cs) ds above (kept cut cs))) h

@@ -11,6 +11,3 @@ pub use calls::Torn;
 pub use disk::{Disk, DiskFault, NoBlocks};
 pub use memory::MemoryDisk;
 pub use stretches::{write_and_sync, write_run};
-
-#[cfg(test)]
-mod tests;

@@ -1,13 +1,14 @@
 -- A page is saved: its words go to its own block, or to a new one, or the write fails. No word changes.
-use Rattle.std.proofs.Common.{◌≡◌, ◌≢◌, ℕ, ◌<◌, Bool, true, false, ◌||◌, List, length, set, Option, Some, None, is_some, IsSome, IsTrue, refl, sym, ap, ◌∙◌, inl, inr, subst, arith}
+use Rattle.std.proofs.Common.{◌≡◌, ◌≢◌, ℕ, ◌<◌, ◌≤◌, Bool, true, false, ◌||◌, List, length, set, is_some, Option, Some, None, IsSome, IsTrue, refl, sym, ap, ◌∙◌, inl, inr, subst, arith}
 use Rattle.std.proofs.lemmas.Bool.{cases_eq}
 use Rattle.std.proofs.lemmas.List.{get_or-set_same, get_or-set_other, length-set}
 use Rattle.hop_model.specs.State.{Supply}
-use Rattle.frame_table.specs.FrameTable.{FrameTable, Resident, changed_at, page_at, resident_changed, resident_words, unmarked, used_at, with_resident, words_at}
+use Rattle.frame_table.specs.FrameTable.{FrameTable, Resident, changed_at, page_at, resident_count, resident_words, unmarked, used_at, words_at}
+use Rattle.frame_table.proofs.Pages.{not_some}
 use Rattle.fault_paging.specs.declared.paged.PagedMemory.{PagedMemory}
-use Rattle.fault_paging.specs.Words.{block_at, needs_block, AreCleanTrue, IsSoundTable}
-use Rattle.fault_paging.specs.Calls.{IsOfTable, Keeps, KeepsPages, Moves, Saves, Stands}
-use Rattle.fault_paging.proofs.Pages.{Same, at_other, at_page, changed_resident, resident_within, saved, stands, untouched}
+use Rattle.fault_paging.specs.Words.{block_at, AreCleanTrue, IsSoundTable}
+use Rattle.fault_paging.specs.Calls.{IsOfTable, Keeps, Moves, Stands}
+use Rattle.fault_paging.proofs.Pages.{Same, at_other, at_page, changed_resident, fits_same, resident_within, saved, stands, untouched}
 
 or_left : (x y : Bool) → x ≡ true → (x || y) ≡ true
 or_left true y e = refl
@@ -34,42 +35,44 @@ module _ {B : Type 0} (tells : Type 0) (held kept : B → ℕ → Bool) (words :
   not_mine : (n : ℕ) → (IsOfTable m n → ⊥) → block_at m page ≢ 0 → n ≡ block_at m page → ⊥
   not_mine n out some e = out (λ z. some (sym e ∙ z), (page, sym e))
 
-  -- no page past the end is this one
-  not_past : (p : ℕ) → page_at m.frames p ≡ None → p ≢ page
-  not_past p none same = let clash : false ≡ true = sym (ap resident_changed (sym (ap (page_at m.frames) same) ∙ none)) ∙ changed in absurd (cc clash)
-
   held_words_kept : tells → (n : ℕ) → held b n ≡ true → (IsOfTable m n → ⊥) → words b' n ≡ words b n
   held_words_kept t n h out = same_words t n (or_left _ _ h) (λ some e. absurd (not_mine n out some e))
 
   kept_words_kept : tells → (n : ℕ) → kept b n ≡ true → words b' n ≡ words b n
   kept_words_kept t n k = same_words t n (or_right _ _ k) (λ _ _. k)
 
+  there_before : IsSome (page_at m.frames page)
+  there_before = changed_resident (page_at m.frames page) changed
+
+  module _ (t' : FrameTable) (is : t'.pages ≡ set m.frames.pages page (cleaned_page m.frames page)) where
+    cleaned_same : (p : ℕ) → is_some (page_at t' p) ≡ is_some (page_at m.frames p)
+    cleaned_same p = elim (cases_eq p page) [
+      | inl same ↦
+          ap (λ q. is_some (page_at t' q)) same ∙ ap is_some (at_page m.frames t' page (cleaned_page m.frames page) (resident_within m.frames page there_before) is)
+          ∙ sym there_before
+          ∙ sym (ap (λ q. is_some (page_at m.frames q)) same)
+      | inr differs ↦ ap is_some (at_other m.frames t' page p _ differs is)
+    ]
+
+    cleaned_none : (p : ℕ) → page_at m.frames p ≡ None → page_at t' p ≡ None
+    cleaned_none p none = not_some (page_at t' p) (cleaned_same p ∙ ap is_some none)
+
+    cleaned_fits : t'.frames ≡ m.frames.frames → resident_count t' ≤ t'.frames
+    cleaned_fits frames = fits_same m.frames t' cleaned_same frames table.fits
+
   module _ (same_held : held b' ≡ held b) where
-    -- the write failed
-    pub failed_stands : tells → (s : Supply) → AreCleanTrue s (words b) m → Stands s (words b) (words b') m m
-    failed_stands t s = stands s (words b) (words b') m m each
-      where
-        each : (p : ℕ) → Same s (words b) (words b') m m p
-        each p = untouched s (words b) (words b') m m p refl refl refl (λ some clean. elim (cases_eq p page) [
-          | inl same ↦ let clash : true ≡ false = sym changed ∙ sym (ap (changed_at m.frames) same) ∙ clean in absurd (cc clash)
-          | inr differs ↦ other_page t p differs some
-        ])
-
-    pub failed_table : IsSoundTable (held b') m
-    failed_table = subst (λ h. IsSoundTable h m) (sym same_held) table
-
-    -- the same blocks are held, and the table is the same
-    pub kept_keeps : (t' : FrameTable) → Keeps tells held kept words m (record m { frames = t' }) b b'
-    kept_keeps t' = record {
-      same_kept = same_kept;
-      held_stay = λ n h out. (ap (λ f. f n) same_held ∙ h, out);
-      no_others = λ n h out. (sym (ap (λ f. f n) same_held) ∙ h, out);
-      held_words = held_words_kept;
-      kept_words = kept_words_kept;
-    }
-
     -- the page was written to its own block
     module _ (t' : FrameTable) (is : t'.pages ≡ set m.frames.pages page (cleaned_page m.frames page)) where
+      pub own_table : t'.frames ≡ m.frames.frames → IsSoundTable (held b') (record m { frames = t' })
+      own_table frames = record {
+        few = table.few;
+        len = table.len;
+        fits = cleaned_fits t' is frames;
+        none_past = λ p past. let none = table.none_past p past in (none.0, cleaned_none t' is p none.1);
+        held_blocks = λ p some. ap (λ (h : ℕ → Bool). h (block_at m p)) same_held ∙ table.held_blocks p some;
+        differ = table.differ;
+      }
+
       pub own_stands : block_at m page ≢ 0 → (tells → words b' (block_at m page) ≡ words_at m.frames page) → tells → (s : Supply) → AreCleanTrue s (words b) m → Stands s (words b) (words b') m (record m { frames = t' })
       own_stands some written t s = stands s (words b) (words b') m (record m { frames = t' }) each
         where
@@ -85,15 +88,6 @@ module _ {B : Type 0} (tells : Type 0) (held kept : B → ℕ → Bool) (words :
             | inr differs ↦
                 untouched s (words b) (words b') m (record m { frames = t' }) p refl refl (ap unmarked (at_other m.frames t' page p _ differs is)) (λ block _. other_page t p differs block)
           ]
-
-      pub own_table : IsSoundTable (held b') (record m { frames = t' })
-      own_table = record {
-        few = table.few;
-        len = table.len;
-        none_past = λ p past. let none = table.none_past p past in (none.0, at_other m.frames t' page p _ (not_past p none.1) is ∙ none.1);
-        held_blocks = failed_table.held_blocks;
-        differ = table.differ;
-      }
 
   -- the page was written to a new block
   module _ (t' : FrameTable) (is : t'.pages ≡ set m.frames.pages page (cleaned_page m.frames page)) (fresh : ℕ) (moves : Moves (held b) (kept b) (held b') (block_at m page) fresh) (in_table : page < 256) where
@@ -113,6 +107,40 @@ module _ {B : Type 0} (tells : Type 0) (held kept : B → ℕ → Bool) (words :
     not_fresh : (n : ℕ) → held b n ≡ true → n ≢ fresh
     not_fresh n h same = let clash : true ≡ false = sym h ∙ ap (held b) same ∙ moves.was_free in absurd (cc clash)
 
+    pub fresh_table : t'.frames ≡ m.frames.frames → IsSoundTable (held b') (record m { frames = t'; table = set m.table page fresh })
+    fresh_table frames = record {
+      few = table.few;
+      len = length-set m.table page fresh ∙ table.len;
+      fits = cleaned_fits t' is frames;
+      none_past = λ p past.
+          let none = table.none_past p past in
+          let apart : p ≢ page = λ same. (let clash : true ≡ false = sym there_before ∙ ap (λ q. is_some (page_at m.frames q)) (sym same) ∙ ap is_some none.1 in cc clash) in
+          (block_there p apart ∙ none.0, cleaned_none t' is p none.1);
+      held_blocks = λ p some. elim (cases_eq p page) [
+        | inl same ↦ ap (held b') (ap (block_at moved) same ∙ block_here) ∙ moves.is_held
+        | inr apart ↦ other_held p apart (λ z. some (block_there p apart ∙ z))
+      ];
+      differ = λ p q some same. elim (cases_eq p page) [
+        | inl p_is ↦ elim (cases_eq q page) [
+          | inl q_is ↦ p_is ∙ sym q_is
+          | inr q_apart ↦ absurd (no_other q q_apart (sym (block_there q q_apart) ∙ sym same ∙ ap (block_at moved) p_is ∙ block_here))
+        ]
+        | inr p_apart ↦ elim (cases_eq q page) [
+          | inl q_is ↦ absurd (no_other p p_apart (sym (block_there p p_apart) ∙ same ∙ ap (block_at moved) q_is ∙ block_here))
+          | inr q_apart ↦ table.differ p q (λ z. some (block_there p p_apart ∙ z)) (sym (block_there p p_apart) ∙ same ∙ block_there q q_apart)
+        ]
+      ];
+    }
+      where
+        other_held : (p : ℕ) → p ≢ page → block_at m p ≢ 0 → held b' (block_at moved p) ≡ true
+        other_held p apart some =
+            let was = table.held_blocks p some in
+            ap (held b') (block_there p apart) ∙ moves.others (block_at m p) (not_fresh (block_at m p) was) (λ _ e. apart (table.differ p page some e)) ∙ was
+
+        -- no other page's block is the new one
+        no_other : (p : ℕ) → p ≢ page → block_at m p ≡ fresh → ⊥
+        no_other p apart same = not_fresh (block_at m p) (table.held_blocks p (λ z. moves.some (sym same ∙ z))) same
+
     pub fresh_stands : (tells → words b' fresh ≡ words_at m.frames page) → tells → (s : Supply) → AreCleanTrue s (words b) m → Stands s (words b) (words b') m (record m { frames = t'; table = set m.table page fresh })
     fresh_stands written t s = stands s (words b) (words b') m moved each
       where
@@ -128,41 +156,6 @@ module _ {B : Type 0} (tells : Type 0) (held kept : B → ℕ → Bool) (words :
           | inr differs ↦
               untouched s (words b) (words b') m moved p refl (block_there p differs) (ap unmarked (at_other m.frames t' page p _ differs is)) (λ block _. other_page t p differs block)
         ]
-
-    still_held : (p : ℕ) → p ≢ page → block_at m p ≢ 0 → held b' (block_at m p) ≡ true
-    still_held p differs some =
-        let was = table.held_blocks p some in
-        moves.others (block_at m p) (not_fresh (block_at m p) was) (λ _ e. differs (table.differ p page some e)) ∙ was
-
-    pub fresh_table : IsSoundTable (held b') (record m { frames = t'; table = set m.table page fresh })
-    fresh_table = record {
-      few = table.few;
-      len = length-set m.table page fresh ∙ table.len;
-      none_past = λ p past.
-          let none = table.none_past p past in
-          let differs = not_past p none.1 in
-          (block_there p differs ∙ none.0, at_other m.frames t' page p _ differs is ∙ none.1);
-      held_blocks = λ p some. elim (cases_eq p page) [
-        | inl same ↦ ap (λ q. held b' (block_at moved q)) same ∙ ap (held b') block_here ∙ moves.is_held
-        | inr differs ↦ ap (held b') (block_there p differs) ∙ still_held p differs (λ z. some (block_there p differs ∙ z))
-      ];
-      differ = λ p q some e. elim (cases_eq p page) [
-        | inl p_same ↦ elim (cases_eq q page) [
-          | inl q_same ↦ p_same ∙ sym q_same
-          | inr q_differs ↦ absurd (clashes p q p_same q_differs e)
-        ]
-        | inr p_differs ↦ elim (cases_eq q page) [
-          | inl q_same ↦ absurd (clashes q p q_same p_differs (sym e))
-          | inr q_differs ↦ table.differ p q (λ z. some (block_there p p_differs ∙ z)) (sym (block_there p p_differs) ∙ e ∙ block_there q q_differs)
-        ]
-      ];
-    }
-      where
-        -- another page's block isn't the new one
-        clashes : (p q : ℕ) → p ≡ page → q ≢ page → block_at moved p ≡ block_at moved q → ⊥
-        clashes p q same differs e =
-            let new : fresh ≡ block_at m q = sym block_here ∙ ap (block_at moved) (sym same) ∙ e ∙ block_there q differs in
-            not_fresh (block_at m q) (table.held_blocks q (λ z. moves.some (new ∙ z))) (sym new)
 
     pub fresh_keeps : Keeps tells held kept words m (record m { frames = t'; table = set m.table page fresh }) b b'
     fresh_keeps = record {
@@ -185,66 +178,4 @@ module _ {B : Type 0} (tells : Type 0) (held kept : B → ℕ → Bool) (words :
           );
       held_words = held_words_kept;
       kept_words = kept_words_kept;
-    }
-
--- WHAT HAPPENS TO THE PAGES
-
-module _ (m : PagedMemory) (page : ℕ) (changed : changed_at m.frames page ≡ true) (t' : FrameTable) (is : t' ≡ with_resident m.frames page (words_at m.frames page) false (used_at m.frames page)) where
-  pages_are : t'.pages ≡ set m.frames.pages page (cleaned_page m.frames page)
-  pages_are = ap (λ (t : FrameTable). t.pages) is
-
-  clean_here : page_at t' page ≡ cleaned_page m.frames page
-  clean_here = at_page m.frames t' page (cleaned_page m.frames page) (resident_within m.frames page (changed_resident (page_at m.frames page) changed)) pages_are
-
-  same_there : (p : ℕ) → p ≢ page → page_at t' p ≡ page_at m.frames p
-  same_there p differs = at_other m.frames t' page p (cleaned_page m.frames page) differs pages_are
-
-  same_residents : (p : ℕ) → is_some (page_at t' p) ≡ is_some (page_at m.frames p)
-  same_residents p = elim (cases_eq p page) [
-    | inl same ↦
-        ap (λ q. is_some (page_at t' q)) same ∙ ap is_some clean_here ∙ sym (changed_resident (page_at m.frames page) changed)
-        ∙ sym (ap (λ q. is_some (page_at m.frames q)) same)
-    | inr differs ↦ ap is_some (same_there p differs)
-  ]
-
-  none_changed : (p : ℕ) → changed_at t' p ≡ true → changed_at m.frames p ≡ true
-  none_changed p e = elim (cases_eq p page) [
-    | inl same ↦ ap (changed_at m.frames) same ∙ changed
-    | inr differs ↦ sym (ap resident_changed (same_there p differs)) ∙ e
-  ]
-
-  pub own_saves : Saves page m (record m { frames = t' })
-  own_saves = record {
-    unchanged = ap resident_changed clean_here;
-    residents = same_residents;
-    others = λ p differs. (ap resident_changed (same_there p differs), refl);
-  }
-
-  pub own_pages : (kept : ℕ → Bool) → KeepsPages kept m (record m { frames = t' })
-  own_pages kept = record {
-    same_tag = refl;
-    same_pages = refl;
-    same_frames = ap (λ (t : FrameTable). t.frames) is;
-    same_blocks = λ _ _. refl;
-    none_changed = none_changed;
-  }
-
-  module _ (fresh : ℕ) where
-    pub fresh_saves : Saves page m (record m { frames = t'; table = set m.table page fresh })
-    fresh_saves = record {
-      unchanged = ap resident_changed clean_here;
-      residents = same_residents;
-      others = λ p differs. (ap resident_changed (same_there p differs), get_or-set_other m.table page p fresh 0 differs);
-    }
-
-    pub fresh_pages : (kept : ℕ → Bool) → needs_block kept m page ≡ true → KeepsPages kept m (record m { frames = t'; table = set m.table page fresh })
-    fresh_pages kept needs = record {
-      same_tag = refl;
-      same_pages = refl;
-      same_frames = ap (λ (t : FrameTable). t.frames) is;
-      same_blocks = λ p none. elim (cases_eq p page) [
-        | inl same ↦ let clash : true ≡ false = sym needs ∙ sym (ap (needs_block kept m) same) ∙ none in absurd (cc clash)
-        | inr differs ↦ get_or-set_other m.table page p fresh 0 differs
-      ];
-      none_changed = none_changed;
     }

@@ -1,5 +1,5 @@
 -- A page comes into a frame with its words, which are its block's or the supplier's. No word changes.
-use Rattle.std.proofs.Common.{◌≡◌, ◌≢◌, ℕ, ◌-◌, ◌^◌, ◌<◌, ◌≤◌, Bool, true, false, ◌||◌, List, length, set, slice_index, is_some, Option, Some, None, Ok, Err, IsErrOf, refl, sym, ap, ◌∙◌, inl, inr, subst, arith}
+use Rattle.std.proofs.Common.{◌≡◌, ◌≢◌, ◌↔◌, ◌⊎◌, ℕ, ◌+◌, ◌-◌, ◌^◌, ◌<◌, ◌≤◌, Bool, true, false, ◌||◌, List, length, set, slice_index, is_some, count_by, Option, Some, None, Ok, Err, IsErrOf, IsOk, refl, sym, ap, ◌∙◌, inl, inr, subst, arith}
 use Rattle.std.proofs.lemmas.Bool.{cases_eq, cases_lt}
 use Rattle.hop_model.specs.State.{Supply}
 use Rattle.disk_trait.specs.Disk.{Ticks}
@@ -7,10 +7,11 @@ use Rattle.disk_trait.specs.declared.disk.NoBlocks.{NoBlocks as Shortage}
 use Rattle.page_store.specs.declared.faults.PageFault.{PageFault}
 use Rattle.page_store.specs.declared.faults.PageFault.TheVariants.{NoBlocks, ReadFault, WriteFault, Shut}
 use Rattle.page_store.specs.Pages.{IsReadFault, SameWords}
-use Rattle.frame_table.specs.FrameTable.{FrameTable, Resident, IsResident, Places, changed_at, page_at, resident_changed, unmarked}
+use Rattle.frame_table.specs.FrameTable.{FrameTable, HasEmptyFrame, Resident, IsResident, Places, changed_at, page_at, resident_changed, resident_count, unmarked}
+use Rattle.frame_table.proofs.Pages.{count-set_new, not_some}
 use Rattle.fault_paging.specs.declared.paged.PagedMemory.{PagedMemory}
 use Rattle.fault_paging.specs.Words.{block_at, stored_word, AreCleanTrue, IsSoundTable}
-use Rattle.fault_paging.specs.Calls.{AllStay, Chooses, Evicts, IsCausedBy, Keeps, KeepsPages, Reads, Stands}
+use Rattle.fault_paging.specs.Calls.{AllStay, Chooses, Evicts, IsCausedBy, IsRead, Keeps, KeepsPages, MakesRoom, Reads, Stands}
 use Rattle.fault_paging.proofs.Pages.{Same, at_other, at_page, placed, stands, untouched}
 
 left_true : (x y : Bool) → x ≡ true → (x || y) ≡ true
@@ -53,7 +54,7 @@ module _ (m : PagedMemory) (t : FrameTable) (page : ℕ) (ws : List ℕ) (within
   came_here : page_at t page ≡ came
   came_here = at_page m.frames t page came within with_it
 
-  came_other : (p : ℕ) → p ≢ page → page_at t p ≡ page_at m.frames p
+  pub came_other : (p : ℕ) → p ≢ page → page_at t p ≡ page_at m.frames p
   came_other p differs = at_other m.frames t page p came differs with_it
 
   pub came_resident : IsResident t page
@@ -71,10 +72,17 @@ module _ (m : PagedMemory) (t : FrameTable) (page : ℕ) (ws : List ℕ) (within
             untouched s words words' m (record m { frames = t }) p refl refl (ap unmarked (came_other p differs)) (λ some _. same p some)
       ]
 
-  pub came_table : (held : ℕ → Bool) → page < m.pages → IsSoundTable held m → IsSoundTable held (record m { frames = t })
-  came_table held inside table = record {
+  came_fits : HasEmptyFrame m.frames → resident_count t ≤ t.frames
+  came_fits room =
+      let one : resident_count t ≡ resident_count m.frames + 1 = ap (count_by is_some) with_it ∙ count-set_new m.frames.pages page within (record { words = ws; changed = false; used = true }) absent in
+      let frames : t.frames ≡ m.frames.frames = ap (λ (x : FrameTable). x.frames) places.is in
+      omega (arith, one, frames, room)
+
+  pub came_table : (held : ℕ → Bool) → page < m.pages → HasEmptyFrame m.frames → IsSoundTable held m → IsSoundTable held (record m { frames = t })
+  came_table held inside room table = record {
     few = table.few;
     len = table.len;
+    fits = came_fits room;
     none_past = λ p past. let none = table.none_past p past in (none.0, came_other p (λ same. omega (arith, same)) ∙ none.1);
     held_blocks = table.held_blocks;
     differ = table.differ;
@@ -138,30 +146,143 @@ pub read_not_wanting : {T : Type 0} (e : PageFault) (n : Shortage) → IsReadFau
 read_not_wanting e n (inl is) none = let clash : ReadFault ≡ NoBlocks n = (let k : e ≡ NoBlocks n = cc in sym is ∙ k) in cc clash
 read_not_wanting e n (inr is) none = let clash : Shut ≡ NoBlocks n = (let k : e ≡ NoBlocks n = cc in sym is ∙ k) in cc clash
 
-module _ {T U : Type 0} (kept : ℕ → Bool) (free : ℕ) (m : PagedMemory) where
-  pub chooses_read : (x : T) (e : PageFault) → IsReadFault e → Chooses {T = T} kept free m (Ok x) → Chooses {T = U} kept free m (Err e)
-  chooses_read x e read c = record {
+pub shut_not : {T : Type 0} (x : T) → IsErrOf {T = T} (Ok x) Shut → ⊥
+shut_not x e = cc
+
+-- where the same pages are resident the same reads were due
+read_before : (m m' m'' : PagedMemory) (page : ℕ) → ((p : ℕ) → is_some (page_at m''.frames p) ≡ is_some (page_at m'.frames p)) → IsRead m m'' page → IsRead m m' page
+read_before m m' m'' page same read = (read.0, read.1, λ both. read.2 (both.0, λ p there. same p ∙ both.1 p there))
+
+module _ {T U : Type 0} (kept : ℕ → Bool) (free : ℕ) (was_shut : Bool) (m m' : PagedMemory) where
+  err_as : (e f : PageFault) → IsErrOf {T = T} (Err e) f → IsErrOf {T = U} (Err e) f
+  err_as e f is = let same : e ≡ f = cc in ap Err same
+
+  err_back : (e f : PageFault) → IsErrOf {T = U} (Err e) f → IsErrOf {T = T} (Err e) f
+  err_back e f is = let same : e ≡ f = cc in ap Err same
+
+  -- the victim left, and the read behind it failed
+  pub chooses_read : (x : T) (e : PageFault) (reads : Type 0) → IsReadFault e → (IsErrOf {T = U} (Err e) Shut ↔ ((was_shut ≡ true) × reads)) → Chooses {T = T} kept free was_shut ⊥ m m' (Ok x) → Chooses {T = U} kept free was_shut reads m m' (Err e)
+  chooses_read x e reads read shut c = record {
     victim = c.victim;
     after = c.after;
     is = c.is;
+    was_there = c.was_there;
+    gone = tt;
+    others_stay = c.others_stay;
     exact = (λ none. absurd (read_not_wanting e _ read none), λ both. let clash = c.exact.1 both in absurd (cc clash));
-  }
-
-  pub chooses_ok : (x : T) (y : U) → Chooses {T = T} kept free m (Ok x) → Chooses {T = U} kept free m (Ok y)
-  chooses_ok x y c = record {
-    victim = c.victim;
-    after = c.after;
-    is = c.is;
-    exact = (λ none. absurd (cc none), λ both. let clash = c.exact.1 both in absurd (cc clash));
-  }
-
-  pub chooses_err : (e : PageFault) → Chooses {T = T} kept free m (Err e) → Chooses {T = U} kept free m (Err e)
-  chooses_err e c = record {
-    victim = c.victim;
-    after = c.after;
-    is = c.is;
-    exact = (
-      λ none. c.exact.0 (let k : e ≡ NoBlocks (record { need = 1; free = 0 }) = cc in ap Err k),
-      λ both. let known = c.exact.1 both in let k : e ≡ NoBlocks (record { need = 1; free = 0 }) = cc in ap Err k,
+    shut = (
+      λ is. let both = shut.0 is in (both.0, inr both.1),
+      λ both. elim both.1 [
+        | inl w ↦ absurd (shut_not x (c.shut.1 (both.0, inl w)))
+        | inr read ↦ shut.1 (both.0, read)
+      ],
     );
   }
+
+  -- the victim stayed, so nothing was read
+  pub chooses_unread : (e : PageFault) (page : ℕ) → Evicts m page → AllStay m m' → Chooses {T = T} kept free was_shut ⊥ m m' (Err e) → Chooses {T = U} kept free was_shut (IsRead m m' page) m m' (Err e)
+  chooses_unread e page due stay c = record {
+    victim = c.victim;
+    after = c.after;
+    is = c.is;
+    was_there = c.was_there;
+    gone = tt;
+    others_stay = c.others_stay;
+    exact = (λ none. c.exact.0 (err_back e _ none), λ both. err_as e _ (c.exact.1 both));
+    shut = (
+      λ is. let both = c.shut.0 (err_back e _ is) in
+          (both.0, elim both.1 [ inl w ↦ inl w | inr never ↦ absurd never ]),
+      λ both. elim both.1 [
+        | inl w ↦ err_as e _ (c.shut.1 (both.0, inl w))
+        | inr read ↦ absurd (read.2 (due, stay))
+      ],
+    );
+  }
+
+  -- the page came in the victim's place
+  pub chooses_came : (x : T) (y : U) (m'' : PagedMemory) (page : ℕ) (reads : Type 0) → page_at m.frames page ≡ None → IsResident m''.frames page → ((p : ℕ) → p ≢ page → page_at m''.frames p ≡ page_at m'.frames p) → (was_shut ≡ true → reads → ⊥) → Chooses {T = T} kept free was_shut ⊥ m m' (Ok x) → Chooses {T = U} kept free was_shut reads m m'' (Ok y)
+  chooses_came x y m'' page reads absent here other never c = record {
+    victim = c.victim;
+    after = c.after;
+    is = c.is;
+    was_there = c.was_there;
+    gone = other c.victim (λ same. let clash : true ≡ false = sym c.was_there ∙ ap (λ q. is_some (page_at m.frames q)) same ∙ ap is_some absent in cc clash) ∙ c.gone;
+    others_stay = λ p apart was. elim (cases_eq p page) [
+      | inl same ↦ ap (λ q. is_some (page_at m''.frames q)) same ∙ here
+      | inr differs ↦ ap is_some (other p differs) ∙ c.others_stay p apart was
+    ];
+    exact = (λ none. absurd (cc none), λ both. let clash = c.exact.1 both in absurd (cc clash));
+    shut = (
+      λ is. absurd (shut_not y is),
+      λ both. elim both.1 [
+        | inl w ↦ absurd (shut_not x (c.shut.1 (both.0, inl w)))
+        | inr read ↦ absurd (never both.0 read)
+      ],
+    );
+  }
+
+  pub chooses_err : (e : PageFault) (reads : Type 0) → Chooses {T = T} kept free was_shut reads m m' (Err e) → Chooses {T = U} kept free was_shut reads m m' (Err e)
+  chooses_err e reads c = record {
+    victim = c.victim;
+    after = c.after;
+    is = c.is;
+    was_there = c.was_there;
+    gone = tt;
+    others_stay = c.others_stay;
+    exact = (λ none. c.exact.0 (err_back e _ none), λ both. err_as e _ (c.exact.1 both));
+    shut = (λ is. c.shut.0 (err_back e _ is), λ both. err_as e _ (c.shut.1 both));
+  }
+
+  -- the page could not be brought: room was made as far as the first answer tells
+  pub room_err : (page : ℕ) (e : PageFault) → (IsResident m.frames page → IsOk {T = T} (Err e)) → ((Evicts m page → ⊥) → AllStay m m') → (Evicts m page → Chooses {T = T} kept free was_shut (IsRead m m' page) m m' (Err e))
+      → ((n : Shortage) → IsErrOf {T = T} (Err e) (NoBlocks n) → Evicts m page)
+      → ((Evicts m page → ⊥) → IsErrOf {T = T} (Err e) Shut ↔ ((was_shut ≡ true) × IsRead m m' page)) → MakesRoom {T = U} kept free was_shut m m' page (Err e)
+  room_err page e had stay chooses wanting shut = record {
+    had = λ there. let clash : false ≡ true = had there in absurd (cc clash);
+    stay = stay;
+    chooses = λ due. chooses_err e (IsRead m m' page) (chooses due);
+    no_blocks = λ n none. wanting n (err_back e _ none);
+    shut = λ none. let s = shut none in (λ is. s.0 (err_back e _ is), λ both. err_as e _ (s.1 both));
+  }
+
+  -- the same pages are resident after the page was brought and used
+  module _ (m'' : PagedMemory) (same : (p : ℕ) → is_some (page_at m''.frames p) ≡ is_some (page_at m'.frames p)) (page : ℕ) where
+    chooses_ok : (x : T) (y : U) → Chooses {T = T} kept free was_shut (IsRead m m' page) m m' (Ok x) → Chooses {T = U} kept free was_shut (IsRead m m'' page) m m'' (Ok y)
+    chooses_ok x y c = record {
+      victim = c.victim;
+      after = c.after;
+      is = c.is;
+      was_there = c.was_there;
+      gone = not_some (page_at m''.frames c.victim) (same c.victim ∙ ap is_some c.gone);
+      others_stay = λ p apart was. same p ∙ c.others_stay p apart was;
+      exact = (λ none. absurd (cc none), λ both. let clash = c.exact.1 both in absurd (cc clash));
+      shut = (
+        λ is. absurd (shut_not y is),
+        λ both. elim both.1 [
+          | inl w ↦ absurd (shut_not x (c.shut.1 (both.0, inl w)))
+          | inr read ↦ absurd (shut_not x (c.shut.1 (both.0, inr (read_before m m' m'' page same read))))
+        ],
+      );
+    }
+
+    pub room_ok : (x : T) (y : U) → ((Evicts m page → ⊥) → AllStay m m') → (Evicts m page → Chooses {T = T} kept free was_shut (IsRead m m' page) m m' (Ok x))
+        → ((Evicts m page → ⊥) → IsErrOf {T = T} (Ok x) Shut ↔ ((was_shut ≡ true) × IsRead m m' page)) → MakesRoom {T = U} kept free was_shut m m'' page (Ok y)
+    room_ok x y stay chooses shut = record {
+      had = λ _. refl;
+      stay = λ none p there. same p ∙ stay none p there;
+      chooses = λ due. chooses_ok x y (chooses due);
+      no_blocks = λ n none. absurd (cc none);
+      shut = λ none. (λ is. absurd (shut_not y is), λ both. absurd (shut_not x ((shut none).1 (both.0, read_before m m' m'' page same both.1))));
+    }
+
+-- a page that isn't resident is read where it has a block, once it was evicted for
+pub fetched_read : (m m' : PagedMemory) (page : ℕ) → page_at m.frames page ≡ None → ((HasEmptyFrame m.frames → ⊥) → AllStay m m' → ⊥) → block_at m' page ≡ block_at m page → block_at m' page ≢ 0 → IsRead m m' page
+fetched_read m m' page absent gone block some = (absent, λ z. some (block ∙ z), λ both. gone both.0.1 both.1)
+
+-- the answer of a fetch is Shut exactly where the store was shut and the page is read
+pub fetched_shut : {T U : Type 0} (m m' : PagedMemory) (page : ℕ) (was mid : Bool) (e : PageFault) → page_at m.frames page ≡ None → ((HasEmptyFrame m.frames → ⊥) → AllStay m m' → ⊥) → block_at m' page ≡ block_at m page → mid ≡ was → (IsErrOf {T = T} (Err e) Shut ↔ ((mid ≡ true) × (block_at m' page ≢ 0))) → IsErrOf {T = U} (Err e) Shut ↔ ((was ≡ true) × IsRead m m' page)
+fetched_shut m m' page was mid e absent gone block same shut = (
+  λ is. let k : e ≡ Shut = cc in let both = shut.0 (ap Err k) in
+      (sym same ∙ both.0, fetched_read m m' page absent gone block both.1),
+  λ both. let done = shut.1 (same ∙ both.0, λ z. both.1.1 (sym block ∙ z)) in let k : e ≡ Shut = cc in ap Err k,
+)

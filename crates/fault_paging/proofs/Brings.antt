@@ -1,15 +1,16 @@
 -- A page is brought: an eviction where one is due, its words from the block or the supplier, and its place in a frame.
-use Rattle.std.proofs.Common.{◌≡◌, ◌≢◌, ℕ, ◌<◌, Bool, List, length, slice_index, is_some, None, sym, ap, ◌∙◌, inl, inr, subst, arith}
+use Rattle.std.proofs.Common.{◌≡◌, ◌≢◌, ◌↔◌, ℕ, ◌<◌, Bool, true, List, length, slice_index, is_some, None, Ok, IsErrOf, sym, ap, ◌∙◌, inl, inr, subst, arith}
 use Rattle.std.proofs.lemmas.Bool.{cases_lt}
 use Rattle.hop_model.specs.State.{Supply}
 use Rattle.disk_trait.specs.Disk.{Ticks}
+use Rattle.page_store.specs.declared.faults.PageFault.TheVariants.{Shut}
 use Rattle.page_store.specs.Pages.{SameWords}
 use Rattle.frame_table.specs.FrameTable.{FrameTable, HasEmptyFrame, IsResident, Places, page_at, resident_count}
 use Rattle.fault_paging.specs.declared.paged.PagedMemory.{PagedMemory}
 use Rattle.fault_paging.specs.Words.{block_at, stored_word, AreCleanTrue, IsSoundTable}
-use Rattle.fault_paging.specs.Calls.{AllStay, Evicts, KeepsPages, Reads, Stands}
+use Rattle.fault_paging.specs.Calls.{AllStay, Evicts, IsRead, KeepsPages, Reads, Stands}
 use Rattle.fault_paging.proofs.Pages.{stands_trans}
-use Rattle.fault_paging.proofs.Bringing.{blocks_same, came_left, came_pages, came_resident, came_stands, came_stay, came_table, read_stands, reads_from}
+use Rattle.fault_paging.proofs.Bringing.{blocks_same, came_left, came_other, came_pages, came_resident, came_stands, came_stay, came_table, read_stands, reads_from}
 
 -- where nothing is evicted every resident page stays
 pub stay_unless : (m m' : PagedMemory) (page : ℕ) → page_at m.frames page ≡ None → (HasEmptyFrame m.frames → m' ≡ m) → (Evicts m page → ⊥) → AllStay m m'
@@ -36,14 +37,21 @@ module _ {B : Type 0} (tells : Type 0) (held kept : B → ℕ → Bool) (words :
         stands_trans s (words b) (words b') (words b'') m m' (record m' { frames = t }) first
         (came_stands m' t page ws within absent' places s (words b') (words b'') (blocks_same held kept words b' b'' (same_words ts) m' table) (filled ts) first.clean)
 
-    pub brought_table : page < m'.pages → IsSoundTable (held b'') (record m' { frames = t })
-    brought_table inside = came_table m' t page ws within absent' places (held b'') inside fetched_table
+    pub brought_table : page < m'.pages → HasEmptyFrame m'.frames → IsSoundTable (held b'') (record m' { frames = t })
+    brought_table inside room = came_table m' t page ws within absent' places (held b'') inside room fetched_table
 
     pub brought_pages : KeepsPages (kept b) m m' → KeepsPages (kept b) m (record m' { frames = t })
     brought_pages = came_pages m' t page ws within absent' places (kept b) m
 
     pub brought_resident : IsResident t page
     brought_resident = came_resident m' t page ws within absent' places
+
+    pub brought_other : (p : ℕ) → p ≢ page → page_at t p ≡ page_at m'.frames p
+    brought_other = came_other m' t page ws within absent' places
+
+    -- a read that was due isn't Shut where the page was brought
+    pub brought_shut : {T : Type 0} (w : T) (was mid : Bool) → block_at m' page ≡ block_at m page → mid ≡ was → (IsErrOf {T = T} (Ok w) Shut ↔ ((mid ≡ true) × (block_at m' page ≢ 0))) → was ≡ true → IsRead m (record m' { frames = t }) page → ⊥
+    brought_shut w was mid block same shut is read = let clash = shut.1 (same ∙ is, λ z. read.1 (sym block ∙ z)) in cc clash
 
     pub brought_stay : AllStay m m' → AllStay m (record m' { frames = t })
     brought_stay = came_stay m' t page ws within absent' places m

@@ -1,15 +1,15 @@
 -- A page leaves its frame: the clock's victim, after it was saved. No word changes.
-use Rattle.std.proofs.Common.{◌≡◌, ◌≢◌, ◌↔◌, ℕ, ◌<◌, Bool, true, false, ◌&&◌, ◌||◌, ◌==◌, List, length, set, Option, Some, None, Result, is_some, IsSome, IsErrOf, OnSome, count_by, refl, sym, ap, ◌∙◌, inl, inr, subst, arith}
+use Rattle.std.proofs.Common.{◌≡◌, ◌≢◌, ◌↔◌, ◌⊎◌, ℕ, ◌+◌, ◌<◌, ◌≤◌, Bool, true, false, ◌&&◌, ◌||◌, ◌==◌, List, length, set, Option, Some, None, Result, is_some, IsSome, IsErrOf, OnOk, OnSome, count_by, refl, sym, ap, ◌∙◌, inl, inr, subst, arith}
 use Rattle.std.proofs.lemmas.Bool.{cases_eq}
 use Rattle.hop_model.specs.State.{Supply}
 use Rattle.page_store.specs.declared.faults.PageFault.{PageFault}
-use Rattle.page_store.specs.declared.faults.PageFault.TheVariants.{NoBlocks}
-use Rattle.frame_table.specs.FrameTable.{FrameTable, Resident, HasEmptyFrame, IsBounded, IsResident, IsVictim, Removes, changed_at, page_at, page_taken, resident_changed, unmarked}
-use Rattle.frame_table.proofs.Pages.{count-set_gone}
+use Rattle.page_store.specs.declared.faults.PageFault.TheVariants.{NoBlocks, Shut}
+use Rattle.frame_table.specs.FrameTable.{FrameTable, Resident, HasEmptyFrame, IsResident, IsVictim, Removes, changed_at, page_at, page_taken, resident_changed, resident_count, unmarked}
+use Rattle.frame_table.proofs.Pages.{count-set_gone, not_some}
 use Rattle.fault_paging.specs.declared.paged.PagedMemory.{PagedMemory}
 use Rattle.fault_paging.specs.Words.{block_at, needs_block, AreCleanTrue, IsSoundTable}
-use Rattle.fault_paging.specs.Calls.{AllStay, Chooses, Keeps, KeepsPages, Saves, Stands}
-use Rattle.fault_paging.proofs.Pages.{Same, at_other, at_page, removed, resident_within, stands, stands_trans, untouched}
+use Rattle.fault_paging.specs.Calls.{AllStay, Chooses, IsWritten, Keeps, KeepsPages, Saves, Stands}
+use Rattle.fault_paging.proofs.Pages.{Same, at_other, at_page, fits_same, removed, resident_within, stands, stands_trans, untouched}
 use Rattle.fault_paging.proofs.Blocks.{resident_is}
 
 some_same : {X : Type 0} (x y : X) → Some x ≡ Some y → x ≡ y
@@ -28,10 +28,6 @@ marked_resident None (Some r') e = absurd (cc e)
 marked_resident (Some r) None e = absurd (cc e)
 marked_resident (Some r) (Some r') e = refl
 
-pub none_from : (o : Option Resident) → is_some o ≡ false → o ≡ None
-none_from None e = refl
-none_from (Some r) e = absurd (cc e)
-
 -- MARKS OF USE
 
 module _ (m : PagedMemory) (t : FrameTable) (marked : (p : ℕ) → unmarked (page_at t p) ≡ unmarked (page_at m.frames p)) where
@@ -39,15 +35,16 @@ module _ (m : PagedMemory) (t : FrameTable) (marked : (p : ℕ) → unmarked (pa
   marked_stands s words = stands s words words m (record m { frames = t }) (λ p. untouched s words words m (record m { frames = t }) p refl refl (marked p) (λ _ _. refl))
 
   pub marked_none : (p : ℕ) → page_at m.frames p ≡ None → page_at t p ≡ None
-  marked_none p none = none_from (page_at t p) (marked_resident (page_at m.frames p) (page_at t p) (marked p) ∙ ap is_some none)
+  marked_none p none = not_some (page_at t p) (marked_resident (page_at m.frames p) (page_at t p) (marked p) ∙ ap is_some none)
 
   pub marked_some : (p : ℕ) → IsResident m.frames p → IsResident t p
   marked_some p there = marked_resident (page_at m.frames p) (page_at t p) (marked p) ∙ there
 
-  pub marked_table : (held : ℕ → Bool) → IsSoundTable held m → IsSoundTable held (record m { frames = t })
-  marked_table held table = record {
+  pub marked_table : (held : ℕ → Bool) → t.frames ≡ m.frames.frames → IsSoundTable held m → IsSoundTable held (record m { frames = t })
+  marked_table held frames table = record {
     few = table.few;
     len = table.len;
+    fits = fits_same m.frames t (λ p. marked_resident (page_at m.frames p) (page_at t p) (marked p)) frames table.fits;
     none_past = λ p past. let none = table.none_past p past in (none.0, marked_none p none.1);
     held_blocks = table.held_blocks;
     differ = table.differ;
@@ -55,6 +52,14 @@ module _ (m : PagedMemory) (t : FrameTable) (marked : (p : ℕ) → unmarked (pa
 
   pub marked_needs : (kept : ℕ → Bool) (p : ℕ) → needs_block kept (record m { frames = t }) p ≡ needs_block kept m p
   marked_needs kept p = ap (λ x. x && (block_at m p == 0 || kept (block_at m p))) (marked_changed (page_at m.frames p) (page_at t p) (marked p))
+
+  marked_written : (kept : ℕ → Bool) (free p : ℕ) → IsWritten kept free (record m { frames = t }) p ↔ IsWritten kept free m p
+  marked_written kept free p =
+      let changed = marked_changed (page_at m.frames p) (page_at t p) (marked p) in
+      let needs = marked_needs kept p in (
+        λ w. record { changed = sym changed ∙ w.changed; block = λ need. w.block (needs ∙ need) },
+        λ w. record { changed = changed ∙ w.changed; block = λ need. w.block (sym needs ∙ need) },
+      )
 
   pub marked_pages : (kept : ℕ → Bool) (m' : PagedMemory) → t.frames ≡ m.frames.frames → KeepsPages kept (record m { frames = t }) m' → KeepsPages kept m m'
   marked_pages kept m' frames pages = record {
@@ -96,6 +101,14 @@ module _ (m : PagedMemory) (t : FrameTable) (page : ℕ) (there : IsResident m.f
     | inr differs ↦ gone_other p differs ∙ none
   ]
 
+  fewer : resident_count t + 1 ≡ resident_count m.frames
+  fewer =
+      let r = resident_is (page_at m.frames page) there in
+      ap (λ ps. count_by is_some ps + 1) without ∙ count-set_gone m.frames.pages page within r.0 r.1
+
+  frames_same : t.frames ≡ m.frames.frames
+  frames_same = ap (λ (x : FrameTable). x.frames) removes.is
+
   pub gone_stands : (s : Supply) (words : ℕ → List ℕ) → AreCleanTrue s words m → Stands s words words m (record m { frames = t })
   gone_stands s words = stands s words words m (record m { frames = t }) each
     where
@@ -113,6 +126,7 @@ module _ (m : PagedMemory) (t : FrameTable) (page : ℕ) (there : IsResident m.f
   gone_table held table = record {
     few = table.few;
     len = table.len;
+    fits = (let one = fewer in omega (arith, one, frames_same, table.fits));
     none_past = λ p past. let none = table.none_past p past in (none.0, gone_none p none.1);
     held_blocks = table.held_blocks;
     differ = table.differ;
@@ -122,7 +136,7 @@ module _ (m : PagedMemory) (t : FrameTable) (page : ℕ) (there : IsResident m.f
   gone_pages kept from pages = record {
     same_tag = pages.same_tag;
     same_pages = pages.same_pages;
-    same_frames = ap (λ (x : FrameTable). x.frames) removes.is ∙ pages.same_frames;
+    same_frames = frames_same ∙ pages.same_frames;
     same_blocks = pages.same_blocks;
     none_changed = λ p e. elim (cases_eq p page) [
       | inl same ↦ let clash : true ≡ false = sym e ∙ ap (changed_at t) same ∙ ap resident_changed gone_here in absurd (cc clash)
@@ -131,26 +145,39 @@ module _ (m : PagedMemory) (t : FrameTable) (page : ℕ) (there : IsResident m.f
   }
 
   -- its frame is empty then
-  pub room_made : IsBounded m.frames → HasEmptyFrame t
-  room_made bounded =
-      let r = resident_is (page_at m.frames page) there in
-      let fewer = count-set_gone m.frames.pages page within r.0 r.1 in
-      let count : count_by is_some t.pages ≡ count_by is_some (set m.frames.pages page None) = ap (count_by is_some) without in
-      let frames : t.frames ≡ m.frames.frames = ap (λ (x : FrameTable). x.frames) removes.is in
-      omega (arith, fewer, count, frames, bounded.fits)
+  pub room_made : resident_count m.frames ≤ m.frames.frames → HasEmptyFrame t
+  room_made fits = let one = fewer in omega (arith, one, frames_same, fits)
 
 -- THE WHOLE
 
-pub chooses_from : {T : Type 0} (m : PagedMemory) (t : FrameTable) (kept : ℕ → Bool) (free page : ℕ) (result : Result T PageFault) → IsVictim page m.frames t → (IsErrOf result (NoBlocks (record { need = 1; free = 0 })) ↔ ((needs_block kept (record m { frames = t }) page ≡ true) × (free ≡ 0))) → Chooses kept free m result
-chooses_from m t kept free page result is exact = record {
-  victim = page;
-  after = t;
-  is = is;
-  exact = (
-    λ none. let both = exact.0 none in (sym (marked_needs m t is.same_pages kept page) ∙ both.0, both.1),
-    λ both. exact.1 (marked_needs m t is.same_pages kept page ∙ both.0, both.1),
-  );
-}
+pub chooses_from :
+    {T : Type 0} (m m' : PagedMemory) (t : FrameTable) (kept : ℕ → Bool) (free : ℕ) (was_shut : Bool) (page : ℕ) (result : Result T PageFault) → IsVictim page m.frames t → IsResident m.frames page
+    → OnOk result (page_at m'.frames page ≡ None)
+    → ((p : ℕ) → p ≢ page → IsResident m.frames p → IsResident m'.frames p)
+    → (IsErrOf result (NoBlocks (record { need = 1; free = 0 })) ↔ ((needs_block kept (record m { frames = t }) page ≡ true) × (free ≡ 0)))
+    → (IsErrOf result Shut ↔ ((was_shut ≡ true) × IsWritten kept free (record m { frames = t }) page))
+    → Chooses kept free was_shut ⊥ m m' result
+chooses_from m m' t kept free was_shut page result is there gone stay exact shut =
+    let written = marked_written m t is.same_pages kept free page in
+    record {
+      victim = page;
+      after = t;
+      is = is;
+      was_there = there;
+      gone = gone;
+      others_stay = stay;
+      exact = (
+        λ none. let both = exact.0 none in (sym (marked_needs m t is.same_pages kept page) ∙ both.0, both.1),
+        λ both. exact.1 (marked_needs m t is.same_pages kept page ∙ both.0, both.1),
+      );
+      shut = (
+        λ e. let both = shut.0 e in (both.0, inl (written.0 both.1)),
+        λ both. elim both.1 [
+          | inl w ↦ shut.1 (both.0, written.1 w)
+          | inr never ↦ absurd never
+        ],
+      );
+    }
 
 -- what is taken of a resident page is something
 pub on_taken : {P : Type 0} (o : Option Resident) (r : Option (List ℕ × Bool)) → r ≡ page_taken o → IsSome o → OnSome r P → P
@@ -186,14 +213,21 @@ module _ {B : Type 0} (tells : Type 0) (held kept : B → ℕ → Bool) (words :
     pub left_pages : KeepsPages (kept b) marked m' → KeepsPages (kept b) m (record m' { frames = t' })
     left_pages pages = gone_pages m' t' page there saves.unchanged removes (kept b) m (pages_saved pages)
 
-    pub left_room : IsBounded m'.frames → HasEmptyFrame t'
-    left_room = room_made m' t' page there saves.unchanged removes
+    pub left_room : IsSoundTable (held b') m' → HasEmptyFrame t'
+    left_room table = room_made m' t' page there saves.unchanged removes table.fits
+
+    pub left_here : page_at t' page ≡ None
+    left_here = gone_here m' t' page there saves.unchanged removes
+
+    pub left_others : (p : ℕ) → p ≢ page → IsResident m.frames p → IsResident t' p
+    left_others p differs was =
+        ap is_some (gone_other m' t' page there saves.unchanged removes p differs) ∙ saves.residents p ∙ marked_some m t is.same_pages p was
 
     pub left_gone : AllStay m (record m' { frames = t' }) → ⊥
-    left_gone stay = let clash : true ≡ false = sym (stay page resident) ∙ ap is_some (gone_here m' t' page there saves.unchanged removes) in cc clash
+    left_gone stay = let clash : true ≡ false = sym (stay page resident) ∙ ap is_some left_here in cc clash
 
     pub left_absent : (p : ℕ) → page_at m.frames p ≡ None → page_at t' p ≡ None
-    left_absent p none = gone_none m' t' page there saves.unchanged removes p (none_from _ (saves.residents p ∙ ap is_some (marked_none m t is.same_pages p none)))
+    left_absent p none = gone_none m' t' page there saves.unchanged removes p (not_some _ (saves.residents p ∙ ap is_some (marked_none m t is.same_pages p none)))
 
     pub left_blocks : (p : ℕ) → page_at m.frames p ≡ None → block_at m' p ≡ block_at m p
     left_blocks p none = (saves.others p (λ same. let clash : true ≡ false = sym resident ∙ ap (λ q. is_some (page_at m.frames q)) (sym same) ∙ ap is_some none in cc clash)).1

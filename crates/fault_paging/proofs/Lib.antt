@@ -1,3 +1,4 @@
+pub mod Begun
 pub mod Blocks
 pub mod Bringing
 pub mod Brings

@@ -1,10 +1,11 @@
 -- The words at every address stand where each page's words stand: in its frame, in its block or with the supplier.
-use Rattle.std.proofs.Common.{◌≡◌, ◌≢◌, ℕ, ◌/◌, ◌%◌, ◌<◌, Bool, true, false, eqb, if◌then◌else◌, List, length, get_or, set, slice_index, Option, Some, None, IsSome, refl, sym, ap, ◌∙◌, inl, inr, subst, is_some, eq-eqb, arith}
+use Rattle.std.proofs.Common.{◌≡◌, ◌≢◌, ℕ, ◌/◌, ◌%◌, ◌<◌, ◌≤◌, Bool, true, false, eqb, if◌then◌else◌, List, length, get_or, set, slice_index, Option, Some, None, IsSome, refl, sym, ap, ◌∙◌, inl, inr, subst, is_some, eq-eqb, arith}
 use Rattle.std.proofs.lemmas.Bool.{cases_eq, cases_lt}
 use Rattle.std.proofs.lemmas.Bool.Decides.{nat_tests}
 use Rattle.std.proofs.lemmas.List.{get_or_past, get_or-set_same, get_or-set_other}
 use Rattle.hop_model.specs.State.{Supply}
-use Rattle.frame_table.specs.FrameTable.{FrameTable, Resident, IsResident, changed_at, page_at, resident_changed, unmarked}
+use Rattle.frame_table.specs.FrameTable.{FrameTable, Resident, IsResident, changed_at, page_at, resident_changed, resident_count, unmarked}
+use Rattle.frame_table.proofs.Pages.{count-same}
 use Rattle.fault_paging.specs.declared.paged.PagedMemory.{PagedMemory}
 use Rattle.fault_paging.specs.Words.{block_at, stored_word, word_by, word_in, words_of, AreCleanTrue}
 use Rattle.fault_paging.specs.Calls.{Stands}
@@ -26,6 +27,10 @@ at_page t t' page slot within is = ap (λ ps. get_or ps page None) is ∙ get_or
 
 pub at_other : (t t' : FrameTable) (page p : ℕ) (slot : Option Resident) → p ≢ page → t'.pages ≡ set t.pages page slot → page_at t' p ≡ page_at t p
 at_other t t' page p slot differs is = ap (λ ps. get_or ps p None) is ∙ get_or-set_other t.pages page p slot None differs
+
+-- where the same pages are resident, they fit as before
+pub fits_same : (t t' : FrameTable) → ((p : ℕ) → is_some (page_at t' p) ≡ is_some (page_at t p)) → t'.frames ≡ t.frames → resident_count t ≤ t.frames → resident_count t' ≤ t'.frames
+fits_same t t' same frames fits = let count : resident_count t' ≡ resident_count t = count-same t'.pages t.pages same in omega (arith, count, frames, fits)
 
 -- a page that is changed is resident
 pub changed_resident : (o : Option Resident) → resident_changed o ≡ true → IsSome o

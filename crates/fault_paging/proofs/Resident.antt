@@ -1,15 +1,16 @@
 -- A word of a resident page is read or written: no other word changes.
-use Rattle.std.proofs.Common.{◌≡◌, ◌≢◌, ℕ, ◌/◌, ◌%◌, ◌<◌, Bool, true, false, eqb, List, length, set, slice_index, is_some, Option, Some, None, IsSome, refl, sym, ap, ◌∙◌, inl, inr, eq-eqb, arith}
+use Rattle.std.proofs.Common.{◌≡◌, ◌≢◌, ℕ, ◌/◌, ◌%◌, ◌<◌, Bool, true, false, eqb, List, length, set, slice_index, is_some, Option, Some, None, Err, IsSome, refl, sym, ap, ◌∙◌, inl, inr, eq-eqb, arith}
 use Rattle.std.proofs.lemmas.Bool.{cases_eq}
 use Rattle.std.proofs.lemmas.Bool.Decides.{nat_tests}
 use Rattle.std.proofs.lemmas.List.{get_or-set_same, get_or-set_other}
 use Rattle.hop_model.specs.State.{Supply}
 use Rattle.hop_model.specs.Words.{put}
+use Rattle.page_store.specs.declared.faults.PageFault.{PageFault}
 use Rattle.frame_table.specs.FrameTable.{FrameTable, Resident, IsResident, changed_at, page_at, resident_changed, resident_words, unmarked, with_resident, words_at}
 use Rattle.fault_paging.specs.declared.paged.PagedMemory.{PagedMemory}
 use Rattle.fault_paging.specs.Words.{block_at, word_by, word_in, words_of, AreCleanTrue, IsSoundTable}
-use Rattle.fault_paging.specs.Calls.{AllStay, KeepsBlocks, KeepsPages, Reads}
-use Rattle.fault_paging.proofs.Pages.{at_other, at_page, resident_within, untouched}
+use Rattle.fault_paging.specs.Calls.{AllStay, KeepsBlocks, KeepsPages, MarksOne, Reads}
+use Rattle.fault_paging.proofs.Pages.{at_other, at_page, fits_same, resident_within, untouched}
 
 unmarked_is : (o : Option Resident) → IsSome o → unmarked o ≡ Some (resident_words o, resident_changed o)
 unmarked_is None there = let clash : IsSome {T = Resident} None = there in absurd (cc clash)
@@ -54,6 +55,7 @@ module _ (m : PagedMemory) (page : ℕ) (there : IsResident m.frames page) (t : 
   same_table held table = record {
     few = table.few;
     len = table.len;
+    fits = fits_same m.frames t same_residents (ap (λ (x : FrameTable). x.frames) is) table.fits;
     none_past = λ p past. let none = table.none_past p past in (
       none.0,
       elim (cases_eq p page) [
@@ -143,3 +145,7 @@ module _ (s : Supply) (words : ℕ → List ℕ) (m : PagedMemory) (address word
     | inr differs ↦
         (untouched s words words m (record m { frames = t }) p refl refl (ap unmarked (other m (address / 128) there t _ true is p differs)) (λ _ _. refl)).clean (clean p) place within resident unchanged
   ]
+
+-- a store that failed marks no page
+pub marks_err : {T : Type 0} (writes : Bool) (m m' : PagedMemory) (page : ℕ) (e : PageFault) → ((p : ℕ) → changed_at m'.frames p ≡ true → changed_at m.frames p ≡ true) → MarksOne {T = T} writes m m' page (Err e)
+marks_err writes m m' page e none = record { resident = tt; changed = λ _. tt; others = λ p _ is. none p is; by_load = λ _ is. none page is; failed = λ is. none page is }

@@ -8,7 +8,7 @@ use Rattle.page_store.specs.Pages.{IsWriteFault}
 use Rattle.frame_table.specs.FrameTable.{changed_at, resident_changed}
 use Rattle.fault_paging.specs.declared.paged.PagedMemory.{PagedMemory}
 use Rattle.fault_paging.specs.Words.{block_at, need_at, need_below, needs_block, IsSoundTable}
-use Rattle.fault_paging.specs.Calls.{IsCausedBy, IsNoRead, Keeps}
+use Rattle.fault_paging.specs.Calls.{IsCausedBy, IsNoRead, IsWritten, Keeps, KeepsPages, Saves}
 
 pub need_none : (kept : ℕ → Bool) (m : PagedMemory) → need_below kept m 0 ≡ 0
 unfolding need_below
@@ -97,3 +97,32 @@ write_cause free free' before between now was mid is WriteFault write rise later
       | inr end ↦ omega arith
     ]
 write_cause free free' before between now was mid is Shut write rise later same cause = sym same ∙ cause
+
+-- a page more is saved: none is newly marked, and blocks changed only where one was needed at first
+pub pages_more : (kept kept' : ℕ → Bool) (m m' m'' : PagedMemory) (page : ℕ) → KeepsPages kept m m' → KeepsPages kept' m' m'' → Saves page m' m'' → needs_block kept' m' page ≡ needs_block kept m page → KeepsPages kept m m''
+pages_more kept kept' m m' m'' page first pages saves same = record {
+  same_tag = pages.same_tag ∙ first.same_tag;
+  same_pages = pages.same_pages ∙ first.same_pages;
+  same_frames = pages.same_frames ∙ first.same_frames;
+  same_blocks = λ p none. elim (cases_eq p page) [
+    | inl is ↦ pages.same_blocks p (ap (needs_block kept' m') is ∙ same ∙ ap (needs_block kept m) (sym is) ∙ none) ∙ first.same_blocks p none
+    | inr differs ↦ (saves.others p differs).1 ∙ first.same_blocks p none
+  ];
+  none_changed = λ p e. first.none_changed p (pages.none_changed p e);
+}
+
+-- a page that doesn't come to a write though a block is left for it isn't changed
+pub not_written : (kept : ℕ → Bool) (free : ℕ) (m : PagedMemory) (page : ℕ) → (needs_block kept m page ≡ true → free ≢ 0) → (IsWritten kept free m page → ⊥) → changed_at m.frames page ≡ false
+not_written kept free m page block never =
+    elim (changed_at m.frames page) as (λ b. changed_at m.frames page ≡ b → b ≡ false) [
+      | true ↦ λ yes. absurd (never (record { changed = yes; block = block }))
+      | false ↦ λ _. refl
+    ] refl
+
+-- a write's fault of a store that was shut
+pub shut_fault : (free before now : ℕ) (was is : Bool) (e : PageFault) → IsWriteFault e → IsCausedBy free before now was is e → was ≡ true → e ≡ Shut
+shut_fault free before now was is e (inr same) cause shut = same
+shut_fault free before now was is e (inl same) cause shut =
+    let known : IsCausedBy free before now was is WriteFault = subst (λ x. IsCausedBy free before now was is x) same cause in
+    let clash : true ≡ false = sym shut ∙ known.1 in
+    absurd (cc clash)

@@ -1,8 +1,9 @@
 -- What the calls of a memory do to its pages and to its page store.
-use Rattle.std.specs.Prelude.{◌≡◌, ◌≢◌, ◌↔◌, ℕ, ◌≤◌, Bool, false, true, List, Result, IsErrOf, None, is_some}
+use Rattle.std.specs.Prelude.{◌≡◌, ◌≢◌, ◌↔◌, ◌⊎◌, ℕ, ◌+◌, ◌≤◌, Bool, false, true, List, Result, IsErrOf, IsOk, OnErr, OnOk, None, is_some}
 use Rattle.hop_model.specs.State.{Supply}
 use Rattle.disk_trait.specs.Counts.{Rose}
 use Rattle.disk_trait.specs.Disk.{Ticks}
+use Rattle.disk_trait.specs.declared.disk.NoBlocks.{NoBlocks as Shortage}
 use Rattle.page_store.specs.declared.faults.PageFault.{PageFault}
 use Rattle.page_store.specs.declared.faults.PageFault.TheVariants.{NoBlocks, ReadFault, WriteFault, Shut}
 use Rattle.frame_table.specs.FrameTable.{FrameTable, HasEmptyFrame, IsResident, IsVictim, changed_at, page_at}
@@ -73,12 +74,53 @@ pub record Reads (before now : ℕ) (m m' : PagedMemory) (page : ℕ) : Type 0 w
   pub once : IsRead m m' page → Ticks before now
   pub never : (IsRead m m' page → ⊥) → now ≡ before
 
--- where an eviction is tried, no block is wanting exactly where the clock's victim needs one and none is free
-pub record Chooses {T : Type 0} (kept : ℕ → Bool) (free : ℕ) (m : PagedMemory) (result : Result T PageFault) : Type 0 where
+-- the page comes to a page write: it is changed, and where it needs a new block one is free
+pub record IsWritten (kept : ℕ → Bool) (free : ℕ) (m : PagedMemory) (page : ℕ) : Type 0 where
+  pub changed : changed_at m.frames page ≡ true
+  pub block : needs_block kept m page ≡ true → free ≢ 0
+
+-- An eviction is tried of the clock's victim, which alone leaves. A block is wanting exactly where the victim needs one and
+-- none is free. The answer is Shut exactly where the store was shut, and the victim comes to a write or a page is read.
+pub record Chooses {T : Type 0} (kept : ℕ → Bool) (free : ℕ) (was_shut : Bool) (reads : Type 0) (m m' : PagedMemory) (result : Result T PageFault) : Type 0 where
   pub victim : ℕ
   pub after : FrameTable
   pub is : IsVictim victim m.frames after
+  pub was_there : IsResident m.frames victim
+  pub gone : OnOk result (page_at m'.frames victim ≡ None)
+  pub others_stay : (p : ℕ) → p ≢ victim → IsResident m.frames p → IsResident m'.frames p
   pub exact : IsErrOf result (NoBlocks (record { need = 1; free = 0 })) ↔ ((needs_block kept m victim ≡ true) × (free ≡ 0))
+  pub shut : IsErrOf result Shut ↔ ((was_shut ≡ true) × (IsWritten kept free m victim ⊎ reads))
+
+-- Room for the page that is looked for. One that is resident is had. Every page stays in its frame where no eviction is
+-- tried, and only where one is tried a block may be wanting. Without one the answer is Shut exactly where the store was shut
+-- and the page is read.
+pub record MakesRoom {T : Type 0} (kept : ℕ → Bool) (free : ℕ) (was_shut : Bool) (m m' : PagedMemory) (page : ℕ) (result : Result T PageFault) : Type 0 where
+  pub had : IsResident m.frames page → IsOk result
+  pub stay : (Evicts m page → ⊥) → AllStay m m'
+  pub chooses : Evicts m page → Chooses kept free was_shut (IsRead m m' page) m m' result
+  pub no_blocks : (n : Shortage) → IsErrOf result (NoBlocks n) → Evicts m page
+  pub shut : (Evicts m page → ⊥) → IsErrOf result Shut ↔ ((was_shut ≡ true) × IsRead m m' page)
+
+-- The counts of a store after a load or a store: at most one page write is begun, and the page is read where it has to be.
+-- Where the page is resident, the store is as before.
+pub record Counts {B : Type 0} (is_shut : B → Bool) (faults written read_calls : B → ℕ) (m m' : PagedMemory) (page : ℕ) (b b' : B) : Type 0 where
+  pub later : Later is_shut faults written b b'
+  pub one_write : written b' ≤ written b + 1
+  pub reads : Reads (read_calls b) (read_calls b') m m' page
+  pub untouched : IsResident m.frames page → b' ≡ b
+
+-- no page is marked as changed
+abbrev pub IsUnchanged : PagedMemory → Type 0
+IsUnchanged m = (page : ℕ) → changed_at m.frames page ≡ false
+
+-- A store after a flush: at most one page write for each page, and no read. Where no page was changed, the flush ends well
+-- and the store is as before. The answer is Shut exactly where the store was shut and some page was changed.
+pub record FlushCounts {B T : Type 0} (is_shut : B → Bool) (faults written read_calls : B → ℕ) (m : PagedMemory) (result : Result T PageFault) (b b' : B) : Type 0 where
+  pub later : Later is_shut faults written b b'
+  pub few_writes : written b' ≤ written b + 256
+  pub no_read : read_calls b' ≡ read_calls b
+  pub untouched : IsUnchanged m → IsOk result × (b' ≡ b)
+  pub shut : IsErrOf result Shut ↔ ((is_shut b ≡ true) × ((page : ℕ) × (changed_at m.frames page ≡ true)))
 
 -- what a call does to the pages: the same container, no page newly changed, and blocks change only where one was needed
 pub record KeepsPages (kept : ℕ → Bool) (m m' : PagedMemory) : Type 0 where
@@ -100,3 +142,12 @@ pub record KeepsBlocks (kept : ℕ → Bool) (m m' : PagedMemory) : Type 0 where
   pub same_pages : m'.pages ≡ m.pages
   pub same_frames : m'.frames.frames ≡ m.frames.frames
   pub same_blocks : (page : ℕ) → needs_block kept m page ≡ false → block_at m' page ≡ block_at m page
+
+-- The page of a load or a store that was made is resident, and that of a store is marked as changed. No other page is newly
+-- marked, nor is the page by a load or where the call failed.
+pub record MarksOne {T : Type 0} (writes : Bool) (m m' : PagedMemory) (page : ℕ) (result : Result T PageFault) : Type 0 where
+  pub resident : OnOk result (IsResident m'.frames page)
+  pub changed : writes ≡ true → OnOk result (changed_at m'.frames page ≡ true)
+  pub others : (p : ℕ) → p ≢ page → changed_at m'.frames p ≡ true → changed_at m.frames p ≡ true
+  pub by_load : writes ≡ false → changed_at m'.frames page ≡ true → changed_at m.frames page ≡ true
+  pub failed : OnErr result (changed_at m'.frames page ≡ true → changed_at m.frames page ≡ true)

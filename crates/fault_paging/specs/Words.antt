@@ -1,7 +1,7 @@
 -- What contracts see of a container's memory over a page store, and the words that it stands for.
 use Rattle.std.specs.Prelude.{◌≡◌, ◌≢◌, ℕ, zero, suc, ◌+◌, ◌/◌, ◌%◌, ◌<◌, ◌≤◌, Bool, false, true, ◌&&◌, ◌||◌, ◌==◌, if◌then◌else◌, List, length, Option, Some, None, slice_index}
 use Rattle.hop_model.specs.State.{Supply}
-use Rattle.frame_table.specs.FrameTable.{Resident, IsResident, changed_at, page_at}
+use Rattle.frame_table.specs.FrameTable.{Resident, IsResident, changed_at, page_at, resident_count}
 use Rattle.fault_paging.specs.declared.paged.PagedMemory.{PagedMemory}
 
 -- the block of a page, 0 for none
@@ -24,10 +24,17 @@ word_in s words m page place = word_by s m.tag words (block_at m page) page plac
 abbrev pub words_of : Supply → (ℕ → List ℕ) → PagedMemory → ℕ → ℕ
 words_of s words m = λ address. word_in s words m (address / 128) (address % 128)
 
--- there are at most 256 pages, none from the size on has a block or is resident, and the blocks are held and differ
+-- the blocks of a table are held and differ
+pub record AreHeldBlocks (held : ℕ → Bool) (table : List ℕ) : Type 0 where
+  pub held_blocks : (page : ℕ) → slice_index table page ≢ 0 → held (slice_index table page) ≡ true
+  pub differ : (p q : ℕ) → slice_index table p ≢ 0 → slice_index table p ≡ slice_index table q → p ≡ q
+
+-- there are at most 256 pages, at most as many are resident as there are frames, none from the size on has a block or is
+-- resident, and the blocks are held and differ
 pub record IsSoundTable (held : ℕ → Bool) (m : PagedMemory) : Type 0 where
   pub few : m.pages ≤ 256
   pub len : length m.table ≡ 256
+  pub fits : resident_count m.frames ≤ m.frames.frames
   pub none_past : (page : ℕ) → m.pages ≤ page → (block_at m page ≡ 0) × (page_at m.frames page ≡ None)
   pub held_blocks : (page : ℕ) → block_at m page ≢ 0 → held (block_at m page) ≡ true
   pub differ : (p q : ℕ) → block_at m p ≢ 0 → block_at m p ≡ block_at m q → p ≡ q

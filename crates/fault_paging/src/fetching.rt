@@ -1,10 +1,10 @@
-ghost use Rattle.std.specs.Prelude.{◌≡◌, ◌≢◌, ◌≤◌, ◌<◌, ◌+◌, ℕ, IfOk, IfErr, OnOk, OnErr, IsErrOf, IsOk, None, slice_index};
+ghost use Rattle.std.specs.Prelude.{◌≡◌, ◌≢◌, ◌↔◌, ◌≤◌, ◌<◌, ◌+◌, ℕ, true, IfOk, IfErr, OnOk, OnErr, IsErrOf, IsOk, None, slice_index};
 ghost use Rattle.hop_model.specs.State.{Supply};
 ghost use Rattle.disk_trait.specs.Disk.{Ticks};
 ghost use Rattle.page_store.specs.Pages.{IsReadFault, SameBlocks, SameWords};
 ghost use Rattle.frame_table.specs.FrameTable.{HasEmptyFrame, IsResident, page_at};
 ghost use Rattle.fault_paging.specs.Words.{AreCleanTrue, IsSoundTable, block_at, stored_word};
-ghost use Rattle.fault_paging.specs.Calls.{AllStay, Chooses, Evicts, IsCausedBy, IsNoRead, Keeps, KeepsPages, Later, Reads, Stands};
+ghost use Rattle.fault_paging.specs.Calls.{AllStay, Chooses, Evicts, IsCausedBy, IsNoRead, IsRead, Keeps, KeepsPages, Later, Reads, Stands};
 
 use crate::paged::PagedMemory;
 use manager_gate::{Gate, Policy, Supplier};
@@ -21,7 +21,7 @@ impl PagedMemory {
         ensures room { OnOk result (HasEmptyFrame self.new.frames) }
         ensures not_needed { HasEmptyFrame self.old.frames → IsOk result }
         ensures same { HasEmptyFrame self.old.frames → self.new ≡ self.old }
-        ensures chooses { (HasEmptyFrame self.old.frames → ⊥) → Chooses (B.kept_names store.old) (B.free store.old) self.old result }
+        ensures chooses { (HasEmptyFrame self.old.frames → ⊥) → Chooses (B.kept_names store.old) (B.free store.old) (B.is_shut store.old) ⊥ self.old self.new result }
         ensures stay { OnErr result (AllStay self.old self.new) }
         ensures gone { OnOk result ((HasEmptyFrame self.old.frames → ⊥) → AllStay self.old self.new → ⊥) }
         ensures absent { (p : ℕ) → page_at self.old.frames p ≡ None → page_at self.new.frames p ≡ None }
@@ -38,8 +38,6 @@ impl PagedMemory {
             return Ok(());
         };
         self.save(store, page)?;
-        // the bounds that this promises show that there is room then
-        let _frames = self.frames.frames();
         self.frames.remove(page);
         Ok(())
     }
@@ -58,6 +56,7 @@ impl PagedMemory {
         ensures same_blocks { SameBlocks B.held B.free store.old store.new }
         ensures kept { B.kept_names store.new ≡ B.kept_names store.old }
         ensures fault { IfErr result IsReadFault }
+        ensures shut { IsErrOf result PageFault.Shut ↔ ((B.is_shut store.old ≡ true) × (block_at self.now page ≢ 0)) }
         ensures cause { IfErr result (IsCausedBy (B.free store.old) (B.faults store.old) (B.faults store.new) (B.is_shut store.old) (B.is_shut store.new)) }
         ensures later { Later B.is_shut B.faults B.written store.old store.new }
         ensures same_shut { OnOk result (B.is_shut store.new ≡ B.is_shut store.old) }
@@ -91,8 +90,10 @@ impl PagedMemory {
         ensures others { Keeps B.tells B.held B.kept_names B.words self.old self.new store.old store.new }
         ensures pages { KeepsPages (B.kept_names store.old) self.old self.new }
         ensures resident { OnOk result (IsResident self.new.frames page) }
+        ensures had { IsResident self.old.frames page → IsOk result × (store.new ≡ store.old) }
         ensures stay { (Evicts self.old page → ⊥) → AllStay self.old self.new }
-        ensures chooses { Evicts self.old page → Chooses (B.kept_names store.old) (B.free store.old) self.old result }
+        ensures chooses { Evicts self.old page → Chooses (B.kept_names store.old) (B.free store.old) (B.is_shut store.old) (IsRead self.old self.new page) self.old self.new result }
+        ensures shut { (Evicts self.old page → ⊥) → IsErrOf result PageFault.Shut ↔ ((B.is_shut store.old ≡ true) × IsRead self.old self.new page) }
         ensures no_blocks { (n : NoBlocks) → IsErrOf result (PageFault.NoBlocks n) → Evicts self.old page }
         ensures reads { Reads (B.read_calls store.old) (B.read_calls store.new) self.old self.new page }
         ensures cause { IfErr result (IsCausedBy (B.free store.old) (B.faults store.old) (B.faults store.new) (B.is_shut store.old) (B.is_shut store.new)) }

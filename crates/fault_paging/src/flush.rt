@@ -1,9 +1,9 @@
-ghost use Rattle.std.specs.Prelude.{◌≡◌, ◌≤◌, ◌+◌, ℕ, false, IfErr, OnOk, is_some};
+ghost use Rattle.std.specs.Prelude.{◌≡◌, ◌≤◌, ℕ, false, IfErr, OnOk, is_some};
 ghost use Rattle.hop_model.specs.State.{Supply};
 ghost use Rattle.page_store.specs.Pages.{IsWriteFault};
 ghost use Rattle.frame_table.specs.FrameTable.{changed_at, page_at};
 ghost use Rattle.fault_paging.specs.Words.{AreCleanTrue, IsSoundTable, need_of, needs_block};
-ghost use Rattle.fault_paging.specs.Calls.{IsCausedBy, Keeps, Later, Stands};
+ghost use Rattle.fault_paging.specs.Calls.{FlushCounts, IsCausedBy, Keeps, KeepsPages, Stands};
 
 use crate::paged::PagedMemory;
 use page_store::{PageFault, PageStore};
@@ -38,9 +38,9 @@ impl PagedMemory {
     /// Writes every changed resident page to its own block, or to a new one where it needs one, and takes its changed
     /// mark. Every resident page stays resident. As many blocks have to be free as `need` counts.
     ///
-    /// It answers `WriteFault` where a write failed, and `Shut` where a call of the store failed before; the pages that
-    /// were written by then aren't changed any more. It looks at each of the 256 pages, and makes a write for each that
-    /// is changed.
+    /// It answers `WriteFault` where a write failed, and `Shut` where a call of the store failed before and a page is
+    /// changed; the pages that were written by then aren't changed any more. It looks at each of the 256 pages, and makes
+    /// a write for each that is changed.
     pub fn flush<B: PageStore>(&mut self, store: &mut B) -> Result<(), PageFault>
         requires table { IsSoundTable (B.held store.old) self.old }
         requires room { need_of (B.kept_names store.old) self.old ≤ B.free store.old }
@@ -49,13 +49,11 @@ impl PagedMemory {
         ensures residents { (page : ℕ) → is_some (page_at self.new.frames page) ≡ is_some (page_at self.old.frames page) }
         ensures table { IsSoundTable (B.held store.new) self.new }
         ensures others { Keeps B.tells B.held B.kept_names B.words self.old self.new store.old store.new }
-        ensures container { (self.new.tag ≡ self.old.tag) × (self.new.pages ≡ self.old.pages) }
+        ensures pages { KeepsPages (B.kept_names store.old) self.old self.new }
         ensures fault { IfErr result IsWriteFault }
         ensures cause { IfErr result (IsCausedBy (B.free store.old) (B.faults store.old) (B.faults store.new) (B.is_shut store.old) (B.is_shut store.new)) }
-        ensures later { Later B.is_shut B.faults B.written store.old store.new }
+        ensures counts { FlushCounts B.is_shut B.faults B.written B.read_calls self.old result store.old store.new }
         ensures same_shut { OnOk result (B.is_shut store.new ≡ B.is_shut store.old) }
-        ensures few_writes { B.written store.new ≤ B.written store.old + 256 }
-        ensures reads { B.read_calls store.new ≡ B.read_calls store.old }
         ensures between { B.Pages store.old store.new }
     {
         for page in 0..PAGES {

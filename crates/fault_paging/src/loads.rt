@@ -1,12 +1,12 @@
-ghost use Rattle.std.specs.Prelude.{◌≡◌, ◌≢◌, ◌≤◌, ◌<◌, ◌+◌, ◌*◌, ◌/◌, ℕ, true, IfOk, IfErr, OnOk, OnErr, IsErrOf};
+ghost use Rattle.std.specs.Prelude.{◌≡◌, ◌<◌, ◌*◌, ◌/◌, true, IfOk, IfErr, OnOk, OnErr};
 ghost use Rattle.hop_model.specs.Words.{put};
-ghost use Rattle.frame_table.specs.FrameTable.{IsResident, changed_at};
+ghost use Rattle.frame_table.specs.FrameTable.{IsResident};
 ghost use Rattle.fault_paging.specs.Words.{AreCleanTrue, IsSoundTable, words_of};
-ghost use Rattle.fault_paging.specs.Calls.{AllStay, Chooses, Evicts, IsCausedBy, Keeps, KeepsBlocks, KeepsPages, Later, Reads, Stands};
+ghost use Rattle.fault_paging.specs.Calls.{Counts, IsCausedBy, Keeps, KeepsBlocks, KeepsPages, MakesRoom, MarksOne, Stands};
 
 use crate::paged::PagedMemory;
 use manager_gate::{Gate, Policy, Supplier};
-use page_store::{NoBlocks, PageFault, PageStore};
+use page_store::{PageFault, PageStore};
 
 impl PagedMemory {
     /// Reads the word at an address below 128 times the pages.
@@ -14,8 +14,8 @@ impl PagedMemory {
     /// Where the page isn't resident, it is read from its block, or filled by the supplier where it has none; and where
     /// no frame is empty then, the clock's victim leaves its frame first. If that one is changed, it is written to its
     /// own block, or to a new one where it has none or a kept record names it. The answer is `NoBlocks` where one is
-    /// needed and none is free, `WriteFault` or `ReadFault` where the call of the store failed, and `Shut` where one
-    /// failed before. No word changes, and after a fault the same loads and stores are possible.
+    /// needed and none is free, `WriteFault` or `ReadFault` where the call of the store failed, and `Shut` where it came
+    /// to such a call and one failed before. No word changes, and after a fault the same loads and stores are possible.
     ///
     /// A load of a resident page takes a number of steps that depends on nothing. Else it looks at each frame twice at
     /// most, copies a page twice at most, and makes one write and one read of the store at most.
@@ -35,14 +35,10 @@ impl PagedMemory {
         ensures others { Keeps B.tells B.held B.kept_names B.words self.old self.new store.old store.new }
         ensures pages { KeepsPages (B.kept_names store.old) self.old self.new }
         ensures resident { OnOk result (IsResident self.new.frames (address / 128)) }
-        ensures stay { (Evicts self.old (address / 128) → ⊥) → AllStay self.old self.new }
-        ensures chooses { Evicts self.old (address / 128) → Chooses (B.kept_names store.old) (B.free store.old) self.old result }
-        ensures no_blocks { (n : NoBlocks) → IsErrOf result (PageFault.NoBlocks n) → Evicts self.old (address / 128) }
-        ensures reads { Reads (B.read_calls store.old) (B.read_calls store.new) self.old self.new (address / 128) }
+        ensures room { MakesRoom (B.kept_names store.old) (B.free store.old) (B.is_shut store.old) self.old self.new (address / 128) result }
+        ensures counts { Counts B.is_shut B.faults B.written B.read_calls self.old self.new (address / 128) store.old store.new }
         ensures cause { IfErr result (IsCausedBy (B.free store.old) (B.faults store.old) (B.faults store.new) (B.is_shut store.old) (B.is_shut store.new)) }
-        ensures later { Later B.is_shut B.faults B.written store.old store.new }
         ensures same_shut { OnOk result (B.is_shut store.new ≡ B.is_shut store.old) }
-        ensures one_write { B.written store.new ≤ B.written store.old + 1 }
         ensures between { B.Pages store.old store.new }
     {
         let page = (address / 128) as u8;
@@ -71,17 +67,11 @@ impl PagedMemory {
         ensures table { IsSoundTable (B.held store.new) self.new }
         ensures others { Keeps B.tells B.held B.kept_names B.words self.old self.new store.old store.new }
         ensures blocks { KeepsBlocks (B.kept_names store.old) self.old self.new }
-        ensures changed { OnOk result (changed_at self.new.frames (address / 128) ≡ true) }
-        ensures none_changed { (page : ℕ) → page ≢ address / 128 → changed_at self.new.frames page ≡ true → changed_at self.old.frames page ≡ true }
-        ensures resident { OnOk result (IsResident self.new.frames (address / 128)) }
-        ensures stay { (Evicts self.old (address / 128) → ⊥) → AllStay self.old self.new }
-        ensures chooses { Evicts self.old (address / 128) → Chooses (B.kept_names store.old) (B.free store.old) self.old result }
-        ensures no_blocks { (n : NoBlocks) → IsErrOf result (PageFault.NoBlocks n) → Evicts self.old (address / 128) }
-        ensures reads { Reads (B.read_calls store.old) (B.read_calls store.new) self.old self.new (address / 128) }
+        ensures marks { MarksOne true self.old self.new (address / 128) result }
+        ensures room { MakesRoom (B.kept_names store.old) (B.free store.old) (B.is_shut store.old) self.old self.new (address / 128) result }
+        ensures counts { Counts B.is_shut B.faults B.written B.read_calls self.old self.new (address / 128) store.old store.new }
         ensures cause { IfErr result (IsCausedBy (B.free store.old) (B.faults store.old) (B.faults store.new) (B.is_shut store.old) (B.is_shut store.new)) }
-        ensures later { Later B.is_shut B.faults B.written store.old store.new }
         ensures same_shut { OnOk result (B.is_shut store.new ≡ B.is_shut store.old) }
-        ensures one_write { B.written store.new ≤ B.written store.old + 1 }
         ensures between { B.Pages store.old store.new }
     {
         let page = (address / 128) as u8;

@@ -1,5 +1,7 @@
-ghost use Rattle.std.specs.Prelude.{◌≡◌, ℕ, ◌<◌, ◌≤◌, IfOk, replicate, slice_index};
+ghost use Rattle.std.specs.Prelude.{◌≡◌, ℕ, ◌/◌, ◌%◌, ◌<◌, ◌≤◌, Bool, List, IfOk, replicate, slice_index};
+ghost use Rattle.hop_model.specs.State.{Supply};
 ghost use Rattle.frame_table.specs.FrameTable.{empty_table};
+ghost use Rattle.fault_paging.specs.Words.{AreCleanTrue, AreHeldBlocks, IsSoundTable, stored_word, words_of};
 
 use frame_table::Frames;
 use page_shadow::ShadowTable;
@@ -31,12 +33,15 @@ impl PagedMemory {
     }
 
     /// Makes it the memory of one container of so many pages, from 1 to 256, whose blocks are in the table. No page is
-    /// resident then.
+    /// resident then: each has its block's words, or the supplier's where it has none.
     pub fn begin(&mut self, tag: u64, pages: u16, table: &ShadowTable)
         requires some { 0 < pages }
         requires few { pages ≤ 256 }
         requires none_past { (page : ℕ) → pages ≤ page → slice_index table.now.0 page ≡ 0 }
-        ensures { self.new ≡ record { tag = tag; pages = pages; frames = empty_table self.old.frames.frames; table = table.now.0 } }
+        ensures is { self.new ≡ record { tag = tag; pages = pages; frames = empty_table self.old.frames.frames; table = table.now.0 } }
+        ensures table { (held : ℕ → Bool) → AreHeldBlocks held table.now.0 → IsSoundTable held self.new }
+        ensures clean { (s : Supply) → (words : ℕ → List ℕ) → AreCleanTrue s words self.new }
+        ensures words { (s : Supply) → (words : ℕ → List ℕ) → (address : ℕ) → words_of s words self.new address ≡ stored_word s tag words (slice_index table.now.0 (address / 128)) (address / 128) (address % 128) }
     {
         self.tag = tag;
         self.pages = pages;

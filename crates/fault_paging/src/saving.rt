@@ -1,7 +1,8 @@
-ghost use Rattle.std.specs.Prelude.{◌≡◌, ◌≢◌, ◌≤◌, ◌+◌, ◌||◌, ◌↔◌, ℕ, true, IsTrue, IfOk, IfErr, OnOk, OnErr, IsErrOf};
+ghost use Rattle.std.specs.Prelude.{◌≡◌, ◌≢◌, ◌≤◌, ◌+◌, ◌||◌, ◌↔◌, ℕ, true, false, IsTrue, IfOk, IfErr, OnOk, OnErr, IsErrOf, IsOk};
 ghost use Rattle.hop_model.specs.State.{Supply};
+ghost use Rattle.frame_table.specs.FrameTable.{changed_at};
 ghost use Rattle.fault_paging.specs.Words.{AreCleanTrue, IsSoundTable, need_at, needs_block};
-ghost use Rattle.fault_paging.specs.Calls.{IsCausedBy, IsNoRead, Keeps, KeepsPages, Later, Moves, Saves, Stands};
+ghost use Rattle.fault_paging.specs.Calls.{IsCausedBy, IsNoRead, IsWritten, Keeps, KeepsPages, Later, Moves, Saves, Stands};
 
 use crate::paged::PagedMemory;
 use page_store::{PageFault, PageStore};
@@ -26,6 +27,7 @@ pub(crate) fn write_anew<B: PageStore>(
     ensures cause { IfErr result (IsCausedBy (B.free store.old) (B.faults store.old) (B.faults store.new) (B.is_shut store.old) (B.is_shut store.new)) }
     ensures later { Later B.is_shut B.faults B.written store.old store.new }
     ensures same_shut { OnOk result (B.is_shut store.new ≡ B.is_shut store.old) }
+    ensures shut { B.is_shut store.old ≡ true → B.free store.old ≢ 0 → IsErrOf result PageFault.Shut }
     ensures one_write { B.written store.new ≤ B.written store.old + 1 }
     ensures reads { B.read_calls store.new ≡ B.read_calls store.old }
     ensures between { B.Pages store.old store.new }
@@ -58,6 +60,8 @@ impl PagedMemory {
         ensures pages { KeepsPages (B.kept_names store.old) self.old self.new }
         ensures free { OnOk result (B.free store.old ≤ B.free store.new + need_at (B.kept_names store.old) self.old page) }
         ensures exact { IsErrOf result (PageFault.NoBlocks (record { need = 1; free = 0 })) ↔ ((needs_block (B.kept_names store.old) self.old page ≡ true) × (B.free store.old ≡ 0)) }
+        ensures still { changed_at self.old.frames page ≡ false → IsOk result × (self.new ≡ self.old) × (store.new ≡ store.old) }
+        ensures shut { IsErrOf result PageFault.Shut ↔ ((B.is_shut store.old ≡ true) × IsWritten (B.kept_names store.old) (B.free store.old) self.old page) }
         ensures fault { IfErr result IsNoRead }
         ensures cause { IfErr result (IsCausedBy (B.free store.old) (B.faults store.old) (B.faults store.new) (B.is_shut store.old) (B.is_shut store.new)) }
         ensures later { Later B.is_shut B.faults B.written store.old store.new }

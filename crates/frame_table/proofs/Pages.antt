@@ -1,5 +1,5 @@
 -- What is seen of the pages after a change of the page table or of the frames.
-use Rattle.std.proofs.Common.{◌≡◌, ◌≢◌, ℕ, suc, ◌+◌, ◌<◌, cond, List, [], ◌∷◌, length, get_or, set, map, Option, Some, None, is_some, count_by, refl, sym, ap, ◌∙◌, inl, inr, zero-add, arith}
+use Rattle.std.proofs.Common.{◌≡◌, ◌≢◌, ℕ, suc, ◌+◌, ◌<◌, false, cond, List, [], ◌∷◌, length, get_or, set, map, Option, Some, None, is_some, count_by, refl, sym, ap, ◌∙◌, inl, inr, zero-add, arith}
 use Rattle.std.proofs.lemmas.Bool.{cases_eq}
 use Rattle.std.proofs.lemmas.List.{get_or-map, get_or-set_same, get_or-set_other, length-map, length-set}
 use Rattle.std.proofs.lemmas.List.Sums.{sum_by-set, sum_by-cons}
@@ -93,3 +93,18 @@ count-none (x ∷ xs) none =
     let first : x ≡ None = none 0 in
     let rest = count-none xs (λ i. none (suc i)) in
     sum_by-cons (λ o. cond (is_some o) 1 0) x xs ∙ ap (λ o. cond (is_some o) 1 0 + count_by is_some xs) first ∙ zero-add (count_by is_some xs) ∙ rest
+
+-- what is nothing
+pub not_some : {X : Type 0} (o : Option X) → is_some o ≡ false → o ≡ None
+not_some None e = refl
+not_some (Some x) e = absurd (cc e)
+
+-- two lists that have something at the same places have as much
+pub count-same : {X : Type 0} (xs ys : List (Option X)) → ((i : ℕ) → is_some (get_or xs i None) ≡ is_some (get_or ys i None)) → count_by is_some xs ≡ count_by is_some ys
+count-same [] ys same = sym (count-none ys (λ i. not_some (get_or ys i None) (sym (same i))))
+count-same (x ∷ xs) [] same = count-none (x ∷ xs) (λ i. not_some (get_or (x ∷ xs) i None) (same i))
+count-same (x ∷ xs) (y ∷ ys) same =
+    let first : is_some x ≡ is_some y = same 0 in
+    let rest : count_by is_some xs ≡ count_by is_some ys = count-same xs ys (λ i. same (suc i)) in
+    sum_by-cons (λ o. cond (is_some o) 1 0) x xs ∙ ap (λ b. cond b 1 0 + count_by is_some xs) first
+    ∙ ap (λ n. cond (is_some y) 1 0 + n) rest ∙ sym (sum_by-cons (λ o. cond (is_some o) 1 0) y ys)

@@ -190,6 +190,3 @@ impl Frames {
         self.hand = 0;
     }
 }
-
-#[cfg(test)]
-mod tests;

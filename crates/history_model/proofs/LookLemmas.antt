@@ -1,17 +1,12 @@
 -- What a look makes, case by case.
 use Rattle.std.proofs.Common.{◌≡◌, ℕ, ◌/◌, ◌<◌, ◌≤◌, nat_lt, Bool, true, false, ◌&&◌, ◌==◌, if◌then◌else◌, List, [], ◌∷◌, All, Option, Some, None, find, refl, arith, subst}
-use Rattle.std.proofs.lemmas.List.Elements.{All-head, All-tail}
 use Rattle.std.proofs.lemmas.Bool.{lt-ltb}
 use Rattle.std.proofs.lemmas.Bool.Decides.{nat_tests}
-use Rattle.hop_base.specs.declared.capabilities.Private.{Private}
 use Rattle.hop_base.specs.declared.capabilities.Region.{Region}
 use Rattle.hop_base.specs.declared.instructions.Reply.{Reply}
 use Rattle.hop_base.specs.declared.instructions.Reply.TheVariants.{Ok, NoPage, Deep}
 use Rattle.hop_model.specs.State.{ContainerState, LocusState, ContainerCell}
-use Rattle.hop_model.specs.Refusals.{private_at}
 use Rattle.hop_model.specs.Words.{covers, denied}
-use Rattle.wanted_act.specs.Views.{IsInside}
-use Rattle.history_model.specs.Readiness.{ShowsPage}
 use Rattle.hop_model.specs.Outcomes.{Outcome, load, store, with_other, own_reply, looked_by, through, hop_to, look_hops, with_word}
 
 -- the act only read the container
@@ -54,28 +49,3 @@ load_reads l c d address =
       | true ↦ λ done h. looked_by_reads l address 1 done r h
       | false ↦ λ done h. record { other = refl; newborn = refl }
     ] _ (record { other = refl; newborn = refl })
-
--- what is found passes the test, and what holds of each holds of it
-pub found_passes : {X : Type 0} (test : X → Bool) (P : X → Type 0) (xs : List X) (x : X) → All P xs → find test xs ≡ Some x → (test x ≡ true) × P x
-found_passes test P [] x all h = cc
-found_passes test P (y ∷ ys) x all h =
-    elim (test y) as (λ b. test y ≡ b → (if b then Some y else find test ys) ≡ Some x → (test x ≡ true) × P x) [
-      | true ↦ λ is e. let same : y ≡ x = cc in subst (λ z. (test z ≡ true) × P z) same (is, All-head P y ys all)
-      | false ↦ λ is e. found_passes test P ys x (All-tail P y ys all) e
-    ] refl h
-
-both_hold : (a b : Bool) → (a && b) ≡ true → b ≡ true
-both_hold true b e = e
-both_hold false b e = absurd (no e)
-  where
-    no : false ≡ true → ⊥
-    no e = cc
-
-shows : (r : Region) (page : ℕ) → covers r page ≡ true → IsInside r → ShowsPage r page
-shows r page e inside = record { at = grind (arith, nat_tests); count = grind (arith, nat_tests); inside = inside }
-
--- the private region that covers a page shows it
-pub private_shows : (l : LocusState) (page : ℕ) (p : Private) → All (λ (p : Private). IsInside p.region) l.privates → private_at l page ≡ Some p → ShowsPage p.region page
-private_shows l page p all is =
-    let found = found_passes (λ (p : Private). p.made == l.host && covers p.region page) (λ (p : Private). IsInside p.region) l.privates p all is in
-    shows p.region page (both_hold (p.made == l.host) (covers p.region page) found.0) found.1

@@ -179,11 +179,3 @@ marks_tell es marks from to ready low first reached none = by_both (is_marked ma
 pub none_by : {X : Type 0} (o : Option X) → ((x : X) → o ≡ Some x → ⊥) → o ≡ None
 none_by None h = refl
 none_by (Some x) h = absurd (h x refl)
-
--- where there is no edge, none closes a circle
-pub no_edges : (es : List Edge) → es ≡ [] → AreReadyEdges es
-no_edges es e = subst AreReadyEdges (sym e) (record {
-  edges = record { ascending = tt; counts = All-nil (λ (e : Edge). 1 ≤ e.count) };
-  low = λ x y some. absurd (omega arith);
-  no_circle = λ c x path h. let some : 0 < 0 = h.0 in omega arith;
-})

@@ -37,12 +37,6 @@ pub record Acted (o : Outcome) (m : LocusState) (b c : Cell) (answer : Answer) (
   pub same : wrote ≡ false → c ≡ b
   pub newborn : o.newborn ≡ None
 
--- a region within the greatest size covers the page
-pub record ShowsPage (r : Region) (page : ℕ) : Type 0 where
-  pub at : r.at ≤ page
-  pub count : page < r.at + r.count
-  pub inside : IsInside r
-
 pub record IsReadyContainer (pages : ℕ) (regions : List Region) : Type 0 where
   pub size : pages ≤ 256
   pub each : All IsInside regions

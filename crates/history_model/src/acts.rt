@@ -3,18 +3,18 @@ ghost use Rattle.hop_base.specs.Instructions.{IsInstruction};
 ghost use Rattle.hop_model.specs.Outcomes.{load as loaded, on_cell, store as stored, through as gone_through, with_word};
 ghost use Rattle.hop_model.specs.State.{Supply, ContainerCell, no_atlas};
 ghost use Rattle.hop_model.specs.Words.{denied};
-ghost use Rattle.wanted_act.specs.Views.{IsReadyLocus};
+ghost use Rattle.wanted_act.specs.Views.{IsReadyLocus, ShowsPage};
 ghost use Rattle.history_model.specs.Plains.{container_of, locus_of};
-ghost use Rattle.history_model.specs.Readiness.{Acted, IsReadyContainer, ShowsPage, leaves_atlas};
+ghost use Rattle.history_model.specs.Readiness.{Acted, IsReadyContainer, leaves_atlas};
 
 use crate::beside_acts::{back, give, invoke, leave, take};
 use crate::local_acts::finish;
-use crate::looks::{moved, next_address, region_at};
+use crate::looks::{next_address, region_at};
 use crate::plain::{PlainContainer, PlainLocus};
 use crate::reads::{given_cap, register};
-use hop_base::{Answer, Entity, Instr, MOST_HOPS, PAGE_WORDS, Region, Reply, Rights, Walk};
+use hop_base::{Answer, Entity, Instr, PAGE_WORDS, Region, Reply, Rights};
 use std::alloc::AllocError;
-use wanted_act::denial;
+use wanted_act::next_walk;
 
 // A LOOK
 
@@ -26,22 +26,13 @@ fn through(l: &mut PlainLocus, region: &Region, address: u64, needed: Rights) ->
     ensures locus { locus_of l.new ≡ (gone_through (locus_of l.old) region.now address (denied region.now.rights.0 needed.0)).locus }
     ensures answer { result ≡ (gone_through (locus_of l.old) region.now address (denied region.now.rights.0 needed.0)).answer }
 {
-    if let Some(reply) = denial(region.rights, needed) {
-        return finish(l, reply);
+    match next_walk(&l.view(), region, address, needed) {
+        Ok(walk) => {
+            l.walk = Some(walk);
+            Answer::Hop
+        }
+        Err(reply) => finish(l, reply),
     }
-    let hops = match l.walk {
-        Some(walk) => walk.hops,
-        None => 0,
-    };
-    if hops >= MOST_HOPS {
-        return finish(l, Reply::Deep);
-    }
-    l.walk = Some(Walk {
-        at: region.target,
-        address: moved(region, address),
-        hops: hops + 1,
-    });
-    Answer::Hop
 }
 
 /// Stores a word. On want of memory nothing is changed.

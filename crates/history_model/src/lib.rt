@@ -5,8 +5,6 @@
 mod acts;
 mod atlas_acts;
 mod atlas_steps;
-#[cfg(test)]
-mod atlas_tests;
 mod beside_acts;
 mod births;
 mod carry;
@@ -19,12 +17,8 @@ mod names;
 mod plain;
 mod program_births;
 mod reads;
-#[cfg(test)]
-mod step_tests;
 mod steps;
 mod tables;
-#[cfg(test)]
-mod tests;
 
 pub use births::plain_birth;
 pub use hop_model::{

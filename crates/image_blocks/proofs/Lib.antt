@@ -5,6 +5,7 @@ pub mod Reading
 pub mod Spelling
 pub mod Fits
 pub mod Opening
-mod LastVersions
+pub mod Ranges
+pub mod LastVersions
 mod FirstBlock
 mod Worked

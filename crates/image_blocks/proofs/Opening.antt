@@ -8,7 +8,6 @@ use Rattle.std.proofs.lemmas.Option.{get_or_from_slice_get, slice_get_within}
 use Rattle.disk_trait.specs.Image.{Image, IsImage, block_at}
 use Rattle.hop_base.specs.Edges.{upto}
 use Rattle.hop_base.specs.declared.records.Rec.{Rec}
-use Rattle.hop_model.specs.Words.{first}
 use Rattle.image_blocks.specs.Bodies.{blocks_for, body_block, number_at, record_in}
 use Rattle.image_blocks.specs.Checks.{Bad, active_area, active_by, area_fault, blocks_fault, body_fault, body_in, check_1, check_2, check_3, count_in, header_fault, in_block, is_count, is_epoch, last_version, log_fault, log_in, records_fault, slot_fault, stamps_fault, superblock_fault, unless_at, used_from, used_in, zeros_from}
 use Rattle.image_blocks.specs.Layout.{body_at, epoch_in, header_at, is_open, least_blocks, most_blocks, most_length, pool_at, slot_count, slot_gate_at}
@@ -39,36 +38,35 @@ count_good blocks block none =
     let two = first_head format (count ∷ behind) one.1 in
     unless_none (is_count blocks (number_at 12 4 block)) 12 (first_head count behind two.1).0
 
--- the tests of a body
-module _ (count : ℕ) (before : List Rec) (body : List ℕ) (none : body_fault count before body ≡ None) where
-  abbrev entity : Option ℕ
-  entity = unless_at (nat_lt (number_at 0 4 body) 64) 0
+-- the tests of a body hold
+pub record Tests (count : ℕ) (before : List Rec) (body : List ℕ) : Type 0 where
+  pub entity : nat_lt (number_at 0 4 body) 64 ≡ true
+  pub length : (nat_le 1 (number_at 4 4 body) && nat_le (number_at 4 4 body) most_length) ≡ true
+  pub version : (is_epoch (number_at 8 8 body) && nat_lt (last_version before (number_at 0 4 body)) (number_at 8 8 body)) ≡ true
+  pub stamp : stamps_fault (number_at 0 4 body) (number_at 8 8 body) body ≡ None
+  pub numbers : blocks_fault count (blocks_for (number_at 4 4 body)) (record_in body).blocks ≡ None
+  pub zeros : zeros_from 560 body ≡ None
 
-  abbrev len : Option ℕ
-  len = unless_at (nat_le 1 (number_at 4 4 body) && nat_le (number_at 4 4 body) most_length) 4
-
-  abbrev version : Option ℕ
-  version = unless_at (is_epoch (number_at 8 8 body) && nat_lt (last_version before (number_at 0 4 body)) (number_at 8 8 body)) 8
-
-  abbrev stamp : Option ℕ
-  stamp = stamps_fault (number_at 0 4 body) (number_at 8 8 body) body
-
-  abbrev numbers : Option ℕ
-  numbers = blocks_fault count (blocks_for (number_at 4 4 body)) (record_in body).blocks
-
-  behind_entity : (entity ≡ None) × (first (len ∷ version ∷ stamp ∷ numbers ∷ zeros_from 560 body ∷ []) ≡ None)
-  behind_entity = first_head entity (len ∷ version ∷ stamp ∷ numbers ∷ zeros_from 560 body ∷ []) none
-
-  pub entity_low : number_at 0 4 body < 64
-  entity_low = let test : nat_lt (number_at 0 4 body) 64 ≡ true = unless_none (nat_lt (number_at 0 4 body) 64) 0 behind_entity.0 in grind (arith, nat_tests, test)
-
-  pub zeros_behind : zeros_from 560 body ≡ None
-  zeros_behind =
-      let two = first_head len (version ∷ stamp ∷ numbers ∷ zeros_from 560 body ∷ []) behind_entity.1 in
-      let three = first_head version (stamp ∷ numbers ∷ zeros_from 560 body ∷ []) two.1 in
-      let four = first_head stamp (numbers ∷ zeros_from 560 body ∷ []) three.1 in
-      let five = first_head numbers (zeros_from 560 body ∷ []) four.1 in
-      (first_head (zeros_from 560 body) [] five.1).0
+pub tests : (count : ℕ) (before : List Rec) (body : List ℕ) → body_fault count before body ≡ None → Tests count before body
+tests count before body none =
+    let entity : Option ℕ = unless_at (nat_lt (number_at 0 4 body) 64) 0 in
+    let len : Option ℕ = unless_at (nat_le 1 (number_at 4 4 body) && nat_le (number_at 4 4 body) most_length) 4 in
+    let version : Option ℕ = unless_at (is_epoch (number_at 8 8 body) && nat_lt (last_version before (number_at 0 4 body)) (number_at 8 8 body)) 8 in
+    let stamp : Option ℕ = stamps_fault (number_at 0 4 body) (number_at 8 8 body) body in
+    let numbers : Option ℕ = blocks_fault count (blocks_for (number_at 4 4 body)) (record_in body).blocks in
+    let one = first_head entity (len ∷ version ∷ stamp ∷ numbers ∷ zeros_from 560 body ∷ []) none in
+    let two = first_head len (version ∷ stamp ∷ numbers ∷ zeros_from 560 body ∷ []) one.1 in
+    let three = first_head version (stamp ∷ numbers ∷ zeros_from 560 body ∷ []) two.1 in
+    let four = first_head stamp (numbers ∷ zeros_from 560 body ∷ []) three.1 in
+    let five = first_head numbers (zeros_from 560 body ∷ []) four.1 in
+    record {
+      entity = unless_none _ 0 one.0;
+      length = unless_none _ 4 two.0;
+      version = unless_none _ 8 three.0;
+      stamp = four.0;
+      numbers = five.0;
+      zeros = (first_head (zeros_from 560 body) [] five.1).0;
+    }
 
 -- THE ACTIVE AREA
 
@@ -162,7 +160,7 @@ body_low B i lt = omega (arith, lt)
 
 -- THE WHOLE
 
-module _ (recs : List Rec) (blocks : ℕ) (image : Image) (whole : IsImage blocks image) (h : HasRecords recs image) where
+module _ (recs : List Rec) (image : Image) (h : HasRecords recs image) where
   three : (check_1 image ≡ None) × (check_2 image ≡ None) × (check_3 image ≡ None)
   unfolding records_fault
   three =
@@ -173,25 +171,16 @@ module _ (recs : List Rec) (blocks : ℕ) (image : Image) (whole : IsImage block
   header : header_fault (block_at image (header_at h.area)) ≡ None
   header = in_block_none (header_at h.area) (header_fault (block_at image (header_at h.area))) (sym (ap (area_fault image) h.active) ∙ three.1)
 
-  enough : pool_at ≤ blocks
-  enough =
-      let good = count_good (length image) (block_at image 0) (else_none (length image == 0) (record { block = 0; place = 0 }) (superblock_fault (length image) (block_at image 0)) three.0) in
-      let parts = and_parts (nat_le least_blocks (count_in image) && nat_le (count_in image) most_blocks) (nat_le (count_in image) (length image)) good in
-      let low = leb-true least_blocks (count_in image) (and_parts (nat_le least_blocks (count_in image)) (nat_le (count_in image) most_blocks) parts.0).0 in
-      let high = leb-true (count_in image) (length image) parts.1 in
-      let len = whole.len in
-      omega (arith, low, high, len)
-
   used : used_in image h.area ≡ length recs
   used = sym (upto_len (used_in image h.area)) ∙ (sym (length-map (upto (used_in image h.area)) (λ i. record_in (body_in image h.area i))) ∙ ap length h.log)
 
-  slot_none : (i : ℕ) → i < used_in image h.area → body_fault (count_in image) (take i recs) (body_in image h.area i) ≡ None
+  pub slot_none : (i : ℕ) → i < used_in image h.area → body_fault (count_in image) (take i recs) (body_in image h.area i) ≡ None
   slot_none i lt =
       let each = first_each (slot_fault image h.area) (used_in image h.area) (sym (ap (log_fault image) h.active) ∙ three.2) i lt in
       ap (λ (rs : List Rec). body_fault (count_in image) (take i rs) (body_in image h.area i)) (sym h.log)
       ∙ in_block_none (body_at h.area i) (body_fault (count_in image) (take i (log_in image h.area)) (body_in image h.area i)) each
 
-  read : (i : ℕ) (r : Rec) → slice_get recs i ≡ Some r → i < used_in image h.area → r ≡ record_in (body_in image h.area i)
+  pub read : (i : ℕ) (r : Rec) → slice_get recs i ≡ Some r → i < used_in image h.area → r ≡ record_in (body_in image h.area i)
   read i r here lt =
       let f : ℕ → Rec = λ k. record_in (body_in image h.area k) in
       let n = upto_len (used_in image h.area) in
@@ -199,38 +188,51 @@ module _ (recs : List Rec) (blocks : ℕ) (image : Image) (whole : IsImage block
       ∙ (ap (λ (rs : List Rec). get_or rs i r) (sym h.log)
       ∙ (get_or-map f (upto (used_in image h.area)) i 0 r (omega (arith, lt, n)) ∙ ap f (upto_get (used_in image h.area) i lt)))
 
+  pub used_before : (i : ℕ) (r : Rec) → slice_get recs i ≡ Some r → i < used_in image h.area
+  used_before i r here = let a = slice_get_within recs i r here in let e = used in omega (arith, a, e)
+
+module _ (recs : List Rec) (blocks : ℕ) (image : Image) (whole : IsImage blocks image) (h : HasRecords recs image) where
+  enough : pool_at ≤ blocks
+  enough =
+      let good = count_good (length image) (block_at image 0) (else_none (length image == 0) (record { block = 0; place = 0 }) (superblock_fault (length image) (block_at image 0)) (three recs image h).0) in
+      let parts = and_parts (nat_le least_blocks (count_in image) && nat_le (count_in image) most_blocks) (nat_le (count_in image) (length image)) good in
+      let low = leb-true least_blocks (count_in image) (and_parts (nat_le least_blocks (count_in image)) (nat_le (count_in image) most_blocks) parts.0).0 in
+      let high = leb-true (count_in image) (length image) parts.1 in
+      let len = whole.len in
+      omega (arith, low, high, len)
+
   body : (i : ℕ) (r : Rec) → slice_get recs i ≡ Some r → body_in image h.area i ≡ body_block r
   body i r here =
-      let lt : i < used_in image h.area = (let a = slice_get_within recs i r here in let e = used in omega (arith, a, e)) in
-      let few = slots_few image h.area slot_count (length recs) used in
+      let lt = used_before recs image h i r here in
+      let few = slots_few image h.area slot_count (length recs) (used recs image h) in
       let place : body_at h.area i < blocks = (let low = body_low h.area i (let a = slice_get_within recs i r here in omega (arith, a, few)) in let room = enough in omega (arith, low, room)) in
-      body_is (body_in image h.area i) (whole.block (body_at h.area i) place) (zeros_behind (count_in image) (take i recs) (body_in image h.area i) (slot_none i lt))
-      ∙ ap body_block (sym (read i r here lt))
+      body_is (body_in image h.area i) (whole.block (body_at h.area i) place) (tests (count_in image) (take i recs) (body_in image h.area i) (slot_none recs image h i lt)).zeros
+      ∙ ap body_block (sym (read recs image h i r here lt))
 
   fits : AreFitting (count_in image) recs
   fits i r here =
-      let lt : i < used_in image h.area = (let a = slice_get_within recs i r here in let e = used in omega (arith, a, e)) in
+      let lt = used_before recs image h i r here in
       let is = body i r here in
       record {
-        good = ap (λ (l : List ℕ). body_fault (count_in image) (take i recs) l) (sym is) ∙ slot_none i lt;
-        back = ap record_in (sym is) ∙ sym (read i r here lt);
+        good = ap (λ (l : List ℕ). body_fault (count_in image) (take i recs) l) (sym is) ∙ slot_none recs image h i lt;
+        back = ap record_in (sym is) ∙ sym (read recs image h i r here lt);
       }
 
   log : HasLog (record { active = h.area; epoch = epoch_in image h.area }) recs image
   log = record {
     active = active_back image h.area h.active;
     slots = record {
-      few = slots_few image h.area slot_count (length recs) used;
+      few = slots_few image h.area slot_count (length recs) (used recs image h);
       bodies = body;
-      gates = slots_open image h.area slot_count (length recs) used;
-      closed = slots_closed image h.area slot_count (length recs) used;
+      gates = slots_open image h.area slot_count (length recs) (used recs image h);
+      closed = slots_closed image h.area slot_count (length recs) (used recs image h);
     };
   }
 
 pub log_back_law : LogBackLaw
 log_back_law recs blocks image whole h = (
   record { active = h.area; epoch = epoch_in image h.area },
-  record { first = (three recs blocks image whole h).0; count_is = refl; header = header recs blocks image whole h },
+  record { first = (three recs image h).0; count_is = refl; header = header recs image h },
   log recs blocks image whole h,
   fits recs blocks image whole h,
 )

@@ -135,6 +135,14 @@ LogBackLaw = (recs : List Rec) (blocks : ℕ) (image : Image) → IsImage blocks
 abbrev pub FittingLaw : Type 0
 FittingLaw = (count : ℕ) (before : List Rec) (r : Rec) → count ≤ most_blocks → IsInRange count before r → IsFitting count before r
 
+-- and each record of an image is in range behind those before it
+abbrev pub InRangeLaw : Type 0
+InRangeLaw = (recs : List Rec) (image : Image) → HasRecords recs image → (i : ℕ) (r : Rec) → slice_get recs i ≡ Some r → IsInRange (count_in image) (take i recs) r
+
+-- the versions of an entity's records strictly ascend
+abbrev pub AscendingLaw : Type 0
+AscendingLaw = (recs : List Rec) (image : Image) → HasRecords recs image → (i k : ℕ) (r q : Rec) → k < i → slice_get recs k ≡ Some q → slice_get recs i ≡ Some r → q.entity ≡ r.entity → q.version < r.version
+
 -- a body or a gate of the log, or the closed gate behind it
 abbrev pub IsLogBlock : Area → ℕ → ℕ → Type 0
 IsLogBlock area used n = (slot : ℕ) × (((slot < used) × (n ≡ body_at area slot)) ⊎ ((slot ≤ used) × (slot < slot_count) × (n ≡ slot_gate_at area slot)))

@@ -31,7 +31,7 @@ atlas_or d (Some (ContainerPart c table)) = d
 atlas_or d (Some (LocusPart l)) = d
 atlas_or d None = d
 
-abbrev is_there : Option Part → Bool
+abbrev pub is_there : Option Part → Bool
 is_there None = false
 is_there (Some p) = true
 

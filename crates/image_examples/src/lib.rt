@@ -3,10 +3,12 @@
 #![tactic(auto)]
 
 ghost use Rattle.image_examples.specs.Examples.{WorkedBlobs, WorkedBlocks, WorkedFits};
+ghost use Rattle.image_examples.specs.Images.{WorkedImages};
 
 /// What fits and what doesn't, and first bad places, that were worked out by hand.
 pub fn examples_hold()
     ensures fits { WorkedFits }
     ensures blocks { WorkedBlocks }
     ensures blobs { WorkedBlobs }
+    ensures images { WorkedImages }
 {}

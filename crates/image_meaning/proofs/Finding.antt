@@ -44,7 +44,7 @@ passes cut x [] r is = clash None r refl is
 passes cut x (q ∷ recs) r is = passes_by cut x q r (chosen_by cut recs x) (test cut x q) refl (passes cut x recs r) is
 
 -- and stands in a first slot
-abbrev FirstSlot : List Rec → Rec → Type 0
+abbrev pub FirstSlot : List Rec → Rec → Type 0
 FirstSlot recs r = (slot : ℕ) × (slice_get recs slot ≡ Some r) × ((earlier : ℕ) → earlier < slot → slice_get recs earlier ≡ Some r → ⊥)
 
 slot_by : (cut : ℕ → ℕ) (x : ℕ) (q r : Rec) (recs : List Rec) (o : Option Rec) (b : Bool) → test cut x q ≡ b → test cut x r ≡ true → (o ≡ Some r → FirstSlot recs r)
@@ -58,7 +58,7 @@ slot_by cut x q r recs o false e good later is =
     none slot before zero lt here = false≢true (sym e ∙ (ap (test cut x) (ap (rec_or q) here) ∙ good))
     none slot before (suc earlier) lt here = before earlier (omega (arith, lt)) here
 
-slot_of : (cut : ℕ → ℕ) (x : ℕ) (recs : List Rec) (r : Rec) → chosen_by cut recs x ≡ Some r → FirstSlot recs r
+pub slot_of : (cut : ℕ → ℕ) (x : ℕ) (recs : List Rec) (r : Rec) → chosen_by cut recs x ≡ Some r → FirstSlot recs r
 slot_of cut x [] r is = clash None r refl is
 slot_of cut x (q ∷ recs) r is = slot_by cut x q r recs (chosen_by cut recs x) (test cut x q) refl (passes cut x (q ∷ recs) r is) (slot_of cut x recs r) is
 

@@ -7,4 +7,4 @@ mod Emptying
 mod Plain
 pub mod Firsts
 pub mod Finding
-mod Sounding
+pub mod Sounding

@@ -14,6 +14,7 @@ use Rattle.cut_laws.specs.Agreeing.{from_cut, nothing}
 use Rattle.cut_laws.specs.Records.{commits_of}
 use Rattle.image_blocks.specs.Bodies.{number_at, record_in}
 use Rattle.image_blocks.specs.Checks.{body_in}
+use Rattle.image_blocks.specs.Logs.{HasRecords}
 use Rattle.image_blocks.specs.declared.areas.Area.{Area}
 use Rattle.image_meaning.specs.Describing.{DescribesEntity, HasPage, MeaningLaw, bytes_of}
 use Rattle.image_meaning.specs.Fits.{IsFit}
@@ -33,6 +34,10 @@ narrow_read : (image : Image) (area : Area) (xs : List ℕ) → IsNarrow (commit
 narrow_read image area [] = tt
 narrow_read image area (i ∷ xs) =
     ((λ y far. get_or_past (record_in (body_in image area i)).stamp y 0 (let e = stamp_len (body_in image area i) in omega (arith, e, far))), narrow_read image area xs)
+
+-- the log of an image is narrow
+pub narrow_log : (recs : List Rec) (image : Image) → HasRecords recs image → IsNarrow (commits_of recs)
+narrow_log recs image has = subst (λ (rs : List Rec). IsNarrow (commits_of rs)) has.log (narrow_read image has.area _)
 
 -- WORDS
 
@@ -108,7 +113,7 @@ cut_is recs q narrow g = greatest_one nothing (commits_of recs) (cut_of recs) q 
 pub meaning_law : MeaningLaw
 meaning_law s count ks parts v c stores describes sound named =
     let q : ℕ → ℕ = stores.agree.cut in
-    let narrow_recs : IsNarrow (commits_of stores.recs) = subst (λ (rs : List Rec). IsNarrow (commits_of rs)) stores.has.log (narrow_read c stores.has.area _) in
+    let narrow_recs = narrow_log stores.recs c stores.has in
     let cut_recs : cut_of stores.recs ≡ q = cut_is stores.recs q narrow_recs stores.agree.greatest in
     let agreed : from_cut q (commits_of stores.recs) ≡ from_cut q (commits_of (recs_of ks)) =
     from_commits q stores.recs ∙ (ap commits_of stores.agree.same ∙ sym (from_commits q (recs_of ks))) in

@@ -5,7 +5,7 @@ mod lists;
 mod local_acts;
 mod loci;
 
-pub use lists::{Chain, Code, MOST_CALLS, Privates};
+pub use lists::{Chain, Code, MOST_CALLS, MOST_INSTRS, Privates};
 pub use loci::{Head, Locus};
 
 #[cfg(test)]

@@ -1,9 +1,10 @@
+use crate::client::{append_and_turn, begin_log};
 use crate::images::{append, empty_image, log_at, log_of, open_b, record, records, turn};
 use crate::quiet_disk::QuietDisk;
 use commit_log::LogFault;
-use disk_trait::Torn;
+use disk_trait::{Disk, MemoryDisk, Torn};
 use hop_base::Rec;
-use image_blocks::Area;
+use image_blocks::{Area, POOL_AT, superblock};
 use log_turn::Areas;
 use std::alloc::Global;
 use std::process::Abort;
@@ -37,18 +38,40 @@ fn reads_as(
     Ok(())
 }
 
+// Each of the four calls of an append into the last slot fails in turn; a stop then leaves the record once its gate is written.
+fn last_slot_fails(
+    rt: &impl Abort,
+    alloc: Global,
+    disk: &mut QuietDisk,
+    all: &[Rec],
+) -> Result<(), Fail> {
+    for failing in 1..=4 {
+        let mut areas = Areas::new(Area::A, 1, 639);
+        let fault = Err(LogFault::WriteFault);
+        assert_eq!(rt; append(&mut areas, disk, &record(640))?, fault);
+        is_shut(rt, &mut areas, disk)?;
+        let log = log_at(alloc, disk, disk.memory.moments(), Torn::New)?;
+        let last = if failing < 4 { 639 } else { 640 };
+        assert_eq!(rt; log.recs.len(), last);
+        assert!(rt; all.starts_with(&log.recs), "{failing}");
+    }
+    Ok(())
+}
+
 #[test]
 fn a_full_log_is_turned_and_turned_back(rt: HostRuntime) -> Result<(), Fail> {
     let alloc = rt.alloc();
-    let mut disk = empty_image(alloc, 5000, &[])?;
+    // Five calls made the image, and each record takes five, but the last has no gate behind it.
+    let mut disk = empty_image(alloc, 5000, &[3201, 3203, 3206, 3210])?;
     let mut areas = Areas::new(Area::A, 1, 0);
     let all = records(alloc, 1, 640)?;
-    append_all(&rt, &mut areas, &mut disk, &all)?;
-    // Five writes and syncs each, but the last record has no gate behind it; five more made the image.
-    assert_eq!(rt; disk.memory.moments(), 3204);
+    append_all(&rt, &mut areas, &mut disk, &records(alloc, 1, 639)?)?;
+    last_slot_fails(&rt, alloc, &mut disk, &all)?;
+    assert_eq!(rt; append(&mut areas, &mut disk, &record(640))?, Ok(()));
+    assert_eq!(rt; disk.memory.moments(), 3214);
     let full = Err(LogFault::SlotsFull);
     assert_eq!(rt; append(&mut areas, &mut disk, &record(641))?, full);
-    assert_eq!(rt; disk.memory.moments(), 3204);
+    assert_eq!(rt; disk.memory.moments(), 3214);
     reads_as(&rt, alloc, &mut disk, (Area::A, 1), &all)?;
     assert_eq!(rt; turn(&mut areas, &mut disk, &all)?, Ok(()));
     reads_as(&rt, alloc, &mut disk, (Area::B, 2), &all)?;
@@ -74,11 +97,9 @@ fn is_shut(rt: &impl Abort, areas: &mut Areas, disk: &mut QuietDisk) -> Result<(
 }
 
 #[test]
-fn a_call_that_fails_shuts_the_log(rt: HostRuntime) -> Result<(), Fail> {
+fn a_call_of_an_append_that_fails_shuts_the_log(rt: HostRuntime) -> Result<(), Fail> {
     let alloc = rt.alloc();
     let fault = Err(LogFault::WriteFault);
-    let two = records(alloc, 1, 2)?;
-    let kept = records(alloc, 2, 2)?;
     // An image is five calls, and each append five; the record's gate is the fourth.
     for failing in 11..=15 {
         let mut disk = empty_image(alloc, 40, &[failing])?;
@@ -99,18 +120,42 @@ fn a_call_that_fails_shuts_the_log(rt: HostRuntime) -> Result<(), Fail> {
             &records(alloc, 1, last)?,
         )?;
     }
-    // A turn that keeps one record is ten calls; the seventh opens the gate of area B.
+    Ok(())
+}
+
+// Two records are appended, and a call of a turn that keeps the second fails; then the old log is read, or the kept one.
+fn turn_fails(
+    rt: &impl Abort,
+    disk: &mut QuietDisk,
+    alloc: Global,
+    is_old: bool,
+) -> Result<(), Fail> {
+    let mut areas = Areas::new(Area::A, 1, 0);
+    let two = records(alloc, 1, 2)?;
+    append_all(rt, &mut areas, disk, &two)?;
+    let kept = [record(2)];
+    let fault = Err(LogFault::WriteFault);
+    assert_eq!(rt; turn(&mut areas, disk, &kept)?, fault);
+    is_shut(rt, &mut areas, disk)?;
+    if is_old {
+        return reads_as(rt, alloc, disk, (Area::A, 1), &two);
+    }
+    reads_as(rt, alloc, disk, (Area::B, 2), &kept)
+}
+
+#[test]
+fn a_call_of_a_turn_that_fails_shuts_the_log(rt: HostRuntime) -> Result<(), Fail> {
+    let alloc = rt.alloc();
+    // A turn that keeps one record is ten calls, of which the seventh opens the gate of area B.
     for failing in 16..=25 {
         let mut disk = empty_image(alloc, 40, &[failing])?;
-        let mut areas = Areas::new(Area::A, 1, 0);
-        append_all(&rt, &mut areas, &mut disk, &two)?;
-        assert_eq!(rt; turn(&mut areas, &mut disk, &kept)?, fault, "{failing}");
-        is_shut(&rt, &mut areas, &mut disk)?;
-        if failing <= 22 {
-            reads_as(&rt, alloc, &mut disk, (Area::A, 1), &two)?;
-        } else {
-            reads_as(&rt, alloc, &mut disk, (Area::B, 2), &kept)?;
-        }
+        turn_fails(&rt, &mut disk, alloc, failing <= 22)?;
+    }
+    // Where that gate stands open it is closed behind the first, by two calls more; to open it took two as well.
+    for failing in 18..=29 {
+        let mut disk = empty_image(alloc, 40, &[failing])?;
+        open_b(&mut disk)?;
+        turn_fails(&rt, &mut disk, alloc, failing <= 26)?;
     }
     Ok(())
 }
@@ -162,5 +207,26 @@ fn a_stop_at_any_moment_leaves_the_old_log_or_the_new_one(rt: HostRuntime) -> Re
         let logs = ((Area::A, three.as_slice()), (Area::B, kept.as_slice()));
         stops_leave(&rt, alloc, &disk, start, logs)?;
     }
+    Ok(())
+}
+
+// Of this disk the content is proved, so that the test proves that the log stands where it is used.
+#[test]
+fn a_log_is_begun_appended_to_and_turned(rt: HostRuntime) -> Result<(), Fail> {
+    let alloc = rt.alloc();
+    let mut disk = MemoryDisk::new(alloc, 2600, 40, Vec::new(alloc))?;
+    if disk.blocks() < POOL_AT {
+        return Err(Fail::from("too small"));
+    }
+    disk.write(0, &superblock(2600))?;
+    let mut areas = begin_log(&mut disk)?;
+    let kept = [record(1)];
+    assert_eq!(rt;
+        append_and_turn(&mut areas, &mut disk, &record(2), &kept),
+        Ok(())
+    );
+    let log = log_of(alloc, &mut disk)?;
+    assert_eq!(rt; (log.area, log.epoch), (Area::B, 2));
+    assert_eq!(rt; log.recs.as_slice(), kept.as_slice());
     Ok(())
 }

@@ -10,10 +10,11 @@ use Rattle.image_blocks.specs.Layout.{epoch_in, first_number, gate_at, header_at
 use Rattle.image_blocks.specs.Logs.{HasLog, IsActive, IsAppending, IsNextSlot, Place}
 use Rattle.image_blocks.specs.declared.areas.Area.{Area}
 use Rattle.image_blocks.specs.declared.areas.Area.TheVariants.{A, B}
-use Rattle.commit_log.specs.Standing.{Stands as LogStands}
+use Rattle.commit_log.specs.Standing.{area_of as log_area, Stands as LogStands}
 use Rattle.commit_log.specs.declared.log.Log.{Log}
+use Rattle.disk_tally.specs.declared.Tally.{Tally}
 use Rattle.log_turn.specs.Stages.{IsLogging}
-use Rattle.log_turn.specs.Standing.{Stands, place_of}
+use Rattle.log_turn.specs.Standing.{Stands, area_of, place_of, used_of}
 use Rattle.log_turn.specs.declared.areas.Areas.{Areas}
 
 front_not_next : (area : Area) (used n : ℕ) → n < 5 → IsNextSlot area used n → ⊥
@@ -46,7 +47,7 @@ module _ {D : Type 0} {clock : D → ℕ} {may_leave : D → Image → Type 0} {
   pub log_stands : (areas : Areas) (recs : List Rec) (disk : D) → Stands reading may_leave areas recs disk → LogStands reading may_leave areas.log recs disk
   log_stands areas recs disk s = record { used = s.used; slots = s.log.slots; left = λ c may. (s.left c may).0.slots }
 
-  logging : (areas : Areas) (recs : List Rec) (rec : Rec) (old : D) → Stands reading may_leave areas recs old → (c : Image) → IsAppending may_leave reading areas.log.area recs rec old c → IsLogging may_leave reading (place_of areas) recs rec old c
+  logging : (areas : Areas) (recs : List Rec) (rec : Rec) (old : D) → Stands reading may_leave areas recs old → (c : Image) → IsAppending may_leave reading (area_of areas) recs rec old c → IsLogging may_leave reading (place_of areas) recs rec old c
   logging areas recs rec old s c (inl not_yet) = inl (record {
     from = not_yet.from;
     could = not_yet.could;
@@ -58,24 +59,24 @@ module _ {D : Type 0} {clock : D → ℕ} {may_leave : D → Image → Type 0} {
     log = record { active = active_same (place_of areas) (length recs) (reading old) c added.same s.log.active; slots = added.slots };
   })
 
-  pub moments_logging : (areas : Areas) (recs : List Rec) (rec : Rec) (old new : D) → Stands reading may_leave areas recs old → LeavesOnly clock left_since old new (IsAppending may_leave reading areas.log.area recs rec old)
+  pub moments_logging : (areas : Areas) (recs : List Rec) (rec : Rec) (old new : D) → Stands reading may_leave areas recs old → LeavesOnly clock left_since old new (IsAppending may_leave reading (area_of areas) recs rec old)
       → LeavesOnly clock left_since old new (IsLogging may_leave reading (place_of areas) recs rec old)
   moments_logging areas recs rec old new s so_far = LeavesOnly-weaker laws (IsLogging may_leave reading (place_of areas) recs rec old) (logging areas recs rec old s) so_far
 
 -- the areas stand with one record more
-pub stands_more : {D : Type 0} (may_leave : D → Image → Type 0) (reading : D → Image) (areas : Areas) (log : Log) (recs more : List Rec) (old new : D) → Stands reading may_leave areas recs old → log.area ≡ areas.log.area
-    → SameOutside (IsNextSlot areas.log.area areas.log.used) (reading old) (reading new) → LogStands reading may_leave log more new → Only (reading new) (may_leave new)
-    → Stands reading may_leave (record { log = log; epoch = areas.epoch }) more new
-stands_more may_leave reading areas log recs more old new s area outside after only =
-    let active : IsActive (record { active = log.area; epoch = areas.epoch }) (reading new) =
-    subst (λ (a : Area). IsActive (record { active = a; epoch = areas.epoch }) (reading new)) (sym area) (active_same (place_of areas) areas.log.used (reading old) (reading new) outside s.log.active) in
-    let whole : HasLog (record { active = log.area; epoch = areas.epoch }) more (reading new) = record { active = active; slots = after.slots } in
+pub stands_more : {D : Type 0} (may_leave : D → Image → Type 0) (reading : D → Image) (areas : Areas) (log : Log) (tally : Tally) (recs more : List Rec) (old new : D) → Stands reading may_leave areas recs old → log_area log ≡ area_of areas
+    → SameOutside (IsNextSlot (area_of areas) (used_of areas)) (reading old) (reading new) → LogStands reading may_leave log more new → Only (reading new) (may_leave new)
+    → Stands reading may_leave (record { log = log; tally = tally; epoch = areas.epoch }) more new
+stands_more may_leave reading areas log tally recs more old new s area outside after only =
+    let active : IsActive (record { active = log_area log; epoch = areas.epoch }) (reading new) =
+    subst (λ (a : Area). IsActive (record { active = a; epoch = areas.epoch }) (reading new)) (sym area) (active_same (place_of areas) (used_of areas) (reading old) (reading new) outside s.log.active) in
+    let whole : HasLog (record { active = log_area log; epoch = areas.epoch }) more (reading new) = record { active = active; slots = after.slots } in
     record {
       used = after.used;
       log = whole;
       left = λ c may.
           let e = only c may in (
-            subst (λ (i : Image). HasLog (record { active = log.area; epoch = areas.epoch }) more i) (sym e) whole,
+            subst (λ (i : Image). HasLog (record { active = log_area log; epoch = areas.epoch }) more i) (sym e) whole,
             record { header = λ a. ap (λ (i : Image). block_at i (header_at a)) e; gate = λ a. ap (λ (i : Image). block_at i (gate_at a)) e },
           );
     }

@@ -1,119 +1,30 @@
 -- Images while the log is turned.
-use Rattle.std.proofs.Common.{◌≡◌, ◌≤◌, ◌<◌, ◌+◌, ◌*◌, ◌^◌, ℕ, Bool, true, false, ◌==◌, inl, inr, List, [], length, replicate, set, get_or, Some, refl, sym, ap, subst, ◌∙◌, arith}
-use Rattle.std.specs.Prelude.{slice_get}
-use Rattle.std.proofs.lemmas.Bool.{cases_eq, false≢true}
-use Rattle.std.proofs.lemmas.List.{get_or-set_same}
-use Rattle.std.proofs.lemmas.Option.{slice_get_within, get_or_from_slice_get}
+use Rattle.std.proofs.Common.{◌≡◌, ◌≤◌, ◌<◌, ◌+◌, ◌^◌, ℕ, Bool, true, false, inl, inr, List, length, replicate, refl, sym, ap, subst, ◌∙◌, arith}
+use Rattle.std.proofs.lemmas.Bool.{false≢true}
+use Rattle.std.proofs.lemmas.Option.{slice_get_within}
 use Rattle.byteorder.specs.Numbers.{little_number-reads_back}
 use Rattle.disk_trait.specs.Disk.{Only}
 use Rattle.disk_trait.specs.Image.{Image, SameOutside, block_at}
 use Rattle.disk_trait.specs.Moments.{LeavesOnly, Quiet}
 use Rattle.disk_trait.proofs.Images.{SameOutside-trans, SameOutside-weaker}
 use Rattle.disk_trait.proofs.Phases.{LeavesOnly-from_quiet, LeavesOnly-now, LeavesOnly-quiet, LeavesOnly-then, LeavesOnly-weaker, Moments}
-use Rattle.disk_tally.specs.Counts.{CountsOn}
 use Rattle.hop_base.specs.declared.records.Rec.{Rec}
-use Rattle.image_blocks.specs.Bodies.{body_block}
-use Rattle.image_blocks.specs.Layout.{body_at, epoch_in, first_number, gate_at, header_at, header_block, is_open, other, slot_count, slot_gate_at, slots_at}
+use Rattle.image_blocks.specs.Layout.{body_at, epoch_in, first_number, gate_at, header_at, header_block, is_open, other, slot_gate_at, slots_at}
 use Rattle.image_blocks.specs.Logs.{HasLog, HasSlots, IsKeptLog, IsTurned, IsTurning, Place}
 use Rattle.image_blocks.specs.declared.areas.Area.{Area}
 use Rattle.image_blocks.specs.declared.areas.Area.TheVariants.{A, B}
-use Rattle.log_turn.specs.Stages.{HasFilled, IsBehindGate, IsClosing, IsEitherGate, IsGateOf, IsOfSlot, IsSwitching}
+use Rattle.log_turn.specs.Stages.{HasSlotGates, IsBehindGate, IsClosing, IsEitherGate, IsSwitching}
 use Rattle.log_turn.specs.Standing.{SameAreas}
+use Rattle.log_turn.proofs.Slots.{same_gate}
 
--- GATES AND HEADERS
-
-pub same_gate : (d c : Image) (n : ℕ) → block_at c n ≡ block_at d n → is_open c n ≡ is_open d n
-same_gate d c n same = ap (λ (b : List ℕ). first_number b == 1) same
+-- HEADERS
 
 same_epoch : (area : Area) (d c : Image) → block_at c (header_at area) ≡ block_at d (header_at area) → epoch_in c area ≡ epoch_in d area
 same_epoch area d c same = ap first_number same
 
-epoch_reads : (area : Area) (c : Image) (epoch : ℕ) → epoch < 2 ^ 64 → block_at c (header_at area) ≡ header_block epoch → epoch_in c area ≡ epoch
+pub epoch_reads : (area : Area) (c : Image) (epoch : ℕ) → epoch < 2 ^ 64 → block_at c (header_at area) ≡ header_block epoch → epoch_in c area ≡ epoch
 unfolding header_block
 epoch_reads area c epoch fits is = ap first_number is ∙ little_number-reads_back 8 epoch (replicate 1016 0) fits
-
--- what a write of a block leaves there
-pub wrote : (old new : Image) (at n : ℕ) (block : List ℕ) → at ≡ n → at < length old → new ≡ set old at block → block_at new n ≡ block
-wrote old new at n block is within e =
-    subst (λ (k : ℕ). block_at new k ≡ block) is (ap (λ (image : Image). block_at image at) e ∙ get_or-set_same old at block [] within)
-
--- THE SLOTS THAT ARE WRITTEN, so far
-
-pub record HasFirst (area : Area) (recs : List Rec) (so_many : ℕ) (image : Image) : Type 0 where
-  pub bodies : (i : ℕ) (r : Rec) → i < so_many → slice_get recs i ≡ Some r → block_at image (body_at area i) ≡ body_block r
-  pub gates : (i : ℕ) → i < so_many → is_open image (slot_gate_at area i) ≡ true
-
-pub record SlotsSoFar {D : Type 0} (tells : Type 0) (block_count : D → ℕ) (reading : D → Image) (may_leave : D → Image → Type 0) (left_since : D → ℕ → Image → Type 0) (clock faults : D → ℕ)
-    (area : Area) (kept : List Rec) (i begun begun_now : ℕ) (old now : D) : Type 0 where
-  pub count : block_count now ≡ block_count old
-  pub few : begun_now ≤ begun + 2 * i
-  pub counts : CountsOn (clock old) (clock now) begun begun_now
-  pub later : faults old ≤ faults now
-  pub first : tells → HasFirst area kept i (reading now)
-  pub header : tells → block_at (reading now) (header_at area) ≡ block_at (reading old) (header_at area)
-  pub same : tells → SameOutside (IsBehindGate area) (reading old) (reading now)
-  pub quiet : tells → Quiet clock may_leave left_since (IsBehindGate area) old now
-
-body_not_slot : (area : Area) (i k : ℕ) → (k ≡ i → ⊥) → IsOfSlot area i (body_at area k) → ⊥
-body_not_slot area i k other (inl is) = other (omega (arith, is))
-body_not_slot area i k other (inr is) = absurd (omega (arith, is))
-
-gate_not_slot : (area : Area) (i k : ℕ) → (k ≡ i → ⊥) → IsOfSlot area i (slot_gate_at area k) → ⊥
-gate_not_slot area i k other (inl is) = absurd (omega (arith, is))
-gate_not_slot area i k other (inr is) = other (omega (arith, is))
-
-pub slot_behind : (area : Area) (i n : ℕ) → i < slot_count → IsOfSlot area i n → IsBehindGate area n
-slot_behind area i n lt (inl is) = inr (omega (arith, is), omega (arith, is, lt))
-slot_behind area i n lt (inr is) = inr (omega (arith, is), omega (arith, is, lt))
-
-pub gate_behind : (area : Area) (i n : ℕ) → IsGateOf area i n → IsBehindGate area n
-gate_behind area i n (lt, is) = inr (omega (arith, is), omega (arith, is, lt))
-
-pub header_not_slot : (area : Area) (i : ℕ) → IsOfSlot area i (header_at area) → ⊥
-header_not_slot A i (inl is) = absurd (omega (arith, is))
-header_not_slot A i (inr is) = absurd (omega (arith, is))
-header_not_slot B i (inl is) = absurd (omega (arith, is))
-header_not_slot B i (inr is) = absurd (omega (arith, is))
-
-pub header_not_gate : (area : Area) (i : ℕ) → IsGateOf area i (header_at area) → ⊥
-header_not_gate A i (lt, is) = absurd (omega (arith, is))
-header_not_gate B i (lt, is) = absurd (omega (arith, is))
-
--- one slot more
-pub first_more : (area : Area) (recs : List Rec) (i : ℕ) (rec : Rec) (old new : Image) → rec ≡ get_or recs i rec → HasFirst area recs i old → SameOutside (IsOfSlot area i) old new
-    → block_at new (body_at area i) ≡ body_block rec → is_open new (slot_gate_at area i) ≡ true → HasFirst area recs (i + 1) new
-first_more area recs i rec old new item first same body gate = record {
-  bodies = λ k r lt here. elim (cases_eq k i) as (λ _. block_at new (body_at area k) ≡ body_block r) [
-    | inl is ↦
-        (let there : slice_get recs i ≡ Some r = subst (λ (n : ℕ). slice_get recs n ≡ Some r) is here in
-        let one : rec ≡ r = item ∙ get_or_from_slice_get recs i r rec there in
-        ap (λ (n : ℕ). block_at new (body_at area n)) is ∙ (body ∙ ap body_block one))
-    | inr other ↦ same.same (body_at area k) (body_not_slot area i k other) ∙ first.bodies k r (omega (arith, lt, other)) here
-  ];
-  gates = λ k lt. elim (cases_eq k i) as (λ _. is_open new (slot_gate_at area k) ≡ true) [
-    | inl is ↦ ap (λ (n : ℕ). is_open new (slot_gate_at area n)) is ∙ gate
-    | inr other ↦ same_gate old new (slot_gate_at area k) (same.same (slot_gate_at area k) (gate_not_slot area i k other)) ∙ first.gates k (omega (arith, lt, other))
-  ];
-}
-
-pub first_none : (area : Area) (recs : List Rec) (image : Image) → HasFirst area recs 0 image
-first_none area recs image = record { bodies = λ k r lt here. absurd (omega (arith, lt)); gates = λ k lt. absurd (omega (arith, lt)) }
-
-pub first_all : (area : Area) (recs : List Rec) (i : ℕ) (image : Image) → length recs ≤ i → HasFirst area recs i image → HasFilled area recs image
-first_all area recs i image all first = record {
-  bodies = λ k r here. first.bodies k r (let lt = slice_get_within recs k r here in omega (arith, lt, all)) here;
-  gates = λ k lt. first.gates k (omega (arith, lt, all));
-}
-
--- the log of an area: filled slots, and a closed gate behind them
-pub slots_closed : (area : Area) (recs : List Rec) (used : ℕ) (d c : Image) → used ≡ length recs → length recs ≤ slot_count → HasFilled area recs d → SameOutside (IsGateOf area used) d c
-    → (used < 640 → is_open c (slot_gate_at area used) ≡ false) → HasSlots area recs c
-slots_closed area recs used d c is few filled same closed = record {
-  few = few;
-  bodies = λ k r here. same.same (body_at area k) (λ at. absurd (let e = at.1 in omega (arith, e))) ∙ filled.bodies k r here;
-  gates = λ k lt. same_gate d c (slot_gate_at area k) (same.same (slot_gate_at area k) (λ at. absurd (let e = at.1 in omega (arith, e, lt, is)))) ∙ filled.gates k lt;
-  closed = λ lt. subst (λ (n : ℕ). is_open c (slot_gate_at area n) ≡ false) is (closed (omega (arith, lt, is)));
-}
 
 -- THE TWO AREAS
 
@@ -191,6 +102,13 @@ switch_same a old one c first second =
 
 pub other_gate_same : (a : Area) (one c : Image) → SameOutside (λ n. n ≡ gate_at a) one c → block_at c (gate_at (other a)) ≡ block_at one (gate_at (other a))
 other_gate_same a one c same = same.same (gate_at (other a)) (λ is. gates_apart a (sym is))
+
+-- GATES that stay through a switch
+pub gates_stay : (a o : Area) (used : ℕ) (d c : Image) → o ≡ other a → SameOutside (IsEitherGate a) d c → HasSlotGates o used d → HasSlotGates (other a) used c
+gates_stay a o used d c is same has =
+    let out : (n : ℕ) → slots_at (other a) ≤ n → block_at c n ≡ block_at d n = λ n from. same.same n (either_out a n (slot_not_gate_of (other a) a n from) (slot_not_gate_of (other a) (other a) n from)) in
+    let there : HasSlotGates (other a) used d = subst (λ (b : Area). HasSlotGates b used d) is has in
+    record { opened = λ i lt. out (slot_gate_at (other a) i) (omega arith) ∙ there.opened i lt; closed = λ lt. out (slot_gate_at (other a) used) (omega arith) ∙ there.closed lt }
 
 -- LOGS that stay
 

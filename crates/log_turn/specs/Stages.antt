@@ -3,7 +3,7 @@ use Rattle.std.specs.Prelude.{◌≡◌, ◌⊎◌, ℕ, ◌<◌, true, List, []
 use Rattle.disk_trait.specs.Image.{Image, IsInRun, SameOutside, block_at}
 use Rattle.hop_base.specs.declared.records.Rec.{Rec}
 use Rattle.image_blocks.specs.Bodies.{body_block}
-use Rattle.image_blocks.specs.Layout.{body_at, gate_at, header_at, is_open, other, slot_blocks, slot_count, slot_gate_at, slots_at}
+use Rattle.image_blocks.specs.Layout.{body_at, closed_gate, gate_at, header_at, is_open, open_gate, other, slot_blocks, slot_count, slot_gate_at, slots_at}
 use Rattle.image_blocks.specs.Logs.{HasLog, IsNextSlot, Place}
 use Rattle.image_blocks.specs.declared.areas.Area.{Area}
 
@@ -23,10 +23,15 @@ IsOfSlot area slot n = (n ≡ body_at area slot) ⊎ (n ≡ slot_gate_at area sl
 abbrev pub IsGateOf : Area → ℕ → ℕ → Type 0
 IsGateOf area slot n = (slot < slot_count) × (n ≡ slot_gate_at area slot)
 
--- the area's first slots are these records, and their gates are open
+-- the area's first slots are these records, and their gates are written open
 pub record HasFilled (area : Area) (recs : List Rec) (image : Image) : Type 0 where
   pub bodies : (i : ℕ) (r : Rec) → slice_get recs i ≡ Some r → block_at image (body_at area i) ≡ body_block r
-  pub gates : (i : ℕ) → i < length recs → is_open image (slot_gate_at area i) ≡ true
+  pub gates : (i : ℕ) → i < length recs → block_at image (slot_gate_at area i) ≡ open_gate
+
+-- the gates of the area's first slots are written open, and the one behind them, where there is one, closed
+pub record HasSlotGates (area : Area) (used : ℕ) (image : Image) : Type 0 where
+  pub opened : (i : ℕ) → i < used → block_at image (slot_gate_at area i) ≡ open_gate
+  pub closed : used < slot_count → block_at image (slot_gate_at area used) ≡ closed_gate
 
 -- WHAT A STOP LEAVES OF AN APPEND, with the log's place
 

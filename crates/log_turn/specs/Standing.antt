@@ -5,8 +5,10 @@ use Rattle.hop_base.specs.declared.records.Rec.{Rec}
 use Rattle.image_blocks.specs.Layout.{closed_gate, gate_at, header_at, header_block, open_gate, other}
 use Rattle.image_blocks.specs.Logs.{HasLog, Place}
 use Rattle.image_blocks.specs.declared.areas.Area.{Area}
+use Rattle.commit_log.specs.Standing.{area_of as log_area, has_failed as log_failed, used_of as log_used}
 use Rattle.commit_log.specs.declared.log.LogFault.{LogFault}
 use Rattle.commit_log.specs.declared.log.LogFault.TheVariants.{WriteFault}
+use Rattle.log_turn.specs.Stages.{HasSlotGates}
 use Rattle.log_turn.specs.declared.areas.Areas.{Areas}
 
 -- the headers and gates of both areas are the same
@@ -18,39 +20,40 @@ pub record SameAreas (old new : Image) : Type 0 where
 
 -- the active area, its epoch, and how many of its slots are used
 abbrev pub area_of : Areas → Area
-area_of areas = areas.log.area
+area_of areas = log_area areas.log
 
 abbrev pub epoch_of : Areas → ℕ
 epoch_of areas = areas.epoch
 
 abbrev pub used_of : Areas → ℕ
-used_of areas = areas.log.used
+used_of areas = log_used areas.log
 
 -- whether a call has answered WriteFault
 abbrev pub has_failed : Areas → Bool
-has_failed areas = areas.log.failed
+has_failed areas = log_failed areas.log
 
 -- how many writes and syncs were begun
 abbrev pub begun_of : Areas → ℕ
-begun_of areas = areas.log.tally.0
+begun_of areas = areas.tally.0
 
 abbrev pub place_of : Areas → Place
-place_of areas = record { active = areas.log.area; epoch = areas.epoch }
+place_of areas = record { active = area_of areas; epoch = areas.epoch }
 
 -- the disk reads as a log with these records, and each image that a stop now may leave agrees with that in headers, gates and log
 pub record Stands {D : Type 0} (reading : D → Image) (may_leave : D → Image → Type 0) (areas : Areas) (recs : List Rec) (disk : D) : Type 0 where
-  pub used : length recs ≡ areas.log.used
+  pub used : length recs ≡ used_of areas
   pub log : HasLog (place_of areas) recs (reading disk)
   pub left : (c : Image) → may_leave disk c → HasLog (place_of areas) recs c × SameAreas (reading disk) c
 
 -- WHAT CALLS LEAVE
 
--- after a turn the areas stand with the kept records, behind a whole header with the next epoch; of the area gates the new one is written open, and the old one closed
+-- after a turn the areas stand with the kept records, behind a whole header with the next epoch; the gates of the kept slots and the new area's are written open, and the gate behind the slots and the old area's closed
 pub record IsTurnedTo {D : Type 0} (reading : D → Image) (may_leave : D → Image → Type 0) (kept : List Rec) (old new : Areas) (disk : D) : Type 0 where
   pub stands : Stands reading may_leave new kept disk
   pub header : block_at (reading disk) (header_at (other (area_of old))) ≡ header_block (epoch_of old + 1)
   pub opened : block_at (reading disk) (gate_at (other (area_of old))) ≡ open_gate
   pub closed : block_at (reading disk) (gate_at (area_of old)) ≡ closed_gate
+  pub slot_gates : HasSlotGates (other (area_of old)) (length kept) (reading disk)
 
 -- of the areas themselves: the other one is active with the next epoch and so many slots used, or all that is as before
 pub record HasTurned {T : Type 0} (kept : ℕ) (result : Result T LogFault) (old new : Areas) : Type 0 where

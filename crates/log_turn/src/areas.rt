@@ -13,14 +13,16 @@ ghost use Rattle.log_turn.specs.Stages.{IsLogging};
 use crate::filling::write_kept;
 use crate::gates::{close_area, switch};
 use commit_log::{Log, LogFault};
+use disk_tally::Tally;
 use disk_trait::{Disk, DiskFault};
 use hop_base::Rec;
 use image_blocks::{Area, other_area};
 
-/// Both areas: the log of the active one, and its epoch.
+/// Both areas: the log of the active one, its epoch, and how many writes and syncs were begun.
 #[derive(Clone, Copy, Debug)]
 pub struct Areas {
     log: Log,
+    tally: Tally,
     epoch: u64,
 }
 
@@ -42,6 +44,7 @@ impl Areas {
     {
         Areas {
             log: Log::new(active, used),
+            tally: Tally(0),
             epoch,
         }
     }
@@ -50,7 +53,7 @@ impl Areas {
     pub fn active(&self) -> Area
         ensures { result ≡ area_of self.now }
     {
-        self.log.area
+        self.log.area()
     }
 
     /// The active area's epoch.
@@ -72,7 +75,7 @@ impl Areas {
     pub fn begun(&self) -> u64
         ensures { result ≡ begun_of self.now }
     {
-        self.log.begun()
+        self.tally.0
     }
 
     /// Makes the kept records the whole log, in order, in the other area. A stop at any moment leaves the old log or the kept
@@ -103,19 +106,17 @@ impl Areas {
         ensures untouched { has_failed self.old ≡ true → (disk.new ≡ disk.old) × (self.new ≡ self.old) }
         ensures begins { Begins (2 * length kept.now + 9) (shown D.block_count D.clock D.faults disk.old (begun_of self.old)) (shown D.block_count D.clock D.faults disk.new (begun_of self.new)) }
     {
-        if self.log.failed {
+        if self.log.is_shut() {
             return Err(LogFault::Shut);
         }
-        let active = self.log.area;
+        let active = self.log.area();
         let next = other_area(active);
         let epoch = self.epoch + 1;
-        self.log.failed = true;
-        close_area(&mut self.log.tally, disk, next)?;
-        write_kept(&mut self.log.tally, disk, next, epoch, kept)?;
-        switch(&mut self.log.tally, disk, active)?;
-        self.log.area = next;
-        self.log.used = kept.len() as u16;
-        self.log.failed = false;
+        self.log.shut();
+        close_area(&mut self.tally, disk, next)?;
+        write_kept(&mut self.tally, disk, next, epoch, kept)?;
+        switch(&mut self.tally, disk, active)?;
+        self.log = Log::new(next, kept.len() as u16);
         self.epoch = epoch;
         Ok(())
     }
@@ -141,7 +142,7 @@ impl Areas {
         ensures untouched { (has_failed self.old ≡ true) ⊎ (used_of self.old ≡ slot_count) → (disk.new ≡ disk.old) × (self.new ≡ self.old) }
         ensures begins { Begins 5 (shown D.block_count D.clock D.faults disk.old (begun_of self.old)) (shown D.block_count D.clock D.faults disk.new (begun_of self.new)) }
     {
-        self.log.append(disk, rec)
+        self.log.append(&mut self.tally, disk, rec)
     }
 
     /// Writes a block of the disk, and counts it with the areas' own writes.
@@ -163,7 +164,7 @@ impl Areas {
         ensures time { D.tells → Elapses D.clock D.may_leave D.left_since disk.old disk.new }
         ensures areas { HasCounted self.old self.new }
     {
-        self.log.tally.write(disk, at, from)
+        self.tally.write(disk, at, from)
     }
 
     /// Writes blocks one after the other, from `at` on, and counts those that are begun. It makes nothing stable.
@@ -183,7 +184,7 @@ impl Areas {
         ensures any_moment { D.tells → Quiet D.clock D.may_leave D.left_since (IsInRun at (length run.now)) disk.old disk.new }
         ensures areas { HasCounted self.old self.new }
     {
-        self.log.tally.write_run(disk, at, run)
+        self.tally.write_run(disk, at, run)
     }
 
     /// Makes the disk stable, and counts it with the areas' own syncs.
@@ -200,6 +201,6 @@ impl Areas {
         ensures time { D.tells → Elapses D.clock D.may_leave D.left_since disk.old disk.new }
         ensures areas { HasCounted self.old self.new }
     {
-        self.log.tally.sync(disk)
+        self.tally.sync(disk)
     }
 }

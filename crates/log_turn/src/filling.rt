@@ -5,9 +5,9 @@ ghost use Rattle.disk_trait.specs.Image.{SameOutside, block_at};
 ghost use Rattle.disk_trait.specs.Moments.{Quiet};
 ghost use Rattle.disk_tally.specs.Counts.{CountsOn};
 ghost use Rattle.image_blocks.specs.Bodies.{body_block as block_of};
-ghost use Rattle.image_blocks.specs.Layout.{body_at, header_at, header_block as header_with, is_open as opens, pool_at, slot_count, slot_gate_at};
+ghost use Rattle.image_blocks.specs.Layout.{body_at, closed_gate as closed_block, header_at, header_block as header_with, open_gate as open_block, pool_at, slot_count, slot_gate_at};
 ghost use Rattle.image_blocks.specs.Logs.{HasSlots};
-ghost use Rattle.log_turn.specs.Stages.{HasFilled, IsBehindGate, IsGateOf, IsOfSlot};
+ghost use Rattle.log_turn.specs.Stages.{HasFilled, HasSlotGates, IsBehindGate, IsGateOf, IsOfSlot};
 
 use disk_tally::Tally;
 use disk_trait::{Disk, DiskFault};
@@ -31,7 +31,7 @@ fn write_slot<D: Disk>(
     ensures counts { CountsOn (D.clock disk.old) (D.clock disk.new) tally.old.0 tally.new.0 }
     ensures cause { HasCause (D.faults disk.old) (D.faults disk.new) result }
     ensures body { D.tells → OnOk result (block_at (D.reading disk.new) (body_at area slot) ≡ block_of rec.now) }
-    ensures gate { D.tells → OnOk result (opens (D.reading disk.new) (slot_gate_at area slot) ≡ true) }
+    ensures gate { D.tells → OnOk result (block_at (D.reading disk.new) (slot_gate_at area slot) ≡ open_block) }
     ensures reading { D.tells → SameOutside (IsOfSlot area slot) (D.reading disk.old) (D.reading disk.new) }
     ensures any_moment { D.tells → Quiet D.clock D.may_leave D.left_since (IsOfSlot area slot) disk.old disk.new }
 {
@@ -78,7 +78,7 @@ fn close_slot<D: Disk>(
     ensures few { tally.new.0 ≤ tally.old.0 + 1 }
     ensures counts { CountsOn (D.clock disk.old) (D.clock disk.new) tally.old.0 tally.new.0 }
     ensures cause { HasCause (D.faults disk.old) (D.faults disk.new) result }
-    ensures closed { D.tells → OnOk result (used < slot_count → opens (D.reading disk.new) (slot_gate_at area used) ≡ false) }
+    ensures closed { D.tells → OnOk result (used < slot_count → block_at (D.reading disk.new) (slot_gate_at area used) ≡ closed_block) }
     ensures reading { D.tells → SameOutside (IsGateOf area used) (D.reading disk.old) (D.reading disk.new) }
     ensures any_moment { D.tells → Quiet D.clock D.may_leave D.left_since (IsGateOf area used) disk.old disk.new }
 {
@@ -106,6 +106,7 @@ pub(crate) fn write_kept<D: Disk>(
     ensures cause { HasCause (D.faults disk.old) (D.faults disk.new) result }
     ensures header { D.tells → OnOk result (block_at (D.reading disk.new) (header_at area) ≡ header_with epoch) }
     ensures slots { D.tells → OnOk result (HasSlots area kept.now (D.reading disk.new)) }
+    ensures gates { D.tells → OnOk result (HasSlotGates area (length kept.now) (D.reading disk.new)) }
     ensures reading { D.tells → SameOutside (IsBehindGate area) (D.reading disk.old) (D.reading disk.new) }
     ensures stable { D.tells → OnOk result (Only (D.reading disk.new) (D.may_leave disk.new)) }
     ensures any_moment { D.tells → Quiet D.clock D.may_leave D.left_since (IsBehindGate area) disk.old disk.new }

@@ -23,6 +23,7 @@ pub(crate) fn close_area<D: Disk>(
     ensures counts { CountsOn (D.clock disk.old) (D.clock disk.new) tally.old.0 tally.new.0 }
     ensures cause { HasCause (D.faults disk.old) (D.faults disk.new) result }
     ensures closed { D.tells → OnOk result (opens (D.reading disk.new) (gate_at area) ≡ false) }
+    ensures written { D.tells → OnOk result (opens (D.reading disk.old) (gate_at area) ≡ true → block_at (D.reading disk.new) (gate_at area) ≡ closed_block) }
     ensures stable { D.tells → OnOk result (opens (D.reading disk.old) (gate_at area) ≡ true → Only (D.reading disk.new) (D.may_leave disk.new)) }
     ensures reading { D.tells → SameOutside (IsClosing (D.reading disk.old) area) (D.reading disk.old) (D.reading disk.new) }
     ensures any_moment { D.tells → Quiet D.clock D.may_leave D.left_since (IsClosing (D.reading disk.old) area) disk.old disk.new }

@@ -11,8 +11,6 @@ ghost use Rattle.std.specs.Prelude.{◌≡◌, ℕ, ◌<◌, ◌^◌, Bool, slic
 
 mod asked;
 mod managers;
-#[cfg(test)]
-mod tests;
 
 pub use asked::{Answers, AskedPolicy, AskedSupplier};
 pub use managers::{CountedWords, EveryVersions};

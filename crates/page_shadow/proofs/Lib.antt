@@ -1,3 +1,4 @@
 pub mod Blocks
 pub mod BitLemmas
 pub mod Members
+pub mod Holdings

@@ -1,3 +1,4 @@
 pub mod Pool
+pub mod Ledger
 pub mod Bits
 pub mod ShadowTable

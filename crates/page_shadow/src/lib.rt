@@ -10,10 +10,12 @@ ghost use Rattle.page_shadow.specs.Pool.{Pool as Blocks, full_pool, empty_pool, 
 ghost use Rattle.page_shadow.specs.ShadowTable.{block_of};
 
 mod bits;
+mod ledger;
 mod uses;
 
 use bits::{clear_bit, has_bit, lowest_bit, set_bit};
 pub use disk_trait::NoBlocks;
+pub use ledger::Ledger;
 use std::alloc::{AllocError as Memory, Global};
 use std::marker::Model;
 pub use uses::Uses;
@@ -175,6 +177,3 @@ impl ShadowTable {
         self.0[page as usize] = 0;
     }
 }
-
-#[cfg(test)]
-mod tests;

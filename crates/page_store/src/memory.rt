@@ -90,6 +90,13 @@ impl MemoryPages {
         })
     }
 
+    /// How many blocks are free. It looks at each.
+    pub fn free_blocks(&self) -> u32
+        ensures { result ≡ count_by is_free self.now.pages.items }
+    {
+        self.pages.iter().filter(|page| !page.held).count() as u32
+    }
+
     /// Whether the block is held.
     pub fn is_held(&self, block: u32) -> bool
         ensures { result ≡ is_held self.now.pages.items block }

@@ -12,5 +12,4 @@ pub mod Answering
 pub mod Beginning
 pub mod Clashing
 pub mod Misfits
-pub mod TestFacts
 pub mod ShortNames

@@ -3,4 +3,3 @@ pub mod Snaps
 pub mod Standing
 pub mod Looking
 pub mod Plays
-pub mod TestScripts

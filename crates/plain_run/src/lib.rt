@@ -7,8 +7,6 @@ mod names;
 mod newborns;
 mod plays;
 mod serial;
-#[cfg(test)]
-mod tests;
 
 pub use fitting::against;
 pub use plays::{Played, finish, play, replay};

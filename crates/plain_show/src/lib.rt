@@ -6,7 +6,5 @@ mod containers;
 mod lines;
 mod loci;
 mod shows;
-#[cfg(test)]
-mod tests;
 
 pub use shows::write_show;

@@ -19,10 +19,11 @@ use Rattle.instr_set.specs.Reader.{instr_of, rights_of}
 use Rattle.instr_set.proofs.Reader.{IsReader-instr_of}
 use Rattle.toml.specs.Data.{Data, Members, no_members, member, get_member}
 use Rattle.toml.specs.Parse.{parse_document}
+use Rattle.script_read.specs.Ordered.{in_order}
 use Rattle.script_read.specs.Reading.{Reading, Reads, ◌>>=◌, refused, or_refused, optional, dotted}
 use Rattle.script_read.specs.Strings.{RegionForm, cut, number_of, name_form, access_of, region_form, named_form, placed_form, sized_form, cap_form}
 use Rattle.script_read.specs.Fields.{a_string, a_table, a_list, a_number, a_name, only, text_at, number_at, number_or, name_at, item_key, each}
-use Rattle.script_read.specs.Meaning.{Program, Source, a_line, a_program, more_programs, programs_at, carried_out, is_carried_out, code_named, overlap, is_within, fits, table_of_region, placed_region, a_region, regions_at, known_cap, a_cap, caps_at, names_of, known_names, every_at, sized_container, code_at, entry_at, coded_container, whole_container, container_keys, a_container, containers_at, host_at, whole_locus, locus_keys, a_locus, loci_at, a_pick, order_at, top_keys, entities_at, tree_meaning, script_meaning}
+use Rattle.script_read.specs.Meaning.{Program, Source, a_line, a_program, more_programs, programs_in, programs_at, carried_out, is_carried_out, code_named, overlap, is_within, fits, table_of_region, placed_region, a_region, regions_at, known_cap, a_cap, caps_at, names_of, known_names, every_at, sized_container, code_at, entry_at, coded_container, whole_container, container_keys, a_container, containers_at, host_at, whole_locus, locus_keys, a_locus, loci_at, a_pick, order_at, top_keys, entities_at, tree_meaning, script_meaning}
 use Rattle.script_form.specs.Rules.{is_among, AreDifferent, IsRegionTable, AreApart, AreAllApart, IsCapTable, IsContainerTable, IsLocusTable, container_names, locus_names, AreContainerTables, AreLocusTables, IsScript}
 use Rattle.script_form.specs.declared.refusals.Why.TheVariants.{NotToml, Name, Unknown, Range, BadCode, Long}
 use Rattle.script_form.specs.Scripts.{tables_of}
@@ -114,9 +115,9 @@ more_ok (member name d ms) done xs all h =
 programs_ok : (ms : Members) (xs : List Program) → programs_at instr_of ms ≡ Ok xs → All Sound xs
 programs_ok ms xs h = by (get_member (codes "program") ms) h
   where
-    by : (o : Option Data) → optional [] (λ d. a_table (codes "program") d >>= more_programs instr_of []) o ≡ Ok xs → All Sound xs
+    by : (o : Option Data) → optional [] (λ d. a_table (codes "program") d >>= programs_in instr_of) o ≡ Ok xs → All Sound xs
     by None f = subst (All Sound) (same_ok [] xs f) (All-nil Sound)
-    by (Some d) f = let p = then_ok (a_table (codes "program") d) (more_programs instr_of []) xs f in more_ok p.0 [] xs (All-nil Sound) p.2
+    by (Some d) f = let p = then_ok (a_table (codes "program") d) (programs_in instr_of) xs f in more_ok (in_order p.0) [] xs (All-nil Sound) p.2
 
 named_ok : (name : Text) (ps : List Program) (code : List Instr) → All Sound ps → code_named name ps ≡ Some code → IsSoundCode code
 named_ok name [] code all h = absurd (none_is_not_some code h)

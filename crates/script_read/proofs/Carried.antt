@@ -1,5 +1,5 @@
 -- The code of a script that is read has only instructions that are carried out.
-use Rattle.std.proofs.Common.{◌≡◌, ℕ, zero, suc, ◌<◌, ◌≤◌, Bool, true, false, ◌&&◌, nat_le, if◌then◌else◌, IsTrue, List, [], ◌∷◌, ◌++◌, length, map, Result, Ok, Err, IfOk, Option, Some, None, All, codes, refl, sym, ap, subst, ◌∙◌, arith}
+use Rattle.std.proofs.Common.{◌≡◌, ℕ, suc, Bool, true, false, ◌&&◌, nat_le, if◌then◌else◌, IsTrue, List, [], ◌∷◌, ◌++◌, length, Result, Ok, Err, IfOk, Option, Some, None, All, codes, refl, sym, ap, subst, ◌∙◌, arith}
 use Rattle.std.proofs.lemmas.List.Elements.{All-nil, All-push}
 use Rattle.std.specs.List.{list_all}
 use Rattle.std.specs.Str.{is_utf8}
@@ -10,9 +10,10 @@ use Rattle.toml.specs.Data.{Data, Members, no_members, member, get_member}
 use Rattle.toml.specs.Parse.{parse_document}
 use Rattle.script_read.specs.Carried.{HasCarriedCode}
 use Rattle.instr_set.specs.Reader.{instr_of}
+use Rattle.script_read.specs.Ordered.{in_order}
 use Rattle.script_read.specs.Reading.{Reading, ◌>>=◌, refused, or_refused, optional, dotted, Reads}
-use Rattle.script_read.specs.Fields.{a_string, a_table, a_list, number_or, only, item_key, each, list_at}
-use Rattle.script_read.specs.Meaning.{Program, Source, a_line, a_program, more_programs, programs_at, carried_out, is_carried_out, code_named, regions_at, caps_at, known_names, code_at, entry_at, sized_container, coded_container, whole_container, container_keys, a_container, containers_at, loci_at, order_at, top_keys, entities_at, tree_meaning, script_meaning}
+use Rattle.script_read.specs.Fields.{a_string, a_table, a_list, number_or, only, item_key, each}
+use Rattle.script_read.specs.Meaning.{Program, Source, a_line, a_program, more_programs, programs_in, programs_at, carried_out, is_carried_out, code_named, regions_at, caps_at, known_names, code_at, entry_at, sized_container, coded_container, whole_container, container_keys, a_container, containers_at, loci_at, order_at, top_keys, entities_at, tree_meaning, script_meaning}
 use Rattle.script_form.specs.Rules.{container_names, locus_names}
 use Rattle.script_form.specs.Scripts.{tables_of}
 use Rattle.script_read.specs.Views.{source_of}
@@ -69,9 +70,9 @@ more_carried (member name d ms) done xs all h =
 programs_carried : (ms : Members) (xs : List Program) → programs_at instr_of ms ≡ Ok xs → All CarriedProgram xs
 programs_carried ms xs h = by (get_member (codes "program") ms) h
   where
-    by : (o : Option Data) → optional [] (λ d. a_table (codes "program") d >>= more_programs instr_of []) o ≡ Ok xs → All CarriedProgram xs
+    by : (o : Option Data) → optional [] (λ d. a_table (codes "program") d >>= programs_in instr_of) o ≡ Ok xs → All CarriedProgram xs
     by None f = subst (All CarriedProgram) (same_ok [] xs f) (All-nil CarriedProgram)
-    by (Some d) f = let p = then_ok (a_table (codes "program") d) (more_programs instr_of []) xs f in more_carried p.0 [] xs (All-nil CarriedProgram) p.2
+    by (Some d) f = let p = then_ok (a_table (codes "program") d) (programs_in instr_of) xs f in more_carried (in_order p.0) [] xs (All-nil CarriedProgram) p.2
 
 named_carried : (name : Text) (ps : List Program) (code : List Instr) → All CarriedProgram ps → code_named name ps ≡ Some code → Carried code
 named_carried name [] code all h = cc

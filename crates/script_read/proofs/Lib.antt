@@ -3,3 +3,4 @@ pub mod Each
 pub mod Readings
 pub mod Allowed
 pub mod Carried
+pub mod Orders

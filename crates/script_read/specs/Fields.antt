@@ -5,6 +5,7 @@ use Rattle.hop_model.specs.Soundness.{is_given_name}
 use Rattle.toml.specs.Data.{Data, Items, no_items, item, Members, no_members, member, get_member, as_str, as_integer, as_array, as_table}
 use Rattle.script_read.specs.Reading.{Reading, ◌>>=◌, refused, or_refused, optional, dotted}
 use Rattle.script_form.specs.Rules.{is_among}
+use Rattle.script_read.specs.Ordered.{in_order}
 use Rattle.script_form.specs.declared.refusals.Why.TheVariants.{Missing, Kind, Name, Unknown, Range, TooMany}
 
 -- KINDS
@@ -39,10 +40,14 @@ a_name taken key name = if is_given_name name && not (is_among taken name) then 
 
 -- KEYS OF A TABLE. `key` is the table's own.
 
--- no key but these: the first other one, in byte order, is refused
+-- the first other key is refused
+abbrev pub only_in : List Text → Text → Members → Reading (Unit {0})
+only_in names key no_members = Ok tt
+only_in names key (member name d ms) = if is_among names name then only_in names key ms else refused Unknown (dotted key name)
+
+-- no key but these: the first other one, in the order of bytes, is refused
 abbrev pub only : List Text → Text → Members → Reading (Unit {0})
-only names key no_members = Ok tt
-only names key (member name d ms) = if is_among names name then only names key ms else refused Unknown (dotted key name)
+only names key ms = only_in names key (in_order ms)
 
 abbrev pub required : Text → Text → Members → Reading Data
 required key name ms = or_refused Missing (dotted key name) (get_member name ms)

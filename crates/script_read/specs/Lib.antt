@@ -4,3 +4,4 @@ pub mod Fields
 pub mod Meaning
 pub mod Views
 pub mod Carried
+pub mod Ordered

@@ -9,6 +9,7 @@ use Rattle.hop_model.specs.Scripts.{RegionTable, CapTable, ContainerTable, Locus
 use Rattle.toml.specs.Data.{Data, Members, no_members, member, get_member}
 use Rattle.toml.specs.Parse.{parse_document}
 use Rattle.instr_set.specs.Reader.{instr_of}
+use Rattle.script_read.specs.Ordered.{in_order}
 use Rattle.script_read.specs.Reading.{Reading, ◌>>=◌, refused, or_refused, optional, dotted}
 use Rattle.script_read.specs.Strings.{RegionForm, CapForm, region_form, cap_form}
 use Rattle.script_read.specs.Fields.{a_string, a_table, a_list, a_number, only, text_at, number_at, number_or, list_at, name_at, item_key, each}
@@ -46,8 +47,12 @@ module _ (spelled : Text → Option Instr) where
   more_programs done no_members = Ok done
   more_programs done (member name d ms) = a_program name d >>= (λ code. more_programs (done ++ record { name = name; code = code } ∷ []) ms)
 
+  -- in the order of their names' bytes
+  abbrev pub programs_in : Members → Reading (List Program)
+  programs_in ms = more_programs [] (in_order ms)
+
   abbrev pub programs_at : Members → Reading (List Program)
-  programs_at ms = optional [] (λ d. a_table (codes "program") d >>= more_programs []) (get_member (codes "program") ms)
+  programs_at ms = optional [] (λ d. a_table (codes "program") d >>= programs_in) (get_member (codes "program") ms)
 
 abbrev pub code_named : Text → List Program → Option (List Instr)
 code_named name [] = None

@@ -134,7 +134,7 @@ fn is_key(names: &[&str], name: &str) -> bool
     names.iter().any(|known| is_same(name, known))
 }
 
-/// Refuses the first key that isn't one of these.
+/// Refuses the first key, in the order of bytes, that isn't one of these.
 pub(crate) fn only(
     alloc: Global,
     table: &Table,

@@ -8,8 +8,6 @@ mod programs;
 mod reading;
 mod strings;
 mod tables;
-#[cfg(test)]
-mod tests;
 
 pub use reading::read_script;
 pub use script_form::{

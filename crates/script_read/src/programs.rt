@@ -4,7 +4,7 @@ ghost use Rattle.hop_base.specs.declared.instructions.Instr.{Instr as AnInstr};
 ghost use Rattle.hop_model.specs.State.{Text};
 ghost use Rattle.toml.specs.View.{view, table_view};
 ghost use Rattle.instr_set.specs.Reader.{IsReader};
-ghost use Rattle.script_read.specs.Meaning.{is_carried_out, carried_out, a_line, a_program, more_programs, programs_at, code_named};
+ghost use Rattle.script_read.specs.Meaning.{is_carried_out, carried_out, a_line, a_program, programs_in, programs_at, code_named};
 ghost use Rattle.script_read.specs.Reading.{Reads};
 ghost use Rattle.script_read.specs.Views.{program_of};
 
@@ -74,9 +74,9 @@ fn read_program(alloc: Global, value: &Value, name: &str) -> Result<Vec<Instr>, 
     Ok(code)
 }
 
-/// The programs of a table, in the order of their names.
+/// The programs of a table, in the order of their names' bytes.
 fn read_table(alloc: Global, table: &Table) -> Result<Vec<Program>, ScriptFault>
-    ensures { (spelled : Text → Option AnInstr) → IsReader spelled → Reads (λ programs. map program_of programs.items) (more_programs spelled [] (table_view table.now)) result }
+    ensures { (spelled : Text → Option AnInstr) → IsReader spelled → Reads (λ programs. map program_of programs.items) (programs_in spelled (table_view table.now)) result }
 {
     let mut programs = Vec::new(alloc);
     for (name, value) in table {

@@ -257,7 +257,7 @@ module _ (s : Supply) (policy : Policy) (script : Script) (rules : IsScript scri
       no_entry : (e : Entry) → None ≡ Some e → ⊥
       no_entry e h = cc
 
-  owed_next : (r : Run) (e : Entry) → May s policy script r e → IsStanding script r → births_owed script r ≡ false → births_owed script (goes_on s script r e) ≡ false
+  pub owed_next : (r : Run) (e : Entry) → May s policy script r e → IsStanding script r → births_owed script r ≡ false → births_owed script (goes_on s script r e) ≡ false
   owed_next r e m k none =
       let next = state_goes_on s policy script r e in
       subst (λ (w : KernelState). is_some (next_name (atlas_in (w 0).cell) script) ≡ false) (sym next)
@@ -269,7 +269,7 @@ module _ (s : Supply) (policy : Policy) (script : Script) (rules : IsScript scri
         | Tried ↦ λ m. none
       ] m.1)
 
-  owed_over : (fs : List Entry) (r : Run) → IsLegalFrom s policy script r fs → IsStanding script r → births_owed script r ≡ false → births_owed script (run_after s script r fs) ≡ false
+  pub owed_over : (fs : List Entry) (r : Run) → IsLegalFrom s policy script r fs → IsStanding script r → births_owed script r ≡ false → births_owed script (run_after s script r fs) ≡ false
   owed_over [] r legal k none = none
   owed_over (e ∷ fs) r legal k none = owed_over fs (goes_on s script r e) legal.1 (standing_next s policy script rules r e legal.0 k) (owed_next r e legal.0 k none)
 

@@ -6,6 +6,7 @@ use Rattle.hop_base.specs.declared.records.Rec.{Rec}
 use Rattle.hop_model.proofs.Lowering.{greatest_is}
 use Rattle.hop_model.specs.Choices.{IsNarrow}
 use Rattle.cut_laws.specs.Agreeing.{nothing}
+use Rattle.cut_laws.proofs.Filters.{filter_within}
 use Rattle.cut_laws.specs.Records.{AgreeInRecs, commits_of, is_rec_from, recs_from}
 use Rattle.image_meaning.specs.Stores.{recs_of}
 use Rattle.store_model.specs.Books.{Books, Logged, cut_in, kept_for, kept_of, logged_recs, recs_in}
@@ -26,16 +27,9 @@ kept_recs_by image cut (l ∷ ls) =
 pub kept_recs : (image : Image) (b : Books) → recs_of (kept_of image b) ≡ recs_from (cut_in b) (recs_in b)
 kept_recs image b = kept_recs_by image (cut_in b) b.logged
 
-above_by : (cut : ℕ → ℕ) (r : Rec) (rs : List Rec) (b : Bool) → is_rec_from cut r ≡ b → recs_from cut (recs_from cut rs) ≡ recs_from cut rs
-    → recs_from cut (if b then r ∷ recs_from cut rs else recs_from cut rs) ≡ (if b then r ∷ recs_from cut rs else recs_from cut rs)
-above_by cut r rs true e rest =
-    ap (λ (b : Bool). if b then r ∷ recs_from cut (recs_from cut rs) else recs_from cut (recs_from cut rs)) e ∙ ap (λ (qs : List Rec). r ∷ qs) rest
-above_by cut r rs false e rest = rest
-
 -- those at or above a choice are all at or above it
 above_again : (cut : ℕ → ℕ) (rs : List Rec) → recs_from cut (recs_from cut rs) ≡ recs_from cut rs
-above_again cut [] = refl
-above_again cut (r ∷ rs) = above_by cut r rs (is_rec_from cut r) refl (above_again cut rs)
+above_again cut rs = filter_within (is_rec_from cut) (is_rec_from cut) (λ r h. h) rs
 
 pub kept_agree : (image : Image) (b : Books) → IsNarrow (commits_of (recs_in b)) → AgreeInRecs (recs_in b) (recs_of (kept_of image b))
 kept_agree image b narrow = record {

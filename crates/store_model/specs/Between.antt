@@ -1,14 +1,16 @@
 -- What lies between two moments of a store at which nothing was committed.
-use Rattle.std.specs.Prelude.{◌≡◌, ◌⊎◌, ℕ, Bool, ◌+◌, ◌<◌, ◌≤◌, true, false, All}
+use Rattle.std.specs.Prelude.{◌≡◌, ◌⊎◌, ℕ, List, Bool, ◌+◌, ◌<◌, ◌≤◌, true, false}
 use Rattle.std.proofs.Common.{inl, inr, ap, arith, refl, sym, subst, ◌∙◌}
 use Rattle.disk_trait.specs.Image.{Image}
 use Rattle.disk_trait.specs.Moments.{LeavesOnly}
+use Rattle.hop_base.specs.declared.records.Rec.{Rec}
 use Rattle.image_blocks.proofs.Reading.{log_law}
 use Rattle.image_blocks.specs.Layout.{last_number}
-use Rattle.image_meaning.specs.Stores.{Stores}
+use Rattle.image_blocks.specs.Logs.{Place}
+use Rattle.image_meaning.specs.Stores.{Kept, Stores}
 use Rattle.disk_tally.specs.Counts.{CountsOn}
 use Rattle.disk_tally.proofs.Counting.{CountsOn-stay, CountsOn-then}
-use Rattle.store_model.specs.Books.{AreSmall, AreTrue, Books, IsSmall, kept_of, logged_recs, recs_in}
+use Rattle.store_model.specs.Books.{AreSmall, AreStored, AreTrue, Books, kept_of, recs_in}
 
 -- stretches behind one another
 pub LeavesOnly-join : {D : Type 0} (clock : D → ℕ) (left_since : D → ℕ → Image → Type 0) (P : Image → Type 0) (a b c : D)
@@ -27,11 +29,23 @@ LeavesOnly-join clock left_since P a b c first second = record {
     LeavesOnly-before t image le (inl h) = first.before t image le h
     LeavesOnly-before t image le (inr h) = inr h
 
+-- each image that a stop now may leave stores the kept records
+pub stored_each : {D : Type 0} (reading : D → Image) (may_leave : D → Image → Type 0) (count : ℕ) (p : Place) (recs : List Rec) (ks : List Kept) (disk : D) → AreStored reading may_leave count p recs ks disk
+    → (c : Image) → may_leave disk c → Stores count ks c
+stored_each reading may_leave count p recs ks disk s c may = record {
+  recs = recs;
+  has = log_law count p recs c (s.front c may) (s.left c may).0 s.fit;
+  agree = s.agree;
+  held = s.held c may;
+  blocks = (s.front c may).count_is;
+}
+
 -- NOTHING WAS COMMITTED. From the one store to the other only pages were read, written, taken and given back: the log and the kept
 -- records are the same, and a stop at any moment leaves an image that stores just them.
 pub record OnlyPages {D : Type 0} (tells : Type 0) (clock : D → ℕ) (reading : D → Image) (may_leave : D → Image → Type 0) (left_since : D → ℕ → Image → Type 0) (old_disk new_disk : D) (old new : Books) (old_written new_written : ℕ) : Type 0 where
   pub same_logged : new.logged ≡ old.logged
   pub same_place : new.place ≡ old.place
+  pub same_small : new.small ≡ old.small
   pub same_count : new.count ≡ old.count
   pub same_found : new.found ≡ old.found
   pub same_kept : tells → kept_of (reading new_disk) new ≡ kept_of (reading old_disk) old
@@ -56,20 +70,13 @@ module _ {D : Type 0} (tells : Type 0) (clock : D → ℕ) (reading : D → Imag
 
   -- each image that a stop may leave of true books stores the kept records
   pub stores_left : (a : D) (b : Books) → AreTrue reading may_leave b a → AreSmall b → b.shut ≡ false → (c : Image) → may_leave a c → Stores b.count (kept_of (reading a) b) c
-  stores_left a b right small working c may =
-      let s = right.stored small working in
-      record {
-        recs = recs_in b;
-        has = log_law b.count b.place (recs_in b) c (s.front c may) (s.left c may) s.fit;
-        agree = s.agree;
-        held = s.held c may;
-        blocks = (s.front c may).count_is;
-      }
+  stores_left a b right small working c may = stored_each reading may_leave b.count b.place (recs_in b) (kept_of (reading a) b) a (right.stored small working) c may
 
   pub Between-stay : (a : D) (old : Books) (n : ℕ) → ((c : Image) → tells → left_since a (clock a) c → may_leave a c) → Between a a old old n n
   Between-stay a old n only_now = record {
     same_logged = refl;
     same_place = refl;
+    same_small = refl;
     same_count = refl;
     same_found = refl;
     same_kept = λ told. refl;
@@ -83,11 +90,8 @@ module _ {D : Type 0} (tells : Type 0) (clock : D → ℕ) (reading : D → Imag
     counts = CountsOn-stay (clock a) old.begun;
   }
 
-  small_on : (old new : Books) → new.logged ≡ old.logged → new.place ≡ old.place → AreSmall old → AreSmall new
-  small_on old new logged place small = record {
-    epoch = subst (λ p. p.epoch < last_number) (sym place) small.epoch;
-    recs = subst (λ ls. All IsSmall (logged_recs ls)) (sym logged) small.recs;
-  }
+  small_on : (old new : Books) → new.small ≡ old.small → new.place ≡ old.place → AreSmall old → AreSmall new
+  small_on old new same place small = record { recs = same ∙ small.recs; epoch = subst (λ p. p.epoch < last_number) (sym place) small.epoch }
 
   on_stores : (a b : D) (x y : Books) (k m : ℕ) → tells → Between a b x y k m → Stores y.count (kept_of (reading b) y) ≡ Stores x.count (kept_of (reading a) x)
   on_stores a b x y k m told p = ap (λ n. Stores n (kept_of (reading b) y)) p.same_count ∙ ap (Stores x.count) (p.same_kept told)
@@ -98,7 +102,7 @@ module _ {D : Type 0} (tells : Type 0) (clock : D → ℕ) (reading : D → Imag
   moments_join a b c x y z k m n p q told right small working false e =
       LeavesOnly-join clock left_since (Stores x.count (kept_of (reading a) x)) a b c (p.moments told right small working)
       (subst (λ (P : Image → Type 0). LeavesOnly clock left_since b c P) (on_stores a b x y k m told p)
-      (q.moments told (p.true_books told right) (small_on x y p.same_logged p.same_place small) e))
+      (q.moments told (p.true_books told right) (small_on x y p.same_small p.same_place small) e))
   moments_join a b c x y z k m n p q told right small working true e =
       subst (λ d. LeavesOnly clock left_since a d (Stores x.count (kept_of (reading a) x))) (sym (q.shut e).1) (p.moments told right small working)
 
@@ -106,6 +110,7 @@ module _ {D : Type 0} (tells : Type 0) (clock : D → ℕ) (reading : D → Imag
   Between-join a b c x y z k m n p q = record {
     same_logged = q.same_logged ∙ p.same_logged;
     same_place = q.same_place ∙ p.same_place;
+    same_small = q.same_small ∙ p.same_small;
     same_count = q.same_count ∙ p.same_count;
     same_found = q.same_found ∙ p.same_found;
     same_kept = λ told. q.same_kept told ∙ p.same_kept told;

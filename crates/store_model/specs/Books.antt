@@ -1,6 +1,6 @@
 -- What a store keeps in memory of its image, and what that says of the image.
-use Rattle.std.specs.Prelude.{◌≡◌, ◌≢◌, ◌⊎◌, ℕ, ◌+◌, ◌*◌, ◌-◌, ◌^◌, ◌<◌, ◌≤◌, Bool, true, false, not, ◌&&◌, ◌||◌, ◌==◌, nat_le, if◌then◌else◌, List, [], ◌∷◌, ◌++◌, filter, count_by, length, map, All, slice_index}
-use Rattle.std.specs.List.{AllByRecursion, flat_map, list_any, range_with_len}
+use Rattle.std.specs.Prelude.{◌≡◌, ◌≢◌, ◌⊎◌, ℕ, ◌*◌, ◌-◌, ◌<◌, Bool, true, false, not, ◌&&◌, ◌||◌, ◌==◌, nat_le, if◌then◌else◌, List, [], ◌∷◌, ◌++◌, filter, count_by, length, map, slice_index}
+use Rattle.std.specs.List.{AllByRecursion, flat_map, list_all, list_any, range_with_len}
 use Rattle.disk_trait.specs.Image.{Image, block_at}
 use Rattle.cut_laws.specs.Records.{AgreeInRecs}
 use Rattle.hop_base.specs.Edges.{upto}
@@ -10,6 +10,7 @@ use Rattle.image_blocks.specs.Layout.{last_number, pool_at}
 use Rattle.image_blocks.specs.Logs.{AreFitting, HasFront, HasLog, Place}
 use Rattle.image_meaning.specs.Parts.{cut_of}
 use Rattle.image_meaning.specs.Stores.{IsHeld, Kept, Page, Stores, recs_of}
+use Rattle.log_turn.specs.Standing.{SameAreas}
 
 -- a record of the log, with the block of each page that its blob names, 0 for none
 pub record Logged : Type 0 where
@@ -17,13 +18,15 @@ pub record Logged : Type 0 where
   pub table : List ℕ
 
 -- THE BOOKS OF A STORE: how many blocks the image has, the records of its log in order, where the log stands, the blocks that are held,
--- whether records were found whose blobs aren't read yet, whether the disk failed, and how many writes and syncs were begun
+-- whether records were found whose blobs aren't read yet, whether no record that was ever in the log has a number too large, whether
+-- the disk failed, and how many writes and syncs were begun
 pub record Books : Type 0 where
   pub count : ℕ
   pub logged : List Logged
   pub place : Place
   pub held : ℕ → Bool
   pub found : Bool
+  pub small : Bool
   pub shut : Bool
   pub begun : ℕ
 
@@ -84,32 +87,33 @@ AreApartFrom these ks = AllByRecursion (IsApart these) ks
 abbrev pub IsBeforePool : ℕ → Type 0
 IsBeforePool n = n < pool_at
 
--- a record of which check 3 finds no number too large
-pub record IsSmall (r : Rec) : Type 0 where
-  pub version : r.version ≤ last_number
-  pub stamp : (y : ℕ) → slice_index r.stamp y ≤ last_number
+-- no number of the record is too large for an image that is accepted
+abbrev pub is_small : Rec → Bool
+is_small r = nat_le r.version last_number && list_all (λ n. nat_le n last_number) r.stamp
 
--- no number of the log is too large for an image that is accepted, and one more turn makes none
+-- No number is too large for an image that is accepted, and one more turn makes none. The flag is to tell of records that a turn
+-- dropped too, so that books that are small were small before.
 pub record AreSmall (b : Books) : Type 0 where
+  pub recs : b.small ≡ true
   pub epoch : b.place.epoch < last_number
-  pub recs : All IsSmall (recs_in b)
 
--- WHAT A STOP NOW LEAVES: in each image the front is good, the log at this place is these records, which fit, and the kept ones stand,
--- in the pool. The records agree with the kept ones from the greatest closed choice on. This is what goes on from one write to the
--- next; that each image stores the kept records follows from it.
-pub record AreStored {D : Type 0} (may_leave : D → Image → Type 0) (count : ℕ) (p : Place) (recs : List Rec) (ks : List Kept) (disk : D) : Type 0 where
+-- WHAT A STOP NOW LEAVES: in each image the front is good, the log at this place is these records, which fit, headers and gates of
+-- both areas are as they read, and the kept records stand, in the pool. The records agree with the kept ones from the greatest closed
+-- choice on. This is what goes on from one write to the next; that each image stores the kept records follows from it.
+pub record AreStored {D : Type 0} (reading : D → Image) (may_leave : D → Image → Type 0) (count : ℕ) (p : Place) (recs : List Rec) (ks : List Kept) (disk : D) : Type 0 where
   pub fit : AreFitting count recs
   pub agree : AgreeInRecs recs (recs_of ks)
   pub pool : AreApartFrom IsBeforePool ks
-  pub left : (c : Image) → may_leave disk c → HasLog p recs c
+  pub left : (c : Image) → may_leave disk c → HasLog p recs c × SameAreas (reading disk) c
   pub front : (c : Image) → may_leave disk c → HasFront count p c
   pub held : (c : Image) → may_leave disk c → AllByRecursion (IsHeld c) ks
 
--- THE BOOKS ARE TRUE of the disk: until it has failed, what reads is the log; and while no number is too large either, the kept
--- records are stored in each image that a stop now may leave
+-- THE BOOKS ARE TRUE of the disk: until it has failed, what reads is the log, and so it is in each image that a stop now may leave;
+-- and while no number is too large either, the kept records are stored in each of them
 pub record AreTrue {D : Type 0} (reading : D → Image) (may_leave : D → Image → Type 0) (b : Books) (disk : D) : Type 0 where
   pub log : b.shut ≡ false → HasLog b.place (recs_in b) (reading disk)
-  pub stored : AreSmall b → b.shut ≡ false → AreStored may_leave b.count b.place (recs_in b) (kept_of (reading disk) b) disk
+  pub left : b.shut ≡ false → (c : Image) → may_leave disk c → HasLog b.place (recs_in b) c × SameAreas (reading disk) c
+  pub stored : AreSmall b → b.shut ≡ false → AreStored reading may_leave b.count b.place (recs_in b) (kept_of (reading disk) b) disk
 
 -- each page that has a block has one that is held
 abbrev pub AreHeldPages : (ℕ → Bool) → List ℕ → Type 0

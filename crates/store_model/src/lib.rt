@@ -14,8 +14,8 @@ ghost use Rattle.store_model.specs.Owning.{OwnedLaw};
 
 use disk_trait::Disk;
 
-/// While the books are true, no number of the log is too large and the disk hasn't failed, each image that a stop may leave
-/// stores the kept records.
+/// While the books are true, no number was too large and the disk hasn't failed, each image that a stop may leave stores the
+/// kept records.
 pub fn stored_law<D: Disk>()
     ensures { (b : Books) (disk : D) → AreTrue D.reading D.may_leave b disk → AreSmall b → b.shut ≡ false
         → (c : Image) → D.may_leave disk c → Stores b.count (kept_of (D.reading disk) b) c }

@@ -15,6 +15,3 @@ pub use reading::{ReadStop, read_all};
 pub use sink::{Sink, SinkFault};
 pub use source::{Source, SourceFault};
 pub use standard::{ReadSource, WriteSink};
-
-#[cfg(test)]
-mod tests;

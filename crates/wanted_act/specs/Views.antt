@@ -1,14 +1,17 @@
 -- What a view of a locus and an act are in the model, and what the choice of an act rests on.
-use Rattle.std.specs.Prelude.{ℕ, ◌+◌, ◌≤◌, Bool, true, false, ◌&&◌, ◌==◌, nat_lt, if◌then◌else◌, Option, Some, None, All}
+use Rattle.std.specs.Prelude.{ℕ, ◌+◌, ◌<◌, ◌≤◌, Bool, true, false, ◌&&◌, ◌==◌, nat_lt, if◌then◌else◌, Option, Some, None, Result, Ok, Err, All}
 use Rattle.std.specs.Option.{ForSome}
 use Rattle.hop_base.specs.declared.capabilities.Private.{Private}
 use Rattle.hop_base.specs.declared.capabilities.Region.{Region}
 use Rattle.hop_base.specs.declared.instructions.Instr.{Instr}
 use Rattle.hop_base.specs.declared.instructions.Instr.TheVariants.{Stop, Go, Snap}
+use Rattle.hop_base.specs.declared.histories.Answer.TheVariants.{Hop}
+use Rattle.hop_base.specs.declared.instructions.Reply.{Reply}
 use Rattle.hop_base.specs.declared.instructions.Walk.{Walk}
 use Rattle.hop_model.specs.State.{LocusState}
 use Rattle.hop_model.specs.Soundness.{IsSoundCode}
 use Rattle.hop_model.specs.Acts.{alone, Act as Wanted}
+use Rattle.hop_model.specs.Outcomes.{Outcome, own, own_reply}
 use Rattle.wanted_act.specs.declared.view.LocusView.{LocusView}
 use Rattle.wanted_act.specs.declared.choice.Act.{Act}
 
@@ -45,6 +48,19 @@ pub record IsReadyLocus (l : LocusState) : Type 0 where
 -- pages from `at` on overlap the region
 abbrev pub meets : ℕ → ℕ → Region → Bool
 meets at count r = nat_lt at (r.at + r.count) && nat_lt r.at (at + count)
+
+-- LOOKS
+
+-- a region within the greatest size covers the page
+pub record ShowsPage (r : Region) (page : ℕ) : Type 0 where
+  pub at : r.at ≤ page
+  pub count : page < r.at + r.count
+  pub inside : IsInside r
+
+-- the walk goes on, or the look is refused
+abbrev pub walked : LocusState → Result Walk Reply → Outcome
+walked l (Ok w) = own (record l { walk = Some w }) Hop
+walked l (Err why) = own_reply l why
 
 -- AN ACT ON THE LOCUS ITSELF
 

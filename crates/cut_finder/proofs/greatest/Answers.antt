@@ -1,5 +1,9 @@
-use Rattle.cut_finder.proofs.Lowering.{ends}
+use Rattle.std.proofs.Common.{ℕ, subst}
+use Rattle.hop_model.specs.Choices.{IsGreatest}
+use Rattle.cut_laws.specs.Records.{commits_of}
+use Rattle.cut_finder.specs.Records.{choice}
+use Rattle.cut_finder.proofs.Fronts.{zeros}
 use Rattle.cut_finder.proofs.greatest.Goals as goal
 
 pub returns : goal.returns
-returns c = ends _ _ _ _ c.loop-x.invariant c.in_default.ensures
+returns c = subst (λ (low : ℕ → ℕ). IsGreatest low (commits_of c.args.recs.now) (choice c.greatest_from.result)) zeros c.greatest_from.ensures

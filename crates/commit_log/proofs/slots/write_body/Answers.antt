@@ -1,7 +1,7 @@
-use Rattle.std.proofs.Common.{◌≡◌, ◌≢◌, ◌<◌, ◌+◌, ℕ, inl, inr, length, get_or, [], ap, sym, subst, ◌∙◌, arith}
+use Rattle.std.proofs.Common.{◌≡◌, ◌<◌, ◌+◌, inl, inr, length, [], ap, subst, ◌∙◌, arith}
 use Rattle.std.proofs.lemmas.List.{get_or-set_same}
 use Rattle.disk_trait.specs.Image.{Image, block_at}
-use Rattle.disk_trait.proofs.Phases.{IsImage-reading, Quiet-start, Quiet-sync, Quiet-write, told}
+use Rattle.disk_trait.proofs.Phases.{IsImage-reading, Quiet-start, Quiet-write, told}
 use Rattle.image_blocks.specs.Layout.{closed_gate, slot_count, slot_gate_at}
 use Rattle.commit_log.specs.Bodies.{IsBodyBlock}
 use Rattle.commit_log.proofs.Through.{gate_low}
@@ -19,8 +19,7 @@ returns-then-slot-eq-LAST_SLOT-clause-any_moment g c t =
     let disk = g.met.D.Disk in
     let laws = told t disk.counts_now disk.only_now in
     let these = IsBodyBlock c.args.area c.args.slot in
-    let written = Quiet-write laws {these = these} (inl c.body_of-at.ensures.at) (Quiet-start laws these c.args.disk.now) (c.write.ensures.stop t) (c.write.ensures.time t) in
-    Quiet-sync laws written (c.sync.ensures.stop t) (c.sync.ensures.time t)
+    Quiet-write laws {these = these} (inl c.body_of-at.ensures.at) (Quiet-start laws these c.args.disk.now) (c.write.ensures.stop t) (c.write.ensures.time t)
 
 pub returns-in_err-write-2-clause-any_moment : goal.returns-in_err-write-2-clause-any_moment
 returns-in_err-write-2-clause-any_moment g c t =
@@ -40,19 +39,7 @@ returns-clause-any_moment g c t =
     let at : c.body_of-at.result + 3 ≡ slot_gate_at c.args.area (c.args.slot + 1) = (let e = c.body_of-at.ensures.at in omega (arith, e)) in
     let room : c.args.slot + 1 < slot_count = (let a = c.requires.slot in let b = c.if-slot-eq-LAST_SLOT.false in omega (arith, a, b)) in
     let written = Quiet-write laws {these = these} (inl c.body_of-at.ensures.at) (Quiet-start laws these c.args.disk.now) (c.write.ensures.stop t) (c.write.ensures.time t) in
-    let both = Quiet-write laws {these = these} (inr (room, at)) written (c.write-2.ensures.stop t) (c.write-2.ensures.time t) in
-    Quiet-sync laws both (c.sync-2.ensures.stop t) (c.sync-2.ensures.time t)
-
-pub returns-in_err-sync-clause-any_moment : goal.returns-in_err-sync-clause-any_moment
-returns-in_err-sync-clause-any_moment g c t =
-    let disk = g.met.D.Disk in
-    let laws = told t disk.counts_now disk.only_now in
-    let these = IsBodyBlock c.args.area c.args.slot in
-    let at : c.body_of-at.result + 3 ≡ slot_gate_at c.args.area (c.args.slot + 1) = (let e = c.body_of-at.ensures.at in omega (arith, e)) in
-    let room : c.args.slot + 1 < slot_count = (let a = c.requires.slot in let b = c.if-slot-eq-LAST_SLOT.false in omega (arith, a, b)) in
-    let written = Quiet-write laws {these = these} (inl c.body_of-at.ensures.at) (Quiet-start laws these c.args.disk.now) (c.write.ensures.stop t) (c.write.ensures.time t) in
-    let both = Quiet-write laws {these = these} (inr (room, at)) written (c.write-2.ensures.stop t) (c.write-2.ensures.time t) in
-    Quiet-sync laws both (c.sync-2.ensures.stop t) (c.sync-2.ensures.time t)
+    Quiet-write laws {these = these} (inr (room, at)) written (c.write-2.ensures.stop t) (c.write-2.ensures.time t)
 
 pub returns-clause-next : goal.returns-clause-next
 returns-clause-next g c t more =
@@ -61,6 +48,6 @@ returns-clause-next g c t more =
     let at : c.body_of-at.result + 3 ≡ slot_gate_at c.args.area (c.args.slot + 1) = (let e = c.body_of-at.ensures.at in omega (arith, e)) in
     let within : c.body_of-at.result + 3 < length (g.D.Disk.reading c.write.new.disk) =
     (let a = c.body_of-at.ensures.at in let b = c.requires.enough in let e = c.write.ensures.count in let f = whole.len in let r = more in let l = gate_low c.args.area (c.args.slot + 1) more in omega (arith, a, b, e, f, l)) in
-    subst (λ n. block_at (g.D.Disk.reading c.sync-2.new.disk) n ≡ closed_gate) at
-    (ap (λ (image : Image). block_at image (c.body_of-at.result + 3)) (c.sync-2.ensures.reading t ∙ c.in_ok-write-2.ensures.block t)
+    subst (λ n. block_at (g.D.Disk.reading c.write-2.new.disk) n ≡ closed_gate) at
+    (ap (λ (image : Image). block_at image (c.body_of-at.result + 3)) (c.in_ok-write-2.ensures.block t)
     ∙ (get_or-set_same (g.D.Disk.reading c.write.new.disk) (c.body_of-at.result + 3) _ [] within ∙ c.closed_gate.ensures))

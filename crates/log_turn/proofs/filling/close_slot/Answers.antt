@@ -1,9 +1,8 @@
 use Rattle.std.proofs.Common.{◌≡◌, ◌<◌, ◌+◌, length, ◌∙◌, arith}
 use Rattle.disk_trait.proofs.Phases.{IsImage-reading, Quiet-start, Quiet-write, told}
 use Rattle.image_blocks.specs.Layout.{slot_gate_at}
-use Rattle.commit_log.proofs.Through.{gate_closed}
 use Rattle.log_turn.specs.Stages.{IsGateOf}
-use Rattle.log_turn.proofs.Turning.{wrote}
+use Rattle.log_turn.proofs.Slots.{wrote}
 use Rattle.log_turn.proofs.filling.close_slot.Goals as goal
 
 pub returns-in_err-write-clause-any_moment : goal.returns-in_err-write-clause-any_moment
@@ -30,5 +29,4 @@ returns-clause-closed g c t room =
     let whole = IsImage-reading g.D.Disk.reading t disk.reads_now disk.counts_now disk.whole c.args.disk.now in
     let gate : c.body_of-at.result + 1 ≡ slot_gate_at c.args.area c.args.used = (let e = c.body_of-at.ensures.at in omega (arith, e)) in
     let within : c.body_of-at.result + 1 < length (g.D.Disk.reading c.args.disk.now) = (let a = c.body_of-at.ensures.low in let b = c.requires.enough in let f = whole.len in omega (arith, a, b, f)) in
-    gate_closed (g.D.Disk.reading c.write.new.disk) (slot_gate_at c.args.area c.args.used)
-    (wrote (g.D.Disk.reading c.args.disk.now) (g.D.Disk.reading c.write.new.disk) (c.body_of-at.result + 1) (slot_gate_at c.args.area c.args.used) _ gate within (c.in_ok-write.ensures.block t) ∙ c.closed_gate.ensures)
+    wrote (g.D.Disk.reading c.args.disk.now) (g.D.Disk.reading c.write.new.disk) (c.body_of-at.result + 1) (slot_gate_at c.args.area c.args.used) _ gate within (c.in_ok-write.ensures.block t) ∙ c.closed_gate.ensures

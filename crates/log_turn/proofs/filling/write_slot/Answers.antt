@@ -1,9 +1,8 @@
 use Rattle.std.proofs.Common.{◌≡◌, ◌<◌, ◌+◌, inl, inr, length, ◌∙◌, arith}
 use Rattle.disk_trait.proofs.Phases.{IsImage-reading, Quiet-start, Quiet-write, told}
 use Rattle.image_blocks.specs.Layout.{slot_gate_at}
-use Rattle.commit_log.proofs.Through.{gate_open}
 use Rattle.log_turn.specs.Stages.{IsOfSlot}
-use Rattle.log_turn.proofs.Turning.{wrote}
+use Rattle.log_turn.proofs.Slots.{wrote}
 use Rattle.log_turn.proofs.filling.write_slot.Goals as goal
 
 pub returns-in_err-write-clause-any_moment : goal.returns-in_err-write-clause-any_moment
@@ -28,8 +27,7 @@ returns-clause-gate g c t =
     let whole = IsImage-reading g.D.Disk.reading t disk.reads_now disk.counts_now disk.whole c.write.new.disk in
     let gate : c.body_of-at.result + 1 ≡ slot_gate_at c.args.area c.args.slot = (let e = c.body_of-at.ensures.at in omega (arith, e)) in
     let within : c.body_of-at.result + 1 < length (g.D.Disk.reading c.write.new.disk) = (let a = c.body_of-at.ensures.low in let b = c.requires.enough in let e = c.write.ensures.count in let f = whole.len in omega (arith, a, b, e, f)) in
-    gate_open (g.D.Disk.reading c.write-2.new.disk) (slot_gate_at c.args.area c.args.slot)
-    (wrote (g.D.Disk.reading c.write.new.disk) (g.D.Disk.reading c.write-2.new.disk) (c.body_of-at.result + 1) (slot_gate_at c.args.area c.args.slot) _ gate within (c.in_ok-write-2.ensures.block t) ∙ c.open_gate.ensures)
+    wrote (g.D.Disk.reading c.write.new.disk) (g.D.Disk.reading c.write-2.new.disk) (c.body_of-at.result + 1) (slot_gate_at c.args.area c.args.slot) _ gate within (c.in_ok-write-2.ensures.block t) ∙ c.open_gate.ensures
 
 pub returns-clause-any_moment : goal.returns-clause-any_moment
 returns-clause-any_moment g c t =

@@ -4,7 +4,7 @@ use Rattle.disk_trait.proofs.Phases.{Quiet-then, Quiet-weaker, told}
 use Rattle.disk_tally.proofs.Counting.{CountsOn-then}
 use Rattle.image_blocks.specs.Layout.{header_at}
 use Rattle.log_turn.specs.Stages.{IsBehindGate}
-use Rattle.log_turn.proofs.Turning.{first_all, first_more, header_not_slot, slot_behind}
+use Rattle.log_turn.proofs.Slots.{first_all, first_more, header_not_slot, slot_behind}
 use Rattle.log_turn.proofs.filling.write_slots.Goals as goal
 
 pub returns-in_err-write_slot-clause-counts : goal.returns-in_err-write_slot-clause-counts

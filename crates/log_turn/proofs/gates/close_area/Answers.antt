@@ -3,7 +3,7 @@ use Rattle.disk_trait.proofs.Phases.{IsImage-reading, Quiet-start, Quiet-sync, t
 use Rattle.image_blocks.specs.Layout.{gate_at}
 use Rattle.commit_log.proofs.Through.{gate_closed}
 use Rattle.log_turn.specs.Stages.{IsClosing}
-use Rattle.log_turn.proofs.Turning.{wrote}
+use Rattle.log_turn.proofs.Slots.{wrote}
 use Rattle.log_turn.proofs.gates.close_area.Goals as goal
 
 pub returns-then-not-is_open-clause-any_moment : goal.returns-then-not-is_open-clause-any_moment
@@ -20,3 +20,10 @@ returns-clause-closed g c t =
     let within : c.gate_of-at.result < length (g.D.Disk.reading c.read.new.self) = (let a = c.gate_of-at.ensures.low in let b = c.requires in let e = c.read.ensures.count in let f = whole.len in omega (arith, a, b, e, f)) in
     gate_closed (g.D.Disk.reading c.write_and_sync.new.disk) (gate_at c.args.area)
     (wrote (g.D.Disk.reading c.read.new.self) (g.D.Disk.reading c.write_and_sync.new.disk) c.gate_of-at.result (gate_at c.args.area) _ c.gate_of-at.ensures.at within (c.in_ok-write_and_sync.ensures.block t) ∙ c.closed_gate.ensures)
+
+pub returns-clause-written : goal.returns-clause-written
+returns-clause-written g c t opens =
+    let disk = g.met.D.Disk in
+    let whole = IsImage-reading g.D.Disk.reading t disk.reads_now disk.counts_now disk.whole c.read.new.self in
+    let within : c.gate_of-at.result < length (g.D.Disk.reading c.read.new.self) = (let a = c.gate_of-at.ensures.low in let b = c.requires in let e = c.read.ensures.count in let f = whole.len in omega (arith, a, b, e, f)) in
+    wrote (g.D.Disk.reading c.read.new.self) (g.D.Disk.reading c.write_and_sync.new.disk) c.gate_of-at.result (gate_at c.args.area) _ c.gate_of-at.ensures.at within (c.in_ok-write_and_sync.ensures.block t) ∙ c.closed_gate.ensures

@@ -5,7 +5,8 @@ use Rattle.disk_tally.proofs.Counting.{CountsOn-then}
 use Rattle.image_blocks.specs.Layout.{gate_at, other}
 use Rattle.commit_log.proofs.Through.{gate_open}
 use Rattle.log_turn.specs.Stages.{IsEitherGate}
-use Rattle.log_turn.proofs.Turning.{other_gate_same, switch_closing, switch_opening, switch_same, wrote}
+use Rattle.log_turn.proofs.Slots.{wrote}
+use Rattle.log_turn.proofs.Turning.{other_gate_same, switch_closing, switch_opening, switch_same}
 use Rattle.log_turn.proofs.gates.switch.Goals as goal
 
 pub returns-in_err-write_and_sync-clause-any_moment : goal.returns-in_err-write_and_sync-clause-any_moment

@@ -9,7 +9,18 @@ use Rattle.script_read.specs.Reading.{IsFaultOf, ◌>>=◌}
 use Rattle.script_read.specs.Views.{program_of}
 use Rattle.script_read.specs.declared.programs.Program.{Program as CodeProgram}
 use Rattle.script_read.proofs.Each.{passes_on, fault_by, handed_on}
+use Rattle.script_read.proofs.Orders.{sorted_in_order}
 use Rattle.script_read.proofs.programs.read_table.Goals as goal
+
+pub loop-name-init : goal.loop-name-init
+loop-name-init c =
+    let given = c.into_iter-name-iterator.ensures.into_iter_gives in
+    record {
+      can = tt;
+      ends = tt;
+      rest = λ spelled reader. ap (λ ps. more_programs spelled (map program_of ps) (members_view c.into_iter-name-iterator.result)) c.new-programs.ensures.items ∙ ap (λ es. more_programs spelled [] (members_view es)) given.0
+          ∙ sym (ap (more_programs spelled []) (sorted_in_order c.args.table.now.entries given.5));
+    }
 
 pub returns-in_err-code : goal.returns-in_err-code
 returns-in_err-code c spelled reader =

@@ -1,10 +1,10 @@
 -- The programs so far are read, and the others decide.
-use Rattle.std.proofs.Common.{◌≡◌, [], Option, map}
+use Rattle.std.proofs.Common.{◌≡◌, Option, map}
 use Rattle.hop_base.specs.declared.instructions.Instr.{Instr}
 use Rattle.hop_model.specs.State.{Text}
 use Rattle.toml.specs.View.{members_view, table_view}
 use Rattle.instr_set.specs.Reader.{IsReader}
-use Rattle.script_read.specs.Meaning.{more_programs}
+use Rattle.script_read.specs.Meaning.{more_programs, programs_in}
 use Rattle.script_read.specs.Views.{program_of}
 use Rattle.script_read.proofs.programs.read_table.Given as goal
 
@@ -12,5 +12,5 @@ abbrev pub invariant-loop-name : goal.invariant-loop-name
 invariant-loop-name l = record {
   can : (goal.iterator-loop-name).can_next l.name-iterator;
   ends : (goal.iterator-loop-name).is_finite l.name-iterator;
-  rest : (spelled : Text → Option Instr) → IsReader spelled → more_programs spelled (map program_of l.programs.items) (members_view l.name-iterator) ≡ more_programs spelled [] (table_view l.table);
+  rest : (spelled : Text → Option Instr) → IsReader spelled → more_programs spelled (map program_of l.programs.items) (members_view l.name-iterator) ≡ programs_in spelled (table_view l.table);
 }

@@ -1,6 +1,7 @@
 use Rattle.std.proofs.Common.{ℕ, ◌||◌, None, false, get_or, arith, ap, ◌∙◌, get_or-set_same, get_or-set_other}
 use Rattle.std.proofs.Math.ListN.{set}
 use Rattle.vector_stamps.specs.Stamps.{component}
+use Rattle.cut_finder.specs.Records.{choice}
 use Rattle.cut_finder.specs.Searches.{place_at, mark_at, needs_more}
 use Rattle.cut_finder.proofs.Lowering.{falls_to}
 use Rattle.cut_finder.proofs.search.Search.lower.Goals as goal
@@ -16,7 +17,7 @@ returns-in-Some-clause-search c =
     let version = c.version_of-version.result in
     let is_version = c.version_of-version.ensures in
     let later = λ (y : ℕ). needs_more recs (place_at (set chosen x place) y) x in
-    falls_to recs c.requires.ascending (place_at chosen) (place_at (set chosen x place)) (component c.args.self.now.cut) (λ y. get_or (set cut x version) y 0)
+    falls_to (choice c.args.chains.now.start) recs c.requires.ascending (place_at chosen) (place_at (set chosen x place)) (component c.args.self.now.cut) (λ y. get_or (set cut x version) y 0)
     (mark_at lacking) (mark_at c.mark_later.new.lacking) x c.in-Some.k place c.requires.search c.in-Some.is c.requires.lacking c.lowered-place.ensures
     (get_or-set_same chosen x place None (omega arith))
     (λ y n. get_or-set_other chosen x y place None n)

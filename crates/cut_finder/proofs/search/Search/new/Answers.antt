@@ -1,11 +1,12 @@
 use Rattle.std.proofs.Common.{None, arith}
 use Rattle.std.proofs.lemmas.List.{get_or_past}
 use Rattle.vector_stamps.specs.Stamps.{component}
+use Rattle.cut_finder.specs.Records.{choice}
 use Rattle.cut_finder.specs.Searches.{place_at, mark_at}
 use Rattle.cut_finder.proofs.Lowering.{starts}
 use Rattle.cut_finder.proofs.search.Search.new.Goals as goal
 
 pub returns : goal.returns
 returns c =
-    starts c.args.recs.now c.requires.ascending c.requires.entities (place_at c.args.newest) (component c.versions_of-cut.result) (mark_at c.marks_of-lacking.result)
-    c.requires.newest (λ x high. get_or_past c.args.newest x None (omega arith)) c.versions_of-cut.ensures c.marks_of-lacking.ensures
+    starts (choice c.args.chains.now.start) c.args.recs.now c.requires.ascending c.requires.entities (place_at c.args.chains.now.newest) (component c.versions_of-cut.result) (mark_at c.marks_of-lacking.result)
+    c.requires.newest (λ x high. get_or_past c.args.chains.now.newest x None (omega arith)) c.versions_of-cut.ensures c.marks_of-lacking.ensures

@@ -1,21 +1,24 @@
-use Rattle.std.proofs.Common.{◌≡◌, ℕ, ◌+◌, ◌<◌, ◌≤◌, false, is_some}
+use Rattle.std.proofs.Common.{◌≡◌, ℕ, ◌+◌, ◌<◌, ◌≤◌, true, false, is_some}
 use Rattle.hop_model.specs.State.{Supply}
 use Rattle.frame_table.specs.FrameTable.{changed_at, page_at}
 use Rattle.fault_paging.specs.Words.{block_at, need_below, AreCleanTrue, IsSoundTable}
-use Rattle.fault_paging.specs.Calls.{Keeps, Later, Stands}
+use Rattle.fault_paging.specs.Calls.{IsUnchanged, Keeps, KeepsPages, Later, Stands}
 use Rattle.fault_paging.proofs.paged.PagedMemory.flush.Given as goal
 
--- the pages so far are saved, the others are as they were, and a block is left for each of them that needs one
+-- The pages so far are saved, the others are as they were, and a block is left for each of them that needs one. Where
+-- no page was changed nothing is; where the store was shut no page so far was changed.
 abbrev pub invariant-loop-page : goal.invariant-loop-page
 invariant-loop-page g l = record {
   stands : g.B.PageStore.tells → (s : Supply) → AreCleanTrue s (g.B.PageStore.words l.fn.store) l.fn.self → Stands s (g.B.PageStore.words l.fn.store) (g.B.PageStore.words l.store) l.fn.self l.self;
   table : IsSoundTable (g.B.PageStore.held l.store) l.self;
   others : Keeps g.B.PageStore.tells g.B.PageStore.held g.B.PageStore.kept_names g.B.PageStore.words l.fn.self l.self l.fn.store l.store;
-  container : (l.self.tag ≡ l.fn.self.tag) × (l.self.pages ≡ l.fn.self.pages);
+  pages : KeepsPages (g.B.PageStore.kept_names l.fn.store) l.fn.self l.self;
   residents : (p : ℕ) → is_some (page_at l.self.frames p) ≡ is_some (page_at l.fn.self.frames p);
   clean : (p : ℕ) → p < l.page → changed_at l.self.frames p ≡ false;
   rest : (p : ℕ) → l.page ≤ p → (changed_at l.self.frames p ≡ changed_at l.fn.self.frames p) × (block_at l.self p ≡ block_at l.fn.self p);
   room : need_below (g.B.PageStore.kept_names l.fn.store) l.fn.self 256 ≤ g.B.PageStore.free l.store + need_below (g.B.PageStore.kept_names l.fn.store) l.fn.self l.page;
+  untouched : IsUnchanged l.fn.self → (l.self ≡ l.fn.self) × (l.store ≡ l.fn.store);
+  shut : g.B.PageStore.is_shut l.fn.store ≡ true → (p : ℕ) → p < l.page → changed_at l.fn.self.frames p ≡ false;
   later : Later g.B.PageStore.is_shut g.B.PageStore.faults g.B.PageStore.written l.fn.store l.store;
   same_shut : g.B.PageStore.is_shut l.store ≡ g.B.PageStore.is_shut l.fn.store;
   writes : g.B.PageStore.written l.store ≤ g.B.PageStore.written l.fn.store + l.page;

@@ -1,9 +1,10 @@
 use Rattle.std.proofs.Common.{ℕ, ◌/◌, ◌%◌, refl, ap, ◌∙◌}
 use Rattle.std.proofs.lemmas.Result.{err_from_is_err_and}
-use Rattle.fault_paging.proofs.Bringing.{chooses_err, chooses_ok}
+use Rattle.frame_table.specs.FrameTable.{FrameTable}
+use Rattle.fault_paging.proofs.Bringing.{room_err, room_ok}
 use Rattle.fault_paging.proofs.Evictions.{keeps_from, marked_stands, marked_table}
 use Rattle.fault_paging.proofs.Pages.{stands_trans}
-use Rattle.fault_paging.proofs.Resident.{read_marked, read_pages, reads_same, same_residents, same_stay, word_is}
+use Rattle.fault_paging.proofs.Resident.{read_marked, read_pages, reads_same, same_residents, word_is}
 use Rattle.fault_paging.proofs.paged.PagedMemory.load.Goals as goal
 
 pub returns-clause-word : goal.returns-clause-word
@@ -16,7 +17,7 @@ returns-clause-stands g c =
 
 pub returns-clause-table : goal.returns-clause-table
 returns-clause-table g c =
-    marked_table c.bring.new.self c.word.new.self (read_marked c.bring.new.self (c.args.address / 128) c.in_ok-bring.ensures.resident c.word.new.self _ _ c.word.ensures.marked refl refl) _ c.in_ok-bring.ensures.table
+    marked_table c.bring.new.self c.word.new.self (read_marked c.bring.new.self (c.args.address / 128) c.in_ok-bring.ensures.resident c.word.new.self _ _ c.word.ensures.marked refl refl) _ (ap (λ (t : FrameTable). t.frames) c.word.ensures.marked) c.in_ok-bring.ensures.table
 
 pub returns-clause-others : goal.returns-clause-others
 returns-clause-others g c =
@@ -26,22 +27,30 @@ pub returns-clause-pages : goal.returns-clause-pages
 returns-clause-pages g c =
     read_pages c.bring.new.self (c.args.address / 128) c.in_ok-bring.ensures.resident c.word.new.self _ _ c.word.ensures.marked refl refl _ c.args.self.now c.in_ok-bring.ensures.pages
 
-pub returns-clause-stay : goal.returns-clause-stay
-returns-clause-stay g c =
-    λ none. same_stay c.bring.new.self (c.args.address / 128) c.in_ok-bring.ensures.resident c.word.new.self _ _ c.word.ensures.marked c.args.self.now (c.in_ok-bring.ensures.stay none)
+pub returns-clause-room : goal.returns-clause-room
+returns-clause-room g c =
+    room_ok _ _ _ c.args.self.now c.bring.new.self (record c.bring.new.self { frames = c.word.new.self }) (same_residents c.bring.new.self (c.args.address / 128) c.in_ok-bring.ensures.resident c.word.new.self _ _ c.word.ensures.marked) (c.args.address / 128) _ _ c.in_ok-bring.ensures.stay c.in_ok-bring.ensures.chooses c.in_ok-bring.ensures.shut
 
-pub returns-clause-chooses : goal.returns-clause-chooses
-returns-clause-chooses g c =
-    λ due. chooses_ok _ _ c.args.self.now _ _ (c.in_ok-bring.ensures.chooses due)
+pub returns-clause-counts : goal.returns-clause-counts
+returns-clause-counts g c = record {
+  later = c.in_ok-bring.ensures.later;
+  one_write = c.in_ok-bring.ensures.one_write;
+  reads = reads_same c.args.self.now c.bring.new.self (record c.bring.new.self { frames = c.word.new.self }) (c.args.address / 128) _ _ (same_residents c.bring.new.self (c.args.address / 128) c.in_ok-bring.ensures.resident c.word.new.self _ _ c.word.ensures.marked) c.in_ok-bring.ensures.reads;
+  untouched = λ there. (c.in_ok-bring.ensures.had there).1;
+}
 
-pub returns-clause-reads : goal.returns-clause-reads
-returns-clause-reads g c =
-    reads_same c.args.self.now c.bring.new.self (record c.bring.new.self { frames = c.word.new.self }) (c.args.address / 128) _ _ (same_residents c.bring.new.self (c.args.address / 128) c.in_ok-bring.ensures.resident c.word.new.self _ _ c.word.ensures.marked) c.in_ok-bring.ensures.reads
-
-pub returns-in_err-bring-clause-chooses : goal.returns-in_err-bring-clause-chooses
-returns-in_err-bring-clause-chooses g c =
+pub returns-in_err-bring-clause-room : goal.returns-in_err-bring-clause-room
+returns-in_err-bring-clause-room g c =
     let p = err_from_is_err_and c.from_residual.result c.from_residual.ensures.1 in
-    rw (p.1, p.2) (λ due. chooses_err _ _ c.args.self.now _ (c.in_err-bring.ensures.chooses due))
+    rw (p.1, p.2) (room_err _ _ _ c.args.self.now c.bring.new.self _ _ (λ there. (c.in_err-bring.ensures.had there).0) c.in_err-bring.ensures.stay c.in_err-bring.ensures.chooses c.in_err-bring.ensures.no_blocks c.in_err-bring.ensures.shut)
+
+pub returns-in_err-bring-clause-counts : goal.returns-in_err-bring-clause-counts
+returns-in_err-bring-clause-counts g c = record {
+  later = c.in_err-bring.ensures.later;
+  one_write = c.in_err-bring.ensures.one_write;
+  reads = c.in_err-bring.ensures.reads;
+  untouched = λ there. (c.in_err-bring.ensures.had there).1;
+}
 
 pub returns-clause-resident : goal.returns-clause-resident
 returns-clause-resident g c =

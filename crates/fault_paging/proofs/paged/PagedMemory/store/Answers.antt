@@ -2,8 +2,9 @@ use Rattle.std.proofs.Common.{ℕ, ◌/◌, true, ap, ◌∙◌}
 use Rattle.std.proofs.lemmas.Result.{err_from_is_err_and}
 use Rattle.hop_model.specs.Words.{put}
 use Rattle.frame_table.specs.FrameTable.{resident_changed}
+use Rattle.fault_paging.proofs.Bringing.{room_err, room_ok}
 use Rattle.fault_paging.proofs.Evictions.{keeps_from}
-use Rattle.fault_paging.proofs.Resident.{clean_written, container_of, here, others_unchanged, reads_same, same_container, same_residents, same_stay, same_table, words_written}
+use Rattle.fault_paging.proofs.Resident.{clean_written, container_of, here, marks_err, others_unchanged, reads_same, same_container, same_residents, same_table, words_written}
 use Rattle.fault_paging.proofs.paged.PagedMemory.store.Goals as goal
 
 pub returns-clause-written : goal.returns-clause-written
@@ -26,21 +27,26 @@ pub returns-clause-blocks : goal.returns-clause-blocks
 returns-clause-blocks g c =
     same_container c.bring.new.self (c.args.address / 128) c.in_ok-bring.ensures.resident c.set.new.self _ true c.set.ensures _ c.args.self.now c.in_ok-bring.ensures.pages
 
-pub returns-clause-changed : goal.returns-clause-changed
-returns-clause-changed g c =
-    ap resident_changed (here c.bring.new.self (c.args.address / 128) c.in_ok-bring.ensures.resident c.set.new.self _ true c.set.ensures)
+pub returns-clause-marks : goal.returns-clause-marks
+returns-clause-marks g c = record {
+  resident = same_residents c.bring.new.self (c.args.address / 128) c.in_ok-bring.ensures.resident c.set.new.self _ true c.set.ensures (c.args.address / 128) ∙ c.in_ok-bring.ensures.resident;
+  changed = λ _. ap resident_changed (here c.bring.new.self (c.args.address / 128) c.in_ok-bring.ensures.resident c.set.new.self _ true c.set.ensures);
+  others = λ p differs e. c.in_ok-bring.ensures.pages.none_changed p (others_unchanged c.bring.new.self (c.args.address / 128) c.in_ok-bring.ensures.resident c.set.new.self _ true c.set.ensures p differs e);
+  by_load = λ load. absurd (cc load);
+  failed = tt;
+}
 
-pub returns-clause-none_changed : goal.returns-clause-none_changed
-returns-clause-none_changed g c =
-    λ p differs e. c.in_ok-bring.ensures.pages.none_changed p (others_unchanged c.bring.new.self (c.args.address / 128) c.in_ok-bring.ensures.resident c.set.new.self _ true c.set.ensures p differs e)
+pub returns-clause-room : goal.returns-clause-room
+returns-clause-room g c =
+    room_ok _ _ _ c.args.self.now c.bring.new.self (record c.bring.new.self { frames = c.set.new.self }) (same_residents c.bring.new.self (c.args.address / 128) c.in_ok-bring.ensures.resident c.set.new.self _ true c.set.ensures) (c.args.address / 128) _ _ c.in_ok-bring.ensures.stay c.in_ok-bring.ensures.chooses c.in_ok-bring.ensures.shut
 
-pub returns-clause-stay : goal.returns-clause-stay
-returns-clause-stay g c =
-    λ none. same_stay c.bring.new.self (c.args.address / 128) c.in_ok-bring.ensures.resident c.set.new.self _ true c.set.ensures c.args.self.now (c.in_ok-bring.ensures.stay none)
-
-pub returns-clause-reads : goal.returns-clause-reads
-returns-clause-reads g c =
-    reads_same c.args.self.now c.bring.new.self (record c.bring.new.self { frames = c.set.new.self }) (c.args.address / 128) _ _ (same_residents c.bring.new.self (c.args.address / 128) c.in_ok-bring.ensures.resident c.set.new.self _ true c.set.ensures) c.in_ok-bring.ensures.reads
+pub returns-clause-counts : goal.returns-clause-counts
+returns-clause-counts g c = record {
+  later = c.in_ok-bring.ensures.later;
+  one_write = c.in_ok-bring.ensures.one_write;
+  reads = reads_same c.args.self.now c.bring.new.self (record c.bring.new.self { frames = c.set.new.self }) (c.args.address / 128) _ _ (same_residents c.bring.new.self (c.args.address / 128) c.in_ok-bring.ensures.resident c.set.new.self _ true c.set.ensures) c.in_ok-bring.ensures.reads;
+  untouched = λ there. (c.in_ok-bring.ensures.had there).1;
+}
 
 pub returns-in_err-bring-clause-failed : goal.returns-in_err-bring-clause-failed
 returns-in_err-bring-clause-failed g c =
@@ -55,10 +61,20 @@ pub returns-in_err-bring-clause-blocks : goal.returns-in_err-bring-clause-blocks
 returns-in_err-bring-clause-blocks g c =
     container_of _ c.args.self.now c.bring.new.self c.in_err-bring.ensures.pages
 
-pub returns-in_err-bring-clause-none_changed : goal.returns-in_err-bring-clause-none_changed
-returns-in_err-bring-clause-none_changed g c =
-    λ p _ e. c.in_err-bring.ensures.pages.none_changed p e
+pub returns-in_err-bring-clause-marks : goal.returns-in_err-bring-clause-marks
+returns-in_err-bring-clause-marks g c =
+    let p = err_from_is_err_and c.from_residual.result c.from_residual.ensures.1 in
+    rw p.1 (marks_err true c.args.self.now c.bring.new.self (c.args.address / 128) _ c.in_err-bring.ensures.pages.none_changed)
 
-pub returns-clause-resident : goal.returns-clause-resident
-returns-clause-resident g c =
-    same_residents c.bring.new.self (c.args.address / 128) c.in_ok-bring.ensures.resident c.set.new.self _ true c.set.ensures (c.args.address / 128) ∙ c.in_ok-bring.ensures.resident
+pub returns-in_err-bring-clause-room : goal.returns-in_err-bring-clause-room
+returns-in_err-bring-clause-room g c =
+    let p = err_from_is_err_and c.from_residual.result c.from_residual.ensures.1 in
+    rw (p.1, p.2) (room_err _ _ _ c.args.self.now c.bring.new.self _ _ (λ there. (c.in_err-bring.ensures.had there).0) c.in_err-bring.ensures.stay c.in_err-bring.ensures.chooses c.in_err-bring.ensures.no_blocks c.in_err-bring.ensures.shut)
+
+pub returns-in_err-bring-clause-counts : goal.returns-in_err-bring-clause-counts
+returns-in_err-bring-clause-counts g c = record {
+  later = c.in_err-bring.ensures.later;
+  one_write = c.in_err-bring.ensures.one_write;
+  reads = c.in_err-bring.ensures.reads;
+  untouched = λ there. (c.in_err-bring.ensures.had there).1;
+}

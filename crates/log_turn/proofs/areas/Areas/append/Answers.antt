@@ -1,6 +1,7 @@
-use Rattle.std.proofs.Common.{refl, ap}
+use Rattle.std.proofs.Common.{refl, ap, ◌∙◌}
 use Rattle.disk_trait.proofs.Phases.{told}
 use Rattle.commit_log.specs.declared.log.Log.{Log}
+use Rattle.disk_tally.specs.declared.Tally.{Tally}
 use Rattle.log_turn.proofs.Appending.{log_stands, moments_logging, on_ok_two, stands_more}
 use Rattle.log_turn.proofs.areas.Areas.append.Goals as goal
 
@@ -16,7 +17,7 @@ returns-clause-added g c t recs s =
     let disk = g.met.D.Disk in
     let laws = told t disk.counts_now disk.only_now in
     on_ok_two c.append.result
-    (λ after only. stands_more g.D.Disk.may_leave g.D.Disk.reading c.args.self.now c.append.new.self recs _ c.args.disk.now c.append.new.disk s c.append.ensures.log.area (c.append.ensures.outside t) after only)
+    (λ after only. stands_more g.D.Disk.may_leave g.D.Disk.reading c.args.self.now c.append.new.self c.append.new.tally recs _ c.args.disk.now c.append.new.disk s c.append.ensures.log.area (c.append.ensures.outside t) after only)
     (c.append.ensures.added t recs (log_stands laws g.D.Disk.reading c.args.self.now recs c.args.disk.now s)) (c.append.ensures.stable t)
 
 pub returns-clause-any_moment : goal.returns-clause-any_moment
@@ -34,4 +35,5 @@ returns-clause-areas g c =
 pub returns-clause-untouched : goal.returns-clause-untouched
 returns-clause-untouched g c why =
     let same = c.append.ensures.untouched why in
-    (same.0, ap (λ (log : Log). record { log = log; epoch = c.args.self.now.epoch }) same.1)
+    let old = c.args.self.now in
+    (same.0, ap (λ (log : Log). record { log = log; tally = c.append.new.tally; epoch = old.epoch }) same.2 ∙ ap (λ (tally : Tally). record { log = old.log; tally = tally; epoch = old.epoch }) same.1)

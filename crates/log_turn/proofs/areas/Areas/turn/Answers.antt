@@ -1,12 +1,16 @@
-use Rattle.std.proofs.Common.{◌<◌, ◌+◌, ◌^◌, ◌∙◌, refl, ap, sym, subst, arith}
-use Rattle.disk_trait.specs.Image.{Image, block_at}
+use Rattle.std.proofs.Common.{◌≡◌, length, ◌<◌, ◌+◌, ◌^◌, ◌∙◌, ap, sym, subst, arith}
+use Rattle.disk_trait.specs.Image.{Image, SameOutside, block_at}
+use Rattle.disk_trait.specs.Moments.{LeavesOnly}
 use Rattle.disk_trait.proofs.Phases.{told}
 use Rattle.disk_tally.proofs.Counting.{CountsOn-then}
-use Rattle.image_blocks.specs.Layout.{gate_at, header_at, other}
+use Rattle.image_blocks.specs.Layout.{closed_gate, gate_at, header_at, open_gate, other}
+use Rattle.image_blocks.specs.declared.areas.Area.{Area}
 use Rattle.image_blocks.specs.Logs.{HasLog}
 use Rattle.commit_log.proofs.Through.{gate_open}
-use Rattle.log_turn.specs.Standing.{place_of}
-use Rattle.log_turn.proofs.Turning.{Closing, Switching, Writing, moments_closing, moments_switching, moments_writing, outside_closing, outside_switch, outside_writing, reads_turned}
+use Rattle.commit_log.specs.Standing.{area_of as log_area}
+use Rattle.log_turn.specs.Stages.{IsEitherGate, IsSwitching}
+use Rattle.log_turn.specs.Standing.{area_of, place_of}
+use Rattle.log_turn.proofs.Turning.{Closing, Switching, Writing, gates_stay, moments_closing, moments_switching, moments_writing, outside_closing, outside_switch, outside_writing, reads_turned}
 use Rattle.log_turn.proofs.areas.Areas.turn.Goals as goal
 
 pub returns-in_err-close_area-clause-any_moment : goal.returns-in_err-close_area-clause-any_moment
@@ -15,7 +19,7 @@ returns-in_err-close_area-clause-any_moment g c t working recs stands =
     let reading = g.D.Disk.reading in
     let laws = told t disk.counts_now disk.only_now in
     let o = c.other_area-next.result in
-    let is = c.other_area-next.ensures in
+    let is : o ≡ other (area_of c.args.self.now) = c.other_area-next.ensures ∙ ap other c.area-active.ensures in
     let p = place_of c.args.self.now in
     let fits : c.args.self.now.epoch + 1 < 2 ^ 64 = (let e = c.requires.epoch in omega (arith, e)) in
     let closing : Closing g.D.Disk.clock g.D.Disk.may_leave g.D.Disk.left_since reading p c.args.kept.now o c.args.disk.now c.close_area.new.disk = record { same = c.close_area.ensures.reading t; quiet = c.close_area.ensures.any_moment t } in
@@ -27,7 +31,7 @@ returns-in_err-write_kept-clause-any_moment g c t working recs stands =
     let reading = g.D.Disk.reading in
     let laws = told t disk.counts_now disk.only_now in
     let o = c.other_area-next.result in
-    let is = c.other_area-next.ensures in
+    let is : o ≡ other (area_of c.args.self.now) = c.other_area-next.ensures ∙ ap other c.area-active.ensures in
     let p = place_of c.args.self.now in
     let fits : c.args.self.now.epoch + 1 < 2 ^ 64 = (let e = c.requires.epoch in omega (arith, e)) in
     let closing : Closing g.D.Disk.clock g.D.Disk.may_leave g.D.Disk.left_since reading p c.args.kept.now o c.args.disk.now c.close_area.new.disk = record { same = c.close_area.ensures.reading t; quiet = c.close_area.ensures.any_moment t } in
@@ -46,7 +50,7 @@ returns-in_err-switch-clause-any_moment g c t working recs stands =
     let reading = g.D.Disk.reading in
     let laws = told t disk.counts_now disk.only_now in
     let o = c.other_area-next.result in
-    let is = c.other_area-next.ensures in
+    let is : o ≡ other (area_of c.args.self.now) = c.other_area-next.ensures ∙ ap other c.area-active.ensures in
     let p = place_of c.args.self.now in
     let fits : c.args.self.now.epoch + 1 < 2 ^ 64 = (let e = c.requires.epoch in omega (arith, e)) in
     let closing : Closing g.D.Disk.clock g.D.Disk.may_leave g.D.Disk.left_since reading p c.args.kept.now o c.args.disk.now c.close_area.new.disk = record { same = c.close_area.ensures.reading t; quiet = c.close_area.ensures.any_moment t } in
@@ -61,7 +65,7 @@ returns-in_err-switch-clause-any_moment g c t working recs stands =
       writing = writing;
       header = c.in_ok-write_kept.ensures.header t;
       slots = c.in_ok-write_kept.ensures.slots t;
-      moments = c.switch.ensures.any_moment t;
+      moments = subst (λ (a : Area). LeavesOnly g.D.Disk.clock g.D.Disk.left_since c.write_kept.new.disk c.switch.new.disk (IsSwitching a (reading c.write_kept.new.disk))) c.area-active.ensures (c.switch.ensures.any_moment t);
     } in
     moments_switching laws reading (λ d. disk.reads_now d t) p fits recs c.args.kept.now c.args.disk.now stands.left o is c.close_area.new.disk c.write_kept.new.disk c.switch.new.disk switching
 
@@ -71,7 +75,7 @@ returns-clause-any_moment g c t working recs stands =
     let reading = g.D.Disk.reading in
     let laws = told t disk.counts_now disk.only_now in
     let o = c.other_area-next.result in
-    let is = c.other_area-next.ensures in
+    let is : o ≡ other (area_of c.args.self.now) = c.other_area-next.ensures ∙ ap other c.area-active.ensures in
     let p = place_of c.args.self.now in
     let fits : c.args.self.now.epoch + 1 < 2 ^ 64 = (let e = c.requires.epoch in omega (arith, e)) in
     let closing : Closing g.D.Disk.clock g.D.Disk.may_leave g.D.Disk.left_since reading p c.args.kept.now o c.args.disk.now c.close_area.new.disk = record { same = c.close_area.ensures.reading t; quiet = c.close_area.ensures.any_moment t } in
@@ -86,7 +90,7 @@ returns-clause-any_moment g c t working recs stands =
       writing = writing;
       header = c.in_ok-write_kept.ensures.header t;
       slots = c.in_ok-write_kept.ensures.slots t;
-      moments = c.switch.ensures.any_moment t;
+      moments = subst (λ (a : Area). LeavesOnly g.D.Disk.clock g.D.Disk.left_since c.write_kept.new.disk c.switch.new.disk (IsSwitching a (reading c.write_kept.new.disk))) c.area-active.ensures (c.switch.ensures.any_moment t);
     } in
     moments_switching laws reading (λ d. disk.reads_now d t) p fits recs c.args.kept.now c.args.disk.now stands.left o is c.close_area.new.disk c.write_kept.new.disk c.switch.new.disk switching
 
@@ -96,7 +100,7 @@ returns-clause-turned g c t working =
     let reading = g.D.Disk.reading in
     let laws = told t disk.counts_now disk.only_now in
     let o = c.other_area-next.result in
-    let is = c.other_area-next.ensures in
+    let is : o ≡ other (area_of c.args.self.now) = c.other_area-next.ensures ∙ ap other c.area-active.ensures in
     let p = place_of c.args.self.now in
     let fits : c.args.self.now.epoch + 1 < 2 ^ 64 = (let e = c.requires.epoch in omega (arith, e)) in
     let recs = (c.requires.stands t working).0 in
@@ -113,42 +117,47 @@ returns-clause-turned g c t working =
       writing = writing;
       header = c.in_ok-write_kept.ensures.header t;
       slots = c.in_ok-write_kept.ensures.slots t;
-      moments = c.switch.ensures.any_moment t;
+      moments = subst (λ (a : Area). LeavesOnly g.D.Disk.clock g.D.Disk.left_since c.write_kept.new.disk c.switch.new.disk (IsSwitching a (reading c.write_kept.new.disk))) c.area-active.ensures (c.switch.ensures.any_moment t);
     } in
-    let opened = c.in_ok-switch.ensures.opened t in
-    let opens = gate_open (reading c.switch.new.disk) (gate_at (other c.args.self.now.log.area)) opened in
-    let read = (reads_turned laws reading (λ d. disk.reads_now d t) p fits recs c.args.kept.now c.args.disk.now stands.left o is c.close_area.new.disk c.write_kept.new.disk c.switch.new.disk switching (c.switch.ensures.reading t) opens) in
-    let log = read.0 in
+    let two = reading c.write_kept.new.disk in
+    let end = reading c.switch.new.disk in
+    let from = c.area-active.ensures in
+    let opened = subst (λ (a : Area). block_at end (gate_at (other a)) ≡ open_gate) from (c.in_ok-switch.ensures.opened t) in
+    let outside = subst (λ (a : Area). SameOutside (IsEitherGate a) two end) from (c.switch.ensures.reading t) in
+    let opens = gate_open end (gate_at (other (area_of c.args.self.now))) opened in
+    let read = (reads_turned laws reading (λ d. disk.reads_now d t) p fits recs c.args.kept.now c.args.disk.now stands.left o is c.close_area.new.disk c.write_kept.new.disk c.switch.new.disk switching outside opens) in
+    let log = subst (λ (a : Area). HasLog (record { active = a; epoch = c.args.self.now.epoch + 1 }) c.args.kept.now end) (sym c.new-self.ensures.area) read.0 in
     record {
       stands = record {
-        used = refl;
+        used = sym c.new-self.ensures.used;
         log = log;
         left = λ image may.
             let e = c.in_ok-switch.ensures.stable t image may in (
-              subst (λ (i : Image). HasLog (record { active = o; epoch = c.args.self.now.epoch + 1 }) c.args.kept.now i) (sym e) log,
+              subst (λ (i : Image). HasLog (record { active = log_area c.new-self.result; epoch = c.args.self.now.epoch + 1 }) c.args.kept.now i) (sym e) log,
               record { header = λ area. ap (λ (i : Image). block_at i (header_at area)) e; gate = λ area. ap (λ (i : Image). block_at i (gate_at area)) e },
             );
       };
       header = read.1;
       opened = opened;
-      closed = c.in_ok-switch.ensures.closed t;
+      closed = subst (λ (a : Area). block_at end (gate_at a) ≡ closed_gate) from (c.in_ok-switch.ensures.closed t);
+      slot_gates = gates_stay (area_of c.args.self.now) o (length c.args.kept.now) two end is outside (c.in_ok-write_kept.ensures.gates t);
     }
 
 pub returns-in_err-close_area-clause-outside : goal.returns-in_err-close_area-clause-outside
 returns-in_err-close_area-clause-outside g c t =
-    outside_closing c.args.self.now.log.area c.other_area-next.result _ _ c.other_area-next.ensures (c.close_area.ensures.reading t)
+    outside_closing (area_of c.args.self.now) c.other_area-next.result _ _ (c.other_area-next.ensures ∙ ap other c.area-active.ensures) (c.close_area.ensures.reading t)
 
 pub returns-in_err-write_kept-clause-outside : goal.returns-in_err-write_kept-clause-outside
 returns-in_err-write_kept-clause-outside g c t =
-    outside_writing c.args.self.now.log.area c.other_area-next.result _ _ _ c.other_area-next.ensures (outside_closing c.args.self.now.log.area c.other_area-next.result _ _ c.other_area-next.ensures (c.close_area.ensures.reading t)) (c.write_kept.ensures.reading t)
+    outside_writing (area_of c.args.self.now) c.other_area-next.result _ _ _ (c.other_area-next.ensures ∙ ap other c.area-active.ensures) (outside_closing (area_of c.args.self.now) c.other_area-next.result _ _ (c.other_area-next.ensures ∙ ap other c.area-active.ensures) (c.close_area.ensures.reading t)) (c.write_kept.ensures.reading t)
 
 pub returns-in_err-switch-clause-outside : goal.returns-in_err-switch-clause-outside
 returns-in_err-switch-clause-outside g c t =
-    outside_switch c.args.self.now.log.area _ _ _ (outside_writing c.args.self.now.log.area c.other_area-next.result _ _ _ c.other_area-next.ensures (outside_closing c.args.self.now.log.area c.other_area-next.result _ _ c.other_area-next.ensures (c.close_area.ensures.reading t)) (c.write_kept.ensures.reading t)) (c.switch.ensures.reading t)
+    outside_switch (area_of c.args.self.now) _ _ _ (outside_writing (area_of c.args.self.now) c.other_area-next.result _ _ _ (c.other_area-next.ensures ∙ ap other c.area-active.ensures) (outside_closing (area_of c.args.self.now) c.other_area-next.result _ _ (c.other_area-next.ensures ∙ ap other c.area-active.ensures) (c.close_area.ensures.reading t)) (c.write_kept.ensures.reading t)) (subst (λ (a : Area). SameOutside (IsEitherGate a) (g.D.Disk.reading c.write_kept.new.disk) (g.D.Disk.reading c.switch.new.disk)) c.area-active.ensures (c.switch.ensures.reading t))
 
 pub returns-clause-outside : goal.returns-clause-outside
 returns-clause-outside g c t =
-    outside_switch c.args.self.now.log.area _ _ _ (outside_writing c.args.self.now.log.area c.other_area-next.result _ _ _ c.other_area-next.ensures (outside_closing c.args.self.now.log.area c.other_area-next.result _ _ c.other_area-next.ensures (c.close_area.ensures.reading t)) (c.write_kept.ensures.reading t)) (c.switch.ensures.reading t)
+    outside_switch (area_of c.args.self.now) _ _ _ (outside_writing (area_of c.args.self.now) c.other_area-next.result _ _ _ (c.other_area-next.ensures ∙ ap other c.area-active.ensures) (outside_closing (area_of c.args.self.now) c.other_area-next.result _ _ (c.other_area-next.ensures ∙ ap other c.area-active.ensures) (c.close_area.ensures.reading t)) (c.write_kept.ensures.reading t)) (subst (λ (a : Area). SameOutside (IsEitherGate a) (g.D.Disk.reading c.write_kept.new.disk) (g.D.Disk.reading c.switch.new.disk)) c.area-active.ensures (c.switch.ensures.reading t))
 
 pub returns-in_err-close_area-clause-begins : goal.returns-in_err-close_area-clause-begins
 returns-in_err-close_area-clause-begins g c = record {

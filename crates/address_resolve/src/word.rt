@@ -1,0 +1,59 @@
+ghost use Rattle.std.specs.Prelude.{◌≡◌, ◌*◌, ◌/◌, ◌<◌, IfErr, IfOk, OnErr, OnOk};
+ghost use Rattle.wanted_act.specs.Views.{IsReadyLocus};
+ghost use Rattle.locus_machine.specs.declared.loci.Head.{Head};
+ghost use Rattle.locus_machine.specs.Loci.{container_with, locus_of};
+ghost use Rattle.fault_paging.specs.Words.{AreCleanTrue, IsSoundTable, words_of};
+ghost use Rattle.fault_paging.specs.Calls.{Counts, IsCausedBy, Keeps, KeepsBlocks, MakesRoom, MarksOne};
+ghost use Rattle.address_resolve.specs.Looks.{done_by, writes, Looked, NamesRegister};
+
+use crate::aim::{Access, Aim};
+use fault_paging::{PageFault, PagedMemory};
+use hop_base::{Answer, PAGE_WORDS, Reply};
+use locus_machine::Locus;
+use manager_gate::{Gate, Policy, Supplier};
+use page_store::PageStore;
+
+/// The look at a word: it is read or written, and the walk ends. A fault leaves the locus and the words as they were.
+pub(crate) fn at_word<B: PageStore, S: Supplier, P: Policy>(
+    locus: &mut Locus,
+    memory: &mut PagedMemory,
+    store: &mut B,
+    gate: &Gate<S, P>,
+    aim: Aim,
+) -> Result<Answer, PageFault>
+    requires keeps { S.keeps gate.now.supply }
+    requires inside { aim.address < PAGE_WORDS * memory.old.pages }
+    requires place { locus.old.place < 128 }
+    requires ready { IsReadyLocus (locus_of locus.old) }
+    requires register { NamesRegister aim.access }
+    requires table { IsSoundTable (B.held store.old) memory.old }
+    requires clean { B.tells → AreCleanTrue (S.word gate.now.supply) (B.words store.old) memory.old }
+    ensures looked { B.tells → IfOk result (λ answer. (h : Head)
+        → Looked (done_by (locus_of locus.old) (container_with (words_of (S.word gate.now.supply) (B.words store.old) memory.old) h) aim.address aim.access) (locus_of locus.new) answer
+        (container_with (words_of (S.word gate.now.supply) (B.words store.old) memory.old) h) (container_with (words_of (S.word gate.now.supply) (B.words store.new) memory.new) h)) }
+    ensures ready { IsReadyLocus (locus_of locus.new) }
+    ensures failed { OnErr result ((locus.new ≡ locus.old) × (B.tells → words_of (S.word gate.now.supply) (B.words store.new) memory.new ≡ words_of (S.word gate.now.supply) (B.words store.old) memory.old)) }
+    ensures clean { B.tells → AreCleanTrue (S.word gate.now.supply) (B.words store.new) memory.new }
+    ensures table { IsSoundTable (B.held store.new) memory.new }
+    ensures others { Keeps B.tells B.held B.kept_names B.words memory.old memory.new store.old store.new }
+    ensures blocks { KeepsBlocks (B.kept_names store.old) memory.old memory.new }
+    ensures room { MakesRoom (B.kept_names store.old) (B.free store.old) (B.is_shut store.old) memory.old memory.new (aim.address / PAGE_WORDS) result }
+    ensures marks { MarksOne (writes aim.access) memory.old memory.new (aim.address / PAGE_WORDS) result }
+    ensures counts { Counts B.is_shut B.faults B.written B.read_calls memory.old memory.new (aim.address / PAGE_WORDS) store.old store.new }
+    ensures cause { IfErr result (IsCausedBy (B.free store.old) (B.faults store.old) (B.faults store.new) (B.is_shut store.old) (B.is_shut store.new)) }
+    ensures same_shut { OnOk result (B.is_shut store.new ≡ B.is_shut store.old) }
+    ensures between { B.Pages store.old store.new }
+{
+    match aim.access {
+        Access::Load(d) => {
+            let word = memory.load(store, gate, aim.address)?;
+            locus.registers[d as usize] = word;
+            let _ = locus.finish(Reply::Ok);
+            Ok(Answer::Read(word))
+        }
+        Access::Store(word) => {
+            memory.store(store, gate, aim.address, word)?;
+            Ok(locus.finish(Reply::Ok))
+        }
+    }
+}

@@ -1,0 +1,10 @@
+use Rattle.vector_stamps.specs.Stamps.{component}
+use Rattle.cut_finder.specs.Records.{choice}
+use Rattle.cut_finder.specs.Searches.{IsSearch, place_at, mark_at, falls_left}
+use Rattle.cut_finder.proofs.greatest_from.Given as goal
+
+abbrev pub invariant-loop-x : goal.invariant-loop-x
+invariant-loop-x l = IsSearch (choice l.chains.start) l.recs (place_at l.search.chosen) (component l.search.cut) (mark_at l.search.lacking)
+
+abbrev pub decreases-loop-x : goal.decreases-loop-x
+decreases-loop-x l = falls_left l.search.chosen

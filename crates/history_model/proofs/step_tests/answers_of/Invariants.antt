@@ -1,7 +1,0 @@
-use Rattle.hop_model.specs.Soundness.{IsSound}
-use Rattle.history_model.specs.Born.{AreEdges}
-use Rattle.history_model.specs.Plains.{cells_of}
-use Rattle.history_model.proofs.step_tests.answers_of.Given as goal
-
-abbrev pub invariant-loop : goal.invariant-loop
-invariant-loop g l = record { sound : IsSound (cells_of (λ tag page place. tag) l.state); edges : AreEdges l.state.atlas.edges.items }

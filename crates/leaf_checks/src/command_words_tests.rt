@@ -1,0 +1,51 @@
+use command_words::{Command, read_command};
+use std::alloc::{AllocError, Global};
+use std::test::Fail;
+
+/// The words that blanks part, read.
+fn read_line(alloc: Global, line: &str) -> Result<Option<Command>, AllocError> {
+    let mut words = Vec::new(alloc);
+    for word in line.split(' ') {
+        words.push(String::from_str(alloc, word)?)?;
+    }
+    read_command(alloc, words.as_slice())
+}
+
+#[test]
+fn words_are_read_as_commands(rt: HostRuntime) -> Result<(), Fail> {
+    let alloc = rt.alloc();
+    let cases = [
+        ("run", Some(Command::Run)),
+        ("show", Some(Command::Show)),
+        ("format 2600", Some(Command::Format(2600))),
+        ("format 65536", Some(Command::Format(65_536))),
+        ("format 02600", Some(Command::Format(2600))),
+        ("format 00000000000000002600", Some(Command::Format(2600))),
+        ("format 000000000000000002600", None),
+        ("format 2599", None),
+        ("format 65537", None),
+        ("format 4294969896", None),
+        ("format", None),
+        ("format ", None),
+        ("format +2600", None),
+        ("format -2600", None),
+        ("format 2600=", None),
+        ("format 2600 2601", None),
+        ("format -- 2600", None),
+        ("format --help", None),
+        ("format -V", None),
+        ("Run", None),
+        ("run x", None),
+        ("run --workers", None),
+        ("run --trace", None),
+        ("show --", None),
+        ("", None),
+        ("2600", None),
+    ];
+    for (line, want) in cases {
+        assert_eq!(rt; read_line(alloc, line)?, want, "{line}");
+    }
+    let none = Vec::new(alloc);
+    assert_eq!(rt; read_command(alloc, none.as_slice())?, None);
+    Ok(())
+}

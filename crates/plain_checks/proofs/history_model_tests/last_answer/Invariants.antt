@@ -1,0 +1,7 @@
+use Rattle.hop_model.specs.Soundness.{IsSound}
+use Rattle.history_model.specs.Born.{AreEdges}
+use Rattle.history_model.specs.Plains.{cells_of}
+use Rattle.plain_checks.proofs.history_model_tests.last_answer.Given as goal
+
+abbrev pub invariant-loop : goal.invariant-loop
+invariant-loop g l = record { sound : IsSound (cells_of (λ tag page place. 0) l.state); edges : AreEdges l.state.atlas.edges.items }

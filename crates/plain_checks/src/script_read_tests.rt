@@ -1,0 +1,214 @@
+use hop_base::{Instr, Rights};
+use script_read::{Refusal, ScriptFault, Why, read_script};
+use std::alloc::Global;
+use std::test::Fail;
+
+/// A refused source, and the first refusal of the walk.
+#[derive(Clone, Copy)]
+struct Refused {
+    source: &'static str,
+    why: Why,
+    key: &'static str,
+}
+
+const fn row(source: &'static str, why: Why, key: &'static str) -> Refused {
+    Refused { source, why, key }
+}
+
+fn refusal(alloc: Global, source: &[u8]) -> Result<Refusal, Fail> {
+    match read_script(alloc, source) {
+        Err(ScriptFault::Refused(refusal)) => Ok(refusal),
+        _ => Err(Fail::from("no refusal")),
+    }
+}
+
+#[test]
+fn the_first_refusal_is_told(rt: HostRuntime) -> Result<(), Fail> {
+    let rows = [
+        row("steps = ", Why::NotToml, "-"),
+        row("steps = 9223372036854775808", Why::NotToml, "-"),
+        row("stop = 1\nsteps = 0\nalso = 2", Why::Unknown, "also"),
+        row("steps = 0", Why::Range, "steps"),
+        row("steps = 1.0", Why::Kind, "steps"),
+        row("frames = 257\nsteps = 40001", Why::Range, "steps"),
+        row("frames = 257", Why::Range, "frames"),
+        row("program = 1", Why::Kind, "program"),
+        row(
+            "program.p = [\"halt\", \"snap r0\"]\nprogram.q = 1",
+            Why::BadCode,
+            "program.p.1",
+        ),
+        row("program.p = [\"halt\", 1]", Why::Kind, "program.p.1"),
+        row("container = [1]", Why::Kind, "container.0"),
+        row(
+            "[[container]]\npages = 0\nsize = 1",
+            Why::Unknown,
+            "container.0.size",
+        ),
+        row("[[container]]\npages = 0", Why::Missing, "container.0.name"),
+        row(
+            "[[container]]\nname = \"a\"",
+            Why::Missing,
+            "container.0.pages",
+        ),
+        row(
+            "[[container]]\nname = \"atlas\"\npages = 0",
+            Why::Name,
+            "container.0.name",
+        ),
+        row(
+            "[[container]]\nname = \"abcdefghijklmnopqrstuvwxy\"\npages = 1",
+            Why::Name,
+            "container.0.name",
+        ),
+        row(
+            "[[container]]\nname = \"a\"\npages = 1\nevery = 1",
+            Why::Range,
+            "container.0.every",
+        ),
+        row(
+            "[[container]]\nname = \"a\"\npages = 1\ntag = -1",
+            Why::Range,
+            "container.0.tag",
+        ),
+        row(
+            "[[container]]\nname = \"a\"\npages = 1\nprogram = \"p\"\nentry = 128",
+            Why::Unknown,
+            "container.0.program",
+        ),
+        row(
+            "[[container]]\nname = \"a\"\npages = 1\nregions = [\"0 b 0 1 r\"]\n[[container]]\nname = \"b\"\npages = 1",
+            Why::Unknown,
+            "container.0.regions.0",
+        ),
+        row(
+            "[[container]]\nname = \"a\"\npages = 1\nregions = [\"0 a 0 01 r\"]",
+            Why::BadCode,
+            "container.0.regions.0",
+        ),
+        row(
+            "[[container]]\nname = \"a\"\npages = 9\n[[container]]\nname = \"b\"\npages = 9\nregions = [\"0 a 0 4 r\", \"4 a 0 4 w\", \"7 a 0 2 rw\"]",
+            Why::Range,
+            "container.1.regions.2",
+        ),
+        row(
+            "[[container]]\nname = \"a\"\npages = 1\ncaps = [\"a rwimcskt\", \"a -\", \"a wr\"]",
+            Why::BadCode,
+            "container.0.caps.2",
+        ),
+        row(
+            "[[locus]]\nname = \"l\"\nhost = \"a\"",
+            Why::Unknown,
+            "locus.0.host",
+        ),
+        row(
+            "[[container]]\nname = \"a\"\npages = 1\n[[locus]]\nname = \"l\"\nhost = \"a\"\ncaps = [\"atlas t\", \"l k\", \"m k\"]\n[[locus]]\nname = \"m\"\nhost = \"a\"",
+            Why::Unknown,
+            "locus.0.caps.2",
+        ),
+        row(
+            "[[container]]\nname = \"a\"\npages = 1\n[[locus]]\nname = \"a\"\nhost = \"a\"",
+            Why::Name,
+            "locus.0.name",
+        ),
+        row("order = [\"l\"]", Why::Unknown, "order.0"),
+        row(
+            "order = [\"l\"]\n[[locus]]\nname = \"l\"\nhost = 1",
+            Why::Kind,
+            "locus.0.host",
+        ),
+    ];
+    for refused in &rows {
+        let source = refused.source;
+        let told = refusal(rt.alloc(), source.as_bytes())?;
+        assert!(rt; told.why == refused.why, "at {source}");
+        assert_eq!(rt; told.key.as_str(), refused.key, "at {source}");
+    }
+    Ok(())
+}
+
+#[test]
+fn long_sources_and_bytes_that_are_no_text_are_refused(rt: HostRuntime) -> Result<(), Fail> {
+    let mut long = Vec::new(rt.alloc());
+    for _ in 0..1_048_577 {
+        long.push(b' ')?;
+    }
+    let told = refusal(rt.alloc(), long.as_slice())?;
+    assert!(rt; told.why == Why::Long);
+    assert_eq!(rt; told.key.as_str(), "-");
+    let told = refusal(rt.alloc(), b"steps = 1 # \xff")?;
+    assert!(rt; told.why == Why::NotToml);
+    assert_eq!(rt; told.key.as_str(), "-");
+    Ok(())
+}
+
+#[test]
+fn a_program_of_129_lines_is_refused(rt: HostRuntime) -> Result<(), Fail> {
+    let mut source = String::from_str(rt.alloc(), "program.p = [")?;
+    for _ in 0..129 {
+        source.push_str("1, ")?;
+    }
+    source.push_str("]")?;
+    let told = refusal(rt.alloc(), source.as_bytes())?;
+    assert!(rt; told.why == Why::TooMany);
+    assert_eq!(rt; told.key.as_str(), "program.p");
+    Ok(())
+}
+
+const WHOLE: &str = "steps = 103
+order = [\"l\"]
+program.p = [\"set r0 7\", \"halt\"]
+[[container]]
+name = \"b\"
+pages = 256
+tag = 1000
+[[container]]
+name = \"a\"
+pages = 2
+program = \"p\"
+entry = 1
+regions = [\"1 b 255 1 rw\"]
+caps = [\"atlas t\", \"a -\", \"b rm\"]
+[[locus]]
+name = \"l\"
+host = \"a\"
+at = 127
+caps = [\"l k\"]
+";
+
+#[test]
+fn a_whole_script_is_read(rt: HostRuntime) -> Result<(), Fail> {
+    let script = read_script(rt.alloc(), WHOLE.as_bytes())?;
+    assert_eq!(rt; (script.steps, script.frames), (103, 32));
+    assert!(rt; script.order.len() == 1 && script.containers.len() == 2 && script.loci.len() == 1);
+    let a = &script.containers[1];
+    assert_eq!(rt; a.name.as_str(), "a");
+    assert_eq!(rt; (a.pages, a.tag, a.every, a.entry), (2, 0, 0, Some(1)));
+    assert_eq!(rt;
+        a.code.as_slice(),
+        [Instr::Set(0, 7), Instr::Halt].as_slice()
+    );
+    assert!(rt; a.regions.len() == 1 && a.caps.len() == 3);
+    let region = &a.regions[0];
+    assert_eq!(rt;
+        (region.at, region.from, region.count, region.rights),
+        (1, 255, 1, Rights(3))
+    );
+    assert_eq!(rt; region.target.as_str(), "b");
+    assert_eq!(rt;
+        (a.caps[0].rights, a.caps[1].rights, a.caps[2].rights),
+        (Rights(128), Rights(0), Rights(9))
+    );
+    let l = &script.loci[0];
+    assert_eq!(rt; l.host.as_str(), "a");
+    assert_eq!(rt; (l.at, l.every), (127, 0));
+    Ok(())
+}
+
+#[test]
+fn an_empty_source_names_nothing(rt: HostRuntime) -> Result<(), Fail> {
+    let script = read_script(rt.alloc(), b"")?;
+    assert_eq!(rt; (script.steps, script.frames), (10_000, 32));
+    assert!(rt; script.containers.is_empty() && script.loci.is_empty() && script.order.is_empty());
+    Ok(())
+}

@@ -1,0 +1,91 @@
+ghost use Rattle.hop_base.specs.Instructions.{IsInstruction};
+
+use hop_base::{Cap, Condition, Entity, Instr, Private, Region, Reply, Right, Rights};
+use std::test::Fail;
+use wanted_act::{LocusView, wants};
+
+/// What is refused to a locus in container 1, which has capabilities on container 2 with all rights but Read, on
+/// itself with all rights, and on the atlas with none. Registers 0 to 5 have their own numbers, 6 and 7 have 200
+/// and 1000.
+fn refused(instr: Instr) -> Result<Option<Reply>, Fail>
+    requires { IsInstruction instr }
+{
+    let host = Entity::new(1).ok_or("a host")?;
+    let other = Entity::new(2).ok_or("a container")?;
+    let itself = Entity::new(41).ok_or("a locus")?;
+    let caps = [
+        Some(Cap {
+            entity: other,
+            rights: Rights(254),
+        }),
+        Some(Cap {
+            entity: itself,
+            rights: Rights(255),
+        }),
+        Some(Cap {
+            entity: Entity::ATLAS,
+            rights: Rights(0),
+        }),
+        None,
+    ];
+    let region = Region {
+        at: 0,
+        count: 1,
+        target: other,
+        from: 5,
+        rights: Rights(2),
+    };
+    let elsewhere = Region {
+        at: 3,
+        count: 1,
+        target: other,
+        from: 5,
+        rights: Rights(2),
+    };
+    let privates = [
+        Private { made: host, region },
+        Private {
+            made: other,
+            region: elsewhere,
+        },
+    ];
+    let act = wants(&LocusView {
+        registers: &[0, 1, 2, 3, 4, 5, 200, 1000],
+        place: 0,
+        code: &[instr],
+        host,
+        chain: &[],
+        privates: &privates,
+        caps: &caps,
+        walk: None,
+        condition: Condition::Running,
+        every: 0,
+        printed: 0,
+    });
+    Ok(act.refused)
+}
+
+#[test]
+fn refusals_come_in_the_order_of_the_checks(rt: HostRuntime) -> Result<(), Fail> {
+    let no_page = Some(Reply::NoPage);
+    let no_slot = Some(Reply::NoSlot);
+    let wrong_kind = Some(Reply::WrongKind);
+    let no_read = Some(Reply::Denied(Right::Read));
+    assert_eq!(rt; refused(Instr::Invoke(3))?, no_slot);
+    assert_eq!(rt; refused(Instr::Invoke(2))?, wrong_kind);
+    assert_eq!(rt; refused(Instr::Return)?, Some(Reply::NoCaller));
+    assert_eq!(rt; refused(Instr::Load(0, 0))?, no_read);
+    assert_eq!(rt; refused(Instr::Map(2, 0, 3, 0, 0, Rights(3)))?, no_slot);
+    assert_eq!(rt; refused(Instr::Map(2, 0, 1, 0, 0, Rights(3)))?, wrong_kind);
+    assert_eq!(rt; refused(Instr::Map(0, 0, 0, 0, 0, Rights(3)))?, no_read);
+    assert_eq!(rt; refused(Instr::Map(0, 0, 0, 0, 0, Rights(2)))?, no_page);
+    assert_eq!(rt; refused(Instr::Map(0, 6, 0, 0, 6, Rights(2)))?, no_page);
+    assert_eq!(rt;
+        refused(Instr::Lmap(0, 0, 1, 1, Rights(2)))?,
+        Some(Reply::Overlap)
+    );
+    assert_eq!(rt; refused(Instr::Lunmap(3))?, Some(Reply::NoRegion));
+    assert_eq!(rt; refused(Instr::Drop(7))?, no_slot);
+    assert_eq!(rt; refused(Instr::Stop(0))?, wrong_kind);
+    Ok(())
+}

@@ -1,0 +1,10 @@
+use Rattle.std.proofs.Common.{◌≡◌, ◌≤◌, ◌*◌, length}
+use Rattle.atlas_dir.specs.Directory.{edges_of}
+use Rattle.snapshot_form.specs.Pieces.{rows_edges}
+use Rattle.snapshot_form.proofs.edges.count_rows.Given as goal
+
+abbrev pub invariant-loop-from : goal.invariant-loop-from
+invariant-loop-from l = record {
+  number : l.number ≡ length (rows_edges (edges_of l.atlas) l.from 41);
+  few : l.number ≤ l.from * 41;
+}

@@ -1,0 +1,128 @@
+//! Containers without their words.
+ghost use Rattle.std.specs.Prelude.{◌≡◌, ◌≤◌, ◌-◌, drop, length, replicate, take, IfOk, IfErr};
+ghost use Rattle.hop_base.specs.declared.entities.Kind.TheVariants.{Container};
+ghost use Rattle.blob_grammar.specs.Forms.{IsSpelling};
+ghost use Rattle.blob_grammar.specs.Laws.{most_bytes};
+ghost use Rattle.blob_grammar.specs.Places.{IsBadPlace};
+ghost use Rattle.snapshot_reading.specs.Containers.{IsHeadSpelled};
+ghost use Rattle.snapshot_reading.specs.Fields.{IsFound, IsRefused, Spells};
+ghost use Rattle.snapshot_reading.specs.Parts.{IsEntrySpelled};
+
+use crate::fields::{Parsed, Stuck, read_byte, read_number};
+use crate::lists::{read_code, read_table};
+use crate::regions::read_regions;
+use crate::slots::read_caps;
+use cap_list::CapList;
+use hop_base::{Instr, MOST_PAGES};
+use locus_machine::{Code, Head, MOST_INSTRS};
+use region_map::RegionMap;
+use std::error::Error;
+use std::fmt;
+
+/// The first byte of a container's blob.
+const CONTAINER: u8 = 1;
+
+/// The byte that stands for no entry.
+const NO_ENTRY: u8 = 255;
+
+/// The place where a container is entered, or none.
+fn read_entry<'a>(bytes: &'a [u8]) -> Parsed<'a, Option<u8>>
+    ensures read { IfOk result (λ r. IsFound IsEntrySpelled bytes.now r.0 r.1.now) }
+    ensures refused { IfErr result (λ stuck. IsRefused (Spells IsEntrySpelled) bytes.now stuck.rest.now) }
+{
+    let Some((first, rest)) = bytes.split_first() else {
+        return Err(Stuck { rest: bytes });
+    };
+    if *first == NO_ENTRY {
+        return Ok((None, rest));
+    }
+    if *first < MOST_INSTRS as u8 {
+        return Ok((Some(*first), rest));
+    }
+    Err(Stuck { rest: bytes })
+}
+
+/// A container without its words; the block of each of its pages is put at the front of the table.
+pub(crate) fn read_parts<'a>(bytes: &'a [u8], page_table: &mut [u32; 256]) -> Parsed<'a, Head>
+    ensures read { IfOk result (λ r. IsFound (IsHeadSpelled r.0) bytes.now (take r.0.pages page_table.new) r.1.now) }
+    ensures others { IfOk result (λ r. drop r.0.pages page_table.new ≡ drop r.0.pages page_table.old) }
+    ensures refused { IfErr result (λ stuck. IsRefused (IsSpelling Container) bytes.now stuck.rest.now) }
+{
+    let (kind, rest) = read_byte(bytes, CONTAINER, CONTAINER)?;
+    let (pages, rest) = read_number(rest, 2, 1, MOST_PAGES)?;
+    let (tag, rest) = read_number(rest, 8, 0, u64::MAX)?;
+    let (every, rest) = read_number(rest, 4, 0, u32::MAX as u64)?;
+    let (entry, rest) = read_entry(rest)?;
+    let mut instrs = [Instr::Halt; MOST_INSTRS];
+    let (count, rest) = read_code(rest, &mut instrs)?;
+    let mut regions = RegionMap::new();
+    let (all_regions, rest) = read_regions(rest, pages as u16, &mut regions)?;
+    let mut caps = CapList::new();
+    let (all_caps, rest) = read_caps(rest, &mut caps)?;
+    let (table, rest) = read_table(rest, pages as u16, page_table)?;
+    let head = Head {
+        pages: pages as u16,
+        tag,
+        every: every as u32,
+        entry,
+        code: Code::new(&instrs[..count as usize]),
+        regions,
+        caps,
+    };
+    Ok((head, rest))
+}
+
+/// A container without its words, as a blob spells it.
+#[derive(Drop, Debug)]
+pub struct ContainerBlob {
+    pub head: Head,
+    /// The block of each page, 0 for none and past the container's pages.
+    pub blocks: [u32; 256],
+}
+
+/// Bytes that are no blob.
+#[derive(Clone, Copy, PartialEq, Eq, Debug)]
+pub struct BadBlob {
+    /// The first byte at which no spelling goes on, or the number of bytes where more are wanted.
+    pub place: u32,
+}
+
+impl fmt::Display for BadBlob {
+    fn fmt<W: fmt::Write>(&self, f: &mut fmt::Formatter<W>) -> fmt::Result {
+        let place = self.place;
+        write!(f, "no blob is spelled so from byte {place} on")
+    }
+}
+
+impl Error for BadBlob {}
+
+/// Reads the blob of a container. It takes no memory, and looks at each byte at most twice.
+pub fn read_container(bytes: &[u8]) -> Result<ContainerBlob, BadBlob>
+    ensures read { IfOk result (λ c. IsHeadSpelled c.head (take c.head.pages c.blocks) bytes.now) }
+    ensures none_past { IfOk result (λ c. drop c.head.pages c.blocks ≡ replicate (length c.blocks - c.head.pages) 0) }
+    ensures refused { IfErr result (λ bad. IsBadPlace (IsSpelling Container) bytes.now bad.place) }
+{
+    let mut page_table = [0; 256];
+    let (head, rest) = match read_parts(bytes, &mut page_table) {
+        Ok(read) => read,
+        Err(stuck) => return Err(bad_blob(bytes, stuck.rest)),
+    };
+    if !rest.is_empty() {
+        return Err(bad_blob(bytes, rest));
+    }
+    Ok(ContainerBlob {
+        head,
+        blocks: page_table,
+    })
+}
+
+/// The place of the first of these bytes, which end a blob.
+fn bad_blob(bytes: &[u8], rest: &[u8]) -> BadBlob
+    requires within { length rest.now ≤ length bytes.now }
+    requires near { length bytes.now - length rest.now ≤ most_bytes Container }
+    ensures { result.place ≡ length bytes.now - length rest.now }
+{
+    BadBlob {
+        place: (bytes.len() - rest.len()) as u32,
+    }
+}

@@ -1,0 +1,167 @@
+-- A commit behind the turn: the blob and the append.
+use Rattle.std.proofs.Common.{◌≡◌, ℕ, ◌≤◌, ◌<◌, ◌+◌, Bool, true, false, if◌then◌else◌, nat_lt, inl, inr, List, [], ◌∷◌, ◌++◌, length, get_or, sym, ap, subst, ◌∙◌, arith}
+use Rattle.std.specs.List.{AllByRecursion}
+use Rattle.std.specs.Prelude.{Result, Ok, Err, OnOk}
+use Rattle.std.proofs.lemmas.List.{get_or-take, length-take}
+use Rattle.disk_trait.specs.Disk.{Only}
+use Rattle.disk_trait.specs.Image.{Image, SameOutside, block_at}
+use Rattle.disk_trait.specs.Moments.{LeavesOnly, Quiet}
+use Rattle.disk_trait.proofs.Images.{SameOutside-trans, SameOutside-weaker}
+use Rattle.disk_trait.proofs.Phases.{LeavesOnly-then, LeavesOnly-weaker, Moments}
+use Rattle.hop_base.specs.declared.records.Rec.{Rec}
+use Rattle.cut_laws.specs.Records.{AgreeInRecs}
+use Rattle.image_blocks.specs.Bodies.{blob_blocks, blocks_for}
+use Rattle.image_blocks.specs.Layout.{last_number, other, pool_at, slot_count}
+use Rattle.image_blocks.specs.Logs.{AreFitting, HasLog, IsNextSlot, IsTurned, Place}
+use Rattle.image_blocks.specs.declared.areas.Area.{Area}
+use Rattle.image_meaning.specs.Stores.{IsHeld, Kept, Page, recs_of}
+use Rattle.log_turn.specs.Stages.{IsLogging}
+use Rattle.log_turn.specs.Standing.{HasCounted, IsTurnedTo, Stands, area_of, epoch_of, place_of, used_of}
+use Rattle.log_turn.specs.declared.areas.Areas.{Areas}
+use Rattle.store_model.specs.Books.{AreStored, IsApart, IsBeforePool}
+use Rattle.store_commit.specs.Storing.{HasBlob, HasLogged, HasPlaces, IsBehind, IsBlobBlock, IsBlobOf, IsCommitBlock, IsNext, StoresOneMore, roomy_log}
+use Rattle.store_commit.proofs.Stays.{all_by_index, all_weaker, found_all, next_low}
+use Rattle.store_commit.proofs.Phases.{AreFree, appended_stored, blob_stored, moments_append, moments_blob, turned_stored}
+use Rattle.store_commit.proofs.Filling.{new_held}
+
+-- what holds of either holds of the one that a test takes
+pub either : {X : Type 0} (P : X → Type 0) (b : Bool) (x y : X) → P x → P y → P (if b then x else y)
+either P true x y p q = p
+either P false x y p q = q
+
+-- without room the log that is appended to is the kept one
+pub room_made : (used : ℕ) (recs kept : List Rec) → slot_count ≤ used → roomy_log used recs kept ≡ kept
+room_made used recs kept none = ap (λ (b : Bool). if b then recs else kept) (let t : nat_lt used slot_count ≡ false = grind (arith, none) in t)
+
+pub next_behind : (count used : ℕ) (recs kept : List Rec) (ks : List Kept) (new : Kept) → IsBehind count recs ks new → IsBehind count kept ks new → IsBehind count (roomy_log used recs kept) ks new
+next_behind count used recs kept ks new one two = either (λ (rs : List Rec). IsBehind count rs ks new) (nat_lt used slot_count) recs kept one two
+
+-- the blocks of a commit
+pub places_pool : (r : Rec) (many count : ℕ) → HasPlaces r many count → (n : ℕ) → n < pool_at → IsBlobBlock r many n → ⊥
+places_pool r many count places n low (i, lt, is) = absurd (let from = places.pool i lt in omega (arith, low, is, from))
+
+pub outside_append : (r : Rec) (many : ℕ) (a : Area) (used : ℕ) (old one two end : Image) → used < slot_count → SameOutside IsBeforePool old one → SameOutside (IsBlobBlock r many) one two → SameOutside (IsNextSlot a used) two end
+    → SameOutside (IsCommitBlock r many) old end
+outside_append r many a used old one two end room first second third =
+    SameOutside-trans (IsCommitBlock r many) old two end
+    (SameOutside-trans (IsCommitBlock r many) old one two (SameOutside-weaker IsBeforePool (IsCommitBlock r many) old one (λ n low. inl low) first) (SameOutside-weaker (IsBlobBlock r many) (IsCommitBlock r many) one two (λ n here. inr here) second))
+    (SameOutside-weaker (IsNextSlot a used) (IsCommitBlock r many) two end (λ n here. inl (next_low a used n room here)) third)
+
+pub outside_blob : (r : Rec) (many : ℕ) (old one two : Image) → SameOutside IsBeforePool old one → SameOutside (IsBlobBlock r many) one two → SameOutside (IsCommitBlock r many) old two
+outside_blob r many old one two first second =
+    SameOutside-trans (IsCommitBlock r many) old one two (SameOutside-weaker IsBeforePool (IsCommitBlock r many) old one (λ n low. inl low) first) (SameOutside-weaker (IsBlobBlock r many) (IsCommitBlock r many) one two (λ n here. inr here) second)
+
+-- the blob stays through the append
+pub blob_stays : (r : Rec) (blob : List (List ℕ)) (count : ℕ) (a : Area) (used : ℕ) (two end : Image) → used < slot_count → HasPlaces r (length blob) count → SameOutside (IsNextSlot a used) two end → HasBlob r blob two → HasBlob r blob end
+blob_stays r blob count a used two end room places same has i lt =
+    same.same (get_or r.blocks i 0) (λ here. (let low = next_low a used (get_or r.blocks i 0) room here in let from = places.pool i lt in omega (arith, low, from))) ∙ has i lt
+
+-- the new record is apart from the areas
+new_apart : (new : Kept) (blob : List (List ℕ)) (count : ℕ) → IsBlobOf new blob → HasPlaces new.rec (length blob) count → AllByRecursion (λ (p : Page). IsCommitBlock new.rec (length blob) p.block → ⊥) new.pages → IsApart IsBeforePool new
+new_apart new blob count is places pages = record {
+  blob = all_by_index (λ n. n < pool_at → ⊥) (blob_blocks new.rec) (λ i lt low.
+      let n = blocks_for new.rec.length in
+      let inside : i < n = (let a = length-take n new.rec.blocks in omega (arith, a, lt)) in
+      let item : get_or (blob_blocks new.rec) i 0 ≡ get_or new.rec.blocks i 0 = get_or-take n new.rec.blocks i 0 inside in
+      let from = places.pool i (let m = is.many in omega (arith, inside, m)) in
+      absurd (omega (arith, item, from, low)));
+  pages = all_weaker (λ (p : Page). IsCommitBlock new.rec (length blob) p.block → ⊥) (λ (p : Page). p.block < pool_at → ⊥) new.pages (λ p out low. out (inl low)) pages;
+}
+
+place_same : (a b : Area) (m n : ℕ) → a ≡ b → m ≡ n → ◌≡◌ {A = Place} (record { active = a; epoch = m }) (record { active = b; epoch = n })
+place_same a b m n e f = ap (λ (x : Area). record { active = x; epoch = m }) e ∙ ap (λ (k : ℕ). record { active = b; epoch = k }) f
+
+-- BEHIND THE TURN, which left the log of the areas as it was or turned it
+module _ {D : Type 0} {clock : D → ℕ} {may_leave : D → Image → Type 0} {left_since : D → ℕ → Image → Type 0} (laws : Moments clock may_leave left_since) (reading : D → Image) (reads_now : (d : D) → may_leave d (reading d)) where
+  -- the turn and the blob, with what they left
+  pub record Behind (count blocks : ℕ) (recs : List Rec) (ks : List Kept) (new : Kept) (blob : List (List ℕ)) (areas mid : Areas) (old one two : D) : Type 0 where
+    pub logged : HasLogged reading may_leave count areas recs ks one
+    pub behind : IsBehind count recs ks new
+    pub is_blob : IsBlobOf new blob
+    pub places : HasPlaces new.rec (length blob) blocks
+    pub free : AreFree new.rec (length blob) ks
+    pub pages_apart : AllByRecursion (λ (p : Page). IsCommitBlock new.rec (length blob) p.block → ⊥) new.pages
+    pub pages : AllByRecursion (λ (p : Page). block_at (reading old) p.block ≡ p.bytes) new.pages
+    pub outside : SameOutside IsBeforePool (reading old) (reading one)
+    pub counted : HasCounted areas mid
+    pub quiet : Quiet clock may_leave left_since (IsBlobBlock new.rec (length blob)) one two
+    pub reads : SameOutside (IsBlobBlock new.rec (length blob)) (reading one) (reading two)
+
+  pub behind_next : (count blocks : ℕ) (recs kept : List Rec) (ks : List Kept) (new : Kept) (blob : List (List ℕ)) (before areas mid : Areas) (old one two : D) → IsNext count recs kept new blob ks (reading old)
+      → HasPlaces new.rec (length blob) blocks → HasLogged reading may_leave count areas (roomy_log (used_of before) recs kept) ks one → SameOutside IsBeforePool (reading old) (reading one) → HasCounted areas mid
+      → Quiet clock may_leave left_since (IsBlobBlock new.rec (length blob)) one two → SameOutside (IsBlobBlock new.rec (length blob)) (reading one) (reading two)
+      → Behind count blocks (roomy_log (used_of before) recs kept) ks new blob areas mid old one two
+  behind_next count blocks recs kept ks new blob before areas mid old one two next places logged outside counted quiet reads = record {
+    logged = logged;
+    behind = next_behind count (used_of before) recs kept ks new next.behind next.kept_behind;
+    is_blob = next.blob_is;
+    places = places;
+    free = record { pool = places_pool new.rec (length blob) blocks places; free = next.free };
+    pages_apart = next.pages_apart;
+    pages = next.pages;
+    outside = outside;
+    counted = counted;
+    quiet = quiet;
+    reads = reads;
+  }
+
+  module _ (count blocks : ℕ) (recs : List Rec) (ks : List Kept) (new : Kept) (blob : List (List ℕ)) (areas mid : Areas) (old one two : D) (b : Behind count blocks recs ks new blob areas mid old one two) where
+    pub behind_blob : HasLogged reading may_leave count mid recs ks two
+    behind_blob = record {
+      used = b.logged.used ∙ sym b.counted.same_used;
+      stored = subst (λ (p : Place). AreStored reading may_leave count p recs ks two) (sym b.counted.same_place)
+          (blob_stored laws reading reads_now count (place_of areas) recs ks new.rec (length blob) one two b.logged.stored b.free b.quiet b.reads);
+    }
+
+    held_now : HasBlob new.rec blob (reading two) → IsHeld (reading two) new
+    held_now has =
+        let found_one = found_all IsBeforePool (reading old) (reading one) b.outside new.pages
+        (all_weaker (λ (p : Page). IsCommitBlock new.rec (length blob) p.block → ⊥) (λ (p : Page). p.block < pool_at → ⊥) new.pages (λ p out low. out (inl low)) b.pages_apart) b.pages in
+        let found_two = found_all (IsBlobBlock new.rec (length blob)) (reading one) (reading two) b.reads new.pages
+        (all_weaker (λ (p : Page). IsCommitBlock new.rec (length blob) p.block → ⊥) (λ (p : Page). IsBlobBlock new.rec (length blob) p.block → ⊥) new.pages (λ p out here. out (inr here)) b.pages_apart) found_one in
+        new_held new blob (reading two) b.is_blob has found_two
+
+    pub moments_of_blob : LeavesOnly clock left_since one two (StoresOneMore count ks new)
+    moments_of_blob =
+        LeavesOnly-weaker laws (StoresOneMore count ks new) (λ c s. inl s)
+        (moments_blob laws reading reads_now count (place_of areas) recs ks new.rec (length blob) one two b.logged.stored b.free b.quiet)
+
+    pub moments_of_append : used_of mid < slot_count → HasBlob new.rec blob (reading two) → (end : D) → LeavesOnly clock left_since two end (IsLogging may_leave reading (place_of mid) recs new.rec two)
+        → LeavesOnly clock left_since one end (StoresOneMore count ks new)
+    moments_of_append low has end so_far =
+        LeavesOnly-then laws moments_of_blob
+        (moments_append laws reading reads_now count (place_of mid) recs ks new two behind_blob.stored (let u = behind_blob.used in omega (arith, low, u)) (held_now has) (new_apart new blob blocks b.is_blob b.places b.pages_apart) b.behind end so_far)
+
+    pub logged_end : used_of mid < slot_count → HasBlob new.rec blob (reading two) → (end : D) (after : Areas) → area_of after ≡ area_of mid → epoch_of after ≡ epoch_of mid
+        → Stands reading may_leave after (recs ++ new.rec ∷ []) end → SameOutside (IsNextSlot (area_of mid) (used_of mid)) (reading two) (reading end) → Only (reading end) (may_leave end)
+        → HasLogged reading may_leave count after (recs ++ new.rec ∷ []) (ks ++ new ∷ []) end
+    logged_end low has end after area epoch stands same only =
+        let e = place_same (area_of after) (area_of mid) (epoch_of after) (epoch_of mid) area epoch in
+        record {
+          used = stands.used;
+          stored = subst (λ (p : Place). AreStored reading may_leave count p (recs ++ new.rec ∷ []) (ks ++ new ∷ []) end) (sym e)
+              (appended_stored laws reading reads_now count (place_of mid) recs ks new two behind_blob.stored (let u = behind_blob.used in omega (arith, low, u)) (held_now has) (new_apart new blob blocks b.is_blob b.places b.pages_apart) b.behind end
+              (λ c may. (subst (λ (p : Place). HasLog p (recs ++ new.rec ∷ []) c) e (stands.left c may).0, (stands.left c may).1))
+              (subst (λ (k : ℕ). SameOutside (IsNextSlot (area_of mid) k) (reading two) (reading end)) (sym behind_blob.used) same) only);
+        }
+
+  -- THE TURN, for the areas
+  pub turned_logged : (count : ℕ) (areas after : Areas) (recs kept : List Rec) (ks : List Kept) (old new : D) → HasLogged reading may_leave count areas recs ks old → AreFitting count kept → AgreeInRecs kept (recs_of ks)
+      → epoch_of areas < last_number → SameOutside (IsTurned (area_of areas)) (reading old) (reading new) → IsTurnedTo reading may_leave kept areas after new → Only (reading new) (may_leave new)
+      → area_of after ≡ other (area_of areas) → epoch_of after ≡ epoch_of areas + 1 → HasLogged reading may_leave count after kept ks new
+  turned_logged count areas after recs kept ks old new has fit agree small same turned only area epoch =
+      let e = place_same (area_of after) (other (area_of areas)) (epoch_of after) (epoch_of areas + 1) area epoch in
+      record {
+        used = turned.stands.used;
+        stored = subst (λ (p : Place). AreStored reading may_leave count p kept ks new) (sym e)
+            (turned_stored laws reading reads_now count (place_of areas) recs kept ks old new has.stored fit agree small
+            (λ c may. (subst (λ (p : Place). HasLog p kept c) e (turned.stands.left c may).0, (turned.stands.left c may).1)) turned.header same only);
+      }
+
+pub on_ok_four : {T E P Q R S V : Type 0} (r : Result T E) → (P → Q → R → S → V) → OnOk r P → OnOk r Q → OnOk r R → OnOk r S → OnOk r V
+on_ok_four (Ok x) f p q r s = f p q r s
+on_ok_four (Err e) f p q r s = p
+
+pub on_ok_always : {T E P : Type 0} (r : Result T E) → P → OnOk r P
+on_ok_always (Ok x) p = p
+on_ok_always (Err e) p = tt

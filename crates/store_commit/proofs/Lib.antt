@@ -1,0 +1,10 @@
+mod Stays
+mod Phases
+mod Filling
+mod Committing
+mod Agreeing
+mod Fitting
+mod Choosing
+mod Unused
+mod Readying
+mod After
