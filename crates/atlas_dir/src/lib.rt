@@ -16,7 +16,7 @@ mod reached;
 
 use arrayvec::{ArrayString, ArrayVec};
 use hop_base::{Entity, Kind, Reply};
-pub use names::is_name;
+pub use names::{is_letter, is_name, is_name_byte, made_name};
 use names::{Name, name_at, number_of};
 use reached::{SIDE, leads};
 use std::marker::Model;

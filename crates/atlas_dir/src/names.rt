@@ -107,13 +107,23 @@ pub(crate) fn name_at(
     }
 }
 
-fn is_letter(byte: u8) -> bool
+/// The name of an entity that a program makes: `#` and its number.
+pub fn made_name(number: u8) -> ArrayString<LENGTH>
+    requires { number < 64 }
+    ensures { result.bytes ≡ made_name number }
+{
+    Name::made(number).text()
+}
+
+/// Whether a given name may begin with the byte: a letter of ASCII.
+pub fn is_letter(byte: u8) -> bool
     ensures { result ≡ is_letter byte }
 {
     byte >= b'A' && byte <= b'Z' || byte >= b'a' && byte <= b'z'
 }
 
-fn is_name_byte(byte: u8) -> bool
+/// Whether the byte may stand in a given name: a letter, a digit, `_`, `-` or `.`.
+pub fn is_name_byte(byte: u8) -> bool
     ensures { result ≡ is_name_byte byte }
 {
     let is_digit = byte >= b'0' && byte <= b'9';

@@ -192,7 +192,7 @@ small_spelling : IsSpelling Atlas (take 9 dirty_block)
 unfolding atlas_blob
 small_spelling = (small_atlas, record { form = small_form; is = refl })
 
-zeros_in : (n q : ℕ) (rest : List ℕ) → q < n → slice_index (replicate n 0 ++ rest) q ≡ 0
+pub zeros_in : (n q : ℕ) (rest : List ℕ) → q < n → slice_index (replicate n 0 ++ rest) q ≡ 0
 zeros_in zero q rest lt = absurd (omega (arith, lt))
 zeros_in (suc n) zero rest lt = refl
 zeros_in (suc n) (suc q) rest lt = zeros_in n q rest (omega (arith, lt))

@@ -19,6 +19,7 @@ use Rattle.image_meaning.specs.Parts.{AreSpelt, ContainerPart, IsSpelt, Part, ch
 use Rattle.image_examples.specs.Examples.{bad_at, box_alone}
 use Rattle.image_examples.specs.Images.{WorkedImages, box_block, first_record, image_with, lone_box, zeros}
 use Rattle.image_examples.proofs.Worked.{is_there}
+use Rattle.image_examples.proofs.BlobImages.{behind_blob, box_spelt, lone_body, lone_chosen, none_chosen, other_kind}
 
 no_block : records_fault [] ≡ Some (bad_at 0 0)
 unfolding records_fault
@@ -81,10 +82,6 @@ lone_log = refl
 lone_records : HasRecords (first_record ∷ []) lone_box
 lone_records = record { good = lone_good; area = A; active = lone_active; log = lone_log }
 
-lone_chosen : chosen (first_record ∷ []) 1 ≡ Some first_record
-unfolding greatest covered
-lone_chosen = refl
-
 lone_room : blob_room lone_box first_record ≡ box_block
 unfolding superblock header_block open_gate body_block
 lone_room = refl
@@ -92,15 +89,8 @@ lone_room = refl
 abbrev box_part : Part
 box_part = ContainerPart empty_container (0 ∷ [])
 
-box_spelt : SpellsContainer empty_container (0 ∷ []) (take 23 box_block)
-unfolding container_blob
-box_spelt = record { form = small_container; is = refl }
-
 other_way : (x : ℕ) → (x == 1) ≡ false → (1 == x) ≡ false
 other_way x e = grind (arith, nat_tests, e)
-
-none_chosen : (x : ℕ) → (1 == x) ≡ false → chosen (first_record ∷ []) x ≡ None
-none_chosen x e = ap (λ b. if b && 1 == cut_of (first_record ∷ []) x then Some first_record else None) e
 
 all_zero : (n : ℕ) → All (λ (b : ℕ). b ≡ 0) (replicate n 0)
 all_zero zero i d lt = absurd (omega (arith, lt))
@@ -126,9 +116,6 @@ lone_spelt x = by_test (x == 1) refl
     by_test : (b : Bool) → (x == 1) ≡ b → spelt_as (box_alone box_part) x (chosen (first_record ∷ []) x)
     by_test true e = subst (λ y. spelt_as (box_alone box_part) y (chosen (first_record ∷ []) y)) (sym (eqb-true x 1 e)) (subst (spelt_as (box_alone box_part) 1) (sym lone_chosen) (box_part, refl, lone_spelling))
     by_test false e = subst (spelt_as (box_alone box_part) x) (sym (none_chosen x (other_way x e))) (ap (λ b. if b then Some box_part else None) e)
-
-lone_body : IsBodyBlock A (first_record ∷ []) 1 first_record 5
-lone_body = record { slot = 0; there = refl; first = λ earlier lt. absurd (omega (arith, lt)); is_chosen = lone_chosen; is = refl }
 
 unnamed : (count : ℕ) (recs : List Rec) → IsFit count recs (box_alone box_part) 1 box_part → ⊥
 unnamed count recs fit = false≢true (ap is_there fit.chosen_atlas)
@@ -169,5 +156,7 @@ images = record {
   empty_slot = empty_slot;
   same_twice = same_twice;
   behind_closed = behind_closed;
+  behind_blob = behind_blob;
+  other_kind = other_kind;
   without_atlas = without_atlas;
 }

@@ -23,9 +23,20 @@ first_record = record { entity = 1; version = 1; stamp = 0 ∷ 1 ∷ replicate 6
 abbrev pub box_block : List ℕ
 box_block = 1 ∷ 1 ∷ 0 ∷ (replicate 12 0 ++ 255 ∷ replicate 1008 0)
 
--- an image whose only record is that of the container: no atlas is chosen
+-- the same with a 5 behind the blob, and with the first byte of a locus
+abbrev pub spotted_block : List ℕ
+spotted_block = 1 ∷ 1 ∷ 0 ∷ (replicate 12 0 ++ 255 ∷ (replicate 84 0 ++ 5 ∷ replicate 923 0))
+
+abbrev pub strange_block : List ℕ
+strange_block = slice_set box_block 0 2
+
+-- an image whose only record is that of the container, with this block behind it
+abbrev pub box_image : List ℕ → Image
+box_image block = image_with (header_block 1 ∷ open_gate ∷ zeros ∷ zeros ∷ body_block first_record ∷ open_gate ∷ (replicate 2558 zeros ++ block ∷ []))
+
+-- no atlas is chosen
 abbrev pub lone_box : Image
-lone_box = image_with (header_block 1 ∷ open_gate ∷ zeros ∷ zeros ∷ body_block first_record ∷ open_gate ∷ (replicate 2558 zeros ++ box_block ∷ []))
+lone_box = box_image box_block
 
 pub record WorkedImages : Type 0 where
   -- CHECK 1: no block at all, and one block less than the superblock says
@@ -43,5 +54,8 @@ pub record WorkedImages : Type 0 where
   pub empty_slot : records_fault (image_with (header_block 1 ∷ open_gate ∷ zeros ∷ zeros ∷ zeros ∷ open_gate ∷ [])) ≡ Some (bad_at 5 4)
   pub same_twice : records_fault (image_with (header_block 1 ∷ open_gate ∷ zeros ∷ zeros ∷ body_block first_record ∷ open_gate ∷ body_block first_record ∷ open_gate ∷ [])) ≡ Some (bad_at 7 8)
   pub behind_closed : records_fault (image_with (header_block 1 ∷ open_gate ∷ zeros ∷ zeros ∷ zeros ∷ zeros ∷ zeros ∷ open_gate ∷ [])) ≡ None
+  -- CHECK 4: a byte behind the blob that isn't 0; a first byte with which no container begins
+  pub behind_blob : IsForeign (box_image spotted_block) (bad_at 2565 100)
+  pub other_kind : IsForeign (box_image strange_block) (bad_at 2565 0)
   -- CHECK 5: the container's body
   pub without_atlas : IsForeign lone_box (bad_at 5 0)

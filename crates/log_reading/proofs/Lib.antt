@@ -1,3 +1,5 @@
 mod Reached
 mod Verdicts
-mod ReadSoFar
+pub mod ReadSoFar
+pub mod InRange
+mod Ascending

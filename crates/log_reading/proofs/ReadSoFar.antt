@@ -1,10 +1,12 @@
 -- Reads one after the other, and a log as far as it is read.
 use Rattle.std.proofs.Common.{◌≡◌, ◌≤◌, ◌<◌, true, inl, inr, ⊎_elim, ℕ, List, length, None, refl, ◌∙◌, arith}
+use Rattle.std.specs.List.{AllPairs}
 use Rattle.disk_trait.specs.Image.{Image}
 use Rattle.hop_base.specs.declared.records.Rec.{Rec}
 use Rattle.image_blocks.specs.Checks.{body_fault, body_in, count_in}
 use Rattle.image_blocks.specs.Layout.{is_open, slot_gate_at}
 use Rattle.image_blocks.specs.declared.areas.Area.{Area}
+use Rattle.log_reading.specs.Logs.{AreInRange, IsOlder}
 use Rattle.log_reading.specs.Reads.{ReadsOnly}
 use Rattle.log_reading.proofs.Reached.{reads}
 
@@ -15,6 +17,8 @@ pub record ReadSoFar {D : Type 0} (tells : Type 0) (block_count : D → ℕ) (re
   pub recs_are : tells → recs ≡ reads (reading old) area i
   pub gates : tells → (j : ℕ) → j < i → is_open (reading old) (slot_gate_at area j) ≡ true
   pub good : tells → count ≡ count_in (reading old) → (j : ℕ) → j < i → body_fault (count_in (reading old)) (reads (reading old) area j) (body_in (reading old) area j) ≡ None
+  pub in_range : AreInRange count recs
+  pub ascending : AllPairs IsOlder recs
   pub same : ReadsOnly tells block_count reading may_leave left_since clock faults old new
 
 module _ {D : Type 0} {tells : Type 0} {block_count : D → ℕ} {reading : D → Image} {may_leave : D → Image → Type 0} {left_since : D → ℕ → Image → Type 0} {clock faults : D → ℕ} where

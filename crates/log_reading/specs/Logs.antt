@@ -1,9 +1,10 @@
 -- What is read of an image's log.
-use Rattle.std.specs.Prelude.{◌≡◌, ◌≤◌, ℕ, length}
+use Rattle.std.specs.Prelude.{◌≡◌, ◌≤◌, ◌<◌, ℕ, List, AllPairs, Some, length, slice_get, take}
 use Rattle.disk_trait.specs.Image.{Image}
 use Rattle.image_blocks.specs.Checks.{count_in}
-use Rattle.image_blocks.specs.Layout.{epoch_in, last_number, pool_at, slot_count}
-use Rattle.image_blocks.specs.Logs.{HasRecords}
+use Rattle.hop_base.specs.declared.records.Rec.{Rec}
+use Rattle.image_blocks.specs.Layout.{epoch_in, last_number, most_blocks, pool_at, slot_count}
+use Rattle.image_blocks.specs.Logs.{HasRecords, IsInRange}
 use Rattle.log_reading.specs.declared.log.ImageLog.{ImageLog}
 
 -- the image has these records in this area, with this epoch, and so many blocks
@@ -13,9 +14,20 @@ pub record IsLogOf (image : Image) (log : ImageLog) : Type 0 where
   pub epoch : log.epoch ≡ epoch_in image log.area
   pub blocks : log.blocks ≡ count_in image
 
+-- each of these is in range behind the ones before it
+abbrev pub AreInRange : ℕ → List Rec → Type 0
+AreInRange count recs = (i : ℕ) (r : Rec) → slice_get recs i ≡ Some r → IsInRange count (take i recs) r
+
+-- the version is below that of a later record of the same entity
+abbrev pub IsOlder : Rec → Rec → Type 0
+IsOlder r s = r.entity ≡ s.entity → r.version < s.version
+
 -- what is known of it whether or not the disk tells its content
 pub record IsKnown (count : ℕ) (log : ImageLog) : Type 0 where
   pub enough : pool_at ≤ log.blocks
+  pub most : log.blocks ≤ most_blocks
   pub within : log.blocks ≤ count
   pub few : length log.recs.items ≤ slot_count
   pub epoch : log.epoch ≤ last_number
+  pub in_range : AreInRange log.blocks log.recs.items
+  pub ascending : AllPairs IsOlder log.recs.items

@@ -2,7 +2,7 @@
 ghost use Rattle.std.specs.Prelude.{◌≡◌, ◌≤◌, None, Some, IfOk, IfErr, MatchResult};
 ghost use Rattle.disk_trait.specs.Disk.{HasCause};
 ghost use Rattle.image_blocks.specs.Checks.{active_area, active_by, check_1, check_2, count_in, no_area};
-ghost use Rattle.image_blocks.specs.Layout.{epoch_in, last_number, pool_at};
+ghost use Rattle.image_blocks.specs.Layout.{epoch_in, last_number, most_blocks, pool_at};
 ghost use Rattle.log_reading.specs.Reads.{ReadsOnly};
 
 use crate::looks::{area_epoch, block_of, is_area_open};
@@ -13,7 +13,7 @@ use image_blocks::{Area, Bad, header_of, read_header, read_superblock};
 pub(crate) fn front_of<D: Disk>(disk: &mut D) -> Result<Result<u32, Bad>, DiskFault>
     ensures front { D.tells → IfOk result (λ r. MatchResult r (λ count. (check_1 (D.reading disk.old) ≡ None) × (count ≡ count_in (D.reading disk.old)))
         (λ bad. check_1 (D.reading disk.old) ≡ Some bad)) }
-    ensures enough { IfOk result (λ r. IfOk r (λ count. (pool_at ≤ count) × (count ≤ D.block_count disk.old))) }
+    ensures enough { IfOk result (λ r. IfOk r (λ count. (pool_at ≤ count) × (count ≤ D.block_count disk.old) × (count ≤ most_blocks))) }
     ensures cause { HasCause (D.faults disk.old) (D.faults disk.new) result }
     ensures same { ReadsOnly D.tells D.block_count D.reading D.may_leave D.left_since D.clock D.faults disk.old disk.new }
 {

@@ -1,9 +1,10 @@
 // The slots of an area.
-ghost use Rattle.std.specs.Prelude.{◌≡◌, ◌<◌, ◌≤◌, true, false, None, Some, length, IfOk, IsErrOf, MatchOption};
+ghost use Rattle.std.specs.Prelude.{◌≡◌, ◌<◌, ◌≤◌, true, false, None, Some, AllPairs, length, IfOk, IsErrOf, MatchOption};
 ghost use Rattle.disk_trait.specs.Disk.{HasCause};
 ghost use Rattle.image_blocks.specs.Checks.{Bad as BadPlace, body_in, count_in, log_fault, log_in};
 ghost use Rattle.disk_trait.specs.Counts.{Rose};
 ghost use Rattle.image_blocks.specs.Layout.{is_open as opens, pool_at, slot_count, slot_gate_at};
+ghost use Rattle.log_reading.specs.Logs.{AreInRange, IsOlder};
 ghost use Rattle.log_reading.specs.Reads.{ReadsOnly};
 
 use crate::ReadingFault;
@@ -44,6 +45,8 @@ pub(crate) fn records_of<D: Disk>(
     ensures foreign { D.tells → count ≡ count_in (D.reading disk.old) → (bad : BadPlace) → IsErrOf result (ReadingFault.Foreign bad)
         → log_fault (D.reading disk.old) (Some area) ≡ Some bad }
     ensures few { IfOk result (λ recs. length recs.items ≤ slot_count) }
+    ensures in_range { IfOk result (λ recs. AreInRange count recs.items) }
+    ensures ascending { IfOk result (λ recs. AllPairs IsOlder recs.items) }
     ensures cause { IsErrOf result ReadingFault.Disk → Rose (D.faults disk.old) (D.faults disk.new) }
     ensures same { ReadsOnly D.tells D.block_count D.reading D.may_leave D.left_since D.clock D.faults disk.old disk.new }
 {

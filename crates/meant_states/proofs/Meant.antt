@@ -192,3 +192,8 @@ meant_state s image v m =
 
 pub meant_versions : (s : Supply) (image : Image) (v : KernelState) (m : Means s image v) → AreCutVersions m.accepted.recs v
 meant_versions s image v m x = ap (λ (w : KernelState). (w x).version) m.is ∙ version_of s image m.accepted x (state s image m.accepted x) (said s image m.accepted x)
+
+pub meant_greatest : (s : Supply) (image : Image) (v : KernelState) (m : Means s image v) → IsGreatest nothing (commits_of m.accepted.recs) (λ x. (v x).version)
+meant_greatest s image v m =
+    let same : cut_of m.accepted.recs ≡ (λ x. (v x).version) = λ i x. sym (meant_versions s image v m x) i in
+    subst (IsGreatest nothing (commits_of m.accepted.recs)) same (greatest m.accepted.recs image m.accepted.has)

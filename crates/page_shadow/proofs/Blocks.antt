@@ -33,7 +33,7 @@ passing_lowest p q from (suc n) block low high free taken lowest others =
     ]
 
 -- below all that pass it comes first
-with_block_first : (q : ℕ → Bool) (from n block : ℕ) → block < from → with_block block (passing q from n) ≡ block ∷ passing q from n
+pub with_block_first : (q : ℕ → Bool) (from n block : ℕ) → block < from → with_block block (passing q from n) ≡ block ∷ passing q from n
 with_block_first q from zero block below = refl
 with_block_first q from (suc n) block below = by_test (q from) refl (with_block_first q (from + 1) n block (omega arith))
   where

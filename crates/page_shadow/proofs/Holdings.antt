@@ -1,12 +1,12 @@
 -- Which blocks of a ledger are free after one was taken or given back.
-use Rattle.std.proofs.Common.{◌≡◌, ◌≢◌, ℕ, zero, suc, ◌-◌, ◌<◌, ◌≤◌, Bool, true, false, not, ◌||◌, eqb, ltb, List, [], ◌∷◌, length, get_or, replicate, set, filter, Contains, refl, sym, ap, ◌∙◌, arith}
+use Rattle.std.proofs.Common.{◌≡◌, ◌≢◌, ℕ, zero, suc, ◌+◌, ◌-◌, ◌<◌, ◌≤◌, Bool, true, false, not, ◌||◌, if◌then◌else◌, eqb, ltb, List, [], ◌∷◌, length, get_or, replicate, set, filter, Contains, refl, sym, ap, ◌∙◌, arith}
 use Rattle.std.specs.Prelude.{slice_index, slice_index_or}
 use Rattle.std.specs.List.{range_with_len}
 use Rattle.std.proofs.lemmas.Bool.Decides.{nat_tests}
 use Rattle.std.proofs.lemmas.List.{get_or-set_same, get_or-set_other, length-replicate, length-set}
 use Rattle.page_shadow.specs.Ledger.{IsKept, Ledger, is_held, is_named, is_unused, ledger_of, unused_blocks}
 use Rattle.page_shadow.specs.Pool.{Pool, Takes, with_block, without_block}
-use Rattle.page_shadow.proofs.Blocks.{Passes, passing, passing_all, passing_none, passing_with, passing_within, passing_without}
+use Rattle.page_shadow.proofs.Blocks.{Passes, passing, passing_all, passing_none, passing_with, passing_within, passing_without, with_block_first}
 
 -- a list without what isn't in it
 without_absent : (block : ℕ) (xs : List ℕ) → (Contains xs block → ⊥) → without_block block xs ≡ xs
@@ -182,3 +182,79 @@ module _ (pool : Pool) (held : List Bool) (names : List ℕ) (all_named : Bool) 
       let inside : Contains (unused_blocks (ledger_of pool held names all_named)) block = rw (← kept.free) there in
       let passes = free_passes (is_unused (ledger_of pool held names all_named)) pool.first (pool.end - pool.first) block inside in
       let clash : false ≡ true = sym was ∙ passes.passes in absurd (cc clash)
+
+-- A BLOCK THAT IS HELD from now on
+module _ (pool : Pool) (held : List Bool) (names : List ℕ) (all_named : Bool) (kept : IsKept pool held names all_named) (block : ℕ) (high : block < pool.end) where
+  others_held : (k : ℕ) → k ≢ block → is_unused (ledger_of pool (set held block true) names all_named) k ≡ is_unused (ledger_of pool held names all_named) k
+  others_held k apart = ap (λ (b : Bool). not (b || is_named (ledger_of pool held names all_named) k)) (get_or-set_other held block k true false apart)
+
+  pub held_kept : (pool' : Pool) → pool'.first ≡ pool.first → pool'.end ≡ pool.end → pool'.blocks ≡ without_block block pool.blocks → IsKept pool' (set held block true) names all_named
+  held_kept pool' first end fewer =
+      let q : ℕ → Bool = is_unused (ledger_of pool (set held block true) names all_named) in
+      let range : List ℕ = range_with_len pool.first (pool.end - pool.first) in
+      let used : q block ≡ false = ap (λ (b : Bool). not (b || is_named (ledger_of pool held names all_named) block)) (get_or-set_same held block true false (omega (arith, high, kept.marks))) in
+      let left : filter q range ≡ without_block block (unused_blocks (ledger_of pool held names all_named)) = passing_without (is_unused (ledger_of pool held names all_named)) q block used others_held range in
+      record {
+        marks = length-set held block true ∙ (kept.marks ∙ sym end);
+        counts = kept.counts ∙ sym end;
+        free = fewer ∙ (ap (without_block block) kept.free ∙ (sym left ∙ ap (λ (r : List ℕ). filter q r) (rw (first, end) refl)));
+      }
+
+  pub held_before : (Contains pool.blocks block → ⊥) → IsKept pool (set held block true) names all_named
+  held_before out = held_kept pool refl refl (sym (without_absent block pool.blocks out))
+
+-- NOT ALL COUNT AS NAMED any more: from some block on those that are unused are free
+pub record AreFreedFrom (first end : ℕ) (held : List Bool) (names : List ℕ) (pool : Pool) (i : ℕ) : Type 0 where
+  pub same_first : pool.first ≡ first
+  pub same_end : pool.end ≡ end
+  pub freed : pool.blocks ≡ passing (is_unused (ledger_of pool held names false)) i (end - i)
+
+module _ (first end : ℕ) (held : List Bool) (names : List ℕ) (pool : Pool) (i : ℕ) (h : AreFreedFrom first end held names pool (i + 1)) (high : i < end) where
+  -- a block before them isn't free
+  pub not_freed : Contains pool.blocks i → ⊥
+  not_freed there =
+      let inside : Contains (passing (is_unused (ledger_of pool held names false)) (i + 1) (end - (i + 1))) i = rw (← h.freed) there in
+      let passes = free_passes (is_unused (ledger_of pool held names false)) (i + 1) (end - (i + 1)) i inside in
+      let low = passes.low in omega (arith, low)
+
+  one_less : end - i ≡ suc (end - (i + 1))
+  one_less = omega (arith, high)
+
+  by_here : (b : Bool) → is_unused (ledger_of pool held names false) i ≡ b → passing (is_unused (ledger_of pool held names false)) i (suc (end - (i + 1))) ≡ (if b then i ∷ passing (is_unused (ledger_of pool held names false)) (i + 1) (end - (i + 1)) else passing (is_unused (ledger_of pool held names false)) (i + 1) (end - (i + 1)))
+  by_here b e = rw e refl
+
+  pub freed_more : is_unused (ledger_of pool held names false) i ≡ true → AreFreedFrom first end held names (record pool { blocks = with_block i pool.blocks }) i
+  freed_more unused = record {
+    same_first = h.same_first;
+    same_end = h.same_end;
+    freed =
+        ap (with_block i) h.freed
+        ∙ (with_block_first (is_unused (ledger_of pool held names false)) (i + 1) (end - (i + 1)) i (omega arith)
+        ∙ (sym (by_here true unused) ∙ ap (passing (is_unused (ledger_of pool held names false)) i) (sym one_less)));
+  }
+
+  pub freed_same : is_unused (ledger_of pool held names false) i ≡ false → AreFreedFrom first end held names pool i
+  freed_same used = record {
+    same_first = h.same_first;
+    same_end = h.same_end;
+    freed = h.freed ∙ (sym (by_here false used) ∙ ap (passing (is_unused (ledger_of pool held names false)) i) (sym one_less));
+  }
+
+-- none yet
+pub freed_none : (first end i : ℕ) (held : List Bool) (names : List ℕ) (pool : Pool) → pool.first ≡ first → pool.end ≡ end → end ≤ i → pool.blocks ≡ [] → AreFreedFrom first end held names pool i
+freed_none first end i held names pool same_first same_end past none = record {
+  same_first = same_first;
+  same_end = same_end;
+  freed = none ∙ ap (passing (is_unused (ledger_of pool held names false)) i) (let e : 0 ≡ end - i = omega (arith, past) in e);
+}
+
+-- where all count as named none is free
+pub none_free : (pool : Pool) (held : List Bool) (names : List ℕ) → IsKept pool held names true → pool.blocks ≡ []
+none_free pool held names kept = kept.free ∙ passing_none (is_unused (ledger_of pool held names true)) pool.first (pool.end - pool.first) (λ k. all_used (slice_index_or held k false))
+
+-- a block that is marked, or counted, isn't unused
+pub marked_used : (held : List Bool) (names : List ℕ) (pool : Pool) (i : ℕ) → slice_index_or held i false ≡ true → is_unused (ledger_of pool held names false) i ≡ false
+marked_used held names pool i marked = ap (λ (b : Bool). not (b || is_named (ledger_of pool held names false) i)) marked
+
+pub counted_used : (held : List Bool) (names : List ℕ) (pool : Pool) (i : ℕ) → 0 < slice_index names i → is_unused (ledger_of pool held names false) i ≡ false
+counted_used held names pool i some = named_used (slice_index_or held i false) false (slice_index names i) some

@@ -81,6 +81,32 @@ impl Ledger {
         Ok(block)
     }
 
+    /// Holds this block of the range, which isn't free any more.
+    pub fn hold(&mut self, block: u32)
+        requires { (self.old.first ≤ block) × (block < self.old.end) }
+        ensures { self.new ≡ record self.old { held = slice_set self.old.held block true } }
+    {
+        let at = block as usize;
+        self.held[at] = true;
+        if self.pool.is_free(block) {
+            self.pool.take_this(block);
+        }
+    }
+
+    /// Ends that each block counts as named: a block of the range that is neither held nor named is free from now on. It looks
+    /// once at each block.
+    pub fn end_all_named(&mut self)
+        requires { self.old.all_named ≡ true }
+        ensures { self.new ≡ record self.old { all_named = false } }
+    {
+        for block in (self.pool.first..self.pool.end).rev() {
+            if !self.held[block as usize] && !self.uses.is_named(block) {
+                self.pool.give_back(block);
+            }
+        }
+        self.all_named = false;
+    }
+
     /// Gives back a block of the range that is held. It is free from now on, unless it is named.
     pub fn give_back(&mut self, block: u32)
         requires range { (self.old.first ≤ block) × (block < self.old.end) }

@@ -16,7 +16,7 @@ ghost use Rattle.run_rules.specs.Newest.{newest_in};
 ghost use Rattle.run_rules.specs.Records.{AreAscending, AreRecordsOf};
 ghost use Rattle.run_rules.specs.Wishes.{HasOpenWish, WasNeverFull, is_full_after};
 
-/// The commits of a history entry by entry: first the chosen records of the start, one of each entity that has a version there,
+/// The commits of a legal run entry by entry: first the chosen records of the start, one of each entity that has a version there,
 /// ascending; then for a Snap its entity, for a Stable each entity that has changed since its newest commit, ascending, each with its
 /// version and stamp at that place; and, not counted among the completed ones, for a Tried at the end its own.
 pub fn commits_law()
@@ -29,8 +29,8 @@ pub fn commits_law()
         → tried_commits s script w (es ++ e ∷ []) ≡ commits_in s script w es ++ commits_now s script w es (e.actor ∷ []) }
 {}
 
-/// Each commit, the tried one too, has the version and the clock that its entity had at that version, and that clock is the vector of
-/// its past there. The versions of an entity's commits strictly ascend.
+/// Each commit of a legal run, the tried one too, has the version and the clock that its entity had at that version, and that clock is
+/// the vector of its past there. The versions of an entity's commits strictly ascend.
 pub fn commit_record_law()
     ensures records { (s : Supply) (policy : Policy) (script : Script) (w : KernelState) (es : List Entry)
         → IsLegalRun s policy w script es → AreRecordsOf s script w es (tried_commits s script w es) }
@@ -38,7 +38,7 @@ pub fn commit_record_law()
         → IsLegalRun s policy w script es → AreAscending (tried_commits s script w es) }
 {}
 
-/// An entity has an open wish exactly where a Step wrote it last, it has no commit since and the policy says so, or where a snap
+/// In a legal run an entity below 64 has an open wish exactly where a Step wrote it last, it has no commit since and the policy says so, or where a snap
 /// that was answered Ok named it and it has no commit since. The policy is asked with the versions since the newest commit.
 pub fn open_wish_law()
     ensures wish { (s : Supply) (policy : Policy) (script : Script) (w : KernelState) (es : List Entry) (x : ℕ)
@@ -49,14 +49,14 @@ pub fn open_wish_law()
         → (run_after s script (start_run w) es).newest x ≡ newest_in (commits_in s script w es) x }
 {}
 
-/// An entity is full exactly where four or more of its commits so far are at or above the greatest closed choice over all commits
-/// so far.
+/// An entity is full exactly where four or more of its commits so far are at or above the computed choice over all commits so far, which
+/// is the greatest closed one in a legal run from a sound state.
 pub fn full_law()
     ensures { (s : Supply) (script : Script) (w : KernelState) (es : List Entry) (x : ℕ)
         → is_full (run_after s script (start_run w) es) x ≡ is_full_after s script w es x }
 {}
 
-/// A wish has to be met before the entity is touched again exactly where it is open and the entity was full at no place from
+/// In a legal run a wish of an entity below 64 has to be met before the entity is touched again exactly where it is open and the entity was full at no place from
 /// the last Step that writes it to the end.
 pub fn due_law()
     ensures { (s : Supply) (policy : Policy) (script : Script) (w : KernelState) (es : List Entry) (x : ℕ)
@@ -66,7 +66,8 @@ pub fn due_law()
 {}
 
 /// What a cut leaves: the greatest closed choice over the first commits of a legal run gives each entity a version from the start's to
-/// the present one. The state of its part has these versions, and their past vectors as clocks.
+/// the present one. Where no clock of the start is above the versions, the state of its part has these versions, and their past vectors as
+/// clocks.
 pub fn cut_state_law()
     ensures part { (s : Supply) (policy : Policy) (script : Script) (w : KernelState) (es : List Entry)
         (cs later : List Commit) (q : ℕ → ℕ) → IsLegalRun s policy w script es

@@ -131,7 +131,7 @@ module _ (s : Supply) (policy : Policy) (script : Script) where
   entry_in made = made.0
 
   -- a step's entry is a Step of its locus
-  step_entry : (r : Run) (l : ℕ) (made : Entry × KernelState) → step s l r.state ≡ Some made → (made.0.event ≡ Step) × (made.0.actor ≡ l)
+  pub step_entry : (r : Run) (l : ℕ) (made : Entry × KernelState) → step s l r.state ≡ Some made → (made.0.event ≡ Step) × (made.0.actor ≡ l)
   step_entry r l made is =
       let k = step_is s l r.state made.0 (ap (option_map entry_in) is) in
       (ap (λ (e : Entry). e.event) k.entry, ap (λ (e : Entry). e.actor) k.entry)

@@ -21,7 +21,7 @@ use Rattle.serial_runs.proofs.Openings.{opening_calm, opening_legal}
 module _ (s : Supply) (policy : Policy) (script : Script) where
   -- LOOKS ONE BEHIND ANOTHER
 
-  looks_append : (r : Run) (xs ys : List ℕ) → looks s policy script r (xs ++ ys) ≡ looks s policy script r xs ++ looks s policy script (run_after s script r (looks s policy script r xs)) ys
+  pub looks_append : (r : Run) (xs ys : List ℕ) → looks s policy script r (xs ++ ys) ≡ looks s policy script r xs ++ looks s policy script (run_after s script r (looks s policy script r xs)) ys
   looks_append r [] ys = refl
   looks_append r (x ∷ xs) ys =
       let first = look s policy script r x in
@@ -38,7 +38,7 @@ module _ (s : Supply) (policy : Policy) (script : Script) where
       ∙ ap (λ ls. all_loci ++ ls) (rounds_append n m) ∙ sym (append_assoc all_loci (rounds n) (rounds m))
 
   -- more rounds go on where fewer ended
-  longer_by : (w : KernelState) (n k : ℕ) → serial_history s policy script w (n + k) ≡ serial_history s policy script w n ++ looks s policy script (run_after s script (start_run w) (serial_history s policy script w n)) (rounds k)
+  pub longer_by : (w : KernelState) (n k : ℕ) → serial_history s policy script w (n + k) ≡ serial_history s policy script w n ++ looks s policy script (run_after s script (start_run w) (serial_history s policy script w n)) (rounds k)
   longer_by w n k =
       let o = opening s script w in
       let r = run_after s script (start_run w) o in
@@ -59,7 +59,7 @@ module _ (s : Supply) (policy : Policy) (script : Script) where
 
   -- WHERE ALL ARE IDLE nothing follows
 
-  abbrev Idle : Run → List ℕ → Type 0
+  abbrev pub Idle : Run → List ℕ → Type 0
   Idle r [] = Unit {0}
   Idle r (l ∷ ls) = (can_step script r l ≡ false) × Idle r ls
 
@@ -73,11 +73,11 @@ module _ (s : Supply) (policy : Policy) (script : Script) where
   idle_append r [] ys first more = more
   idle_append r (x ∷ xs) ys first more = (first.0, idle_append r xs ys first.1 more)
 
-  abbrev numbers : ℕ → ℕ → List ℕ
+  abbrev pub numbers : ℕ → ℕ → List ℕ
   numbers from zero = []
   numbers from (suc n) = from ∷ numbers (suc from) n
 
-  idle_numbers : (r : Run) → IsAllIdle script r → (from n : ℕ) → 41 ≤ from → from + n ≤ 64 → Idle r (numbers from n)
+  pub idle_numbers : (r : Run) → IsAllIdle script r → (from n : ℕ) → 41 ≤ from → from + n ≤ 64 → Idle r (numbers from n)
   idle_numbers r over from zero low high = tt
   idle_numbers r over from (suc n) low high = (over.idle from low (omega (arith, high)), idle_numbers r over (suc from) n (omega (arith, low)) (omega (arith, high)))
 

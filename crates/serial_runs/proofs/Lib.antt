@@ -1,3 +1,4 @@
 pub mod Calm
 pub mod Openings
 pub mod Histories
+pub mod Rounds

@@ -1,5 +1,5 @@
 -- The births of a run, and the Stable behind them.
-use Rattle.std.proofs.Common.{◌≡◌, ℕ, zero, suc, Bool, true, false, not, ◌&&◌, ◌||◌, if◌then◌else◌, ◌⊎◌, inl, inr, List, [], ◌∷◌, ◌++◌, Option, Some, None, option_map, refl, sym, ap, subst, ◌∙◌}
+use Rattle.std.proofs.Common.{◌≡◌, ℕ, zero, suc, Bool, true, false, not, ◌&&◌, ◌||◌, if◌then◌else◌, ◌⊎◌, inl, inr, List, [], ◌∷◌, ◌++◌, Option, Some, None, option_map, refl, sym, ap, subst}
 use Rattle.hop_base.specs.declared.histories.Entry.{Entry}
 use Rattle.hop_base.specs.declared.histories.Event.{Event}
 use Rattle.hop_base.specs.declared.histories.Event.TheVariants.{Birth}
@@ -11,6 +11,7 @@ use Rattle.hop_model.specs.Scripts.{Script}
 use Rattle.hop_model.specs.Serial.{birth_turn, births, made_and_owed, owed_stable}
 use Rattle.hop_model.specs.State.{KernelState, Supply}
 use Rattle.run_laws.proofs.Wishes.{run_append}
+use Rattle.fitting_births.proofs.Ends.{births_none}
 use Rattle.serial_runs.specs.Serial.{IsCalm, opening}
 use Rattle.serial_runs.proofs.Calm.{legal_join}
 
@@ -22,13 +23,6 @@ no_wish true c p f b_no c_no = cc
 and_no : (b c : Bool) → c ≡ false → (b && c) ≡ false
 and_no true c e = e
 and_no false c e = refl
-
--- where no birth is owed, none is made
-births_none : (s : Supply) (script : Script) (n : ℕ) (r : Run) → births_owed script r ≡ false → births n s script r ≡ []
-births_none s script zero r born = refl
-births_none s script (suc n) r born =
-    let none : birth_turn s script r ≡ [] = ap (λ (b : Bool). if b then made_and_owed s script r (next_birth s script r.state) else []) born in
-    ap (λ es. es ++ births n s script (run_after s script r es)) none ∙ births_none s script n r born
 
 module _ (s : Supply) (policy : Policy) (script : Script) where
   -- no step was made, and nobody wishes for anything

@@ -2,27 +2,33 @@
 //! stopped. The functions do nothing: the contract of each is a law.
 #![tactic(auto)]
 
-ghost use Rattle.std.specs.Prelude.{◌≡◌, ◌≤◌, ◌++◌, ℕ, List, false};
+ghost use Rattle.std.specs.Prelude.{◌≡◌, ◌≤◌, ◌*◌, ◌++◌, ℕ, List};
 ghost use Rattle.hop_base.specs.declared.histories.Entry.{Entry};
-ghost use Rattle.hop_model.specs.Histories.{IsLegalRun, Policy, births_owed, run_after, start_run};
+ghost use Rattle.hop_model.specs.Histories.{IsLegalRun, Policy, run_after, start_run};
 ghost use Rattle.hop_model.specs.Scripts.{Script};
 ghost use Rattle.hop_model.specs.Soundness.{IsSound};
 ghost use Rattle.hop_model.specs.State.{KernelState, Supply};
+ghost use Rattle.hop_model.specs.Steps.{atlas_in};
 ghost use Rattle.script_form.specs.Rules.{IsScript};
-ghost use Rattle.serial_runs.specs.Serial.{IsCalm, IsStopped, IsWhole, opening, serial_history};
-ghost use Rattle.sound_runs.specs.Kinds.{NamesNoLocus};
+ghost use Rattle.fitting_births.specs.Fitting.{Fits};
+ghost use Rattle.serial_runs.specs.Serial.{IsCalm, IsStopped, IsWhole, serial_history};
 
-/// From a sound state, and where the births of the script come to their end, the serial history with any number of rounds is a legal
-/// run, behind which nothing is owed and no wish is due.
+/// From a sound state the serial history of an allowed script that fits, with any number of rounds, is a legal run, behind which nothing
+/// is owed and no wish is due.
 pub fn serial_run_law()
     ensures legal { (s : Supply) (policy : Policy) (script : Script) (w : KernelState) (n : ℕ)
-        → IsScript script → NamesNoLocus script w → IsSound (λ x. (w x).cell)
-        → births_owed script (run_after s script (start_run w) (opening s script w)) ≡ false
+        → IsScript script → Fits (atlas_in (w 0).cell) script → IsSound (λ x. (w x).cell)
         → IsLegalRun s policy w script (serial_history s policy script w n) }
     ensures calm { (s : Supply) (policy : Policy) (script : Script) (w : KernelState) (n : ℕ)
-        → IsScript script → NamesNoLocus script w → IsSound (λ x. (w x).cell)
-        → births_owed script (run_after s script (start_run w) (opening s script w)) ≡ false
+        → IsScript script → Fits (atlas_in (w 0).cell) script → IsSound (λ x. (w x).cell)
         → IsCalm policy (run_after s script (start_run w) (serial_history s policy script w n)) }
+{}
+
+/// There is a whole serial history, by at most as many rounds as the 23 loci have steps in all.
+pub fn whole_serial_law()
+    ensures { (s : Supply) (policy : Policy) (script : Script) (w : KernelState)
+        → IsScript script → Fits (atlas_in (w 0).cell) script → IsSound (λ x. (w x).cell)
+        → (n : ℕ) × (n ≤ 23 * script.steps) × IsWhole s policy script w (serial_history s policy script w n) }
 {}
 
 /// More rounds go on where fewer ended, and there is at most one whole serial history.
@@ -33,11 +39,10 @@ pub fn serial_front_law()
         → IsWhole s policy script w es → IsWhole s policy script w fs → es ≡ fs }
 {}
 
-/// A serial history that was stopped is a legal run: a front of the serial one, perhaps with the Snaps of the completed records in
+/// From a sound state a serial history of an allowed script that fits is a legal run where it was stopped, too: a front of the serial one, perhaps with the Snaps of the completed records in
 /// place of a Stable, and perhaps with one record that was tried.
 pub fn stopped_run_law()
     ensures { (s : Supply) (policy : Policy) (script : Script) (w : KernelState) (es : List Entry)
-        → IsScript script → NamesNoLocus script w → IsSound (λ x. (w x).cell)
-        → births_owed script (run_after s script (start_run w) (opening s script w)) ≡ false
+        → IsScript script → Fits (atlas_in (w 0).cell) script → IsSound (λ x. (w x).cell)
         → IsStopped s policy script w es → IsLegalRun s policy w script es }
 {}

@@ -28,14 +28,14 @@ abbrev pub last_word : ℕ
 last_word = 18446744073709551615
 
 -- FIELDS TELL what they are
-entry_tells : TellsApart IsEntrySpelled
+pub entry_tells : TellsApart IsEntrySpelled
 entry_tells = record {
   told = λ v w a b x y f g same.
       let e : entry_byte v ∷ x ≡ entry_byte w ∷ y = ap (λ (l : List ℕ). l ++ x) (sym f.is) ∙ same ∙ ap (λ (l : List ℕ). l ++ y) g.is in
       (entry_same v w f.good g.good (ap (λ (l : List ℕ). slice_index l 0) e), ap (λ (l : List ℕ). drop 1 l) e);
 }
 
-code_tells : TellsApart IsCodeSpelled
+pub code_tells : TellsApart IsCodeSpelled
 code_tells = record {
   told = λ v w a b x y f g same.
       (list instr_bytes IsInstruction instr v w (each IsInstruction v f.good.each) (each IsInstruction w g.good.each)).told x y
@@ -55,7 +55,7 @@ regions_tells pages = record {
       (ap (λ (l : List ℕ). l ++ x) (sym f.is) ∙ same ∙ ap (λ (l : List ℕ). l ++ y) g.is);
 }
 
-caps_tells : TellsApart AreCapsSpelled
+pub caps_tells : TellsApart AreCapsSpelled
 caps_tells = record {
   told = λ v w a b x y f g same.
       (caps v w (f.good.slots ∙ sym g.good.slots)).told x y (ap (λ (l : List ℕ). l ++ x) (sym f.is) ∙ same ∙ ap (λ (l : List ℕ). l ++ y) g.is);

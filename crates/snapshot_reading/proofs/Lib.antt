@@ -16,3 +16,13 @@ pub mod SlotLists
 pub mod ContainerFields
 pub mod Entries
 pub mod Whole
+pub mod Codes
+pub mod Listed
+pub mod CallFields
+pub mod RegisterLists
+pub mod PrivateFields
+pub mod PrivateLists
+pub mod PrivatesRead
+pub mod WalkFields
+pub mod LocusForms
+pub mod LocusFields

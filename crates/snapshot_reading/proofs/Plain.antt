@@ -3,8 +3,8 @@ use Rattle.std.proofs.Common.{◌≡◌, ◌<◌, ◌≤◌, ℕ, zero, suc, ◌
 use Rattle.std.specs.Prelude.{All}
 use Rattle.std.specs.List.{AllByRecursion, flat_map}
 use Rattle.std.proofs.lemmas.List.Elements.{All-cons, All-nil}
-use Rattle.snapshot_reading.specs.Fields.{IsFound, IsRefused, Spells}
-use Rattle.snapshot_reading.proofs.Items.{HasRead, Items, all_read, none_yet, one_more, one_refused}
+use Rattle.snapshot_reading.specs.Fields.{IsFound, IsRefused, Items, Spells}
+use Rattle.snapshot_reading.proofs.Items.{HasRead, all_read, none_yet, one_more, one_refused}
 use Rattle.snapshot_reading.proofs.Sequences.{TellsApart, joined}
 
 module _ {A : Type 0} (Item : A → List ℕ → Type 0) where

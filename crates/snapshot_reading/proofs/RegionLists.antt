@@ -9,10 +9,9 @@ use Rattle.blob_grammar.specs.Forms.{IsNumber}
 use Rattle.blob_grammar.specs.Shapes.{IsRegionOver}
 use Rattle.blob_grammar.specs.Spelling.{region_bytes}
 use Rattle.blob_grammar.proofs.Telling.{each}
-use Rattle.snapshot_reading.specs.Fields.{IsByteIn, IsFound, IsRefused, Spells, Then}
+use Rattle.snapshot_reading.specs.Fields.{IsByteIn, IsFound, IsRefused, Items, Spells, Then}
 use Rattle.snapshot_reading.specs.Parts.{AreRegionsOf, IsRegionIn}
 use Rattle.snapshot_reading.proofs.Bytes.{byte_tells}
-use Rattle.snapshot_reading.proofs.Items.{Items}
 use Rattle.snapshot_reading.proofs.RegionFields.{region_with}
 use Rattle.snapshot_reading.proofs.Sequences.{joined, refused_as, refused_here, refused_later}
 

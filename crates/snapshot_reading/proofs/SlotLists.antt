@@ -5,10 +5,10 @@ use Rattle.std.specs.List.{AllByRecursion, flat_map}
 use Rattle.std.proofs.lemmas.List.{length-set, append-nil}
 use Rattle.hop_base.specs.declared.capabilities.Cap.{Cap}
 use Rattle.blob_grammar.specs.Spelling.{Slot, slot_bytes, used_slots}
-use Rattle.snapshot_reading.specs.Fields.{IsByteIn, IsFound, IsRefused, Spells, Then}
+use Rattle.snapshot_reading.specs.Fields.{IsByteIn, IsFound, IsRefused, Items, Spells, Then}
 use Rattle.snapshot_reading.specs.Parts.{AreCapsSpelled, IsSlotIn, slot_with}
 use Rattle.snapshot_reading.proofs.Bytes.{byte_tells, some_byte}
-use Rattle.snapshot_reading.proofs.Items.{HasRead, Items, all_read, none_yet, one_more, one_refused}
+use Rattle.snapshot_reading.proofs.Items.{HasRead, all_read, none_yet, one_more, one_refused}
 use Rattle.snapshot_reading.proofs.Sequences.{TellsApart, chain, joined, refused_as, refused_here, refused_later}
 
 -- ONE SLOT

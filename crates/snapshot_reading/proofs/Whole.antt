@@ -1,16 +1,18 @@
 -- The first bad place of a whole blob, from where its reader stopped.
-use Rattle.std.proofs.Common.{◌≡◌, ◌≤◌, ℕ, zero, suc, ◌+◌, ◌-◌, ◌==◌, true, false, List, [], ◌∷◌, ◌++◌, length, replicate, take, drop, refl, sym, ap, subst, ◌∙◌, arith, append_assoc, eqb-true}
+use Rattle.std.proofs.Common.{◌≡◌, ◌<◌, ℕ, zero, suc, ◌+◌, ◌-◌, ◌^◌, ◌==◌, true, false, List, [], ◌∷◌, ◌++◌, length, replicate, take, drop, refl, sym, ap, subst, ◌∙◌, arith, append_assoc, eqb-true}
 use Rattle.std.proofs.lemmas.Bool.{false≢true}
 use Rattle.std.proofs.lemmas.List.{append-nil, drop-replicate, length-append, take_at}
-use Rattle.hop_base.specs.declared.entities.Kind.TheVariants.{Container}
-use Rattle.hop_model.specs.State.{ContainerState}
-use Rattle.blob_grammar.specs.Forms.{IsSpelling, SpellsContainer}
+use Rattle.hop_base.specs.declared.entities.Kind.{Kind}
+use Rattle.hop_base.specs.declared.entities.Kind.TheVariants.{Atlas, Container, Locus}
+use Rattle.blob_grammar.specs.Forms.{IsSpelling}
 use Rattle.blob_grammar.specs.Laws.{most_bytes}
-use Rattle.blob_grammar.specs.Places.{Begins, IsBadPlace}
+use Rattle.blob_grammar.specs.Places.{Begins, GoesPast, IsBadPlace}
 use Rattle.blob_grammar.proofs.KindSizes.{most}
 use Rattle.blob_grammar.proofs.Placing.{past_bad}
 use Rattle.blob_grammar.proofs.Values.{prefix_free}
-use Rattle.snapshot_reading.specs.Fields.{IsFound, IsRefused, IsStuck}
+use Rattle.snapshot_reading.specs.Fields.{IsRefused, IsStuck}
+use Rattle.snapshot_reading.specs.Places.{IsBadBlob}
+use Rattle.snapshot_reading.specs.declared.places.BadBlob.TheVariants.{Malformed, TooLong}
 
 module _ (Spelled : List ℕ → Type 0) where
   place_of : (front behind : List ℕ) → IsStuck Spelled front behind → IsBadPlace Spelled (front ++ behind) (length front)
@@ -33,46 +35,73 @@ module _ (Spelled : List ℕ → Type 0) where
     cut_off = λ end. absurd (let l = length-append front (b ∷ behind) in omega (arith, l, end));
   }
 
-  pub bad_place : (bytes behind : List ℕ) (place : ℕ) → IsRefused Spelled bytes behind → place ≡ length bytes - length behind → IsBadPlace Spelled bytes place
+  -- what stands before the place is no whole spelling, if bytes follow it
+  not_whole : (front behind : List ℕ) → IsStuck Spelled front behind → GoesPast Spelled (front ++ behind) (length front) → ⊥
+  not_whole front [] stuck past = let l = length-append front [] in omega (arith, l, past.past)
+  not_whole front (b ∷ behind) stuck past =
+      stuck.stops front (b ∷ behind) (b ∷ behind) (subst Spelled (take_at front (b ∷ behind) (length front) refl) past.whole) refl (behind, refl)
+
+  bad_place : (bytes behind : List ℕ) (place : ℕ) → IsRefused Spelled bytes behind → place ≡ length bytes - length behind → IsBadPlace Spelled bytes place
   bad_place bytes behind place r is =
       let l = length-append r.front behind in
       let e = ap length r.is in
       let at : length r.front ≡ place = omega (arith, l, e, is) in
       subst (λ n. IsBadPlace Spelled bytes n) at (subst (λ (l : List ℕ). IsBadPlace Spelled l (length r.front)) (sym r.is) (place_of r.front behind r.stuck))
 
-pub near : (bytes behind : List ℕ) → IsRefused (IsSpelling Container) bytes behind → length bytes - length behind ≤ most_bytes Container
-near bytes behind r =
+  no_past : (bytes behind : List ℕ) (place : ℕ) → IsRefused Spelled bytes behind → place ≡ length bytes - length behind → GoesPast Spelled bytes place → ⊥
+  no_past bytes behind place r is past =
+      let l = length-append r.front behind in
+      let e = ap length r.is in
+      let at : length r.front ≡ place = omega (arith, l, e, is) in
+      not_whole r.front behind r.stuck (subst (λ n. GoesPast Spelled (r.front ++ behind) n) (sym at) (subst (λ (l : List ℕ). GoesPast Spelled l place) r.is past))
+
+-- what is told where a reader is stuck
+pub malformed : (kind : Kind) (bytes behind : List ℕ) (place : ℕ) → IsRefused (IsSpelling kind) bytes behind → place ≡ length bytes - length behind → IsBadBlob kind bytes (Malformed place)
+malformed kind bytes behind place r is = (bad_place (IsSpelling kind) bytes behind place r is, no_past (IsSpelling kind) bytes behind place r is)
+
+small : (kind : Kind) → most_bytes kind < 2 ^ 32
+small Atlas = omega arith
+small Container = omega arith
+small Locus = omega arith
+
+pub near : (kind : Kind) (bytes behind : List ℕ) → IsRefused (IsSpelling kind) bytes behind → length bytes - length behind < 2 ^ 32
+near kind bytes behind r =
     let on = r.stuck.begins in
-    let most_is = most Container (r.front ++ on.0) on.1 in
+    let most_is = most kind (r.front ++ on.0) on.1 in
+    let few = small kind in
     let l = length-append r.front on.0 in
     let m = length-append r.front behind in
     let e = ap length r.is in
-    omega (arith, most_is, l, m, e)
+    omega (arith, most_is, few, l, m, e)
 
--- A WHOLE CONTAINER, and what is behind it
-module _ (state : (ℕ → ℕ) → ContainerState) (bytes rest table : List ℕ) (f : IsFound (λ (t y : List ℕ). (words : ℕ → ℕ) → SpellsContainer (state words) t y) bytes table rest) where
-  spelled : IsSpelling Container f.front
-  spelled = (state (λ _. 0), table, f.spelled (λ _. 0))
-
-  pub near_past : length bytes - length rest ≤ most_bytes Container
+-- A WHOLE BLOB, and what is behind it
+module _ (kind : Kind) (bytes front rest : List ℕ) (spelled : IsSpelling kind front) (is : bytes ≡ front ++ rest) where
+  pub near_past : length bytes - length rest < 2 ^ 32
   near_past =
-      let most_is = most Container f.front spelled in
-      let m = length-append f.front rest in
-      let e = ap length f.is in
-      omega (arith, most_is, m, e)
+      let most_is = most kind front spelled in
+      let few = small kind in
+      let m = length-append front rest in
+      let e = ap length is in
+      omega (arith, most_is, few, m, e)
 
-  pub past : (place : ℕ) → (length rest ≡ 0 → ⊥) → place ≡ length bytes - length rest → IsBadPlace (IsSpelling Container) bytes place
-  past place some is =
-      let m = length-append f.front rest in
-      let e = ap length f.is in
-      let at : length f.front ≡ place = omega (arith, m, e, is) in
-      past_bad (IsSpelling Container) (prefix_free Container) bytes place (record {
+  goes_past : (place : ℕ) → (length rest ≡ 0 → ⊥) → place ≡ length bytes - length rest → GoesPast (IsSpelling kind) bytes place
+  goes_past place some at_end =
+      let m = length-append front rest in
+      let e = ap length is in
+      let at : length front ≡ place = omega (arith, m, e, at_end) in
+      record {
         past = omega (arith, m, e, at, some);
-        whole = subst (IsSpelling Container) (sym (take_at f.front rest place at) ∙ ap (take place) (sym f.is)) spelled;
-      })
+        whole = subst (IsSpelling kind) (sym (take_at front rest place at) ∙ ap (take place) (sym is)) spelled;
+      }
 
-  pub all : rest ≡ [] → (words : ℕ → ℕ) → SpellsContainer (state words) table bytes
-  all none words = subst (SpellsContainer (state words) table) (sym (f.is ∙ ap (λ (l : List ℕ). f.front ++ l) none ∙ append-nil f.front)) (f.spelled words)
+  pub too_long : (place : ℕ) → (length rest ≡ 0 → ⊥) → place ≡ length bytes - length rest → IsBadBlob kind bytes (TooLong place)
+  too_long place some at_end =
+      let past = goes_past place some at_end in
+      (past_bad (IsSpelling kind) (prefix_free kind) bytes place past, past)
+
+pub all : (Spelled : List ℕ → Type 0) (bytes front rest : List ℕ) → Spelled front → bytes ≡ front ++ rest → rest ≡ [] → Spelled bytes
+all Spelled bytes front rest spelled is none =
+    subst Spelled (sym (is ∙ ap (λ (l : List ℕ). front ++ l) none ∙ append-nil front)) spelled
 
 -- TESTS for an empty rest
 pub not_none : (n : ℕ) → false ≡ (n == 0) → n ≡ 0 → ⊥

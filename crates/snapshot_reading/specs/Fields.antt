@@ -1,5 +1,5 @@
 -- Fields of a text of bytes: what spells a value, what follows it, and where the bytes are refused.
-use Rattle.std.specs.Prelude.{◌≡◌, ℕ, ◌≤◌, List, [], ◌∷◌, ◌++◌}
+use Rattle.std.specs.Prelude.{◌≡◌, ℕ, zero, suc, ◌≤◌, List, [], ◌∷◌, ◌++◌}
 use Rattle.byteorder.specs.Endian.{little_bytes}
 use Rattle.blob_grammar.specs.Places.{Begins}
 
@@ -30,6 +30,12 @@ pub record IsByteIn (least most byte : ℕ) (bytes : List ℕ) : Type 0 where
   pub low : least ≤ byte
   pub high : byte ≤ most
   pub is : bytes ≡ byte ∷ []
+
+-- so many items from a state on: what an item may be rests on the state and on how many follow it
+abbrev pub Items : {S A : Type 0} → (S → ℕ → A → List ℕ → Type 0) → (S → A → S) → ℕ → S → List A → List ℕ → Type 0
+Items Item next zero s vs y = (vs ≡ []) × (y ≡ [])
+Items Item next (suc n) s [] y = ⊥
+Items Item next (suc n) s (v ∷ vs) y = (a : List ℕ) × (b : List ℕ) × Item s n v a × Items Item next n (next s v) vs b × (y ≡ a ++ b)
 
 -- WHERE BYTES ARE REFUSED
 

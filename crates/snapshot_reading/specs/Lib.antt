@@ -1,4 +1,6 @@
 pub mod Fields
+pub mod Places
 pub mod Parts
 pub mod Instrs
 pub mod Containers
+pub mod Loci

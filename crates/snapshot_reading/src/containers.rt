@@ -1,23 +1,21 @@
 //! Containers without their words.
-ghost use Rattle.std.specs.Prelude.{◌≡◌, ◌≤◌, ◌-◌, drop, length, replicate, take, IfOk, IfErr};
+ghost use Rattle.std.specs.Prelude.{◌≡◌, ◌-◌, drop, length, replicate, take, IfOk, IfErr};
 ghost use Rattle.hop_base.specs.declared.entities.Kind.TheVariants.{Container};
 ghost use Rattle.blob_grammar.specs.Forms.{IsSpelling};
-ghost use Rattle.blob_grammar.specs.Laws.{most_bytes};
-ghost use Rattle.blob_grammar.specs.Places.{IsBadPlace};
 ghost use Rattle.snapshot_reading.specs.Containers.{IsHeadSpelled};
 ghost use Rattle.snapshot_reading.specs.Fields.{IsFound, IsRefused, Spells};
 ghost use Rattle.snapshot_reading.specs.Parts.{IsEntrySpelled};
+ghost use Rattle.snapshot_reading.specs.Places.{IsBadBlob};
 
 use crate::fields::{Parsed, Stuck, read_byte, read_number};
 use crate::lists::{read_code, read_table};
+use crate::places::{BadBlob, place_of};
 use crate::regions::read_regions;
 use crate::slots::read_caps;
 use cap_list::CapList;
 use hop_base::{Instr, MOST_PAGES};
 use locus_machine::{Code, Head, MOST_INSTRS};
 use region_map::RegionMap;
-use std::error::Error;
-use std::fmt;
 
 /// The first byte of a container's blob.
 const CONTAINER: u8 = 1;
@@ -80,49 +78,22 @@ pub struct ContainerBlob {
     pub blocks: [u32; 256],
 }
 
-/// Bytes that are no blob.
-#[derive(Clone, Copy, PartialEq, Eq, Debug)]
-pub struct BadBlob {
-    /// The first byte at which no spelling goes on, or the number of bytes where more are wanted.
-    pub place: u32,
-}
-
-impl fmt::Display for BadBlob {
-    fn fmt<W: fmt::Write>(&self, f: &mut fmt::Formatter<W>) -> fmt::Result {
-        let place = self.place;
-        write!(f, "no blob is spelled so from byte {place} on")
-    }
-}
-
-impl Error for BadBlob {}
-
 /// Reads the blob of a container. It takes no memory, and looks at each byte at most twice.
 pub fn read_container(bytes: &[u8]) -> Result<ContainerBlob, BadBlob>
     ensures read { IfOk result (λ c. IsHeadSpelled c.head (take c.head.pages c.blocks) bytes.now) }
     ensures none_past { IfOk result (λ c. drop c.head.pages c.blocks ≡ replicate (length c.blocks - c.head.pages) 0) }
-    ensures refused { IfErr result (λ bad. IsBadPlace (IsSpelling Container) bytes.now bad.place) }
+    ensures refused { IfErr result (IsBadBlob Container bytes.now) }
 {
     let mut page_table = [0; 256];
     let (head, rest) = match read_parts(bytes, &mut page_table) {
         Ok(read) => read,
-        Err(stuck) => return Err(bad_blob(bytes, stuck.rest)),
+        Err(stuck) => return Err(BadBlob::Malformed(place_of(bytes, stuck.rest))),
     };
     if !rest.is_empty() {
-        return Err(bad_blob(bytes, rest));
+        return Err(BadBlob::TooLong(place_of(bytes, rest)));
     }
     Ok(ContainerBlob {
         head,
         blocks: page_table,
     })
-}
-
-/// The place of the first of these bytes, which end a blob.
-fn bad_blob(bytes: &[u8], rest: &[u8]) -> BadBlob
-    requires within { length rest.now ≤ length bytes.now }
-    requires near { length bytes.now - length rest.now ≤ most_bytes Container }
-    ensures { result.place ≡ length bytes.now - length rest.now }
-{
-    BadBlob {
-        place: (bytes.len() - rest.len()) as u32,
-    }
 }

@@ -4,15 +4,15 @@ ghost use Rattle.snapshot_reading.specs.Fields.{IsByteIn, IsFound, IsNumberIn, I
 
 /// The bytes from the first on that is refused.
 #[derive(Clone, Copy)]
-pub(crate) struct Stuck<'a> {
+pub struct Stuck<'a> {
     pub rest: &'a [u8],
 }
 
 /// A value, and the bytes behind its spelling.
-pub(crate) type Parsed<'a, T> = Result<(T, &'a [u8]), Stuck<'a>>;
+pub type Parsed<'a, T> = Result<(T, &'a [u8]), Stuck<'a>>;
 
 /// A number of so many bytes, the lowest first, within these bounds.
-pub(crate) fn read_number<'a>(bytes: &'a [u8], width: u8, least: u64, most: u64) -> Parsed<'a, u64>
+pub fn read_number<'a>(bytes: &'a [u8], width: u8, least: u64, most: u64) -> Parsed<'a, u64>
     requires width { width ≤ 8 }
     requires some { least ≤ most }
     requires fits { most < 256 ^ width }
@@ -35,7 +35,7 @@ pub(crate) fn read_number<'a>(bytes: &'a [u8], width: u8, least: u64, most: u64)
 }
 
 /// A byte within these bounds.
-pub(crate) fn read_byte<'a>(bytes: &'a [u8], least: u8, most: u8) -> Parsed<'a, u8>
+pub fn read_byte<'a>(bytes: &'a [u8], least: u8, most: u8) -> Parsed<'a, u8>
     requires { least ≤ most }
     ensures read { IfOk result (λ r. IsFound (IsByteIn least most) bytes.now r.0 r.1.now) }
     ensures refused { IfErr result (λ stuck. IsRefused (Spells (IsByteIn least most)) bytes.now stuck.rest.now) }

@@ -11,7 +11,7 @@ use region_map::RegionMap;
 const READ_AND_WRITE: u8 = 3;
 
 /// A region that begins at page `least` or behind it, and ends before page `most`.
-fn read_region<'a>(bytes: &'a [u8], least: u16, most: u16) -> Parsed<'a, Region>
+pub(crate) fn read_region<'a>(bytes: &'a [u8], least: u16, most: u16) -> Parsed<'a, Region>
     requires some { least < most }
     requires size { most ≤ MOST_PAGES }
     ensures read { IfOk result (λ r. IsFound (IsRegionIn least most) bytes.now r.0 r.1.now) }
@@ -33,7 +33,7 @@ fn read_region<'a>(bytes: &'a [u8], least: u16, most: u16) -> Parsed<'a, Region>
 }
 
 /// The page behind the region.
-fn end_of(region: &Region) -> u16
+pub(crate) fn end_of(region: &Region) -> u16
     requires { region.now.at + region.now.count ≤ MOST_PAGES }
     ensures { result ≡ region.now.at + region.now.count }
 {

@@ -10,18 +10,15 @@ const SMALL: [u8; 52] = [
     0, 1, 0, 2, 0, 3, 254, 3, 1, 31, 63, 255, 0, 0, 0, 0, 5, 10, 0, 0,
 ];
 
-/// The bad place of the small container with these bytes in place of its own.
-fn place_with(changes: &[(usize, u8)]) -> Option<u32> {
+/// What is told of the small container with these bytes in place of its own.
+fn bad_with(changes: &[(usize, u8)]) -> Option<BadBlob> {
     let mut bytes = SMALL;
     for (at, byte) in changes {
         if let Some(place) = bytes.get_mut(*at) {
             *place = *byte;
         }
     }
-    match read_container(&bytes) {
-        Ok(_read) => None,
-        Err(BadBlob { place }) => Some(place),
-    }
+    read_container(&bytes).err()
 }
 
 #[test]
@@ -106,7 +103,11 @@ fn bytes_are_refused_where_no_spelling_goes_on(rt: HostRuntime) {
         (&[(42, 64)], Some(42)),
     ];
     for (changes, place) in rows {
-        assert_eq!(rt; place_with(changes), place, "{changes:?}");
+        assert_eq!(rt;
+            bad_with(changes),
+            place.map(BadBlob::Malformed),
+            "{changes:?}"
+        );
     }
 }
 
@@ -114,12 +115,12 @@ fn bytes_are_refused_where_no_spelling_goes_on(rt: HostRuntime) {
 fn a_blob_is_neither_cut_off_nor_longer(rt: HostRuntime) {
     assert_eq!(rt;
         read_container(&SMALL[..51]).err(),
-        Some(BadBlob { place: 51 })
+        Some(BadBlob::Malformed(51))
     );
-    assert_eq!(rt; read_container(&[]).err(), Some(BadBlob { place: 0 }));
+    assert_eq!(rt; read_container(&[]).err(), Some(BadBlob::Malformed(0)));
     let mut longer = [0; 53];
     for (at, byte) in SMALL.iter().enumerate() {
         longer[at] = *byte;
     }
-    assert_eq!(rt; read_container(&longer).err(), Some(BadBlob { place: 52 }));
+    assert_eq!(rt; read_container(&longer).err(), Some(BadBlob::TooLong(52)));
 }

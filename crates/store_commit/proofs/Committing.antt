@@ -19,7 +19,7 @@ use Rattle.log_turn.specs.Stages.{IsLogging}
 use Rattle.log_turn.specs.Standing.{HasCounted, IsTurnedTo, Stands, area_of, epoch_of, place_of, used_of}
 use Rattle.log_turn.specs.declared.areas.Areas.{Areas}
 use Rattle.store_model.specs.Books.{AreStored, IsApart, IsBeforePool}
-use Rattle.store_commit.specs.Storing.{HasBlob, HasLogged, HasPlaces, IsBehind, IsBlobBlock, IsBlobOf, IsCommitBlock, IsNext, StoresOneMore, roomy_log}
+use Rattle.store_commit.specs.Storing.{HasBlob, HasLogged, HasPlaces, IsBehind, IsBlobBlock, IsBlobOf, IsCommitBlock, IsNext, StoresOneMore, roomy_log, roomy_used}
 use Rattle.store_commit.proofs.Stays.{all_by_index, all_weaker, found_all, next_low}
 use Rattle.store_commit.proofs.Phases.{AreFree, appended_stored, blob_stored, moments_append, moments_blob, turned_stored}
 use Rattle.store_commit.proofs.Filling.{new_held}
@@ -165,3 +165,10 @@ on_ok_four (Err e) f p q r s = p
 pub on_ok_always : {T E P : Type 0} (r : Result T E) → P → OnOk r P
 on_ok_always (Ok x) p = p
 on_ok_always (Err e) p = tt
+
+-- how many slots are used once there is room
+pub used_full : (used kept : ℕ) → slot_count ≤ used → roomy_used used kept ≡ kept
+used_full used kept full = ap (λ (b : Bool). if b then used else kept) (let e : nat_lt used slot_count ≡ false = grind (arith, full) in e)
+
+pub used_room : (used kept : ℕ) → used < slot_count → roomy_used used kept ≡ used
+used_room used kept room = ap (λ (b : Bool). if b then used else kept) (let e : nat_lt used slot_count ≡ true = grind (arith, room) in e)

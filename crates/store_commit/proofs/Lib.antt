@@ -1,10 +1,11 @@
-mod Stays
+pub mod Stays
 mod Phases
-mod Filling
+pub mod Filling
 mod Committing
 mod Agreeing
 mod Fitting
 mod Choosing
-mod Unused
-mod Readying
-mod After
+pub mod Unused
+pub mod Readying
+pub mod After
+mod Chunks

@@ -1,3 +1,4 @@
 pub mod Storing
 pub mod Agreed
 pub mod Ready
+pub mod BlobBytes

@@ -36,6 +36,10 @@ HasBlob r blob image = (i : ℕ) → i < length blob → block_at image (slice_i
 abbrev pub roomy_log : ℕ → List Rec → List Rec → List Rec
 roomy_log used recs kept = if nat_lt used slot_count then recs else kept
 
+-- how many of its slots are used
+abbrev pub roomy_used : ℕ → ℕ → ℕ
+roomy_used used kept = if nat_lt used slot_count then used else kept
+
 -- WHAT IS STORED
 
 -- the areas stand for a log of these records on a disk that stores the kept ones

@@ -13,7 +13,7 @@ ghost use Rattle.image_meaning.specs.Stores.{Kept, Stores, recs_of};
 ghost use Rattle.log_turn.specs.Answers.{TurnAnswers};
 ghost use Rattle.log_turn.specs.Standing.{Stands, begun_of, epoch_of, has_failed, used_of};
 ghost use Rattle.store_model.specs.Books.{IsBeforePool};
-ghost use Rattle.store_commit.specs.Storing.{HasBlob, HasLogged, HasPlaces, IsCommitBlock, IsReady, Next, StoresOneMore, new_of, roomy_log};
+ghost use Rattle.store_commit.specs.Storing.{HasBlob, HasLogged, HasPlaces, IsCommitBlock, IsReady, Next, StoresOneMore, new_of, roomy_log, roomy_used};
 
 use crate::blobs::write_blob;
 use commit_log::LogFault;
@@ -31,6 +31,7 @@ fn make_room<D: Disk>(areas: &mut Areas, disk: &mut D, kept: &[Rec]) -> Result<(
     requires stands { D.tells → (recs : List Record) × Stands D.reading D.may_leave areas.old recs disk.old }
 
     ensures room { OnOk result (used_of areas.new < slot_count) }
+    ensures used { OnOk result (used_of areas.new ≡ roomy_used (used_of areas.old) (length kept.now)) }
     ensures working { OnOk result (has_failed areas.new ≡ false) }
     ensures epoch { OnOk result ((epoch_of areas.old ≤ epoch_of areas.new) × (epoch_of areas.new ≤ epoch_of areas.old + 1)) }
     ensures stands { D.tells → (recs : List Record) → Stands D.reading D.may_leave areas.old recs disk.old
@@ -84,6 +85,7 @@ pub fn commit_record<D: Disk>(
     ensures any_moment { D.tells → (next : Next) → IsReady D.reading D.may_leave next areas.old kept.now rec.now blob.now disk.old
         → LeavesOnly D.clock D.left_since disk.old disk.new (StoresOneMore next.count next.ks (new_of next rec.now)) }
 
+    ensures used { OnOk result (used_of areas.new ≡ roomy_used (used_of areas.old) (length kept.now) + 1) }
     ensures working { OnOk result (has_failed areas.new ≡ false) }
     ensures epoch { OnOk result ((epoch_of areas.old ≤ epoch_of areas.new) × (epoch_of areas.new ≤ epoch_of areas.old + 1)) }
     ensures answers { TurnAnswers (has_failed areas.old) (Rose (D.faults disk.old) (D.faults disk.new)) result }

@@ -5,6 +5,8 @@
 mod blobs;
 mod commits;
 mod laws;
+mod spelled;
 
 pub use commits::commit_record;
 pub use laws::{agreed_law, kept_fit_law, ready_law, true_after_law};
+pub use spelled::spelled_blocks;

@@ -1,1 +1,5 @@
 pub mod Snapshots
+pub mod Places
+pub mod CutShort
+pub mod FullContainer
+pub mod SecondRun

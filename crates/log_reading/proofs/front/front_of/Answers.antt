@@ -1,6 +1,7 @@
-use Rattle.std.proofs.Common.{◌≡◌, length, sym, ap, ◌∙◌}
+use Rattle.std.proofs.Common.{◌≡◌, ◌≤◌, length, sym, ap, ◌∙◌, arith}
 use Rattle.disk_trait.proofs.Phases.{IsImage-reading}
 use Rattle.image_blocks.specs.Bodies.{number_at}
+use Rattle.log_reading.proofs.InRange.{count_most}
 use Rattle.log_reading.proofs.Verdicts.{check_1-is}
 use Rattle.log_reading.proofs.front.front_of.Goals as goal
 
@@ -18,3 +19,9 @@ returns-in-Err-clause-front g c t =
     let whole = IsImage-reading g.D.Disk.reading t disk.reads_now disk.counts_now disk.whole c.args.disk.now in
     let len : length (g.D.Disk.reading c.args.disk.now) ≡ c.blocks-blocks.result = whole.len ∙ sym c.blocks-blocks.ensures in
     check_1-is (g.D.Disk.reading c.args.disk.now) c.blocks-blocks.result c.in_ok-block.block _ len c.if-blocks-eq0.false (c.in_ok-block.ensures.block t) c.in-Err.ensures.bad
+
+pub returns-in-Ok-clause-enough : goal.returns-in-Ok-clause-enough
+returns-in-Ok-clause-enough g c =
+    let least = c.in-Ok.ensures.count.0 in
+    let within = c.in-Ok.ensures.count.1 in
+    (omega (arith, least), omega (arith, within, c.blocks-blocks.ensures), count_most c.blocks-blocks.result c.in_ok-block.block c.in-Ok.count c.in-Ok.ensures.good.0 c.in-Ok.ensures.good.1)

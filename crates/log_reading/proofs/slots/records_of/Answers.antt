@@ -1,11 +1,16 @@
 use Rattle.std.proofs.Common.{◌≡◌, ◌≤◌, ◌<◌, ◌+◌, ◌++◌, ◌∷◌, [], ℕ, true, false, inl, inr, List, length, Some, None, sym, ap, subst, ◌∙◌, arith}
 use Rattle.std.proofs.lemmas.Bool.{cases_lt}
 use Rattle.std.proofs.lemmas.List.{length-append}
+use Rattle.std.specs.List.{AllPairs}
 use Rattle.disk_trait.specs.Image.{Image}
 use Rattle.hop_base.specs.declared.records.Rec.{Rec}
 use Rattle.image_blocks.specs.Bodies.{record_in}
 use Rattle.image_blocks.specs.Checks.{body_fault, body_in, count_in, log_fault}
 use Rattle.image_blocks.specs.Layout.{body_at, is_open, slot_count, slot_gate_at}
+use Rattle.image_blocks.specs.Logs.{IsInRange}
+use Rattle.log_reading.specs.Logs.{AreInRange, IsOlder}
+use Rattle.log_reading.proofs.Ascending.{ascending_more}
+use Rattle.log_reading.proofs.InRange.{in_range_more, read_in_range}
 use Rattle.log_reading.proofs.ReadSoFar.{ReadsOnly-trans}
 use Rattle.log_reading.proofs.Reached.{fault_moved, log_bad, log_read, reads, reads_more, read_at}
 use Rattle.log_reading.proofs.Verdicts.{bad_at, match_none, match_some, told_bad}
@@ -58,6 +63,8 @@ loop-slot-preserved g c =
     let image : Image = g.D.Disk.reading c.args.disk.now in
     let slot : ℕ = c.loop-slot.slot in
     let items : c.push.new.self.items ≡ c.loop-slot.recs.items ++ c.in-Ok.rec ∷ [] = c.in_ok-push-in-Ok.ensures.items in
+    let here : IsInRange c.args.count c.loop-slot.recs.items c.in-Ok.rec =
+    subst (λ (l : List Rec). IsInRange c.args.count l c.in-Ok.rec) c.deref.ensures.value (read_in_range c.args.count c.deref.result.now c.in-Some.body c.in-Ok.rec c.in-Ok.ensures.good c.in-Ok.ensures.read) in
     record {
       len = (let a = so_far.len in let b = ap length items in let e = length-append c.loop-slot.recs.items (c.in-Ok.rec ∷ []) in omega (arith, a, b, e));
       recs_are = λ t.
@@ -81,5 +88,7 @@ loop-slot-preserved g c =
             | inl low ↦ so_far.good t counted j low
             | inr high ↦ (let e : slot ≡ j = omega (arith, lt, high) in subst (λ (k : ℕ). body_fault (count_in image) (reads image c.args.area k) (body_in image c.args.area k) ≡ None) e none)
           ];
+      in_range = subst (AreInRange c.args.count) (sym items) (in_range_more c.args.count c.loop-slot.recs.items c.in-Ok.rec so_far.in_range here);
+      ascending = subst (AllPairs IsOlder) (sym items) (ascending_more c.args.count c.loop-slot.recs.items c.in-Ok.rec so_far.ascending here);
       same = ReadsOnly-trans _ _ _ (λ t d s b. disk.counts_now d s b t) so_far.same c.slot_of.ensures.same;
     }

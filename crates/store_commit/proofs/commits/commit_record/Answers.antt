@@ -1,4 +1,5 @@
 use Rattle.std.proofs.Common.{◌<◌, ◌+◌, ◌*◌, ℕ, inl, length, ◌∙◌, arith}
+use Rattle.std.proofs.lemmas.Result.{on_ok_weaker}
 use Rattle.disk_trait.proofs.Images.{SameOutside-weaker}
 use Rattle.disk_trait.proofs.Phases.{LeavesOnly-then, LeavesOnly-weaker, told}
 use Rattle.disk_tally.proofs.Counting.{Begins-fewer, Begins-then}
@@ -140,3 +141,9 @@ returns-clause-blob g c t =
     on_ok_always c.append.result
     (blob_stays c.args.rec.now c.args.blob.now _ (area_of c.write_blob.new.areas) (used_of c.write_blob.new.areas) _ _ (let room = c.in_ok-make_room.ensures.room in let same = c.write_blob.ensures.areas.same_used in omega (arith, room, same))
     c.requires.places (c.append.ensures.outside t) (c.in_ok-write_blob.ensures.blob t))
+
+pub returns-clause-used : goal.returns-clause-used
+returns-clause-used g c =
+    let room = c.in_ok-make_room.ensures.used in
+    let same = c.write_blob.ensures.areas.same_used in
+    on_ok_weaker c.append.result (λ used. omega (arith, used, same, room)) c.append.ensures.areas.used

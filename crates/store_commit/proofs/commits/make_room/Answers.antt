@@ -1,4 +1,4 @@
-use Rattle.std.proofs.Common.{sym, subst, arith}
+use Rattle.std.proofs.Common.{sym, subst, length, ◌∙◌, arith}
 use Rattle.std.specs.Prelude.{List}
 use Rattle.std.proofs.lemmas.Result.{on_ok_weaker}
 use Rattle.disk_trait.proofs.Images.{SameOutside-weaker}
@@ -11,7 +11,7 @@ use Rattle.store_model.specs.Books.{IsBeforePool}
 use Rattle.store_commit.specs.Storing.{HasLogged}
 use Rattle.store_commit.proofs.Stays.{turned_low}
 use Rattle.store_commit.proofs.Phases.{moments_turn, stands_logged, stored_stores}
-use Rattle.store_commit.proofs.Committing.{on_ok_four, room_made, turned_logged}
+use Rattle.store_commit.proofs.Committing.{on_ok_four, room_made, turned_logged, used_full, used_room}
 use Rattle.store_commit.proofs.commits.make_room.Goals as goal
 
 pub returns-clause-stands : goal.returns-clause-stands
@@ -47,3 +47,11 @@ returns-then-used-lt-SLOT_COUNT-clause-any_moment g c t count recs ks has fit ag
     let disk = g.met.D.Disk in
     let laws = told t disk.counts_now disk.only_now in
     LeavesOnly-start laws c.args.disk.now (Stores count ks) (stored_stores laws g.D.Disk.reading (λ d. disk.reads_now d t) count (place_of c.args.areas.now) recs ks c.args.disk.now has.stored)
+
+pub returns-clause-used : goal.returns-clause-used
+returns-clause-used g c =
+    let made = used_full (used_of c.args.areas.now) (length c.args.kept.now) (let full = c.if-used-lt-SLOT_COUNT.false in let is = c.used.ensures.used in omega (arith, full, is)) in
+    on_ok_weaker c.turn.result (λ used. used ∙ sym made) c.turn.ensures.areas.used
+
+pub returns-then-used-lt-SLOT_COUNT-clause-used : goal.returns-then-used-lt-SLOT_COUNT-clause-used
+returns-then-used-lt-SLOT_COUNT-clause-used g c = sym (used_room (used_of c.args.areas.now) (length c.args.kept.now) (let room = c.if-used-lt-SLOT_COUNT.true in let is = c.used.ensures.used in omega (arith, room, is)))

@@ -1,0 +1,10 @@
+use Rattle.locus_machine.specs.Loci.{locus_of}
+use Rattle.beside_steps.proofs.Wants.{snap_within, snap_makes}
+use Rattle.beside_steps.proofs.parts.record_it.Goals as goal
+
+pub finish-answer-requires : goal.finish-answer-requires
+finish-answer-requires c = snap_within (locus_of c.args.locus.now) c.args.instr c.args.number c.requires.ready c.requires.wants c.requires.snap
+
+pub returns : goal.returns
+returns c me s a cell apart =
+    snap_makes s me c.args.number (locus_of c.args.locus.now) (locus_of c.finish-answer.new.self) a cell c.args.instr c.requires.wants c.requires.snap apart c.finish-answer.ensures.locus

@@ -1,0 +1,50 @@
+-- Steps of a locus beside another entity.
+use Rattle.std.specs.Prelude.{◌≡◌, ℕ, Bool, true, false, IsTrue, IsSome, nat_lt, if◌then◌else◌, List, [], ◌∷◌, Some, None}
+use Rattle.hop_base.specs.declared.histories.Answer.{Answer}
+use Rattle.hop_base.specs.declared.instructions.Instr.{Instr}
+use Rattle.hop_base.specs.declared.instructions.Instr.TheVariants.{Invoke, Leave, Return, Take, Give, Snap}
+use Rattle.hop_model.specs.Acts.{wanted}
+use Rattle.hop_model.specs.Changes.{Access}
+use Rattle.hop_model.specs.Outcomes.{Outcome}
+use Rattle.hop_model.specs.State.{LocusState, Cell, LocusCell}
+use Rattle.wanted_act.specs.Views.{may_name_itself}
+use Rattle.event_clocks.specs.Clocks.{writing}
+use Rattle.kernel_cells.specs.declared.cells.Part.{Part}
+use Rattle.kernel_cells.specs.declared.cells.Part.TheVariants as part
+
+-- the locus wants this act beside the entity, and doesn't refuse it alone
+pub record WantsOther (l : LocusState) (i : Instr) (x : ℕ) : Type 0 where
+  pub instr : (wanted 64 l).instr ≡ i
+  pub allowed : (wanted 64 l).refused ≡ None
+  pub other : (wanted 64 l).other ≡ Some x
+
+-- acts beside a container, but for looks and mappings
+abbrev pub calls_container : Instr → Bool
+calls_container (Invoke c) = true
+calls_container (Leave c) = true
+calls_container Return = true
+calls_container (Take d c y) = true
+calls_container (Give d c r rights) = true
+calls_container (Snap c) = true
+calls_container i = false
+
+abbrev pub is_snap : Instr → Bool
+is_snap (Snap c) = true
+is_snap i = false
+
+-- the part is born, and of a kind on which the instruction works
+abbrev pub FitsBeside : Instr → Part → Type 0
+FitsBeside i (part.Container b) = IsSome b.head × IsTrue (calls_container i)
+FitsBeside i (part.Locus l) = IsSome l × IsTrue (may_name_itself i)
+FitsBeside i (part.Atlas a) = IsTrue (is_snap i)
+
+-- the outcome of an act that writes the locus and another entity: their new cells and the answer
+pub record MakesBoth (o : Outcome) (locus other : Cell) (answer : Answer) : Type 0 where
+  pub locus_made : locus ≡ LocusCell o.locus
+  pub answers : answer ≡ o.answer
+  pub other_made : o.other ≡ Some other
+  pub newborn : o.newborn ≡ None
+
+-- the locus and another entity are written, the lower number first
+abbrev pub pair_of : ℕ → Cell → ℕ → Cell → List Access
+pair_of me j x k = if nat_lt x me then writing x k ∷ writing me j ∷ [] else writing me j ∷ writing x k ∷ []

@@ -1,0 +1,7 @@
+//! Steps of a locus beside one other entity, over the cells of both.
+#![tactic(auto)]
+
+mod besides;
+mod parts;
+
+pub use besides::step_beside;

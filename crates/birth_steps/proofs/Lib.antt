@@ -1,0 +1,4 @@
+pub mod Zeros
+pub mod Newborns
+pub mod BirthSteps
+pub mod NoNumbers

@@ -1,0 +1,19 @@
+use Rattle.std.proofs.Common.{◌+◌, length, sym, ap, ◌∙◌}
+use Rattle.hop_model.specs.Acts.{wanted}
+use Rattle.hop_model.specs.Outcomes.{outcome}
+use Rattle.hop_model.specs.State.{NotBorn, AtlasCell, LocusCell}
+use Rattle.hop_base.specs.declared.histories.Answer.TheVariants.{Reply as Replied}
+use Rattle.locus_machine.specs.Loci.{locus_of}
+use Rattle.kernel_calls.specs.Calls.{atlas_state}
+use Rattle.kernel_cells.specs.Cells.{part_of}
+use Rattle.birth_steps.specs.Bearing.{MakesNewborn}
+use Rattle.birth_steps.proofs.Newborns.{of_atlas}
+use Rattle.birth_steps.proofs.containers.make_with_atlas.Goals as goal
+
+pub returns-clause-made : goal.returns-clause-made
+returns-clause-made c me s words a isa =
+    let new = c.make_part.new in
+    let l = locus_of c.args.locus.now in
+    let here = ap (part_of s words) c.in-Atlas.is in
+    of_atlas (λ a. MakesNewborn (outcome s l (wanted me l) a NotBorn) (LocusCell (locus_of new.locus)) (AtlasCell (atlas_state new.atlas)) (part_of s words new.newborn) (length a.containers + 1) (Replied c.make_part.result))
+    (atlas_state c.in-Atlas.directory) a (sym here ∙ isa) (c.make_part.ensures.made me s words)

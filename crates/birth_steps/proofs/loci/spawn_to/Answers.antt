@@ -1,0 +1,17 @@
+use Rattle.std.proofs.Common.{◌+◌, length, sym, ap, ◌∙◌}
+use Rattle.hop_model.specs.Acts.{wanted}
+use Rattle.hop_model.specs.Outcomes.{outcome}
+use Rattle.hop_model.specs.State.{NotBorn, LocusCell}
+use Rattle.locus_machine.specs.Loci.{locus_of}
+use Rattle.kernel_cells.specs.Cells.{locus_cell, part_of}
+use Rattle.kernel_cells.specs.declared.cells.Part.TheVariants as part
+use Rattle.birth_steps.specs.Bearing.{MakesNewborn}
+use Rattle.birth_steps.proofs.Newborns.{of_locus}
+use Rattle.birth_steps.proofs.loci.spawn_to.Goals as goal
+
+pub returns : goal.returns
+returns c me s words l a isl isa =
+    let new = c.spawn_with_atlas.new in
+    let here = ap (part_of s words) (c.in-Locus-Some.is ∙ ap part.Locus c.in-Locus-Some.field-0-is) in
+    of_locus (λ l. MakesNewborn (outcome s l (wanted me l) a NotBorn) (LocusCell (locus_of new.locus)) (part_of s words new.atlas) (locus_cell new.newborn) (length a.loci + 41) c.spawn_with_atlas.result)
+    (locus_of c.in-Locus-Some.locus) l (sym here ∙ isl) (c.spawn_with_atlas.ensures me s words a isa)

@@ -1,0 +1,3 @@
+pub mod KnownNames
+pub mod Growing
+pub mod Ends

@@ -1,0 +1,4 @@
+pub mod Cells
+pub mod Steps
+pub mod Itself
+pub mod Wishes

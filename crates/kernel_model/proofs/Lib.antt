@@ -1,0 +1,9 @@
+pub mod Naming
+pub mod Cutting
+pub mod Staying
+pub mod Leaving
+pub mod Stretches
+pub mod Pages
+pub mod Telling
+pub mod Apart
+pub mod Growing

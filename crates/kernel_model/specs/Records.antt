@@ -1,0 +1,49 @@
+-- Records on disk against the history that made them.
+use Rattle.std.specs.Prelude.{◌≡◌, ◌≢◌, ℕ, ◌<◌, ◌≤◌, List, ◌++◌, length, take, Contains, slice_index}
+use Rattle.std.specs.List.{AllByRecursion}
+use Rattle.disk_trait.specs.Image.{Image}
+use Rattle.hop_base.specs.declared.histories.Entry.{Entry}
+use Rattle.hop_model.specs.Choices.{Commit}
+use Rattle.cut_laws.specs.Agreeing.{AgreeFromCut, nothing}
+use Rattle.cut_laws.specs.Records.{commits_of}
+use Rattle.image_blocks.specs.Bodies.{blob_blocks}
+use Rattle.image_blocks.specs.Layout.{pool_at}
+use Rattle.image_meaning.specs.Describing.{DescribesEntity, HasPage}
+use Rattle.image_meaning.specs.Parts.{Part, table_in}
+use Rattle.image_meaning.specs.Stores.{Kept, Stores, recs_of}
+use Rattle.kernel_model.specs.Beginnings.{Beginning, entity_at, state_after}
+
+-- The record says what its entity is at its version in the run, which the run has reached. Its pages are those of the part's table,
+-- each block once.
+pub record IsKeptRecord (b : Beginning) (es : List Entry) (k : Kept) : Type 0 where
+  pub components : length k.rec.stamp ≡ 64
+  pub from : (b.state k.rec.entity).version ≤ k.rec.version
+  pub reached : k.rec.version ≤ (state_after b es k.rec.entity).version
+  pub part : Part
+  pub describes : DescribesEntity b.supply (λ x. entity_at b es x k.rec.version) k.rec.entity k part
+  pub once : (p q : ℕ) → slice_index (table_in part) p ≢ 0 → slice_index (table_in part) p ≡ slice_index (table_in part) q → p ≡ q
+  pub few : length k.pages ≤ length (table_in part)
+
+-- The kept records are those of these commits from the greatest closed choice on, each of them true of the run.
+pub record AreKeptRecords (b : Beginning) (es : List Entry) (cs : List Commit) (ks : List Kept) : Type 0 where
+  pub agree : AgreeFromCut nothing cs (commits_of (recs_of ks))
+  pub each : AllByRecursion (IsKeptRecord b es) ks
+
+-- The blocks of their pages are in the pool; none is named by a blob, and none by records of two entities.
+pub record ArePagesApart (count : ℕ) (ks : List Kept) : Type 0 where
+  pub pool : (k : Kept) (n : ℕ) → Contains ks k → HasPage k.pages n → (pool_at ≤ n) × (n < count)
+  pub not_blob : (k m : Kept) (n : ℕ) → Contains ks k → Contains ks m → HasPage k.pages n → Contains (blob_blocks m.rec) n → ⊥
+  pub own : (k m : Kept) (n : ℕ) → Contains ks k → Contains ks m → HasPage k.pages n → HasPage m.pages n → k.rec.entity ≡ m.rec.entity
+
+-- THE IMAGE STORES THESE COMMITS: records of them from their cut on, whatever was retired
+pub record StoresCommits (b : Beginning) (es : List Entry) (count : ℕ) (cs : List Commit) (c : Image) : Type 0 where
+  pub ks : List Kept
+  pub records : AreKeptRecords b es cs ks
+  pub apart : ArePagesApart count ks
+  pub stores : Stores count ks c
+
+-- and the first few of these behind them, at most n
+pub record StoresSome (b : Beginning) (es : List Entry) (count : ℕ) (cs more : List Commit) (n : ℕ) (c : Image) : Type 0 where
+  pub made : ℕ
+  pub few : made ≤ n
+  pub stores : StoresCommits b es count (cs ++ take made more) c

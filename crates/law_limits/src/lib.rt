@@ -1,0 +1,27 @@
+//! Runs that show why laws of runs have their premises. The functions do nothing: the contract of each tells a run.
+#![tactic(auto)]
+
+ghost use Rattle.std.specs.Prelude.{[], ◌∷◌, ◌≡◌, Some};
+ghost use Rattle.hop_model.specs.Births.{next_birth};
+ghost use Rattle.hop_model.specs.Histories.{event_of};
+ghost use Rattle.hop_model.specs.Parts.{thing_at};
+ghost use Rattle.hop_model.specs.Soundness.{IsSound};
+ghost use Rattle.script_form.specs.Rules.{IsScript};
+ghost use Rattle.law_limits.specs.Clash.{bears_b, clashing, with_clash, with_locus};
+ghost use Rattle.worked_runs.specs.Snapshots.{asks, no_tables, no_words, recorded};
+
+/// What an entity was at a version does not stay, as entries follow, where the version is below the start's: no place has it, and what the
+/// definition gives there is what the entity is last.
+pub fn below_start_holds()
+    ensures { ((thing_at (event_of no_words no_tables) (λ b. b.version) recorded [] 41 0).version ≡ 1)
+        × ((thing_at (event_of no_words no_tables) (λ b. b.version) recorded (asks ∷ []) 41 0).version ≡ 2) }
+{}
+
+/// Where a container of an allowed script has the name of a locus that is there, a birth from a sound state may leave one that is not: a
+/// container is born with a region that shows the locus.
+pub fn kinds_clash_holds()
+    ensures allowed { IsScript clashing }
+    ensures sound { IsSound (λ x. (with_locus x).cell) }
+    ensures born { next_birth no_words clashing with_locus ≡ Some (bears_b, with_clash) }
+    ensures unsound { IsSound (λ x. (with_clash x).cell) → ⊥ }
+{}

@@ -1,0 +1,24 @@
+use Rattle.std.proofs.Common.{sym, ap, subst}
+use Rattle.hop_model.specs.Acts.{wanted}
+use Rattle.hop_model.specs.Outcomes.{outcome}
+use Rattle.hop_model.specs.State.{no_atlas}
+use Rattle.locus_machine.specs.Loci.{locus_of}
+use Rattle.kernel_cells.specs.Cells.{part_of}
+use Rattle.look_steps.proofs.Stored.{TellsStores, look_tells}
+use Rattle.look_steps.proofs.LookSteps.{look_touches, stepped_look}
+use Rattle.look_steps.proofs.looks.step_look.Goals as goal
+
+pub returns-clause-step : goal.returns-clause-step
+returns-clause-step g c tells w hasc hasd =
+    let s = g.S.Supplier.word c.args.gate.now.supply in
+    let words = g.B.PageStore.words c.args.store.now in
+    let words' = g.B.PageStore.words c.look_in_parts.new.store in
+    let run = c.requires.wants in
+    let l = locus_of run.0 in
+    let me = c.args.locus.now.clock.entity in
+    let x = c.args.other.now.clock.entity in
+    let there = ap (part_of s words) c.requires.memory.is in
+    let stores = subst (λ k. TellsStores (outcome s l (wanted me l) no_atlas k)) (sym there) (look_tells s l no_atlas x me _ run.2) in
+    stepped_look s words words' w c.args.locus.now c.args.other.now _ _ l _ c.write_look.result hasc hasd (ap (part_of s words) run.1.is) run.1.runs (look_touches me x l run.2) c.requires.lower
+    (c.in_ok-answer.ensures.looked tells me s words' l no_atlas (ap (part_of s words') run.1.is)) stores
+    c.write_look.ensures.entity_locus c.write_look.ensures.entity_other (λ j k told. c.write_look.ensures.carries w hasc.clock hasd.clock j k told)

@@ -1,0 +1,7 @@
+//! The step of a locus that makes one look of a load or a store, over the cells of the locus and the container.
+#![tactic(auto)]
+
+mod looks;
+mod parts;
+
+pub use looks::step_look;

@@ -1,0 +1,102 @@
+// A look on the parts of two cells.
+ghost use Rattle.std.specs.Prelude.{◌≡◌, ◌≤◌, ◌+◌, ℕ, List, IfErr, IfOk, OnErr, OnOk};
+ghost use Rattle.hop_model.specs.Acts.{wanted};
+ghost use Rattle.hop_model.specs.Outcomes.{outcome};
+ghost use Rattle.hop_model.specs.State.{AtlasState, LocusCell, LocusState, Supply};
+ghost use Rattle.wanted_act.specs.Views.{IsReadyLocus};
+ghost use Rattle.locus_machine.specs.Loci.{locus_of};
+ghost use Rattle.locus_machine.specs.declared.loci.Locus.{Locus as ALocus};
+ghost use Rattle.invocation.specs.Entries.{WantsBeside};
+ghost use Rattle.fault_paging.specs.Calls.{IsCausedBy};
+ghost use Rattle.address_resolve.specs.Looks.{is_look};
+ghost use Rattle.kernel_cells.specs.Cells.{part_of, IsRunning};
+ghost use Rattle.look_steps.specs.Looking.{LeavesMemory, MakesLook, MayLook};
+
+use address_resolve::look;
+use fault_paging::PageFault;
+use hop_base::Answer;
+use kernel_cells::{Part, Storage};
+use locus_machine::Locus;
+use manager_gate::{Gate, Policy, Supplier};
+use page_store::PageStore;
+
+/// The look of a locus at a container, with its memory.
+fn look_at_storage<B: PageStore, S: Supplier, P: Policy>(
+    locus: &mut Locus,
+    storage: &mut Storage,
+    store: &mut B,
+    gate: &Gate<S, P>,
+) -> Result<Answer, PageFault>
+    requires keeps { S.keeps gate.now.supply }
+    requires ready { IsReadyLocus (locus_of locus.old) }
+    requires wants { (x : ℕ) × WantsBeside is_look (locus_of locus.old) x }
+    requires memory { MayLook (S.word gate.now.supply) B.tells (B.held store.old) (B.words store.old) (Part.Container storage.old) }
+    ensures looked { B.tells → IfOk result (λ answer. (me : ℕ) → (s : Supply) → (a : AtlasState)
+        → MakesLook (outcome s (locus_of locus.old) (wanted me (locus_of locus.old)) a (part_of (S.word gate.now.supply) (B.words store.old) (Part.Container storage.old)))
+        (LocusCell (locus_of locus.new)) (part_of (S.word gate.now.supply) (B.words store.old) (Part.Container storage.old)) (part_of (S.word gate.now.supply) (B.words store.new) (Part.Container storage.new)) answer) }
+    ensures locus_stays { OnErr result (locus.new ≡ locus.old) }
+    ensures other_stays { B.tells → OnErr result (part_of (S.word gate.now.supply) (B.words store.new) (Part.Container storage.new) ≡ part_of (S.word gate.now.supply) (B.words store.old) (Part.Container storage.old)) }
+    ensures memory { LeavesMemory (S.word gate.now.supply) B.tells B.held B.kept_names B.words (Part.Container storage.old) (Part.Container storage.new) store.old store.new }
+    ensures cause { IfErr result (IsCausedBy (B.free store.old) (B.faults store.old) (B.faults store.new) (B.is_shut store.old) (B.is_shut store.new)) }
+    ensures same_shut { OnOk result (B.is_shut store.new ≡ B.is_shut store.old) }
+    ensures between { B.Pages store.old store.new }
+{
+    match &storage.head {
+        Some(head) => look(locus, head, &mut storage.memory, store, gate),
+        None => unreachable!(),
+    }
+}
+
+/// The look of a locus at the container of a cell.
+fn look_at_part<B: PageStore, S: Supplier, P: Policy>(
+    locus: &mut Locus,
+    other: &mut Part,
+    store: &mut B,
+    gate: &Gate<S, P>,
+) -> Result<Answer, PageFault>
+    requires keeps { S.keeps gate.now.supply }
+    requires ready { IsReadyLocus (locus_of locus.old) }
+    requires wants { (x : ℕ) × WantsBeside is_look (locus_of locus.old) x }
+    requires memory { MayLook (S.word gate.now.supply) B.tells (B.held store.old) (B.words store.old) other.old }
+    ensures looked { B.tells → IfOk result (λ answer. (me : ℕ) → (s : Supply) → (a : AtlasState)
+        → MakesLook (outcome s (locus_of locus.old) (wanted me (locus_of locus.old)) a (part_of (S.word gate.now.supply) (B.words store.old) other.old))
+        (LocusCell (locus_of locus.new)) (part_of (S.word gate.now.supply) (B.words store.old) other.old) (part_of (S.word gate.now.supply) (B.words store.new) other.new) answer) }
+    ensures locus_stays { OnErr result (locus.new ≡ locus.old) }
+    ensures other_stays { B.tells → OnErr result (part_of (S.word gate.now.supply) (B.words store.new) other.new ≡ part_of (S.word gate.now.supply) (B.words store.old) other.old) }
+    ensures memory { LeavesMemory (S.word gate.now.supply) B.tells B.held B.kept_names B.words other.old other.new store.old store.new }
+    ensures cause { IfErr result (IsCausedBy (B.free store.old) (B.faults store.old) (B.faults store.new) (B.is_shut store.old) (B.is_shut store.new)) }
+    ensures same_shut { OnOk result (B.is_shut store.new ≡ B.is_shut store.old) }
+    ensures between { B.Pages store.old store.new }
+{
+    match other {
+        Part::Container(storage) => look_at_storage(locus, storage, store, gate),
+        _ => unreachable!(),
+    }
+}
+
+/// The same, of the locus of a cell.
+pub(crate) fn look_in_parts<B: PageStore, S: Supplier, P: Policy>(
+    part: &mut Part,
+    other: &mut Part,
+    store: &mut B,
+    gate: &Gate<S, P>,
+) -> Result<Answer, PageFault>
+    requires keeps { S.keeps gate.now.supply }
+    requires wants { (l : ALocus) × IsRunning part.old l × (x : ℕ) × WantsBeside is_look (locus_of l) x }
+    requires memory { MayLook (S.word gate.now.supply) B.tells (B.held store.old) (B.words store.old) other.old }
+    ensures looked { B.tells → IfOk result (λ answer. (me : ℕ) → (s : Supply) → (words : ℕ → List ℕ) → (l : LocusState) → (a : AtlasState)
+        → part_of s words part.old ≡ LocusCell l
+        → MakesLook (outcome s l (wanted me l) a (part_of (S.word gate.now.supply) (B.words store.old) other.old))
+        (part_of s words part.new) (part_of (S.word gate.now.supply) (B.words store.old) other.old) (part_of (S.word gate.now.supply) (B.words store.new) other.new) answer) }
+    ensures locus_stays { OnErr result (part.new ≡ part.old) }
+    ensures other_stays { B.tells → OnErr result (part_of (S.word gate.now.supply) (B.words store.new) other.new ≡ part_of (S.word gate.now.supply) (B.words store.old) other.old) }
+    ensures memory { LeavesMemory (S.word gate.now.supply) B.tells B.held B.kept_names B.words other.old other.new store.old store.new }
+    ensures cause { IfErr result (IsCausedBy (B.free store.old) (B.faults store.old) (B.faults store.new) (B.is_shut store.old) (B.is_shut store.new)) }
+    ensures same_shut { OnOk result (B.is_shut store.new ≡ B.is_shut store.old) }
+    ensures between { B.Pages store.old store.new }
+{
+    match part {
+        Part::Locus(Some(locus)) => look_at_part(locus, other, store, gate),
+        _ => unreachable!(),
+    }
+}

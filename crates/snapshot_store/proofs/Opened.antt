@@ -1,0 +1,259 @@
+-- A store as it is opened: what its memory is, and where its log stands.
+use Rattle.std.proofs.Common.{◌≡◌, ℕ, zero, suc, ◌+◌, ◌<◌, ◌≤◌, Bool, true, false, if◌then◌else◌, nat_lt, List, [], ◌∷◌, ◌++◌, filter, length, map, replicate, take, get_or, Option, Some, None, refl, sym, ap, subst, ◌∙◌, arith, append_assoc}
+use Rattle.std.specs.Prelude.{slice_get, slice_index, slice_index_or}
+use Rattle.std.specs.List.{AllByRecursion, AllPairs}
+use Rattle.std.proofs.lemmas.Bool.{false≢true, lt-ltb}
+use Rattle.std.proofs.lemmas.Bool.Decides.{nat_tests}
+use Rattle.std.proofs.lemmas.List.{get_or_past, length-map, length-replicate, map-append}
+use Rattle.cut_finder.specs.Records.{IsAscending}
+use Rattle.cut_laws.specs.Agreeing.{nothing}
+use Rattle.cut_laws.specs.Records.{AgreeInRecs, commits_of}
+use Rattle.disk_trait.specs.Disk.{Elapses, LeavesNoMore, Only, Ticks}
+use Rattle.disk_trait.specs.Image.{Image, IsImage, block_at}
+use Rattle.disk_trait.proofs.Phases.{LeavesOnly-start, LeavesOnly-sync, Moments}
+use Rattle.disk_trait.proofs.Ticks.{Ticks-one}
+use Rattle.hop_base.specs.declared.records.Cut.{Cut}
+use Rattle.hop_base.specs.declared.records.Rec.{Rec}
+use Rattle.hop_model.proofs.Lowering.{greatest_is}
+use Rattle.hop_model.specs.Choices.{IsGreatest, IsNarrow, greatest}
+use Rattle.image_blocks.specs.Checks.{active_area, active_by, count_in}
+use Rattle.image_blocks.specs.Layout.{epoch_in, gate_at, header_at, is_open, last_number, most_blocks, pool_at, slot_count}
+use Rattle.image_blocks.specs.Logs.{AreFitting, HasFront, HasLog, HasRecords, IsActive, Place}
+use Rattle.image_blocks.specs.declared.areas.Area.{Area}
+use Rattle.image_blocks.specs.declared.areas.Area.TheVariants.{A, B}
+use Rattle.image_blocks.proofs.Opening.{log_back_law}
+use Rattle.log_reading.specs.Logs.{AreInRange, IsOlder}
+use Rattle.log_reading.specs.Reads.{ReadsOnly}
+use Rattle.image_meaning.specs.Stores.{IsHeld, Kept, recs_of}
+use Rattle.log_turn.specs.Standing.{SameAreas, area_of, begun_of, epoch_of, has_failed, place_of, used_of}
+use Rattle.log_turn.specs.declared.areas.Areas.{Areas}
+use Rattle.page_shadow.specs.Ledger.{Ledger, is_held}
+use Rattle.store_model.specs.Books.{AreApartFrom, AreTrue, Books, IsBeforePool, Logged, kept_of, logged_recs, recs_in}
+use Rattle.snapshot_store.specs.Keeping.{AreKept, AreListed}
+use Rattle.snapshot_store.specs.Opening.{HasStableLog, IsFresh, SyncsOnly, fresh_ledger, is_some_rec, unread}
+use Rattle.snapshot_store.specs.Shelves.{is_from}
+use Rattle.snapshot_store.specs.State.{IsWhole, books, state_of}
+
+-- the records are those that were put on the shelf
+pub recs_back : (recs : List Rec) → logged_recs (map unread recs) ≡ recs
+recs_back [] = refl
+recs_back (r ∷ recs) = ap (λ (l : List Rec). r ∷ l) (recs_back recs)
+
+-- one record more is on the shelf
+pub shelve_more : (before : List Logged) (recs : List Rec) (l : List Logged) (r : Rec) → l ≡ before ++ map unread recs → l ++ unread r ∷ [] ≡ before ++ map unread (recs ++ r ∷ [])
+shelve_more before recs l r so_far =
+    ap (λ (m : List Logged). m ++ unread r ∷ []) so_far ∙ (append_assoc before (map unread recs) (unread r ∷ []) ∙ ap (λ (m : List Logged). before ++ m) (sym (map-append unread recs (r ∷ []))))
+
+-- versions that strictly ascend ascend
+pub older_ascending : (recs : List Rec) → AllPairs IsOlder recs → IsAscending recs
+older_ascending recs pairs i j d lt within = λ same. (let less = pairs i j d lt within same in omega (arith, less))
+
+-- stamps of 64 components are narrow
+narrow_all : (recs : List Rec) → ((i : ℕ) (r : Rec) → slice_get recs i ≡ Some r → length r.stamp ≡ 64) → IsNarrow (commits_of recs)
+narrow_all [] each = tt
+narrow_all (r ∷ recs) each = ((λ y far. get_or_past r.stamp y 0 (let len = each zero r refl in omega (arith, len, far))), narrow_all recs (λ i s here. each (suc i) s here))
+
+pub narrow_in_range : (count : ℕ) (recs : List Rec) → AreInRange count recs → IsNarrow (commits_of recs)
+narrow_in_range count recs range = narrow_all recs (λ i r here. (range i r here).components)
+
+pub shelved_kept : (count : ℕ) (recs : List Rec) (log kept : List Logged) (cut : ℕ → ℕ) → log ≡ map unread recs → kept ≡ filter (is_from cut) log → IsGreatest nothing (commits_of recs) cut → AllPairs IsOlder recs → AreInRange count recs
+    → AreKept log kept cut
+shelved_kept count recs log kept cut is kept_is greatest older range =
+    let back : recs ≡ logged_recs log = sym (ap logged_recs is ∙ recs_back recs) in
+    record {
+      kept = kept_is;
+      greatest = subst (λ (rs : List Rec). IsGreatest nothing (commits_of rs) cut) back greatest;
+      ascending = subst IsAscending back (older_ascending recs older);
+      narrow = subst (λ (rs : List Rec). IsNarrow (commits_of rs)) back (narrow_in_range count recs range);
+    }
+
+pub none_held : (n k : ℕ) → slice_index_or (replicate n false) k false ≡ false
+none_held zero k = refl
+none_held (suc n) zero = refl
+none_held (suc n) (suc k) = none_held n k
+
+pub none_named : (n k : ℕ) → slice_index (replicate n 0) k ≡ 0
+none_named zero k = refl
+none_named (suc n) zero = refl
+none_named (suc n) (suc k) = none_named n k
+
+-- a kept record names no block where there is none
+none_listed : (recs : List Rec) (kept : List Logged) (cut : ℕ → ℕ) (blocks : ℕ) → kept ≡ filter (is_from cut) (map unread recs) → is_some_rec recs ≡ false → AreListed (fresh_ledger blocks recs) kept
+none_listed [] kept cut blocks is none = subst (λ (ls : List Logged). AreListed (fresh_ledger blocks []) ls) (sym is) (record { placed = λ i d lt. absurd (omega (arith, lt)); counted = λ n. none_named blocks n })
+none_listed (r ∷ recs) kept cut blocks is none = absurd (false≢true (sym none))
+
+-- THE STORE IS WHOLE
+pub fresh_whole : {D : Type 0} (block_count : D → ℕ) (disk : D) (areas : Areas) (recs : List Rec) (kept : List Logged) (cut : Cut) (blocks : ℕ) → pool_at ≤ blocks → blocks ≤ most_blocks → blocks ≤ block_count disk
+    → length recs ≤ slot_count → AreKept (map unread recs) kept (slice_index cut.0) → has_failed areas ≡ false → length recs ≡ used_of areas
+    → IsWhole block_count (state_of disk areas (map unread recs) kept cut (fresh_ledger blocks recs) true false 0 0)
+fresh_whole block_count disk areas recs kept cut blocks least most within few are_kept working used = record {
+  within = within;
+  enough = least;
+  most = most;
+  first = refl;
+  sized = length-replicate blocks 0;
+  marked = length-replicate blocks false;
+  held = λ n is. absurd (false≢true (sym (none_held blocks n) ∙ is));
+  few = (let same = length-map recs unread in omega (arith, same, few));
+  kept = are_kept;
+  listed = λ none. none_listed recs kept (slice_index cut.0) blocks are_kept.kept none;
+  working = λ _. working;
+  used = λ _. length-map recs unread ∙ used;
+}
+
+-- WHERE THE LOG STANDS
+
+active_A : (b : Bool) (m n : ℕ) → (b ≡ true → n < m) → active_by true b m n ≡ Some A
+active_A false m n above = refl
+active_A true m n above = ap (λ (t : Bool). if t then Some A else if nat_lt m n then Some B else None) (lt-ltb n m (above refl))
+
+active_B : (a : Bool) (m n : ℕ) → (a ≡ true → m < n) → active_by a true m n ≡ Some B
+active_B false m n above = refl
+active_B true m n above =
+    let lt : m < n = above refl in
+    let not_a : nat_lt n m ≡ false = grind (arith, nat_tests) in
+    ap (λ (t : Bool). if t then Some A else if nat_lt m n then Some B else None) not_a ∙ ap (λ (t : Bool). if t then Some B else None) (lt-ltb m n lt)
+
+active_is : (image : Image) (area : Area) (epoch : ℕ) → IsActive (record { active = area; epoch = epoch }) image → active_area image ≡ Some area
+active_is image A epoch is =
+    ap (λ (t : Bool). active_by t (is_open image 4) (epoch_in image A) (epoch_in image B)) is.gate
+    ∙ active_A (is_open image 4) (epoch_in image A) (epoch_in image B) (λ opens. (let low = is.above opens in let same = is.epoch in omega (arith, low, same)))
+active_is image B epoch is =
+    ap (λ (t : Bool). active_by (is_open image 2) t (epoch_in image A) (epoch_in image B)) is.gate
+    ∙ active_B (is_open image 2) (epoch_in image A) (epoch_in image B) (λ opens. (let low = is.above opens in let same = is.epoch in omega (arith, low, same)))
+
+same_some : (a b : Area) → Some a ≡ Some b → a ≡ b
+same_some a b same = cc
+
+-- what the image has, as the writers of a log see it
+pub record Stands (count : ℕ) (p : Place) (recs : List Rec) (image : Image) : Type 0 where
+  pub front : HasFront count p image
+  pub log : HasLog p recs image
+  pub fit : AreFitting count recs
+
+pub log_stands : (recs : List Rec) (blocks : ℕ) (image : Image) (area : Area) (epoch count : ℕ) → IsImage blocks image → (has : HasRecords recs image) → has.area ≡ area → epoch ≡ epoch_in image area → count ≡ count_in image
+    → Stands count (record { active = area; epoch = epoch }) recs image
+log_stands recs blocks image area epoch count whole has is_area is_epoch is_count =
+    let back = log_back_law recs blocks image whole has in
+    let p : Place = back.0 in
+    let one : p.active ≡ area = same_some p.active has.area (sym (active_is image p.active p.epoch back.2.active) ∙ has.active) ∙ is_area in
+    let two : p.epoch ≡ epoch = sym back.2.active.epoch ∙ (ap (epoch_in image) one ∙ sym is_epoch) in
+    let same : p ≡ record { active = area; epoch = epoch } = ap (λ (a : Area). record { active = a; epoch = p.epoch }) one ∙ ap (λ (n : ℕ). record { active = area; epoch = n }) two in
+    subst (λ (n : ℕ). Stands n (record { active = area; epoch = epoch }) recs image) (sym is_count)
+    (subst (λ (q : Place). Stands (count_in image) q recs image) same (record { front = back.1; log = back.2; fit = back.3 }))
+
+-- A SYNC AFTER READS
+
+pub syncs : {D : Type 0} (tells : Type 0) (block_count : D → ℕ) (reading : D → Image) (may_leave : D → Image → Type 0) (left_since : D → ℕ → Image → Type 0) (clock faults : D → ℕ) (old mid new : D)
+    → (tells → Moments clock may_leave left_since) → ReadsOnly tells block_count reading may_leave left_since clock faults old mid
+    → block_count new ≡ block_count mid → Ticks (clock mid) (clock new) → faults mid ≤ faults new → (tells → reading new ≡ reading mid) → (tells → LeavesNoMore may_leave mid new) → (tells → Elapses clock may_leave left_since mid new)
+    → SyncsOnly tells block_count reading may_leave left_since clock faults old new
+syncs tells block_count reading may_leave left_since clock faults old mid new laws reads count ticks later same stop time = record {
+  same_count = count ∙ reads.same_count;
+  one = (let ended = Ticks-one (clock mid) (clock new) ticks in let still = reads.same_clock in omega (arith, ended, still));
+  later = (let first = reads.later in omega (arith, first, later));
+  same_reading = λ t. same t ∙ reads.same_reading t;
+  moments = λ t. LeavesOnly-sync (laws t) (LeavesOnly-sync (laws t) (LeavesOnly-start (laws t) old (may_leave old) (λ c may. may)) (reads.stop t) (reads.time t)) (stop t) (time t);
+}
+
+pub reads_only : {D : Type 0} (tells : Type 0) (block_count : D → ℕ) (reading : D → Image) (may_leave : D → Image → Type 0) (left_since : D → ℕ → Image → Type 0) (clock faults : D → ℕ) (old new : D)
+    → (tells → Moments clock may_leave left_since) → ReadsOnly tells block_count reading may_leave left_since clock faults old new → SyncsOnly tells block_count reading may_leave left_since clock faults old new
+reads_only tells block_count reading may_leave left_since clock faults old new laws reads = record {
+  same_count = reads.same_count;
+  one = (let still = reads.same_clock in omega (arith, still));
+  later = reads.later;
+  same_reading = reads.same_reading;
+  moments = λ t. LeavesOnly-sync (laws t) (LeavesOnly-start (laws t) old (may_leave old) (λ c may. may)) (reads.stop t) (reads.time t);
+}
+
+-- THE CLAUSES of what was found, for a log that was read
+
+module _ (recs : List Rec) (log : List Logged) (is : log ≡ map unread recs) where
+  pub recs_are : logged_recs log ≡ recs
+  recs_are = ap logged_recs is ∙ recs_back recs
+
+  pub has_records : (image : Image) → HasRecords recs image → HasRecords (logged_recs log) image
+  has_records image has = subst (λ (rs : List Rec). HasRecords rs image) (sym recs_are) has
+
+  pub are_in_range : (ledger : Ledger) (blocks : ℕ) → ledger ≡ fresh_ledger blocks recs → AreInRange blocks recs → AreInRange ledger.end (logged_recs log)
+  are_in_range ledger blocks same range = subst (λ (rs : List Rec). AreInRange ledger.end rs) (sym recs_are) (subst (λ (l : Ledger). AreInRange l.end recs) (sym same) range)
+
+  pub are_older : AllPairs IsOlder recs → AllPairs IsOlder (logged_recs log)
+  are_older older = subst (AllPairs IsOlder) (sym recs_are) older
+
+  pub ledger_is : (ledger : Ledger) (blocks : ℕ) → ledger ≡ fresh_ledger blocks recs → ledger ≡ fresh_ledger ledger.end (logged_recs log)
+  ledger_is ledger blocks same = same ∙ (ap (λ (rs : List Rec). fresh_ledger blocks rs) (sym recs_are) ∙ ap (λ (n : ℕ). fresh_ledger n (logged_recs log)) (sym (ap (λ (l : Ledger). l.end) same)))
+
+  module _ {D : Type 0} (block_count : D → ℕ) (disk : D) (areas : Areas) (kept : List Logged) (cut : Cut) (ledger : Ledger) (blocks : ℕ) (same : ledger ≡ fresh_ledger blocks recs) where
+    pub found_whole : pool_at ≤ blocks → blocks ≤ most_blocks → blocks ≤ block_count disk → length recs ≤ slot_count → AreKept log kept (slice_index cut.0) → has_failed areas ≡ false → length recs ≡ used_of areas
+        → IsWhole block_count (state_of disk areas log kept cut ledger true false 0 0)
+    found_whole least most within few are_kept working used =
+        subst (λ (l : Ledger). IsWhole block_count (state_of disk areas log kept cut l true false 0 0)) (sym same)
+        (subst (λ (ls : List Logged). IsWhole block_count (state_of disk areas ls kept cut (fresh_ledger blocks recs) true false 0 0)) (sym is)
+        (fresh_whole block_count disk areas recs kept cut blocks least most within few (subst (λ (ls : List Logged). AreKept ls kept (slice_index cut.0)) is are_kept) working used))
+
+    pub found_stands : (reading : D → Image) (may_leave : D → Image → Type 0) (place : Place) → place_of areas ≡ place → Stands blocks place recs (reading disk) → Only (reading disk) (may_leave disk)
+        → HasStableLog reading may_leave (books (state_of disk areas log kept cut ledger true false 0 0)) disk
+    found_stands reading may_leave place at stands stable =
+        let end : ledger.end ≡ blocks = ap (λ (l : Ledger). l.end) same in
+        let here : Stands ledger.end (place_of areas) (logged_recs log) (reading disk) =
+        subst (λ (n : ℕ). Stands n (place_of areas) (logged_recs log) (reading disk)) (sym end)
+        (subst (λ (p : Place). Stands blocks p (logged_recs log) (reading disk)) (sym at) (subst (λ (rs : List Rec). Stands blocks place rs (reading disk)) (sym recs_are) stands)) in
+        record { front = here.front; log = here.log; fit = here.fit; stable = stable }
+
+-- A LOG WITHOUT A RECORD has nothing to store
+pub empty_true : {D : Type 0} (reading : D → Image) (may_leave : D → Image → Type 0) (b : Books) (disk : D) → HasStableLog reading may_leave b disk → b.logged ≡ [] → AreTrue reading may_leave b disk
+empty_true reading may_leave b disk s none =
+    let none_kept : kept_of (reading disk) b ≡ [] = ap (λ (ls : List Logged). kept_of (reading disk) (record b { logged = ls })) none in
+    let no_recs : recs_in b ≡ [] = ap logged_recs none in
+    let left : (c : Image) → may_leave disk c → HasLog b.place (recs_in b) c × SameAreas (reading disk) c = λ c may.
+    let same : c ≡ reading disk = s.stable c may in
+    (subst (HasLog b.place (recs_in b)) (sym same) s.log, record { header = λ area. ap (λ (i : Image). block_at i (header_at area)) same; gate = λ area. ap (λ (i : Image). block_at i (gate_at area)) same }) in
+    record {
+      log = λ _. s.log;
+      left = λ _. left;
+      stored = λ _ _. record {
+        fit = s.fit;
+        agree = subst (λ (rs : List Rec). AgreeInRecs rs (recs_of (kept_of (reading disk) b))) (sym no_recs) (subst (λ (ks : List Kept). AgreeInRecs [] (recs_of ks)) (sym none_kept)
+            (record { cut = greatest nothing []; greatest = greatest_is nothing [] tt; same = refl }));
+        pool = subst (AreApartFrom IsBeforePool) (sym none_kept) tt;
+        left = left;
+        front = λ c may. subst (HasFront b.count b.place) (sym (s.stable c may)) s.front;
+        held = λ c may. subst (λ (ks : List Kept). AllByRecursion (IsHeld c) ks) (sym none_kept) tt;
+      };
+    }
+
+pub place_is : (areas : Areas) (area : Area) (epoch : ℕ) → area_of areas ≡ area → epoch_of areas ≡ epoch → place_of areas ≡ record { active = area; epoch = epoch }
+place_is areas area epoch one two = ap (λ (a : Area). record { active = a; epoch = areas.epoch }) one ∙ ap (λ (n : ℕ). record { active = area; epoch = n }) two
+
+-- one sync was counted
+pub one_begun : (old new : Areas) (epoch : ℕ) → begun_of old ≡ 0 → Ticks (begun_of old) (begun_of new) → epoch_of new ≡ epoch → epoch ≤ last_number → (begun_of new ≡ 1) × (epoch_of new ≤ last_number)
+one_begun old new epoch none ticks same low =
+    (let one : begun_of new ≡ begun_of old + 1 = ticks.one_more (omega (arith, none)) in omega (arith, one, none), omega (arith, same, low))
+
+-- THE STORE IS FRESH
+pub fresh_store : {D : Type 0} (disk : D) (areas : Areas) (log kept : List Logged) (cut : Cut) (ledger : Ledger) → ledger ≡ fresh_ledger ledger.end (logged_recs log) → begun_of areas ≡ 1 → IsFresh (state_of disk areas log kept cut ledger true false 0 0)
+fresh_store disk areas log kept cut ledger same one = record {
+  found = ap (λ (l : Ledger). l.all_named) same;
+  none_held = λ n. ap (λ (l : Ledger). is_held l n) same ∙ none_held ledger.end n;
+  unnamed = λ n. ap (λ (l : Ledger). slice_index l.names n) same ∙ none_named ledger.end n;
+  small = refl;
+  working = refl;
+  one = one;
+  none_written = refl;
+  none_read = refl;
+}
+
+pub none_logged : (ls : List Logged) → logged_recs ls ≡ [] → ls ≡ []
+none_logged [] none = refl
+none_logged (l ∷ ls) none = absurd (let clash : l.rec ∷ logged_recs ls ≡ [] = none in cc clash)
+
+-- the log stands as it did, where a disk was only read
+pub log_read : {D : Type 0} (tells : Type 0) (block_count : D → ℕ) (reading : D → Image) (may_leave : D → Image → Type 0) (left_since : D → ℕ → Image → Type 0) (clock faults : D → ℕ) (b : Books) (shut : Bool) (old new : D)
+    → tells → ReadsOnly tells block_count reading may_leave left_since clock faults old new → HasStableLog reading may_leave b old → HasStableLog reading may_leave (record b { shut = shut }) new
+log_read tells block_count reading may_leave left_since clock faults b shut old new t reads s = record {
+  front = subst (HasFront b.count b.place) (sym (reads.same_reading t)) s.front;
+  log = subst (HasLog b.place (recs_in b)) (sym (reads.same_reading t)) s.log;
+  fit = s.fit;
+  stable = λ c may. s.stable c (reads.stop t c may) ∙ sym (reads.same_reading t);
+}

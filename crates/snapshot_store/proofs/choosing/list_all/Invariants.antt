@@ -1,0 +1,7 @@
+use Rattle.std.proofs.Common.{◌≡◌, take}
+use Rattle.snapshot_store.specs.Choosing.{with_tables}
+use Rattle.snapshot_store.specs.Keeping.{AreListed, HasRecounted}
+use Rattle.snapshot_store.proofs.choosing.list_all.Given as goal
+
+abbrev pub invariant-loop-rec : goal.invariant-loop-rec
+invariant-loop-rec l = record { kept : l.kept ≡ with_tables l.tables (take l.rec-index l.recs); listed : AreListed l.ledger l.kept; ledger : HasRecounted l.fn.ledger l.ledger }

@@ -1,0 +1,11 @@
+pub mod Shelves
+pub mod Naming
+pub mod Keeping
+pub mod Taking
+pub mod State
+pub mod Putting
+pub mod Committed
+pub mod Opening
+pub mod OpenFaults
+pub mod ReadAnswers
+pub mod Choosing

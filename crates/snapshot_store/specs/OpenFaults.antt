@@ -1,0 +1,22 @@
+-- Why an image was not opened.
+use Rattle.std.specs.Prelude.{◌≡◌, ℕ, Some}
+use Rattle.disk_trait.specs.Counts.{Rose}
+use Rattle.disk_trait.specs.Image.{Image}
+use Rattle.image_blocks.specs.Checks.{Bad, records_fault}
+use Rattle.log_reading.specs.declared.faults.ReadingFault.{ReadingFault}
+use Rattle.log_reading.specs.declared.faults.ReadingFault.TheVariants.{Disk as OfDisk, Foreign as OfForeign, Memory as OfMemory}
+use Rattle.snapshot_store.specs.declared.opening.OpenWhy.{OpenWhy}
+use Rattle.snapshot_store.specs.declared.opening.OpenWhy.TheVariants.{Foreign, Memory, ReadFault, WriteFault}
+
+-- a bad place is the first one of the image, and a read or the sync failed only where the count of faults rose
+abbrev pub HasOpenCause : Type 0 → Image → ℕ → ℕ → OpenWhy → Type 0
+HasOpenCause tells image before now (Foreign bad) = tells → records_fault image ≡ Some bad
+HasOpenCause tells image before now ReadFault = Rose before now
+HasOpenCause tells image before now WriteFault = Rose before now
+HasOpenCause tells image before now Memory = Unit {0}
+
+-- why, where the log could not be read
+abbrev pub why : ReadingFault → OpenWhy
+why (OfForeign bad) = Foreign bad
+why OfDisk = ReadFault
+why OfMemory = Memory

@@ -1,0 +1,19 @@
+-- Records on a shelf.
+use Rattle.std.specs.Prelude.{ℕ, List, [], ◌∷◌, Bool, nat_le}
+use Rattle.hop_base.specs.declared.records.Rec.{Rec}
+use Rattle.page_shadow.specs.declared.ShadowTable.{ShadowTable}
+use Rattle.store_model.specs.Books.{Logged}
+
+-- each record with the table at its place
+abbrev pub logged_with : List Rec → List ShadowTable → List Logged
+logged_with [] tables = []
+logged_with (r ∷ rs) [] = []
+logged_with (r ∷ rs) (t ∷ ts) = record { rec = r; table = t.0 } ∷ logged_with rs ts
+
+-- the record is at or above a choice
+abbrev pub is_from : (ℕ → ℕ) → Logged → Bool
+is_from cut l = nat_le (cut l.rec.entity) l.rec.version
+
+-- what stands at a place where no record is
+abbrev pub nothing_logged : Logged
+nothing_logged = record { rec = record { entity = 0; version = 0; stamp = []; length = 0; blocks = [] }; table = [] }

@@ -1,0 +1,93 @@
+// Blobs, read.
+ghost use Rattle.std.specs.Prelude.{◌≡◌, ◌≤◌, ◌+◌, ◌++◌, OnOk, length, map, take, true};
+ghost use Rattle.std.specs.List.{concat};
+ghost use Rattle.disk_trait.specs.Disk.{HasCause};
+ghost use Rattle.disk_trait.specs.Image.{block_at};
+ghost use Rattle.image_blocks.specs.Bodies.{blob_in, blocks_for};
+ghost use Rattle.log_reading.specs.Reads.{ReadsOnly};
+ghost use Rattle.disk_trait.specs.Counts.{Rose};
+ghost use Rattle.snapshot_store.specs.Opening.{HasStableLog};
+ghost use Rattle.snapshot_store.specs.ReadAnswers.{ReadAnswers};
+ghost use Rattle.snapshot_store.specs.State.{books};
+ghost use Rattle.store_model.specs.Between.{OnlyPages};
+
+use crate::StoreFault;
+use crate::store::Store;
+use block_code::Blob;
+use disk_trait::{Disk, DiskFault};
+use hop_base::Rec;
+
+// Adds the bytes of a block, as far as there are not more than so many then. A block that the disk hasn't has no bytes.
+fn push_block<D: Disk>(disk: &mut D, at: u32, most: usize, out: &mut Blob) -> Result<(), DiskFault>
+    requires room { length out.old + 1024 ≤ 8192 }
+    requires few { length out.old ≤ most }
+    ensures bytes { D.tells → OnOk result (out.new ≡ take most (out.old ++ block_at (D.reading disk.old) at)) }
+    ensures few { (length out.new ≤ length out.old + 1024) × (length out.new ≤ most) }
+    ensures cause { HasCause (D.faults disk.old) (D.faults disk.new) result }
+    ensures same { ReadsOnly D.tells D.block_count D.reading D.may_leave D.left_since D.clock D.faults disk.old disk.new }
+{
+    if disk.blocks() <= at {
+        return Ok(());
+    }
+    let mut block = [0; 1024];
+    disk.read(at, &mut block)?;
+    let many = (most - out.len()).min(1024);
+    out.put_bytes(&block[..many]);
+    Ok(())
+}
+
+// The bytes of a blob of this length, in these blocks.
+fn read_blocks<D: Disk>(
+    disk: &mut D,
+    blocks: &[u32; 8],
+    bytes: u32,
+    out: &mut Blob,
+) -> Result<(), DiskFault>
+    ensures bytes { D.tells → OnOk result (out.new ≡ take bytes (concat (map (block_at (D.reading disk.old)) (take (blocks_for bytes) blocks.now)))) }
+    ensures cause { HasCause (D.faults disk.old) (D.faults disk.new) result }
+    ensures same { ReadsOnly D.tells D.block_count D.reading D.may_leave D.left_since D.clock D.faults disk.old disk.new }
+{
+    out.clear();
+    let most = bytes as usize;
+    let need = ((most + 1023) / 1024).min(8);
+    for i in 0..need {
+        push_block(disk, blocks[i], most, out)?;
+    }
+    Ok(())
+}
+
+// The bytes of a record's blob.
+pub(crate) fn read_bytes<D: Disk>(disk: &mut D, rec: &Rec, out: &mut Blob) -> Result<(), DiskFault>
+    ensures bytes { D.tells → OnOk result (out.new ≡ blob_in (D.reading disk.old) rec.now) }
+    ensures cause { HasCause (D.faults disk.old) (D.faults disk.new) result }
+    ensures same { ReadsOnly D.tells D.block_count D.reading D.may_leave D.left_since D.clock D.faults disk.old disk.new }
+{
+    read_blocks(disk, &rec.blocks, rec.length, out)
+}
+
+impl<D: Disk> Store<D> {
+    /// Reads the bytes of a record's blob. It begins no write and no sync, and reads 8 blocks at most. `out` holds anything after
+    /// a fault.
+    ///
+    /// `Shut` comes exactly after an earlier failure of this value, and then nothing is changed. `ReadFault` comes only where the disk's
+    /// count of faults rose, and shuts the store. No other fault comes.
+    pub fn read_blob(&mut self, rec: &Rec, out: &mut Blob) -> Result<(), StoreFault>
+        ensures blob { D.tells → OnOk result (out.new ≡ blob_in (D.reading self.old.disk) rec.now) }
+        ensures same { self.new ≡ record self.old { disk = self.new.disk; shut = self.new.shut } }
+        ensures disk { ReadsOnly D.tells D.block_count D.reading D.may_leave D.left_since D.clock D.faults self.old.disk self.new.disk }
+        ensures between { OnlyPages D.tells D.clock D.reading D.may_leave D.left_since self.old.disk self.new.disk (books self.old) (books self.new) (books self.old).begun (books self.new).begun }
+        ensures log { D.tells → HasStableLog D.reading D.may_leave (books self.old) self.old.disk → HasStableLog D.reading D.may_leave (books self.new) self.new.disk }
+        ensures answers { ReadAnswers self.old.shut self.new.shut (Rose (D.faults self.old.disk) (D.faults self.new.disk)) result }
+        ensures untouched { self.old.shut ≡ true → self.new ≡ self.old }
+    {
+        if self.shut {
+            return Err(StoreFault::Shut);
+        }
+        self.shut = true;
+        if read_bytes(&mut self.disk, rec, out).is_err() {
+            return Err(StoreFault::ReadFault);
+        }
+        self.shut = false;
+        Ok(())
+    }
+}

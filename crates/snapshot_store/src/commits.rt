@@ -1,0 +1,195 @@
+// Committing a record.
+ghost use Rattle.std.specs.Prelude.{◌≡◌, ◌↔◌, ◌⊎◌, ◌+◌, ◌*◌, ◌^◌, ◌<◌, ◌≤◌, ◌&&◌, ◌++◌, ◌∷◌, [], ℕ, List, All, true, false, length, slice_index, OnOk, OnErr, IsErrOf};
+ghost use Rattle.disk_trait.specs.Counts.{Rose};
+ghost use Rattle.disk_trait.specs.Disk.{Only};
+ghost use Rattle.disk_trait.specs.Image.{SameOutside};
+ghost use Rattle.disk_trait.specs.Moments.{LeavesOnly};
+ghost use Rattle.disk_trait.specs.declared.disk.NoBlocks.{NoBlocks as TooFew};
+ghost use Rattle.disk_tally.specs.Counts.{Begins, shown};
+ghost use Rattle.hop_base.specs.declared.records.Rec.{Rec as Record};
+ghost use Rattle.image_blocks.specs.Bodies.{blocks_for};
+ghost use Rattle.image_blocks.specs.Layout.{most_length, slot_count};
+ghost use Rattle.log_turn.specs.Standing.{Stands, begun_of, epoch_of, used_of};
+ghost use Rattle.store_commit.specs.Storing.{HasBlob, HasLogged, HasPlaces, IsCommitBlock, IsReady, Next, StoresOneMore, new_of, roomy_log as roomy_recs};
+ghost use Rattle.snapshot_store.specs.Committed.{HasFailedShut, SameUsed, StoresKeptOrMore};
+ghost use Rattle.snapshot_store.specs.Naming.{IsPlaced};
+ghost use Rattle.snapshot_store.specs.Putting.{HasFailed, HasPut, SamePages, are_small};
+ghost use Rattle.snapshot_store.specs.State.{books};
+ghost use Rattle.snapshot_store.specs.declared.faults.StoreFault.{StoreFault as Fault};
+ghost use Rattle.store_model.specs.Books.{AreHeldPages, AreSmall, AreTrue, Commits, free_in, kept_in, logged_recs, recs_in};
+
+use crate::StoreFault;
+use crate::numbers::is_small;
+use crate::settling::settle;
+use crate::store::Store;
+use crate::taking::{release_blocks, take_blocks};
+use block_code::Blob;
+use commit_log::LogFault;
+use disk_trait::{Disk, NoBlocks};
+use hop_base::{Entity, Rec};
+use image_blocks::SLOT_COUNT;
+use page_shadow::ShadowTable;
+use store_commit::{commit_record, spelled_blocks};
+
+impl<D: Disk> Store<D> {
+    // Writes a record's blob and appends the record, and keeps it in memory: the log is turned to the kept records where all slots
+    // are used. After a failure the store is shut.
+    fn put_record(
+        &mut self,
+        rec: &Rec,
+        blob: &[[u8; 1024]],
+        table: &ShadowTable,
+    ) -> Result<(), LogFault>
+        requires working { (self.old.shut ≡ false) × (self.old.blocks.all_named ≡ false) }
+        requires few { (length self.old.kept < slot_count) × (length blob.now ≤ 8) }
+        requires epoch { epoch_of self.old.areas < 2 ^ 63 }
+        requires places { HasPlaces rec.now (length blob.now) self.old.blocks.end }
+        requires placed { IsPlaced self.old.blocks.first self.old.blocks.end (record { rec = rec.now; table = table.now.0 }) }
+        requires newer { All (λ r. r.entity ≡ rec.now.entity → r.version ≤ rec.now.version) (recs_in (books self.old)) }
+        requires components { length rec.now.stamp ≡ 64 }
+        requires stands { D.tells → (recs : List Record) × Stands D.reading D.may_leave self.old.areas recs self.old.disk }
+
+        ensures committed { D.tells → (recs : List Record) → Stands D.reading D.may_leave self.old.areas recs self.old.disk
+            → OnOk result (Stands D.reading D.may_leave self.new.areas (roomy_recs (used_of self.old.areas) recs (logged_recs self.old.kept) ++ rec.now ∷ []) self.new.disk) }
+        ensures blob { D.tells → OnOk result (HasBlob rec.now blob.now (D.reading self.new.disk)) }
+        ensures outside { D.tells → SameOutside (IsCommitBlock rec.now (length blob.now)) (D.reading self.old.disk) (D.reading self.new.disk) }
+        ensures stable { D.tells → OnOk result (Only (D.reading self.new.disk) (D.may_leave self.new.disk)) }
+        ensures stored { D.tells → (next : Next) → IsReady D.reading D.may_leave next self.old.areas (logged_recs self.old.kept) rec.now blob.now self.old.disk
+            → OnOk result (HasLogged D.reading D.may_leave next.count self.new.areas (roomy_recs (used_of self.old.areas) next.recs (logged_recs self.old.kept) ++ rec.now ∷ []) (next.ks ++ new_of next rec.now ∷ []) self.new.disk) }
+        ensures any_moment { D.tells → (next : Next) → IsReady D.reading D.may_leave next self.old.areas (logged_recs self.old.kept) rec.now blob.now self.old.disk
+            → LeavesOnly D.clock D.left_since self.old.disk self.new.disk (StoresOneMore next.count next.ks (new_of next rec.now)) }
+        ensures epoch { OnOk result ((epoch_of self.old.areas ≤ epoch_of self.new.areas) × (epoch_of self.new.areas ≤ epoch_of self.old.areas + 1)) }
+        ensures put { OnOk result (HasPut (record { rec = rec.now; table = table.now.0 }) self.old self.new) }
+        ensures failed { OnErr result (HasFailed self.old self.new × Rose (D.faults self.old.disk) (D.faults self.new.disk)) }
+        ensures pages { SamePages self.old self.new }
+        ensures begins { Begins (2 * length self.old.kept + length blob.now + 14) (shown D.block_count D.clock D.faults self.old.disk (begun_of self.old.areas)) (shown D.block_count D.clock D.faults self.new.disk (begun_of self.new.areas)) }
+    {
+        let turned = self.areas.used() == SLOT_COUNT;
+        self.shut = true;
+        commit_record(&mut self.areas, &mut self.disk, self.kept.recs(), rec, blob)?;
+        settle(
+            &mut self.log,
+            &mut self.kept,
+            &mut self.cut,
+            &mut self.blocks,
+            rec,
+            table,
+            turned,
+        );
+        self.small = self.small && is_small(rec);
+        self.shut = false;
+        Ok(())
+    }
+
+    // Commits a record, for whose blob enough blocks are free.
+    fn write_record(
+        &mut self,
+        entity: Entity,
+        version: u64,
+        stamp: &[u64; 64],
+        bytes: &[u8],
+        table: &[u32; 256],
+    ) -> Result<(), StoreFault>
+        requires working { ((books self.old).shut ≡ false) × ((books self.old).found ≡ false) }
+        requires entity { entity < 64 }
+        requires bytes { (1 ≤ length bytes.now) × (length bytes.now ≤ most_length) }
+        requires own { slice_index stamp.now entity ≡ version }
+        requires newer { (1 ≤ version) × All (λ r. r.entity ≡ entity → r.version < version) (recs_in (books self.old)) }
+        requires pages { AreHeldPages (books self.old).held table.now }
+        requires room { length (kept_in (books self.old)) < slot_count }
+        requires free { blocks_for (length bytes.now) ≤ free_in (books self.old) }
+        requires epoch { (books self.old).place.epoch < 2 ^ 63 }
+        requires true_books { D.tells → AreTrue D.reading D.may_leave (books self.old) self.old.disk }
+
+        ensures committed { D.tells → OnOk result (Commits entity version stamp.now bytes.now table.now (D.reading self.new.disk) (books self.old) (books self.new)) }
+        ensures true_books { D.tells → OnOk result (AreTrue D.reading D.may_leave (books self.new) self.new.disk) }
+        ensures stable { D.tells → OnOk result (Only (D.reading self.new.disk) (D.may_leave self.new.disk)) }
+        ensures same_used { D.tells → SameUsed (books self.old) (D.reading self.old.disk) (D.reading self.new.disk) }
+        ensures small { OnOk result ((books self.new).small ≡ ((books self.old).small && are_small version stamp.now)) }
+        ensures any_moment { D.tells → AreSmall (books self.old) → are_small version stamp.now ≡ true
+            → LeavesOnly D.clock D.left_since self.old.disk self.new.disk (StoresKeptOrMore (D.reading self.old.disk) (books self.old) entity version stamp.now bytes.now table.now) }
+        ensures only_write_fault { (e : Fault) → IsErrOf result e → e ≡ StoreFault.WriteFault }
+        ensures failed { OnErr result (Rose (D.faults self.old.disk) (D.faults self.new.disk) × HasFailedShut (books self.old) (books self.new)) }
+        ensures pages { SamePages self.old self.new }
+        ensures begins { Begins 1300 (shown D.block_count D.clock D.faults self.old.disk (books self.old).begun) (shown D.block_count D.clock D.faults self.new.disk (books self.new).begun) }
+    {
+        let need = (bytes.len() + 1023) / 1024;
+        let blocks = take_blocks(&mut self.blocks, need);
+        let rec = Rec {
+            entity,
+            version,
+            stamp: *stamp,
+            length: bytes.len() as u32,
+            blocks,
+        };
+        let done = self.put_record(&rec, &spelled_blocks(bytes)[..need], &ShadowTable(*table));
+        release_blocks(&mut self.blocks, &blocks[..need]);
+        match done {
+            Ok(()) => Ok(()),
+            Err(_fault) => Err(StoreFault::WriteFault),
+        }
+    }
+
+    /// Commits a record of an entity: its blob, of 1 to 8,192 bytes, goes into free blocks, and the record behind the log, which is
+    /// turned to the kept records first where its 640 slots are used. A stop at any moment leaves what was kept, or that and the
+    /// new record. It takes no memory. Then the greatest closed choice may have risen; the blocks that only records below it named
+    /// are free at once.
+    ///
+    /// `Shut` comes exactly after an earlier failure of this value, and `NoBlocks` exactly where fewer blocks are free than the blob
+    /// needs, with both numbers; then nothing is changed. `WriteFault` comes only where the disk's count of faults rose, and shuts the
+    /// store: the record may be found when the image is opened again, or not.
+    ///
+    /// That is 1,300 writes and syncs at most, and without a turn one for each block of the blob and five. The work in memory grows
+    /// with the kept records and with what is written, but where the log was turned the kept records are copied.
+    pub fn commit(
+        &mut self,
+        entity: Entity,
+        version: u64,
+        stamp: &[u64; 64],
+        blob: &Blob,
+        pages: &ShadowTable,
+    ) -> Result<(), StoreFault>
+        requires read { (books self.old).found ≡ false }
+        requires blob { 1 ≤ length blob.now }
+        requires own { slice_index stamp.now entity ≡ version }
+        requires newer { (1 ≤ version) × All (λ r. r.entity ≡ entity → r.version < version) (recs_in (books self.old)) }
+        requires pages { AreHeldPages (books self.old).held pages.now.0 }
+        requires room { length (kept_in (books self.old)) < slot_count }
+        requires epoch { (books self.old).place.epoch < 2 ^ 63 }
+        requires true_books { D.tells → AreTrue D.reading D.may_leave (books self.old) self.old.disk }
+
+        ensures committed { D.tells → OnOk result (Commits entity version stamp.now blob.now pages.now.0 (D.reading self.new.disk) (books self.old) (books self.new)) }
+        ensures true_books { D.tells → OnOk result (AreTrue D.reading D.may_leave (books self.new) self.new.disk) }
+        ensures stable { D.tells → OnOk result (Only (D.reading self.new.disk) (D.may_leave self.new.disk)) }
+        ensures same_used { D.tells → SameUsed (books self.old) (D.reading self.old.disk) (D.reading self.new.disk) }
+        ensures small { OnOk result ((books self.new).small ≡ ((books self.old).small && are_small version stamp.now)) }
+
+        // A stop at any moment of the call leaves what was kept, or that and the new record.
+        ensures any_moment { D.tells → AreSmall (books self.old) → are_small version stamp.now ≡ true → (books self.old).shut ≡ false
+            → LeavesOnly D.clock D.left_since self.old.disk self.new.disk (StoresKeptOrMore (D.reading self.old.disk) (books self.old) entity version stamp.now blob.now pages.now.0) }
+
+        ensures shut { (books self.old).shut ≡ true ↔ IsErrOf result StoreFault.Shut }
+        ensures no_blocks { (b : TooFew) → IsErrOf result (StoreFault.NoBlocks b) ↔ (((books self.old).shut ≡ false) × (free_in (books self.old) < blocks_for (length blob.now))
+            × (b ≡ record { need = blocks_for (length blob.now); free = free_in (books self.old) })) }
+        ensures untouched { IsErrOf result StoreFault.Shut ⊎ ((b : TooFew) × IsErrOf result (StoreFault.NoBlocks b)) → self.new ≡ self.old }
+        ensures write_fault { IsErrOf result StoreFault.WriteFault → Rose (D.faults self.old.disk) (D.faults self.new.disk) × HasFailedShut (books self.old) (books self.new) }
+        ensures no_read { IsErrOf result StoreFault.ReadFault → ⊥ }
+        ensures pages { SamePages self.old self.new }
+        ensures begins { Begins 1300 (shown D.block_count D.clock D.faults self.old.disk (books self.old).begun) (shown D.block_count D.clock D.faults self.new.disk (books self.new).begun) }
+    {
+        if self.shut {
+            return Err(StoreFault::Shut);
+        }
+        let number = entity.number();
+        prove!(number < 64);
+        let need = (blob.len() + 1023) / 1024;
+        let free = self.blocks.free();
+        if (free as usize) < need {
+            return Err(StoreFault::NoBlocks(NoBlocks {
+                need: need as u32,
+                free,
+            }));
+        }
+        self.write_record(entity, version, stamp, blob.as_slice(), &pages.0)
+    }
+}

@@ -1,0 +1,23 @@
+//! A store of snapshot records: it owns the disk, and keeps records on it with their blobs and pages.
+#![tactic(auto)]
+
+mod blob_reading;
+mod choosing;
+mod commits;
+mod faults;
+mod naming;
+mod numbers;
+mod opening;
+mod paged_store;
+mod paging;
+mod settling;
+mod shelf;
+mod store;
+mod taking;
+
+pub use faults::StoreFault;
+pub use opening::{OpenFault, OpenWhy};
+pub use store::Store;
+
+#[cfg(test)]
+mod open_tests;

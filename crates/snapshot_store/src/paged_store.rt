@@ -1,0 +1,84 @@
+// A store as a keeper of pages.
+ghost use Rattle.std.specs.Prelude.{◌≡◌, true, false, refl};
+
+use crate::paging::read_words;
+use crate::store::Store;
+use disk_trait::{Disk, NoBlocks};
+use page_store::{PageFault, PageStore};
+use page_words::block_with;
+
+/// Pages in the blocks of the image. A block that is held, or that a kept record names, holds the words that the disk reads; where
+/// there is no block on the disk they are zeros.
+///
+/// A page write is counted with all writes and syncs of the store, as `begun` tells them.
+impl<D: Disk> PageStore for Store<D> {
+    ghost use Rattle.disk_trait.specs.Image.{block_at};
+    ghost use Rattle.page_shadow.specs.Ledger.{is_held};
+    ghost use Rattle.snapshot_store.specs.State.{State, books};
+    ghost use Rattle.store_model.specs.Between.{Between-join, Between-stay, OnlyPages};
+    ghost use Rattle.store_model.specs.Books.{free_in, kept_names as kept_names_in, words_of_bytes};
+
+    ghost tells = { D.tells };
+
+    ghost held = { λ st. is_held st.blocks };
+
+    ghost kept_names = { λ st. kept_names_in (books st) };
+
+    ghost words = { λ st n. words_of_bytes (block_at (D.reading st.disk) n) };
+
+    ghost free = { λ st. free_in (books st) };
+
+    ghost is_shut = { λ st. st.shut };
+
+    ghost faults = { λ st. D.faults st.disk };
+
+    ghost written = { λ st. (books st).begun };
+
+    ghost read_calls = { λ st. st.read_calls };
+
+    ghost Pages = { λ a b. OnlyPages D.tells D.clock D.reading D.may_leave D.left_since a.disk b.disk (books a) (books b) (books a).begun (books b).begun };
+
+    fn read_page(&mut self, block: u32, out: &mut [u64; 128]) -> Result<(), PageFault> {
+        self.read_calls = self.read_calls.saturating_add(1);
+        if self.shut {
+            return Err(PageFault::Shut);
+        }
+        self.shut = true;
+        if read_words(&mut self.disk, block, out).is_err() {
+            return Err(PageFault::ReadFault);
+        }
+        self.shut = false;
+        Ok(())
+    }
+
+    fn write_page(&mut self, block: u32, page: &[u64; 128]) -> Result<(), PageFault> {
+        if self.shut {
+            return Err(PageFault::Shut);
+        }
+        self.shut = true;
+        let written = self.areas.write(&mut self.disk, block, &block_with(page));
+        if written.is_err() {
+            return Err(PageFault::WriteFault);
+        }
+        self.shut = false;
+        Ok(())
+    }
+
+    fn take_block(&mut self) -> Result<u32, NoBlocks> {
+        self.blocks.take_block()
+    }
+
+    fn give_back(&mut self, block: u32) {
+        self.blocks.give_back(block);
+    }
+
+    fn kept(&self, block: u32) -> bool {
+        self.blocks.is_named(block)
+    }
+
+    ghost whole = { λ b n told named. refl };
+
+    ghost stays = { λ b. Between-stay D.tells D.clock D.reading D.may_leave D.left_since b.disk (books b) (books b).begun (λ c told left. D.only_now b.disk c told left) };
+
+    ghost goes_on = { λ a b c p q. Between-join D.tells D.clock D.reading D.may_leave D.left_since a.disk b.disk c.disk (books a) (books b) (books c) (books a).begun (books b).begun (books c).begun p q };
+}

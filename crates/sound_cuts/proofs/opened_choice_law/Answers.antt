@@ -1,0 +1,11 @@
+use Rattle.std.proofs.Common.{[], ◌++◌}
+use Rattle.hop_model.specs.Histories.{commits_in}
+use Rattle.cut_laws.proofs.Joins.{from_nothing, to_nothing}
+use Rattle.run_laws.proofs.Starts.{starts_held}
+use Rattle.sound_states.proofs.Empty.{none_beyond}
+use Rattle.sound_cuts.proofs.opened_choice_law.Goals as goal
+
+pub returns : goal.returns
+returns c s script w later q k =
+    let held = starts_held s script w later k.below (none_beyond s w k) in
+    (to_nothing (λ x. (w x).version) (commits_in s script w [] ++ later) q held, from_nothing (λ x. (w x).version) (commits_in s script w [] ++ later) q held)
