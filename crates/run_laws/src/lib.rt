@@ -41,31 +41,11 @@ pub fn cuts_stay_law()
         → take k (tried_commits s script w (es ++ fs)) ≡ take k (tried_commits s script w es) }
 {}
 
-/// There is a greatest closed choice over the first commits of a legal run, and it is the computed one. The cut that the rules
-/// look at is always the computed one, over all commits so far.
+/// The cut that the rules look at is always the computed choice over all commits so far. (`sound_cuts`: from a sound state that is the
+/// greatest closed one, and few commits are at or above it.)
 pub fn run_cut_law()
-    ensures exists { (s : Supply) (policy : Policy) (script : Script) (w : KernelState) (es : List Entry)
-        (cs later : List Commit) → StampsBelow w → OnlyBelow64 (λ x. (w x).version) → AllBelow64 es
-        → IsLegalRun s policy w script es → tried_commits s script w es ≡ cs ++ later
-        → IsGreatest (λ x. (w x).version) cs (greatest (λ x. (w x).version) cs) }
-    ensures kept { (s : Supply) (script : Script) (w : KernelState) (es : List Entry)
+    ensures { (s : Supply) (script : Script) (w : KernelState) (es : List Entry)
         → (run_after s script (start_run w) es).cut ≡ greatest (λ x. (w x).version) (commits_in s script w es) }
-{}
-
-/// At most five commits of an entity are at or above the cut, and at most four where no Stable is owed, or where
-/// the entity was written since its newest commit.
-pub fn few_records_law()
-    ensures five { (s : Supply) (policy : Policy) (script : Script) (w : KernelState) (es : List Entry) (x : ℕ)
-        → StampsBelow w → OnlyBelow64 (λ x. (w x).version) → AllBelow64 es → IsLegalRun s policy w script es
-        → commits_above (run_after s script (start_run w) es).commits (run_after s script (start_run w) es).cut x ≤ 5 }
-    ensures four { (s : Supply) (policy : Policy) (script : Script) (w : KernelState) (es : List Entry) (x : ℕ)
-        → StampsBelow w → OnlyBelow64 (λ x. (w x).version) → AllBelow64 es → IsLegalRun s policy w script es
-        → (run_after s script (start_run w) es).owed ≡ None
-        → commits_above (run_after s script (start_run w) es).commits (run_after s script (start_run w) es).cut x ≤ 4 }
-    ensures changed { (s : Supply) (policy : Policy) (script : Script) (w : KernelState) (es : List Entry) (x : ℕ)
-        → StampsBelow w → OnlyBelow64 (λ x. (w x).version) → AllBelow64 es → IsLegalRun s policy w script es
-        → has_changed (run_after s script (start_run w) es) x ≡ true
-        → commits_above (run_after s script (start_run w) es).commits (run_after s script (start_run w) es).cut x ≤ 4 }
 {}
 
 /// The records of the opened image are the first commits of a run. No commit is below its entity's version at the start, and
