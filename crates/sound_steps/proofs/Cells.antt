@@ -7,6 +7,7 @@ use Rattle.hop_base.specs.declared.capabilities.Region.{Region}
 use Rattle.hop_model.specs.State.{AtlasState, ContainerState, LocusState, Cell, NotBorn, AtlasCell, ContainerCell, LocusCell}
 use Rattle.hop_model.specs.Soundness.{AreSound, IsSoundAtlas, IsSoundContainer, IsSoundLocus, IsSoundRegion, is_born, is_born_container, is_born_locus, regions_onto}
 use Rattle.hop_model.specs.Words.{is_container, is_locus}
+use Rattle.circle_law.specs.Containers.{IsAmongContainers}
 use Rattle.sound_steps.proofs.Growth.{Wider, born_container, born_locus, wider_container, wider_container_state, wider_locus, wider_locus_state}
 use Rattle.sound_steps.proofs.RegionLists.{shown, shown_more}
 
@@ -188,3 +189,19 @@ edge_born a cells x y h some = shows_born a x y (cells x) (fits_in a cells h x) 
 
 pub born_low : (a : AtlasState) (x : ℕ) → length a.containers ≤ 40 → IsTrue (is_born_container a x) → x < 41
 born_low a x few born = grind (arith, nat_tests)
+
+born_some : (a : AtlasState) (x : ℕ) → IsTrue (is_born_container a x) → 1 ≤ x
+born_some a x born = grind (arith, nat_tests)
+
+shower_born : (a : AtlasState) (x y : ℕ) (k : Cell) → Fits a x k → 0 < regions_onto k y → IsTrue (is_born_container a x)
+shower_born a x y NotBorn f some = absurd (none_shown 0 refl some)
+shower_born a x y (AtlasCell b) f some = absurd (none_shown 0 refl some)
+shower_born a x y (ContainerCell c) f some = f.0
+shower_born a x y (LocusCell l) f some = absurd (none_shown 0 refl some)
+
+-- the edges of a sound state lead from containers to containers
+pub edges_among : (a : AtlasState) (cells : ℕ → Cell) → AreSound a cells → IsAmongContainers a.edges
+edges_among a cells h x y some =
+    let from = shower_born a x y (cells x) (fits_in a cells h x) (subst (λ n. 0 < n) (h.edges x y) some) in
+    let to = edge_born a cells x y h some in
+    (born_some a x from, born_low a x h.names.few_containers from, born_some a y to, born_low a y h.names.few_containers to)

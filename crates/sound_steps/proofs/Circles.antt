@@ -1,13 +1,7 @@
--- Paths and circles: one edge more, and the test of a circle.
-use Rattle.std.proofs.Common.{◌≡◌, ℕ, zero, suc, ◌<◌, ◌≤◌, ◌⊎◌, inl, inr, Bool, true, false, ◌&&◌, ◌||◌, ◌==◌, nat_lt, List, [], ◌∷◌, ◌++◌, length, refl, sym, subst, ◌∙◌, arith, eqb, eqb-true, eq-eqb}
-use Rattle.std.specs.List.{list_any, IsDistinct, AllByRecursion}
-use Rattle.std.proofs.lemmas.Bool.{cases_lt}
-use Rattle.std.proofs.lemmas.Bool.Decides.{nat_tests}
-use Rattle.std.proofs.lemmas.List.Folds.{list_any-append}
-use Rattle.std.proofs.lemmas.Map.Steps.{length-le_from_distinct_below}
-use Rattle.hop_base.specs.Edges.{Edges, IsPath, leads, upto}
+-- Paths and circles: one edge more.
+use Rattle.std.proofs.Common.{◌≡◌, ℕ, ◌<◌, ◌⊎◌, inl, inr, List, [], ◌∷◌, ◌++◌, sym, subst}
+use Rattle.hop_base.specs.Edges.{Edges, IsPath}
 use Rattle.hop_model.specs.Soundness.{HasNoCircle}
-use Rattle.hop_model.proofs.Basics.{both, or_left, or_right, not_false}
 
 -- a path behind a path
 pub joined_path : (edges : Edges) (c d e : ℕ) (p q : List ℕ) → IsPath edges c p d → IsPath edges d q e → IsPath edges c (p ++ q) e
@@ -47,74 +41,3 @@ module _ (old new : Edges) (n d : ℕ) (more : (x y : ℕ) → 0 < new x y → (
       by_pass : Passes c (x ∷ path) c → ⊥
       by_pass (inl k) = none c x path k
       by_pass (inr k) = apart (k.1.0 ++ k.0.0) (joined_path old d c n k.1.0 k.0.0 k.1.1 k.0.1)
-
--- THE TEST
-
-below_upto : (test : ℕ → Bool) (n x : ℕ) → x < n → test x ≡ true → list_any test (upto n) ≡ true
-below_upto test zero x lt h = absurd (omega arith)
-below_upto test (suc n) x lt h =
-    list_any-append test (upto n) (n ∷ []) ∙ by_last (λ lt'. below_upto test n x lt' h) (cases_lt x n)
-  where
-    by_last : (x < n → list_any test (upto n) ≡ true) → (x < n) ⊎ (n ≤ x) → (list_any test (upto n) || list_any test (n ∷ [])) ≡ true
-    by_last before (inl lt') = or_left (list_any test (upto n)) (list_any test (n ∷ [])) (before lt')
-    by_last before (inr ge) = let e : x ≡ n = omega arith in
-        or_right (list_any test (upto n)) (list_any test (n ∷ [])) (or_left (test n) false (subst (λ z. test z ≡ true) e h))
-
-module _ (edges : Edges) (low : (x y : ℕ) → 0 < edges x y → y < 41) where
-  -- the test finds a short path
-  found : (n : ℕ) (c d : ℕ) (p : List ℕ) → length p ≤ n → IsPath edges c p d → leads n edges c d ≡ true
-  found zero c d [] few h = eq-eqb c d h
-  found zero c d (x ∷ p) few h = absurd (omega arith)
-  found (suc n) c d [] few h = or_left (c == d) (list_any (λ x. nat_lt 0 (edges c x) && leads n edges x d) (upto 41)) (eq-eqb c d h)
-  found (suc n) c d (x ∷ p) few h =
-      let lt : 0 < edges c x = h.0 in
-      let test : nat_lt 0 (edges c x) ≡ true = grind (arith, nat_tests) in
-      let few' : length p ≤ n = omega arith in
-      or_right (c == d) (list_any (λ x. nat_lt 0 (edges c x) && leads n edges x d) (upto 41))
-      (below_upto (λ x. nat_lt 0 (edges c x) && leads n edges x d) 41 x (low c x lt) (both _ _ test (found n x d p few' h.1)))
-
-  -- a path from u passes each of its numbers
-  cut : (u d c : ℕ) (p : List ℕ) → IsPath edges u p d → list_any (eqb c) p ≡ true → (x : ℕ) × (q : List ℕ) × IsPath edges u (x ∷ q) c
-  cut u d c [] h is = cc
-  cut u d c (x ∷ p) h is =
-      elim (eqb c x) as (λ b. (eqb c x) ≡ b → (b || list_any (eqb c) p) ≡ true → (x : ℕ) × (q : List ℕ) × IsPath edges u (x ∷ q) c) [
-        | true ↦ λ e _. (x, [], (h.0, sym (eqb-true c x e)))
-        | false ↦ λ _ is. (let k = cut x d c p h.1 is in (x, k.0 ∷ k.1, (h.0, k.2)))
-      ] refl is
-
-  absent : (c : ℕ) (p : List ℕ) → list_any (eqb c) p ≡ false → AllByRecursion (λ y. eqb c y ≡ false) p
-  absent c [] h = tt
-  absent c (x ∷ p) h =
-      elim (eqb c x) as (λ b. (eqb c x) ≡ b → (b || list_any (eqb c) p) ≡ false → (eqb c x ≡ false) × AllByRecursion (λ y. eqb c y ≡ false) p) [
-        | true ↦ λ e h. cc
-        | false ↦ λ e h. (e, absent c p h)
-      ] refl h
-
-  -- where there is no circle, a path passes each number once
-  distinct : HasNoCircle edges → (c d : ℕ) (p : List ℕ) → IsPath edges c p d → IsDistinct eqb (c ∷ p)
-  unfolding IsDistinct
-  distinct none c d [] h = (tt, tt)
-  distinct none c d (x ∷ p) h =
-      (absent c (x ∷ p) (not_false (list_any (eqb c) (x ∷ p)) (λ e. let k = cut c d c (x ∷ p) h e in none c k.0 k.1 k.2)), distinct none x d p h.1)
-
-  all_low : (c d q : ℕ) (p : List ℕ) → c < 41 → IsPath edges c p d → list_any (eqb q) (c ∷ p) ≡ true → q < 41
-  all_low c d q [] lt h is = let e = eqb-true q c (one (eqb q c) is) in omega arith
-    where
-      one : (b : Bool) → (b || false) ≡ true → b ≡ true
-      one true h = refl
-      one false h = h
-  all_low c d q (x ∷ p) lt h is =
-      elim (eqb q c) as (λ b. (eqb q c) ≡ b → (b || list_any (eqb q) (x ∷ p)) ≡ true → q < 41) [
-        | true ↦ λ e _. (let same = eqb-true q c e in omega arith)
-        | false ↦ λ e is. all_low x d q p (low c x h.0) h.1 is
-      ] refl is
-
-  -- so the test finds each path
-  pub leads_along : HasNoCircle edges → (c d : ℕ) (p : List ℕ) → c < 41 → leads 40 edges c d ≡ false → IsPath edges c p d → ⊥
-  leads_along none c d p lt fails h =
-      let few : length (c ∷ p) ≤ 41 = length-le_from_distinct_below (c ∷ p) 41 (distinct none c d p h) (λ q is. all_low c d q p lt h is) in
-      let short : length p ≤ 40 = omega arith in
-      never (found 40 c d p short h) fails
-    where
-      never : leads 40 edges c d ≡ true → leads 40 edges c d ≡ false → ⊥
-      never e f = let bad : true ≡ false = sym e ∙ f in cc

@@ -11,8 +11,9 @@ use Rattle.hop_model.specs.State.{AtlasState, ContainerState, LocusState, Cell, 
 use Rattle.hop_model.specs.Outcomes.{edge_put, finish, map_by, map_refusal, map_region, unmap, unmap_at}
 use Rattle.hop_model.specs.Soundness.{AreSound, HasNoCircle, IsSoundAtlas, IsSoundContainer, IsSoundLocus, IsSoundRegion, is_born_container, is_born_locus, regions_onto}
 use Rattle.hop_model.specs.Words.{insert_region, overlaps, put, unless}
-use Rattle.sound_steps.proofs.Cells.{born_low, changed_sound, edge_born, locus_sound, put_cell, same_sound}
-use Rattle.sound_steps.proofs.Circles.{fewer_no_circle, leads_along, more_no_circle}
+use Rattle.circle_law.proofs.Circles.{circle_found}
+use Rattle.sound_steps.proofs.Cells.{changed_sound, edges_among, locus_sound, put_cell, same_sound}
+use Rattle.sound_steps.proofs.Circles.{fewer_no_circle, more_no_circle}
 use Rattle.sound_steps.proofs.Growth.{Wider, wider_container_state, wider_locus_state}
 use Rattle.sound_steps.proofs.Leaving.{Leaves}
 use Rattle.sound_steps.proofs.Lists.{first_passes, not_true, test_passes}
@@ -115,7 +116,10 @@ module _ (a : AtlasState) (cells : ℕ → Cell) (h : AreSound a cells) (me : �
   no_circle_with : (r : Region) (n : ℕ) → IsSoundRegion a r → leads 40 a.edges r.target x ≡ false → HasNoCircle (edge_put a x r.target n).edges
   no_circle_with r n region fails =
       more_no_circle a.edges (edge_put a x r.target n).edges x r.target (put_more a x r.target n) h.names.no_circle
-      (λ q path. leads_along a.edges (λ y z some. born_low a z h.names.few_containers (edge_born a cells y z h some)) h.names.no_circle r.target x q (born_low a r.target h.names.few_containers region.target) fails path)
+      (λ q path. never ((circle_found a.edges x r.target 40 (edges_among a cells h) (omega arith)).1 (q, path)) fails)
+    where
+      never : leads 40 a.edges r.target x ≡ true → leads 40 a.edges r.target x ≡ false → ⊥
+      never e f = let bad : true ≡ false = sym e ∙ f in cc
 
   map_by_leaves : (r : Region) (why : Option Reply) → IsSoundRegion a r → map_refusal a x c r ≡ why → Leaves cells me true (Some x) (map_by l a x c r why)
   map_by_leaves r (Some why) region is = (a, unchanged why)
