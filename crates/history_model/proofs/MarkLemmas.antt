@@ -1,11 +1,11 @@
 -- Marks that spread along edges, and the test of circles.
-use Rattle.std.proofs.Common.{◌≡◌, ℕ, zero, suc, ◌<◌, ◌≤◌, ⊎_elim, Bool, true, false, not, ◌&&◌, ◌||◌, if◌then◌else◌, ◌==◌, nat_lt, List, [], ◌∷◌, ◌++◌, length, set, replicate, find, Option, Some, None, refl, sym, ap, subst, ◌∙◌, arith, eqb-true, get_or-set_other}
-use Rattle.std.specs.List.{All, list_any}
-use Rattle.std.proofs.lemmas.Bool.{cases_eq, false≢true, ltb-true}
+use Rattle.std.proofs.Common.{◌≡◌, ℕ, zero, suc, ◌<◌, ◌≤◌, ◌↔◌, ⊎_elim, Bool, true, false, IsTrue, not, ◌&&◌, if◌then◌else◌, ◌==◌, List, [], ◌∷◌, ◌++◌, length, set, replicate, find, Option, Some, None, refl, sym, ap, subst, ◌∙◌, arith, eqb-true, get_or-set_other}
+use Rattle.std.specs.List.{All}
+use Rattle.std.proofs.lemmas.Bool.{cases_eq, false≢true}
 use Rattle.std.proofs.lemmas.Bool.Decides.{nat_tests}
 use Rattle.std.proofs.lemmas.List.Elements.{All-cons, All-head, All-nil, All-tail, All-weaker}
-use Rattle.hop_base.specs.Edges.{Edges, IsPath, leads, upto}
-use Rattle.sound_steps.proofs.Circles.{leads_along}
+use Rattle.hop_base.specs.Edges.{ClosesCircle, Edges, IsPath, leads}
+use Rattle.circle_law.proofs.Circles.{circle_found}
 use Rattle.history_model.specs.AtlasActs.{AreReadyEdges, is_marked, leads_out}
 use Rattle.history_model.specs.Plains.{edges_of}
 use Rattle.history_model.specs.declared.plain.Edge.{Edge}
@@ -144,37 +144,19 @@ closed_path es marks none c d (x ∷ path) m p = closed_path es marks none x d p
 
 -- THE MODEL'S TEST
 
-some_of : (p : ℕ → Bool) (xs : List ℕ) → list_any p xs ≡ true → (x : ℕ) × (p x ≡ true)
-some_of p [] e = absurd (false≢true e)
-some_of p (x ∷ xs) e = by (λ f. some_of p xs f) (p x) refl e
-  where
-    by : (list_any p xs ≡ true → (x : ℕ) × (p x ≡ true)) → (b : Bool) → p x ≡ b → (b || list_any p xs) ≡ true → (x : ℕ) × (p x ≡ true)
-    by more true is f = (x, is)
-    by more false is f = more f
-
--- what the model's test finds is a path
-path_found : (n : ℕ) (edges : Edges) (c d : ℕ) → leads n edges c d ≡ true → (path : List ℕ) × IsPath edges c path d
-path_found zero edges c d e = ([], eqb-true c d e)
-path_found (suc n) edges c d e = by_first (λ x f. path_found n edges x d f) (c == d) refl e
-  where
-    by_first : ((x : ℕ) → leads n edges x d ≡ true → (path : List ℕ) × IsPath edges x path d) → (b : Bool) → (c == d) ≡ b → (b || list_any (λ x. nat_lt 0 (edges c x) && leads n edges x d) (upto 41)) ≡ true → (path : List ℕ) × IsPath edges c path d
-    by_first rest true same e = ([], eqb-true c d same)
-    by_first rest false same e =
-        let x = some_of (λ x. nat_lt 0 (edges c x) && leads n edges x d) (upto 41) e in
-        let parts = both_true (nat_lt 0 (edges c x.0)) (leads n edges x.0 d) x.1 in
-        let more = rest x.0 parts.1 in
-        (x.0 ∷ more.0, (ltb-true 0 (edges c x.0) parts.0, more.1))
-
--- so the marks are the model's answer
-pub marks_tell : (es : List Edge) (marks : List Bool) (from to : ℕ) → AreReadyEdges es → from < 41 → is_marked marks from ≡ true → AllReached (edges_of es) from marks → find (leads_out marks) es ≡ None
+-- the marks are the model's answer
+pub marks_tell : (es : List Edge) (marks : List Bool) (from to : ℕ) → AreReadyEdges es → is_marked marks from ≡ true → AllReached (edges_of es) from marks → find (leads_out marks) es ≡ None
     → is_marked marks to ≡ leads 40 (edges_of es) from to
-marks_tell es marks from to ready low first reached none = by_both (is_marked marks to) (leads 40 (edges_of es) from to) refl refl
+marks_tell es marks from to ready first reached none = by_both (is_marked marks to) (leads 40 (edges_of es) from to) refl refl
   where
+    circles : IsTrue (leads 40 (edges_of es) from to) ↔ ClosesCircle (edges_of es) to from
+    circles = circle_found (edges_of es) to from 40 ready.among (omega arith)
+
     by_both : (a b : Bool) → is_marked marks to ≡ a → leads 40 (edges_of es) from to ≡ b → a ≡ b
     by_both true true m e = refl
     by_both false false m e = refl
-    by_both true false m e = let p = reached to m in absurd (leads_along (edges_of es) ready.low ready.no_circle from to p.0 low e p.1)
-    by_both false true m e = let p = path_found 40 (edges_of es) from to e in sym m ∙ closed_path es marks none from to p.0 first p.1
+    by_both true false m e = sym (circles.1 (reached to m)) ∙ e
+    by_both false true m e = let p = circles.0 e in sym m ∙ closed_path es marks none from to p.0 first p.1
 
 pub none_by : {X : Type 0} (o : Option X) → ((x : X) → o ≡ Some x → ⊥) → o ≡ None
 none_by None h = refl

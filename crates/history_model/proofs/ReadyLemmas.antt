@@ -4,7 +4,7 @@ use Rattle.std.proofs.lemmas.List.Sums.{count_by-le-length}
 use Rattle.hop_base.specs.declared.capabilities.Region.{Region}
 use Rattle.hop_model.specs.Soundness.{AreSound, regions_onto}
 use Rattle.hop_model.specs.State.{AtlasState, Cell, NotBorn, AtlasCell, ContainerCell, LocusCell}
-use Rattle.sound_steps.proofs.Cells.{Fits, born_low, edge_born, fits_in}
+use Rattle.sound_steps.proofs.Cells.{Fits, edges_among, fits_in}
 use Rattle.history_model.specs.AtlasActs.{AreReadyEdges}
 use Rattle.history_model.specs.Born.{AreEdges}
 use Rattle.history_model.specs.Plains.{atlas_of, edges_of}
@@ -20,8 +20,7 @@ module _ (p : PlainAtlas) (cells : ℕ → Cell) (h : AreSound (atlas_of p) cell
   pub ready_edges : AreEdges p.edges.items → AreReadyEdges p.edges.items
   ready_edges edges = record {
     edges = edges;
-    low = λ x y some. born_low (atlas_of p) y h.names.few_containers (edge_born (atlas_of p) cells x y h some);
-    no_circle = h.names.no_circle;
+    among = edges_among (atlas_of p) cells h;
   }
 
   -- a container shows at most 16 regions of another

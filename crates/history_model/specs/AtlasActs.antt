@@ -3,8 +3,8 @@ use Rattle.std.specs.Prelude.{◌≡◌, ℕ, ◌+◌, ◌-◌, ◌<◌, Bool, f
 use Rattle.hop_base.specs.declared.capabilities.Region.{Region}
 use Rattle.hop_base.specs.declared.histories.Answer.{Answer}
 use Rattle.hop_model.specs.Outcomes.{Outcome}
-use Rattle.hop_model.specs.Soundness.{HasNoCircle}
 use Rattle.hop_model.specs.State.{Supply, AtlasState, ContainerState, LocusState, Cell, ContainerCell, LocusCell}
+use Rattle.circle_law.specs.Containers.{IsAmongContainers}
 use Rattle.history_model.specs.Born.{AreEdges}
 use Rattle.history_model.specs.Plains.{atlas_of, container_of, edges_of, locus_of}
 use Rattle.history_model.specs.declared.plain.Edge.{Edge}
@@ -12,11 +12,10 @@ use Rattle.history_model.specs.declared.plain.PlainAtlas.{PlainAtlas}
 use Rattle.history_model.specs.declared.plain.PlainContainer.{PlainContainer}
 use Rattle.history_model.specs.declared.plain.PlainLocus.{PlainLocus}
 
--- edges in order, which lead to containers and close no circle
+-- edges in order, between containers
 pub record AreReadyEdges (es : List Edge) : Type 0 where
   pub edges : AreEdges es
-  pub low : (x y : ℕ) → 0 < edges_of es x y → y < 41
-  pub no_circle : HasNoCircle (edges_of es)
+  pub among : IsAmongContainers (edges_of es)
 
 -- MARKS
 

@@ -5,9 +5,13 @@ use Rattle.hop_base.specs.declared.histories.Entry.{Entry}
 use Rattle.hop_base.specs.declared.histories.Event.TheVariants.{Stable, Tried}
 use Rattle.hop_model.specs.State.{Supply, KernelState}
 use Rattle.hop_model.specs.Scripts.{Script}
+use Rattle.hop_model.specs.Soundness.{IsSound}
+use Rattle.hop_model.specs.Vectors.{StampsBelow}
 use Rattle.hop_model.specs.Parts.{after, part_of}
 use Rattle.hop_model.specs.Choices.{Commit, IsGreatest}
 use Rattle.hop_model.specs.Histories.{Policy, Run, May, IsLegalRun, commits_of, event_of, has_changed, mark, run_after, start_run, version_of}
+use Rattle.script_form.specs.Rules.{IsScript}
+use Rattle.sound_runs.specs.Kinds.{NamesNoLocus}
 
 -- RECORDS
 
@@ -28,6 +32,14 @@ abbrev pub all_commits : Supply → Script → KernelState → List Entry → Li
 all_commits s script w es = commits_with_uncertain (run_after s script (start_run w) es)
 
 -- RUNS
+
+-- A run begins there: the script is allowed, none of its containers has a locus's name, the state is sound, and no stamp is above the
+-- versions.
+pub record BeginsSound (script : Script) (w : KernelState) : Type 0 where
+  pub rules : IsScript script
+  pub names : NamesNoLocus script w
+  pub sound : IsSound (λ x. (w x).cell)
+  pub stamps : StampsBelow w
 
 -- the try of an owed Stable, which names the atlas with its version
 abbrev pub try_of : Run → Entry

@@ -9,33 +9,32 @@ ghost use Rattle.hop_model.specs.State.{Supply, KernelState};
 ghost use Rattle.hop_model.specs.Scripts.{Script};
 ghost use Rattle.hop_model.specs.Serial.{IsSerialFront};
 ghost use Rattle.hop_model.specs.Parts.{after};
-ghost use Rattle.hop_model.specs.Vectors.{StampsBelow};
 ghost use Rattle.hop_model.specs.Choices.{Commit};
-ghost use Rattle.hop_model.specs.Histories.{Policy, AllBelow64, IsLegalRun, commits_in, event_of};
+ghost use Rattle.hop_model.specs.Histories.{Policy, IsLegalRun, commits_in, event_of};
 ghost use Rattle.run_cuts.specs.Left.{AckedWithin, IsReached, IsStop};
 ghost use Rattle.run_cuts.specs.Marks.{completes};
-ghost use Rattle.run_cuts.specs.Cuts.{EndsTried, IsCutState, IsKeptRun, all_commits};
+ghost use Rattle.run_cuts.specs.Cuts.{BeginsSound, EndsTried, IsCutState, IsKeptRun, all_commits};
 
 /// The cut of the records that a history has completed at a Stable, whatever follows, makes the state at that Stable; the
 /// cut of the records of the opened image makes the opened state; and where the history ends with a try in place of a
 /// Stable, the cut of all records, the uncertain ones too, makes the state at its end.
 pub fn stable_cut_law()
     ensures stable { (s : Supply) (policy : Policy) (script : Script) (w : KernelState) (es fs gs : List Line) (e : Line)
-        → StampsBelow w → AllBelow64 (fs ++ e ∷ []) → IsKeptRun s policy script w es
+        → BeginsSound script w → IsKeptRun s policy script w es
         → es ≡ (fs ++ e ∷ []) ++ gs → e.event ≡ Stable
         → IsCutState s script w es (take (length (commits_in s script w (fs ++ e ∷ []))) (all_commits s script w es)) (after (event_of s script) w (fs ++ e ∷ [])) }
     ensures opened { (s : Supply) (policy : Policy) (script : Script) (w : KernelState) (es : List Line)
-        → StampsBelow w → IsKeptRun s policy script w es
+        → IsKeptRun s policy script w es
         → IsCutState s script w es (take (length (commits_in s script w [])) (all_commits s script w es)) w }
     ensures tried { (s : Supply) (policy : Policy) (script : Script) (w : KernelState) (es : List Line)
-        → StampsBelow w → AllBelow64 es → EndsTried s policy script w es
+        → BeginsSound script w → EndsTried s policy script w es
         → IsCutState s script w es (all_commits s script w es) (after (event_of s script) w es) }
 {}
 
 /// Each Stable completes a record at least.
 pub fn stable_counts_law()
     ensures { (s : Supply) (policy : Policy) (script : Script) (w : KernelState) (fs : List Line) (e : Line)
-        → StampsBelow w → AllBelow64 (fs ++ e ∷ []) → IsLegalRun s policy w script (fs ++ e ∷ []) → e.event ≡ Stable
+        → BeginsSound script w → IsLegalRun s policy w script (fs ++ e ∷ []) → e.event ≡ Stable
         → length (commits_in s script w fs) + 1 ≤ length (commits_in s script w (fs ++ e ∷ [])) }
 {}
 
@@ -43,11 +42,11 @@ pub fn stable_counts_law()
 /// the records of its cut hold all that are acknowledged by then; and so does the cut of all records, at a history's try.
 pub fn reached_law()
     ensures front { (s : Supply) (policy : Policy) (script : Script) (w : KernelState) (es fs gs : List Line) (marks : List ℕ)
-        (since t : ℕ) → StampsBelow w → AllBelow64 es → IsKeptRun s policy script w es → length marks ≡ count_by completes es
+        (since t : ℕ) → BeginsSound script w → IsKeptRun s policy script w es → length marks ≡ count_by completes es
         → es ≡ fs ++ gs → IsStop fs → AckedWithin marks since t (count_by completes fs)
         → IsReached s script w es marks since t (after (event_of s script) w fs) }
     ensures tried { (s : Supply) (policy : Policy) (script : Script) (w : KernelState) (es : List Line) (marks : List ℕ)
-        (since t : ℕ) → StampsBelow w → AllBelow64 es → EndsTried s policy script w es
+        (since t : ℕ) → BeginsSound script w → EndsTried s policy script w es
         → IsReached s script w es marks since t (after (event_of s script) w es) }
 {}
 

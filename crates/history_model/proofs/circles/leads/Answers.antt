@@ -32,4 +32,4 @@ pub returns : goal.returns
 returns c =
     let none : find (leads_out c.loop-edge.marks) c.args.edges.now ≡ None = sym c.way_out.ensures ∙ none_by c.way_out.result c.in_default.not-Some in
     ap (is_marked c.loop-edge.marks) c.number-goal.ensures.number
-    ∙ marks_tell c.args.edges.now c.loop-edge.marks c.args.from c.args.to c.requires.edges c.requires.from c.loop-edge.invariant.first c.loop-edge.invariant.reached none
+    ∙ marks_tell c.args.edges.now c.loop-edge.marks c.args.from c.args.to c.requires.edges c.loop-edge.invariant.first c.loop-edge.invariant.reached none
