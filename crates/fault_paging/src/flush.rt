@@ -1,4 +1,4 @@
-ghost use Rattle.std.specs.Prelude.{◌≡◌, ◌≤◌, ℕ, false, IfErr, OnOk, is_some};
+ghost use Rattle.std.specs.Prelude.{◌≡◌, ◌≤◌, ◌+◌, ℕ, false, IfErr, OnOk, is_some};
 ghost use Rattle.hop_model.specs.State.{Supply};
 ghost use Rattle.page_store.specs.Pages.{IsWriteFault};
 ghost use Rattle.frame_table.specs.FrameTable.{changed_at, page_at};
@@ -45,6 +45,7 @@ impl PagedMemory {
         requires table { IsSoundTable (B.held store.old) self.old }
         requires room { need_of (B.kept_names store.old) self.old ≤ B.free store.old }
         ensures stands { B.tells → (s : Supply) → AreCleanTrue s (B.words store.old) self.old → Stands s (B.words store.old) (B.words store.new) self.old self.new }
+        ensures free { OnOk result (B.free store.old ≤ B.free store.new + need_of (B.kept_names store.old) self.old) }
         ensures unchanged { OnOk result ((page : ℕ) → changed_at self.new.frames page ≡ false) }
         ensures residents { (page : ℕ) → is_some (page_at self.new.frames page) ≡ is_some (page_at self.old.frames page) }
         ensures table { IsSoundTable (B.held store.new) self.new }

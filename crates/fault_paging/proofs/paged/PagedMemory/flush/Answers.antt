@@ -25,6 +25,7 @@ loop-page-init g c = record {
   clean = λ p below. absurd (omega arith);
   rest = λ p past. (refl, refl);
   room = omega (arith, need_none (g.B.PageStore.kept_names c.args.store.now) c.args.self.now, c.requires.room);
+  free = omega arith;
   untouched = λ _. (refl, refl);
   shut = λ _ p below. absurd (omega arith);
   later = record { faults_rise = omega arith; writes_rise = omega arith; stays_shut = λ e. e };
@@ -56,6 +57,7 @@ loop-page-preserved g c =
           (now.0 ∙ before.0, now.1 ∙ before.1)
           );
       room = omega (arith, inv.room, done.free, need, need_more (g.B.PageStore.kept_names c.args.store.now) c.args.self.now page);
+      free = omega (arith, inv.free, done.free, need, need_more (g.B.PageStore.kept_names c.args.store.now) c.args.self.now page);
       untouched = λ none. (let was = inv.untouched none in let now = done.still (rest.0 ∙ none page) in (now.1 ∙ was.0, now.2 ∙ was.1));
       shut = λ was p below. elim (cases_eq p page) [
         | inl here ↦

@@ -5,8 +5,9 @@ use Rattle.fault_paging.specs.Words.{block_at, need_below, AreCleanTrue, IsSound
 use Rattle.fault_paging.specs.Calls.{IsUnchanged, Keeps, KeepsPages, Later, Stands}
 use Rattle.fault_paging.proofs.paged.PagedMemory.flush.Given as goal
 
--- The pages so far are saved, the others are as they were, and a block is left for each of them that needs one. Where
--- no page was changed nothing is; where the store was shut no page so far was changed.
+-- The pages so far are saved, at most one block was taken for each of them that needed one, the others are as they
+-- were, and a block is left for each of them that needs one. Where no page was changed nothing is; where the store was
+-- shut no page so far was changed.
 abbrev pub invariant-loop-page : goal.invariant-loop-page
 invariant-loop-page g l = record {
   stands : g.B.PageStore.tells → (s : Supply) → AreCleanTrue s (g.B.PageStore.words l.fn.store) l.fn.self → Stands s (g.B.PageStore.words l.fn.store) (g.B.PageStore.words l.store) l.fn.self l.self;
@@ -17,6 +18,7 @@ invariant-loop-page g l = record {
   clean : (p : ℕ) → p < l.page → changed_at l.self.frames p ≡ false;
   rest : (p : ℕ) → l.page ≤ p → (changed_at l.self.frames p ≡ changed_at l.fn.self.frames p) × (block_at l.self p ≡ block_at l.fn.self p);
   room : need_below (g.B.PageStore.kept_names l.fn.store) l.fn.self 256 ≤ g.B.PageStore.free l.store + need_below (g.B.PageStore.kept_names l.fn.store) l.fn.self l.page;
+  free : g.B.PageStore.free l.fn.store ≤ g.B.PageStore.free l.store + need_below (g.B.PageStore.kept_names l.fn.store) l.fn.self l.page;
   untouched : IsUnchanged l.fn.self → (l.self ≡ l.fn.self) × (l.store ≡ l.fn.store);
   shut : g.B.PageStore.is_shut l.fn.store ≡ true → (p : ℕ) → p < l.page → changed_at l.fn.self.frames p ≡ false;
   later : Later g.B.PageStore.is_shut g.B.PageStore.faults g.B.PageStore.written l.fn.store l.store;
