@@ -66,7 +66,8 @@ impl Frames {
         ensures resident { is_some result ≡ is_some (page_at self.now page) }
         ensures frame { IfSome result (λ frame. page_in self.now frame ≡ Some page) }
     {
-        self.table[page as usize]
+        let at = page as usize;
+        self.table[at]
     }
 
     /// The page to evict next, or `None` where a frame is empty: the first unused page from the hand on, or the

@@ -1,4 +1,4 @@
-ghost use Rattle.std.specs.Prelude.{◌≡◌, ◌+◌, ◌-◌, ◌<◌, ◌≤◌, ◌||◌, true, false, length, replicate, IfOk, IfErr, OnOk, slice_index, slice_set};
+ghost use Rattle.std.specs.Prelude.{◌≡◌, ◌+◌, ◌-◌, ◌<◌, ◌≤◌, ◌||◌, ◌∷◌, true, false, length, replicate, IfOk, IfErr, OnOk, slice_index, slice_set};
 ghost use Rattle.page_shadow.specs.Ledger.{is_held, is_named, unused_blocks};
 
 use crate::{NoBlocks, Pool, Uses};
@@ -72,6 +72,7 @@ impl Ledger {
     pub fn take_block(&mut self) -> Result<u32, NoBlocks>
         ensures value { IfOk result (λ n. self.new ≡ record self.old { held = slice_set self.old.held n true }) }
         ensures range { IfOk result (λ n. (self.old.first ≤ n) × (n < self.old.end)) }
+        ensures lowest { IfOk result (λ n. unused_blocks self.old ≡ n ∷ unused_blocks self.new) }
         ensures unused { IfOk result (λ n. (is_held self.old n || is_named self.old n) ≡ false) }
         ensures fewer { OnOk result (length (unused_blocks self.new) + 1 ≡ length (unused_blocks self.old)) }
         ensures none { IfErr result (λ e. (length (unused_blocks self.old) ≡ 0) × (e ≡ record { need = 1; free = 0 }) × (self.new ≡ self.old)) }

@@ -108,13 +108,13 @@ impl Pool {
         ensures first { self.new.first ≡ self.old.first }
         ensures end { self.new.end ≡ self.old.end }
     {
-        let Some(block) = lowest_bit(&self.words, self.hint) else {
+        let Some(lowest) = lowest_bit(&self.words, self.hint) else {
             return Err(NoBlocks { need: 1, free: 0 });
         };
-        clear_bit(&mut self.words, block);
+        clear_bit(&mut self.words, lowest);
         self.free -= 1;
-        self.hint = (block / 64) as usize;
-        Ok(block)
+        self.hint = (lowest / 64) as usize;
+        Ok(lowest)
     }
 
     /// Takes this block, which is free.

@@ -1,4 +1,4 @@
-use Rattle.std.proofs.Common.{◌+◌, ap, length, sym, ◌∙◌, arith}
+use Rattle.std.proofs.Common.{◌+◌, ◌∷◌, ap, length, sym, ◌∙◌, arith}
 use Rattle.page_shadow.proofs.Holdings.{taken_kept, taken_unused}
 use Rattle.page_shadow.proofs.ledger.Ledger.take_block.Goals as goal
 
@@ -30,3 +30,9 @@ returns-clause-fewer c =
     let took = c.in_ok-block.ensures in
     let after = taken_kept c.self.inside.pool c.self.inside.held.items c.self.inside.uses c.self.inside.all_named c.self.invariant c.take_block.new.self c.in_ok-block.block took.first took.end took.lowest took.takes in
     rw (← c.self.view_is) (ap (λ bs. length bs + 1) (sym after.free) ∙ (took.takes.fewer ∙ ap length c.self.invariant.free))
+
+pub returns-clause-lowest : goal.returns-clause-lowest
+returns-clause-lowest c =
+    let took = c.in_ok-block.ensures in
+    let after = taken_kept c.self.inside.pool c.self.inside.held.items c.self.inside.uses c.self.inside.all_named c.self.invariant c.take_block.new.self c.in_ok-block.block took.first took.end took.lowest took.takes in
+    rw (← c.self.view_is) (sym c.self.invariant.free ∙ (took.lowest ∙ ap (λ bs. c.in_ok-block.block ∷ bs) after.free))
