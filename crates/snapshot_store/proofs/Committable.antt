@@ -3,7 +3,7 @@ use Rattle.std.proofs.Common.{◌≡◌, inl, inr, ℕ, suc, ◌<◌, ◌≤◌,
 use Rattle.std.specs.Prelude.{All, slice_index}
 use Rattle.std.specs.List.{concat, list_all, list_any}
 use Rattle.std.proofs.lemmas.Bool.{and_parts, cases_lt, leb-true}
-use Rattle.std.proofs.lemmas.List.{get_or-take, length-take}
+use Rattle.std.proofs.lemmas.List.{get_or-take, get_or_default, length-take}
 use Rattle.std.proofs.lemmas.List.Elements.{All-from_get_or}
 use Rattle.std.proofs.lemmas.List.Sums.{AllPass-from_list_all}
 use Rattle.hop_base.specs.declared.records.Rec.{Rec}
@@ -12,13 +12,14 @@ use Rattle.image_blocks.specs.Bodies.{blob_blocks, blob_in, blocks_for}
 use Rattle.image_blocks.specs.Checks.{last_version}
 use Rattle.image_blocks.specs.Layout.{last_number, most_length, pool_at}
 use Rattle.page_shadow.specs.Ledger.{Ledger, is_held}
-use Rattle.store_model.specs.Books.{AreHeldPages, is_small, recs_in}
+use Rattle.store_model.specs.Books.{AreHeldPages, is_small, is_used, recs_in}
 use Rattle.store_commit.specs.BlobBytes.{HoldsBytes}
 use Rattle.store_commit.specs.Ready.{CanCommit}
 use Rattle.store_commit.specs.Storing.{HasBlob, HasPlaces, IsBlobOf}
 use Rattle.store_commit.proofs.Filling.{blob_reads}
 use Rattle.image_meaning.specs.Stores.{Kept}
 use Rattle.snapshot_store.proofs.Listing.{few_blocks}
+use Rattle.snapshot_store.specs.Committed.{IsInFreeBlocks}
 use Rattle.snapshot_store.specs.Naming.{IsPlace, IsPlaced}
 use Rattle.snapshot_store.specs.State.{IsWhole, State, books}
 use Rattle.snapshot_store.specs.Taking.{HasTaken}
@@ -57,6 +58,19 @@ pub record IsRecordOf (r : Rec) (bytes : List ℕ) (before : List Rec) : Type 0 
   pub components : length r.stamp ≡ 64
   pub places : length r.blocks ≡ 8
 
+-- blocks that were taken weren't in use
+pub taken_free : {D : Type 0} (block_count : D → ℕ) (st : State D) → IsWhole block_count st → (mid : Ledger) (many : ℕ) (blocks : List ℕ) → HasTaken many st.blocks mid blocks → (i : ℕ) → i < many → is_used (books st) (slice_index blocks i) ≡ false
+taken_free block_count st w mid many blocks taken i lt = ap (λ (b : Bool). is_held st.blocks (slice_index blocks i) || b) (sym (named_is block_count st w (slice_index blocks i))) ∙ taken.unused i lt
+
+pub in_free : {D : Type 0} (block_count : D → ℕ) (st : State D) → IsWhole block_count st → (mid : Ledger) (r : Rec) → HasTaken (blocks_for r.length) st.blocks mid r.blocks → IsInFreeBlocks (books st) r
+in_free block_count st w mid r taken = record {
+  fresh = λ n (k, lt, is).
+      let inside : k < blocks_for r.length = (let len = length-take (blocks_for r.length) r.blocks in omega (arith, lt, len)) in
+      let here : slice_index r.blocks k ≡ n = sym (get_or-take (blocks_for r.length) r.blocks k 0 inside) ∙ (get_or_default (blob_blocks r) k 0 n lt ∙ is) in
+      subst (λ (m : ℕ). is_used (books st) m ≡ false) here (taken_free block_count st w mid (blocks_for r.length) r.blocks taken k inside);
+  pool = w.held;
+}
+
 pub can_commit : {D : Type 0} (block_count : D → ℕ) (st : State D) → IsWhole block_count st → (r : Rec) (bytes : List ℕ) (blob : List (List ℕ)) (table : List ℕ) (after : Ledger)
     → HasTaken (blocks_for (length bytes)) st.blocks after r.blocks → IsRecordOf r bytes (recs_in (books st)) → is_small r ≡ true → HoldsBytes bytes blob → AreHeldPages (is_held st.blocks) table → CanCommit (books st) r blob bytes table
 can_commit block_count st w r bytes blob table after taken is small holds pages =
@@ -83,7 +97,7 @@ can_commit block_count st w r bytes blob table after taken is small holds pages 
       many = holds.many ∙ same;
       spelled = subst (λ (n : ℕ). take n (concat blob) ≡ bytes) (sym len) holds.spelled;
       rest = subst (λ (n : ℕ). All (λ x. x ≡ 0) (drop n (concat blob))) (sym len) holds.rest;
-      free = λ i lt. ap (λ (b : Bool). is_held st.blocks (slice_index r.blocks i) || b) (sym (named_is block_count st w (slice_index r.blocks i))) ∙ taken.unused i (let many = holds.many in omega (arith, lt, many));
+      free = λ i lt. taken_free block_count st w after (blocks_for (length bytes)) r.blocks taken i (let many = holds.many in omega (arith, lt, many));
       held = λ n is_held_n. (w.held n is_held_n).0;
       pages = pages;
     }

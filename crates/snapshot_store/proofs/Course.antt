@@ -1,5 +1,5 @@
 -- The course of a commit: blocks are taken, the record is put, and the blocks given back.
-use Rattle.std.proofs.Common.{◌≡◌, ℕ, ◌≤◌, ◌<◌, Bool, true, false, ◌||◌, nat_lt, if◌then◌else◌, ◌⊎◌, inl, inr, List, [], ◌∷◌, ◌++◌, length, take, refl, sym, ap, subst, ◌∙◌, arith}
+use Rattle.std.proofs.Common.{◌≡◌, ℕ, ◌+◌, ◌≤◌, ◌<◌, Bool, true, false, nat_lt, if◌then◌else◌, ◌⊎◌, inl, inr, List, [], ◌∷◌, ◌++◌, length, take, refl, sym, ap, subst, ◌∙◌, arith}
 use Rattle.std.specs.Prelude.{slice_index, Result, Ok, Err, OnOk, OnErr}
 use Rattle.std.proofs.lemmas.List.{length-map}
 use Rattle.disk_trait.specs.Disk.{Only}
@@ -11,20 +11,20 @@ use Rattle.image_blocks.specs.Bodies.{blob_in, blocks_for}
 use Rattle.image_blocks.specs.Layout.{slot_count}
 use Rattle.log_turn.specs.Standing.{Stands, epoch_of, used_of}
 use Rattle.log_turn.specs.declared.areas.Areas.{Areas}
-use Rattle.page_shadow.specs.Ledger.{Ledger, is_held, is_named}
-use Rattle.store_model.specs.Books.{AreHeldPages, AreSmall, AreTrue, Books, Commits, Logged, is_small, is_used, kept_in, kept_of, logged_recs, recs_in}
+use Rattle.page_shadow.specs.Ledger.{Ledger, is_held}
+use Rattle.store_model.specs.Books.{AreHeldPages, AreSmall, AreTrue, Books, Commits, Logged, StoresMore, is_small, is_used, kept_in, kept_of, logged_recs, recs_in}
 use Rattle.store_commit.specs.BlobBytes.{HoldsBytes}
 use Rattle.store_commit.specs.Ready.{AreAt, CanCommit, HasCommitted, ReadyLaw, books_after, next_in}
 use Rattle.store_commit.specs.Storing.{HasLogged, IsCommitBlock, IsReady, Next, StoresOneMore, new_of, roomy_log as roomy_recs}
-use Rattle.snapshot_store.specs.Committed.{HasFailedShut, SameUsed, StoresKeptOrMore}
+use Rattle.snapshot_store.specs.Committed.{CommitsInFreeBlocks, HasFailedShut, IsInFreeBlocks, SameUsed, StoresKeptOrMore}
 use Rattle.snapshot_store.specs.Keeping.{HasRecounted}
 use Rattle.snapshot_store.specs.Putting.{HasFailed, HasPut, roomy_log}
 use Rattle.snapshot_store.specs.State.{IsWhole, State, books}
 use Rattle.snapshot_store.specs.Taking.{HasReleased, HasTaken}
 use Rattle.store_commit.proofs.After.{true_after}
 use Rattle.store_commit.proofs.Readying.{ready_law}
-use Rattle.snapshot_store.proofs.Committable.{IsRecordOf, can_commit}
-use Rattle.snapshot_store.proofs.Holding.{kept_is, named_is}
+use Rattle.snapshot_store.proofs.Committable.{IsRecordOf, can_commit, taken_free}
+use Rattle.snapshot_store.proofs.Holding.{kept_is}
 use Rattle.snapshot_store.proofs.Returned.{held_back}
 
 -- books are the same where all of them is
@@ -102,8 +102,8 @@ module _ {D : Type 0} (st st2 : State D) (mid last : Ledger) (many : ℕ) (block
     logged_by true is = inl is
     logged_by false is = inr (is ∙ ap (λ (ks : List Logged). ks ++ record { rec = r; table = table } ∷ []) (kept_is block_count st w))
 
-    pub commits : (reading : Image) (bytes : List ℕ) → r.length ≡ length bytes → blob_in reading r ≡ bytes → Commits r.entity r.version r.stamp bytes table reading (books st) (books (record st2 { blocks = last }))
-    commits reading bytes len reads = record {
+    commits_as : (reading : Image) (bytes : List ℕ) → r.length ≡ length bytes → blob_in reading r ≡ bytes → Commits r.entity r.version r.stamp bytes table reading (books st) (books (record st2 { blocks = last }))
+    commits_as reading bytes len reads = record {
       rec = r;
       entity_is = refl;
       version_is = refl;
@@ -115,6 +115,11 @@ module _ {D : Type 0} (st st2 : State D) (mid last : Ledger) (many : ℕ) (block
       same_found = same_found put.ledger.only;
       same_count = same_end put.ledger.only;
     }
+
+    pub commits : (reading : Image) (bytes : List ℕ) → r.length ≡ length bytes → blob_in reading r ≡ bytes → IsInFreeBlocks (books st) r → (epoch_of st.areas ≤ epoch_of st2.areas) × (epoch_of st2.areas ≤ epoch_of st.areas + 1)
+        → CommitsInFreeBlocks r.entity r.version r.stamp bytes table reading (books st) (books (record st2 { blocks = last }))
+    unfolding commits_as
+    commits reading bytes len reads free epoch = record { commits = commits_as reading bytes len reads; free = free; epoch = epoch }
 
 -- THE DISK
 
@@ -141,13 +146,16 @@ module _ {D : Type 0} (block_count : D → ℕ) (reading : D → Image) (may_lea
   }
 
 -- what a stop leaves of it, in the words of a commit
-pub kept_or_more : (reading : Image) (b : Books) (r : Rec) (bytes table : List ℕ) (c : Image) → StoresOneMore b.count (kept_of reading b) (new_of (next_in reading b bytes table) r) c → StoresKeptOrMore reading b r.entity r.version r.stamp bytes table c
-kept_or_more reading b r bytes table c (inl kept) = inl kept
-kept_or_more reading b r bytes table c (inr more) = inr (record {
-  new = new_of (next_in reading b bytes table) r;
-  is = record { entity_is = refl; version_is = refl; stamp_is = refl; blob_is = refl; pages_are = refl };
-  stores = more;
-})
+pub kept_or_more : (reading : Image) (b : Books) (r : Rec) (bytes table : List ℕ) (c : Image) → IsInFreeBlocks b r → StoresOneMore b.count (kept_of reading b) (new_of (next_in reading b bytes table) r) c → StoresKeptOrMore reading b r.entity r.version r.stamp bytes table c
+kept_or_more reading b r bytes table c free (inl kept) = inl kept
+kept_or_more reading b r bytes table c free (inr stores) = inr (record { more = more; free = free })
+  where
+    more : StoresMore b.count (kept_of reading b) r.entity r.version r.stamp bytes table reading c
+    more = record {
+      new = new_of (next_in reading b bytes table) r;
+      is = record { entity_is = refl; version_is = refl; stamp_is = refl; blob_is = refl; pages_are = refl };
+      stores = stores;
+    }
 
 -- the ledger, whatever came of it
 pub recounted_either : {D T E : Type 0} (Q : Type 0) (r : Result T E) (l : Logged) (old new : State D) → OnOk r (HasPut l old new) → OnErr r (HasFailed old new × Q) → HasRecounted old.blocks new.blocks
@@ -174,11 +182,11 @@ module _ {D : Type 0} (block_count : D → ℕ) (reading : D → Image) (may_lea
         (has_committed block_count reading may_leave st w working right r blob bytes table st2.areas st2.disk stands stable epoch stored))
 
     -- a stop at any moment
-    pub moments_behind : {clock : D → ℕ} {left_since : D → ℕ → Image → Type 0} → Moments clock may_leave left_since → AreSmall (books st) → is_small r ≡ true
+    pub moments_behind : {clock : D → ℕ} {left_since : D → ℕ → Image → Type 0} → Moments clock may_leave left_since → IsInFreeBlocks (books st) r → AreSmall (books st) → is_small r ≡ true
         → ((next : Next) → IsReady reading may_leave next st.areas (logged_recs st.kept) r blob st.disk → LeavesOnly clock left_since st.disk st2.disk (StoresOneMore next.count next.ks (new_of next r)))
         → LeavesOnly clock left_since st.disk st2.disk (StoresKeptOrMore (reading st.disk) (books st) r.entity r.version r.stamp bytes table)
-    moments_behind laws small own any_moment =
-        LeavesOnly-weaker laws (StoresKeptOrMore (reading st.disk) (books st) r.entity r.version r.stamp bytes table) (kept_or_more (reading st.disk) (books st) r bytes table)
+    moments_behind laws free small own any_moment =
+        LeavesOnly-weaker laws (StoresKeptOrMore (reading st.disk) (books st) r.entity r.version r.stamp bytes table) (λ c. kept_or_more (reading st.disk) (books st) r bytes table c free)
         (any_moment (next_in (reading st.disk) (books st) bytes table) (ready block_count reading may_leave st w working right r blob bytes table (ready_law reading may_leave) small (can own)))
 
 -- a block that is in use is none of those that are written
@@ -186,7 +194,7 @@ pub used_same : {D : Type 0} (block_count : D → ℕ) (st : State D) → IsWhol
 used_same block_count st w r many mid old new taken same n pool used = same.same n not_written
   where
     free_not : (i : ℕ) → i < many → n ≡ slice_index r.blocks i → is_used (books st) n ≡ false
-    free_not i lt is = ap (λ (b : Bool). is_held st.blocks n || b) (sym (named_is block_count st w n)) ∙ (ap (λ (k : ℕ). is_held st.blocks k || is_named st.blocks k) is ∙ taken.unused i lt)
+    free_not i lt is = ap (is_used (books st)) is ∙ taken_free block_count st w mid many r.blocks taken i lt
 
     not_written : IsCommitBlock r many n → ⊥
     not_written (inl low) = omega (arith, low, pool)

@@ -1,9 +1,7 @@
 -- Blocks that are held and given back, and how many are free.
-use Rattle.std.proofs.Common.{◌≡◌, ◌≢◌, ℕ, ◌<◌, ◌≤◌, ◌-◌, Bool, true, false, not, ◌||◌, List, length, filter, set, nat_lt, count_by, refl, sym, ap, subst, ◌∙◌, inl, inr, arith}
+use Rattle.std.proofs.Common.{◌≡◌, ◌≢◌, ℕ, ◌<◌, ◌≤◌, ◌-◌, Bool, true, false, not, ◌||◌, List, length, filter, nat_lt, count_by, refl, sym, ap, subst, ◌∙◌, arith}
 use Rattle.std.specs.Prelude.{slice_index, IfErr, IfOk, Result, Ok, Err}
 use Rattle.std.specs.List.{list_any, range_with_len}
-use Rattle.std.proofs.lemmas.Bool.{cases_eq}
-use Rattle.std.proofs.lemmas.List.{get_or-set_other, length-set}
 use Rattle.std.proofs.lemmas.List.Sums.{length-filter}
 use Rattle.disk_trait.specs.Image.{Image}
 use Rattle.hop_model.proofs.Lowering.{greatest_is, greatest_one}
@@ -64,9 +62,9 @@ with_held st marks = record st { blocks = record st.blocks { held = marks } }
 module _ {D : Type 0} (tells : Type 0) (clock : D → ℕ) (reading : D → Image) (may_leave : D → Image → Type 0) (left_since : D → ℕ → Image → Type 0) where
   -- nothing was committed, and nothing done to the disk
   pub held_between : (st : State D) (marks : List Bool) → ((c : Image) → tells → left_since st.disk (clock st.disk) c → may_leave st.disk c)
-      → OnlyPages tells clock reading may_leave left_since st.disk st.disk (books st) (books (with_held st marks)) st.written st.written
+      → OnlyPages tells clock reading may_leave left_since st.disk st.disk (books st) (books (with_held st marks)) (books st).begun (books st).begun
   held_between st marks only_now =
-      let s = Between-stay tells clock reading may_leave left_since st.disk (books st) st.written only_now in
+      let s = Between-stay tells clock reading may_leave left_since st.disk (books st) (books st).begun only_now in
       record {
         same_logged = refl;
         same_place = refl;
@@ -84,32 +82,12 @@ module _ {D : Type 0} (tells : Type 0) (clock : D → ℕ) (reading : D → Imag
         counts = s.counts;
       }
 
--- the store is whole with one mark more, of a block of the pool, or one fewer
-pub whole_marked : {D : Type 0} (block_count : D → ℕ) (st : State D) (block : ℕ) (mark : Bool) → IsWhole block_count st → (pool_at ≤ block) × (block < st.blocks.end) → IsWhole block_count (with_held st (set st.blocks.held block mark))
-whole_marked block_count st block mark w range = record {
-  within = w.within;
-  enough = w.enough;
-  most = w.most;
-  first = w.first;
-  sized = w.sized;
-  marked = length-set st.blocks.held block mark ∙ w.marked;
-  held = λ n is. elim (cases_eq n block) as (λ _. (pool_at ≤ n) × (n < st.blocks.end)) [
-    | inl same ↦ subst (λ k. (pool_at ≤ k) × (k < st.blocks.end)) (sym same) range
-    | inr apart ↦ w.held n (sym (get_or-set_other st.blocks.held block n mark false apart) ∙ is)
-  ];
-  few = w.few;
-  kept = w.kept;
-  listed = λ read. (let a = w.listed read in record { placed = a.placed; counted = a.counted });
-  working = w.working;
-  used = w.used;
-}
-
 module _ {D : Type 0} (tells : Type 0) (clock : D → ℕ) (reading : D → Image) (may_leave : D → Image → Type 0) (left_since : D → ℕ → Image → Type 0) where
   -- where only the marks of the ledger are others
   pub held_by : (st : State D) (l : Ledger) (marks : List Bool) → l ≡ record st.blocks { held = marks } → ((c : Image) → tells → left_since st.disk (clock st.disk) c → may_leave st.disk c)
-      → OnlyPages tells clock reading may_leave left_since st.disk st.disk (books st) (books (record st { blocks = l })) st.written st.written
+      → OnlyPages tells clock reading may_leave left_since st.disk st.disk (books st) (books (record st { blocks = l })) (books st).begun (books st).begun
   held_by st l marks is only_now =
-      subst (λ (k : Ledger). OnlyPages tells clock reading may_leave left_since st.disk st.disk (books st) (books (record st { blocks = k })) st.written st.written) (sym is)
+      subst (λ (k : Ledger). OnlyPages tells clock reading may_leave left_since st.disk st.disk (books st) (books (record st { blocks = k })) (books st).begun (books st).begun) (sym is)
       (held_between tells clock reading may_leave left_since st marks only_now)
 
 -- of a block that was taken, or where none was, only marks are others

@@ -1,34 +1,32 @@
 -- A store keeps the chosen records alone.
-use Rattle.std.proofs.Common.{◌≡◌, ◌≢◌, ℕ, zero, suc, ◌+◌, ◌<◌, ◌≤◌, Bool, true, false, nat_le, if◌then◌else◌, List, [], ◌∷◌, ◌++◌, length, filter, map, take, get_or, Option, Some, None, refl, sym, ap, subst, ◌∙◌, arith}
-use Rattle.std.specs.Prelude.{All, Contains, slice_get, slice_index}
-use Rattle.std.specs.List.{AllByRecursion, AllPairs}
-use Rattle.std.proofs.lemmas.Bool.{false≢true, le-leb}
+use Rattle.std.proofs.Common.{◌≡◌, ℕ, zero, suc, ◌<◌, ◌≤◌, Bool, true, false, if◌then◌else◌, List, [], ◌∷◌, length, filter, take, get_or, Some, refl, sym, ap, subst, ◌∙◌, arith}
+use Rattle.std.specs.Prelude.{All, slice_get, slice_index}
+use Rattle.std.specs.List.{AllPairs}
+use Rattle.std.proofs.lemmas.Bool.{le-leb}
 use Rattle.std.proofs.lemmas.List.{get_or_past, length-map}
 use Rattle.std.proofs.lemmas.Option.{slice_get-get_or}
 use Rattle.cut_finder.specs.Records.{IsAscending}
 use Rattle.cut_laws.specs.Agreeing.{nothing}
 use Rattle.cut_laws.specs.Records.{commits_of}
-use Rattle.disk_trait.specs.Disk.{Only}
-use Rattle.disk_trait.specs.Image.{Image, SameOutside, block_at}
+use Rattle.disk_trait.specs.Image.{Image, block_at}
 use Rattle.hop_base.specs.Edges.{upto}
-use Rattle.hop_base.specs.declared.records.Cut.{Cut}
 use Rattle.hop_base.specs.declared.records.Rec.{Rec}
 use Rattle.hop_model.specs.Choices.{IsGreatest, IsNarrow}
-use Rattle.image_blocks.specs.Layout.{gate_at, header_at, most_blocks, pool_at, slot_count}
+use Rattle.image_blocks.specs.Layout.{gate_at, header_at, most_blocks, slot_count}
 use Rattle.image_blocks.specs.Logs.{AreFitting, HasLog, IsInRange}
 use Rattle.log_reading.specs.Logs.{AreInRange, IsOlder}
-use Rattle.log_turn.specs.Standing.{SameAreas, Stands, has_failed, place_of, used_of}
+use Rattle.log_turn.specs.Standing.{Stands, has_failed, place_of, used_of}
 use Rattle.log_turn.specs.declared.areas.Areas.{Areas}
-use Rattle.page_shadow.specs.Ledger.{Ledger, is_held}
+use Rattle.page_shadow.specs.Ledger.{Ledger}
 use Rattle.page_shadow.specs.declared.ShadowTable.{ShadowTable}
 use Rattle.store_model.specs.Books.{Logged, logged_recs, recs_in}
 use Rattle.snapshot_store.specs.Choosing.{are_chosen, chosen_list, kept_rows, table_of, with_tables}
 use Rattle.snapshot_store.specs.Keeping.{AreKept, AreListed, HasRecounted}
 use Rattle.snapshot_store.specs.Opening.{HasStableLog}
 use Rattle.snapshot_store.specs.Shelves.{is_from}
-use Rattle.snapshot_store.specs.State.{IsWhole, State, books, state_of}
+use Rattle.snapshot_store.specs.State.{IsWhole, State, books}
 use Rattle.snapshot_store.specs.Naming.{IsPlaced}
-use Rattle.snapshot_store.proofs.Chosen.{AreRow, IsChosen, are_row, chosen_greatest, row_fits}
+use Rattle.snapshot_store.proofs.Chosen.{AreRow, are_row, chosen_greatest, row_fits}
 
 -- THE LOG STANDS, as a turn asks
 pub found_logged : {D : Type 0} (reading : D → Image) (may_leave : D → Image → Type 0) (block_count : D → ℕ) (st : State D) → IsWhole block_count st → st.shut ≡ false → HasStableLog reading may_leave (books st) st.disk → Stands reading may_leave st.areas (recs_in (books st)) st.disk

@@ -1,11 +1,11 @@
 mod Wanted
 mod Holding
 mod Shelving
+mod Tallies
 mod Counting
 mod Marks
 mod Listing
 mod Choices
-mod Whole
 mod Committable
 mod Returned
 mod Course

@@ -1,5 +1,5 @@
 -- A store as it is opened: what its memory is, and where its log stands.
-use Rattle.std.proofs.Common.{◌≡◌, ℕ, zero, suc, ◌+◌, ◌<◌, ◌≤◌, Bool, true, false, if◌then◌else◌, nat_lt, List, [], ◌∷◌, ◌++◌, filter, length, map, replicate, take, get_or, Option, Some, None, refl, sym, ap, subst, ◌∙◌, arith, append_assoc}
+use Rattle.std.proofs.Common.{◌≡◌, ℕ, zero, suc, ◌+◌, ◌<◌, ◌≤◌, Bool, true, false, if◌then◌else◌, nat_lt, List, [], ◌∷◌, ◌++◌, filter, length, map, replicate, Some, None, refl, sym, ap, subst, ◌∙◌, arith, append_assoc}
 use Rattle.std.specs.Prelude.{slice_get, slice_index, slice_index_or}
 use Rattle.std.specs.List.{AllByRecursion, AllPairs}
 use Rattle.std.proofs.lemmas.Bool.{false≢true, lt-ltb}
@@ -85,7 +85,7 @@ none_listed (r ∷ recs) kept cut blocks is none = absurd (false≢true (sym non
 -- THE STORE IS WHOLE
 pub fresh_whole : {D : Type 0} (block_count : D → ℕ) (disk : D) (areas : Areas) (recs : List Rec) (kept : List Logged) (cut : Cut) (blocks : ℕ) → pool_at ≤ blocks → blocks ≤ most_blocks → blocks ≤ block_count disk
     → length recs ≤ slot_count → AreKept (map unread recs) kept (slice_index cut.0) → has_failed areas ≡ false → length recs ≡ used_of areas
-    → IsWhole block_count (state_of disk areas (map unread recs) kept cut (fresh_ledger blocks recs) true false 0 0)
+    → IsWhole block_count (state_of disk areas (map unread recs) kept cut (fresh_ledger blocks recs) true false 0)
 fresh_whole block_count disk areas recs kept cut blocks least most within few are_kept working used = record {
   within = within;
   enough = least;
@@ -186,14 +186,14 @@ module _ (recs : List Rec) (log : List Logged) (is : log ≡ map unread recs) wh
 
   module _ {D : Type 0} (block_count : D → ℕ) (disk : D) (areas : Areas) (kept : List Logged) (cut : Cut) (ledger : Ledger) (blocks : ℕ) (same : ledger ≡ fresh_ledger blocks recs) where
     pub found_whole : pool_at ≤ blocks → blocks ≤ most_blocks → blocks ≤ block_count disk → length recs ≤ slot_count → AreKept log kept (slice_index cut.0) → has_failed areas ≡ false → length recs ≡ used_of areas
-        → IsWhole block_count (state_of disk areas log kept cut ledger true false 0 0)
+        → IsWhole block_count (state_of disk areas log kept cut ledger true false 0)
     found_whole least most within few are_kept working used =
-        subst (λ (l : Ledger). IsWhole block_count (state_of disk areas log kept cut l true false 0 0)) (sym same)
-        (subst (λ (ls : List Logged). IsWhole block_count (state_of disk areas ls kept cut (fresh_ledger blocks recs) true false 0 0)) (sym is)
+        subst (λ (l : Ledger). IsWhole block_count (state_of disk areas log kept cut l true false 0)) (sym same)
+        (subst (λ (ls : List Logged). IsWhole block_count (state_of disk areas ls kept cut (fresh_ledger blocks recs) true false 0)) (sym is)
         (fresh_whole block_count disk areas recs kept cut blocks least most within few (subst (λ (ls : List Logged). AreKept ls kept (slice_index cut.0)) is are_kept) working used))
 
     pub found_stands : (reading : D → Image) (may_leave : D → Image → Type 0) (place : Place) → place_of areas ≡ place → Stands blocks place recs (reading disk) → Only (reading disk) (may_leave disk)
-        → HasStableLog reading may_leave (books (state_of disk areas log kept cut ledger true false 0 0)) disk
+        → HasStableLog reading may_leave (books (state_of disk areas log kept cut ledger true false 0)) disk
     found_stands reading may_leave place at stands stable =
         let end : ledger.end ≡ blocks = ap (λ (l : Ledger). l.end) same in
         let here : Stands ledger.end (place_of areas) (logged_recs log) (reading disk) =
@@ -232,7 +232,7 @@ one_begun old new epoch none ticks same low =
     (let one : begun_of new ≡ begun_of old + 1 = ticks.one_more (omega (arith, none)) in omega (arith, one, none), omega (arith, same, low))
 
 -- THE STORE IS FRESH
-pub fresh_store : {D : Type 0} (disk : D) (areas : Areas) (log kept : List Logged) (cut : Cut) (ledger : Ledger) → ledger ≡ fresh_ledger ledger.end (logged_recs log) → begun_of areas ≡ 1 → IsFresh (state_of disk areas log kept cut ledger true false 0 0)
+pub fresh_store : {D : Type 0} (disk : D) (areas : Areas) (log kept : List Logged) (cut : Cut) (ledger : Ledger) → ledger ≡ fresh_ledger ledger.end (logged_recs log) → begun_of areas ≡ 1 → IsFresh (state_of disk areas log kept cut ledger true false 0)
 fresh_store disk areas log kept cut ledger same one = record {
   found = ap (λ (l : Ledger). l.all_named) same;
   none_held = λ n. ap (λ (l : Ledger). is_held l n) same ∙ none_held ledger.end n;
@@ -240,7 +240,6 @@ fresh_store disk areas log kept cut ledger same one = record {
   small = refl;
   working = refl;
   one = one;
-  none_written = refl;
   none_read = refl;
 }
 

@@ -17,14 +17,14 @@ use Rattle.image_blocks.proofs.Firsts.{ne_test}
 use Rattle.image_blocks.specs.Layout.{pool_at}
 use Rattle.image_blocks.specs.Logs.{Place}
 use Rattle.log_reading.specs.Reads.{ReadsOnly}
-use Rattle.log_turn.specs.Standing.{HasCounted, begun_of, place_of}
+use Rattle.log_turn.specs.Standing.{HasCounted, begun_of}
 use Rattle.log_turn.specs.declared.areas.Areas.{Areas}
 use Rattle.page_shadow.specs.Ledger.{Ledger, is_held}
 use Rattle.store_model.specs.Between.{OnlyPages}
 use Rattle.store_model.specs.Books.{Books, free_in, is_used, kept_in, kept_names, names, words_of_bytes}
 use Rattle.snapshot_store.specs.State.{IsWhole, State, books}
 use Rattle.snapshot_store.proofs.Holding.{with_held}
-use Rattle.snapshot_store.proofs.Paged.{HasPaged, IsMoved, paged_between, with_counts}
+use Rattle.snapshot_store.proofs.Paged.{HasPaged, paged_between, with_counts}
 
 -- MARKS as functions
 
@@ -164,26 +164,6 @@ words_read old new n same = ap (λ (i : Image). words_of_bytes (block_at i n)) s
 
 pub words_written : (old new : Image) (block : ℕ) (bytes page : List ℕ) → new ≡ set old block bytes → block < length old → words_of_bytes bytes ≡ page → words_of_bytes (block_at new block) ≡ page
 words_written old new block bytes page wrote within is = ap (λ (i : Image). words_of_bytes (block_at i block)) wrote ∙ (ap words_of_bytes (get_or-set_same old block bytes [] within) ∙ is)
-
--- with another count of page writes, where none was begun
-pub same_written : {D : Type 0} (tells : Type 0) (clock : D → ℕ) (reading : D → Image) (may_leave : D → Image → Type 0) (left_since : D → ℕ → Image → Type 0) (a c : D) (x y : Books) (m k : ℕ)
-    → OnlyPages tells clock reading may_leave left_since a c x y m m → OnlyPages tells clock reading may_leave left_since a c x y k k
-same_written tells clock reading may_leave left_since a c x y m k p = record {
-  same_logged = p.same_logged;
-  same_place = p.same_place;
-  same_small = p.same_small;
-  same_count = p.same_count;
-  same_found = p.same_found;
-  same_kept = p.same_kept;
-  true_books = p.true_books;
-  shut = p.shut;
-  moments = p.moments;
-  later = p.later;
-  begun = p.begun;
-  written = omega arith;
-  few = (let few = p.few in omega (arith, few));
-  counts = p.counts;
-}
 
 -- of a call that didn't fail
 pub worked : {T E P : Type 0} (r : Result T E) → is_err r ≡ false → OnOk r P → P

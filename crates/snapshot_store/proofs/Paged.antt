@@ -1,5 +1,5 @@
 -- Books that were true stay true while only blocks change that no kept record names.
-use Rattle.std.proofs.Common.{◌≡◌, ◌≢◌, ℕ, ◌+◌, ◌<◌, ◌≤◌, Bool, true, false, ◌==◌, if◌then◌else◌, List, [], ◌∷◌, ◌++◌, map, take, refl, sym, ap, subst, ◌∙◌, arith}
+use Rattle.std.proofs.Common.{◌≡◌, ℕ, ◌<◌, ◌≤◌, Bool, true, false, ◌==◌, if◌then◌else◌, List, [], ◌∷◌, ◌++◌, map, take, refl, sym, ap, subst, ◌∙◌, arith}
 use Rattle.std.specs.List.{AllByRecursion, concat, flat_map, list_any}
 use Rattle.std.proofs.lemmas.Bool.{false≢true}
 use Rattle.disk_tally.specs.Counts.{CountsOn}
@@ -17,7 +17,7 @@ use Rattle.log_turn.specs.Standing.{SameAreas}
 use Rattle.store_commit.proofs.Stays.{front_same, gate_low, header_low, held_same, log_stays}
 use Rattle.store_commit.proofs.Unused.{apart_unnamed}
 use Rattle.store_model.specs.Between.{OnlyPages, stores_left}
-use Rattle.store_model.specs.Books.{AreApartFrom, AreSmall, AreStored, AreTrue, Books, IsApart, IsBeforePool, Logged, kept_for, kept_in, kept_of, names, page_for, recs_in}
+use Rattle.store_model.specs.Books.{AreApartFrom, AreSmall, AreTrue, Books, IsApart, IsBeforePool, Logged, kept_for, kept_in, kept_of, names, page_for, recs_in}
 
 -- WHAT THE KEPT RECORDS HOLD in an image that differs elsewhere
 

@@ -1,9 +1,9 @@
 -- What stands on the disk when the log was turned to the chosen records, and on the way there.
-use Rattle.std.proofs.Common.{◌≡◌, ◌≢◌, ℕ, zero, suc, ◌+◌, ◌<◌, ◌≤◌, ◌⊎◌, inl, inr, Bool, true, false, List, [], ◌∷◌, length, map, take, get_or, Some, refl, sym, ap, subst, ◌∙◌, arith}
-use Rattle.std.specs.Prelude.{All, Contains, slice_get, slice_index}
+use Rattle.std.proofs.Common.{◌≡◌, ℕ, zero, suc, ◌+◌, ◌<◌, ◌≤◌, ◌⊎◌, inl, inr, List, [], ◌∷◌, map, Some, refl, sym, ap, subst, ◌∙◌, arith}
+use Rattle.std.specs.Prelude.{All, slice_get}
 use Rattle.std.specs.List.{AllByRecursion}
 use Rattle.std.proofs.lemmas.List.{get_or-take, length-take}
-use Rattle.cut_laws.specs.Records.{AgreeInRecs, commits_of}
+use Rattle.cut_laws.specs.Records.{commits_of}
 use Rattle.disk_trait.specs.Disk.{Only}
 use Rattle.disk_trait.specs.Image.{Image, SameOutside, block_at}
 use Rattle.disk_trait.specs.Moments.{LeavesOnly}
@@ -12,13 +12,12 @@ use Rattle.disk_trait.proofs.Phases.{LeavesOnly-weaker, Moments}
 use Rattle.hop_base.specs.declared.records.Rec.{Rec}
 use Rattle.hop_model.specs.Choices.{IsNarrow}
 use Rattle.image_blocks.specs.Bodies.{blob_blocks, blocks_for}
-use Rattle.image_blocks.specs.Checks.{count_in}
-use Rattle.image_blocks.specs.Layout.{gate_at, header_at, header_block, last_number, most_blocks, other, pool_at}
+use Rattle.image_blocks.specs.Layout.{header_at, header_block, last_number, most_blocks, other, pool_at}
 use Rattle.image_blocks.specs.declared.areas.Area.{Area}
 use Rattle.log_reading.specs.Logs.{AreInRange}
 use Rattle.image_blocks.specs.Logs.{AreFitting, HasFront, HasLog, HasRecords, IsInRange, IsTurned, IsTurning, Place, next_place}
 use Rattle.image_blocks.proofs.Reading.{log_law}
-use Rattle.image_meaning.specs.Stores.{IsHeld, Kept, Page, recs_of}
+use Rattle.image_meaning.specs.Stores.{IsHeld, Page}
 use Rattle.log_turn.specs.Standing.{IsTurnedTo, SameAreas, area_of, epoch_of, place_of}
 use Rattle.log_turn.specs.declared.areas.Areas.{Areas}
 use Rattle.page_shadow.specs.declared.ShadowTable.{ShadowTable}

@@ -1,12 +1,9 @@
 -- What opening an image leaves of the disk, and what is known of a store behind it.
-use Rattle.std.specs.Prelude.{◌≡◌, ℕ, ◌+◌, ◌≤◌, Bool, false, true, List, [], ◌∷◌, map, replicate, slice_index}
-use Rattle.cut_laws.specs.Agreeing.{nothing}
-use Rattle.cut_laws.specs.Records.{commits_of}
+use Rattle.std.specs.Prelude.{◌≡◌, ℕ, ◌+◌, ◌≤◌, Bool, false, true, List, [], ◌∷◌, replicate, slice_index}
 use Rattle.disk_trait.specs.Disk.{Only}
 use Rattle.disk_trait.specs.Image.{Image}
 use Rattle.disk_trait.specs.Moments.{LeavesOnly}
 use Rattle.hop_base.specs.declared.records.Rec.{Rec}
-use Rattle.hop_model.specs.Choices.{IsGreatest}
 use Rattle.image_blocks.specs.Layout.{pool_at}
 use Rattle.image_blocks.specs.Logs.{AreFitting, HasFront, HasLog}
 use Rattle.page_shadow.specs.Ledger.{Ledger}
@@ -43,7 +40,7 @@ pub record HasStableLog {D : Type 0} (reading : D → Image) (may_leave : D → 
   pub stable : Only (reading disk) (may_leave disk)
 
 -- a store as it was opened: no block is held or was named by a record, and each counts as named where there are records, no number was too large, the disk hasn't failed, one sync was begun, and no page
--- was read or written
+-- was read
 pub record IsFresh {D : Type 0} (st : State D) : Type 0 where
   pub found : (books st).found ≡ is_some_rec (recs_in (books st))
   pub none_held : (n : ℕ) → (books st).held n ≡ false
@@ -51,5 +48,4 @@ pub record IsFresh {D : Type 0} (st : State D) : Type 0 where
   pub small : (books st).small ≡ true
   pub working : (books st).shut ≡ false
   pub one : (books st).begun ≡ 1
-  pub none_written : st.written ≡ 0
   pub none_read : st.read_calls ≡ 0

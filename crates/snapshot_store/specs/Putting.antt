@@ -28,8 +28,3 @@ pub record HasFailed {D : Type 0} (old new : State D) : Type 0 where
   pub blocks : new.blocks ≡ old.blocks
   pub small : new.small ≡ old.small
   pub shut : new.shut ≡ true
-
--- no page was written or read
-pub record SamePages {D : Type 0} (old new : State D) : Type 0 where
-  pub written : new.written ≡ old.written
-  pub read_calls : new.read_calls ≡ old.read_calls

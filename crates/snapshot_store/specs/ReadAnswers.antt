@@ -1,5 +1,5 @@
 -- Which answer of a read comes when.
-use Rattle.std.specs.Prelude.{◌≡◌, Bool, true, false, Result, IsErrOf, OnOk}
+use Rattle.std.specs.Prelude.{◌≡◌, Bool, true, Result, IsErrOf, OnOk}
 use Rattle.disk_trait.specs.declared.disk.NoBlocks.{NoBlocks as TooFew}
 use Rattle.snapshot_store.specs.declared.faults.StoreFault.{StoreFault}
 use Rattle.snapshot_store.specs.declared.faults.StoreFault.TheVariants.{NoBlocks, ReadFault, Shut, WriteFault}

@@ -1,5 +1,5 @@
 -- Records on a shelf.
-use Rattle.std.specs.Prelude.{ℕ, List, [], ◌∷◌, Bool, nat_le}
+use Rattle.std.specs.Prelude.{◌≡◌, ℕ, ◌<◌, List, [], ◌∷◌, Bool, ◌==◌, count_by, nat_le, slice_index}
 use Rattle.hop_base.specs.declared.records.Rec.{Rec}
 use Rattle.page_shadow.specs.declared.ShadowTable.{ShadowTable}
 use Rattle.store_model.specs.Books.{Logged}
@@ -17,3 +17,11 @@ is_from cut l = nat_le (cut l.rec.entity) l.rec.version
 -- what stands at a place where no record is
 abbrev pub nothing_logged : Logged
 nothing_logged = record { rec = record { entity = 0; version = 0; stamp = []; length = 0; blocks = [] }; table = [] }
+
+-- how many of the records are of an entity
+abbrev pub records_of : ℕ → List Logged → ℕ
+records_of x ls = count_by (λ (l : Logged). l.rec.entity == x) ls
+
+-- for each entity, so many of these records are its own
+abbrev pub AreTallied : List ℕ → List Rec → Type 0
+AreTallied counts recs = (x : ℕ) → x < 64 → slice_index counts x ≡ count_by (λ (r : Rec). r.entity == x) recs

@@ -9,7 +9,7 @@ use Rattle.snapshot_store.specs.Keeping.{AreKept, AreListed}
 use Rattle.store_model.specs.Books.{Books, Logged}
 
 -- the disk, the areas of its log, the records of the log with the blocks of their pages, those of them that are kept, the greatest closed
--- choice of them, which blocks are in use, whether no number was too large, whether the disk failed, and how many pages were written and read
+-- choice of them, which blocks are in use, whether no number was too large, whether the disk failed, and how often a page was read
 pub record State (D : Type 0) : Type 0 where
   pub disk : D
   pub areas : Areas
@@ -19,12 +19,11 @@ pub record State (D : Type 0) : Type 0 where
   pub blocks : Ledger
   pub small : Bool
   pub shut : Bool
-  pub written : ℕ
   pub read_calls : ℕ
 
-abbrev pub state_of : {D : Type 0} → D → Areas → List Logged → List Logged → Cut → Ledger → Bool → Bool → ℕ → ℕ → State D
-state_of disk areas log kept cut blocks small shut written read_calls =
-    record { disk = disk; areas = areas; log = log; kept = kept; cut = cut; blocks = blocks; small = small; shut = shut; written = written; read_calls = read_calls }
+abbrev pub state_of : {D : Type 0} → D → Areas → List Logged → List Logged → Cut → Ledger → Bool → Bool → ℕ → State D
+state_of disk areas log kept cut blocks small shut read_calls =
+    record { disk = disk; areas = areas; log = log; kept = kept; cut = cut; blocks = blocks; small = small; shut = shut; read_calls = read_calls }
 
 -- THE BOOKS
 abbrev pub books : {D : Type 0} → State D → Books

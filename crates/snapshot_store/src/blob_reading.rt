@@ -10,6 +10,7 @@ ghost use Rattle.snapshot_store.specs.Opening.{HasStableLog};
 ghost use Rattle.snapshot_store.specs.ReadAnswers.{ReadAnswers};
 ghost use Rattle.snapshot_store.specs.State.{books};
 ghost use Rattle.store_model.specs.Between.{OnlyPages};
+ghost use Rattle.store_model.specs.Books.{kept_in};
 
 use crate::StoreFault;
 use crate::store::Store;
@@ -75,6 +76,7 @@ impl<D: Disk> Store<D> {
         ensures blob { D.tells → OnOk result (out.new ≡ blob_in (D.reading self.old.disk) rec.now) }
         ensures same { self.new ≡ record self.old { disk = self.new.disk; shut = self.new.shut } }
         ensures disk { ReadsOnly D.tells D.block_count D.reading D.may_leave D.left_since D.clock D.faults self.old.disk self.new.disk }
+        ensures same_kept { kept_in (books self.new) ≡ kept_in (books self.old) }
         ensures between { OnlyPages D.tells D.clock D.reading D.may_leave D.left_since self.old.disk self.new.disk (books self.old) (books self.new) (books self.old).begun (books self.new).begun }
         ensures log { D.tells → HasStableLog D.reading D.may_leave (books self.old) self.old.disk → HasStableLog D.reading D.may_leave (books self.new) self.new.disk }
         ensures answers { ReadAnswers self.old.shut self.new.shut (Rose (D.faults self.old.disk) (D.faults self.new.disk)) result }

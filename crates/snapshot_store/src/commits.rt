@@ -11,12 +11,12 @@ ghost use Rattle.image_blocks.specs.Bodies.{blocks_for};
 ghost use Rattle.image_blocks.specs.Layout.{most_length, slot_count};
 ghost use Rattle.log_turn.specs.Standing.{Stands, begun_of, epoch_of, used_of};
 ghost use Rattle.store_commit.specs.Storing.{HasBlob, HasLogged, HasPlaces, IsCommitBlock, IsReady, Next, StoresOneMore, new_of, roomy_log as roomy_recs};
-ghost use Rattle.snapshot_store.specs.Committed.{HasFailedShut, SameUsed, StoresKeptOrMore};
+ghost use Rattle.snapshot_store.specs.Committed.{CommitsInFreeBlocks, HasFailedShut, SameUsed, StoresKeptOrMore};
 ghost use Rattle.snapshot_store.specs.Naming.{IsPlaced};
-ghost use Rattle.snapshot_store.specs.Putting.{HasFailed, HasPut, SamePages, are_small};
+ghost use Rattle.snapshot_store.specs.Putting.{HasFailed, HasPut, are_small};
 ghost use Rattle.snapshot_store.specs.State.{books};
 ghost use Rattle.snapshot_store.specs.declared.faults.StoreFault.{StoreFault as Fault};
-ghost use Rattle.store_model.specs.Books.{AreHeldPages, AreSmall, AreTrue, Commits, free_in, kept_in, logged_recs, recs_in};
+ghost use Rattle.store_model.specs.Books.{AreHeldPages, AreSmall, AreTrue, free_in, kept_in, logged_recs, recs_in};
 
 use crate::StoreFault;
 use crate::numbers::is_small;
@@ -61,7 +61,7 @@ impl<D: Disk> Store<D> {
         ensures epoch { OnOk result ((epoch_of self.old.areas ≤ epoch_of self.new.areas) × (epoch_of self.new.areas ≤ epoch_of self.old.areas + 1)) }
         ensures put { OnOk result (HasPut (record { rec = rec.now; table = table.now.0 }) self.old self.new) }
         ensures failed { OnErr result (HasFailed self.old self.new × Rose (D.faults self.old.disk) (D.faults self.new.disk)) }
-        ensures pages { SamePages self.old self.new }
+        ensures pages { self.new.read_calls ≡ self.old.read_calls }
         ensures begins { Begins (2 * length self.old.kept + length blob.now + 14) (shown D.block_count D.clock D.faults self.old.disk (begun_of self.old.areas)) (shown D.block_count D.clock D.faults self.new.disk (begun_of self.new.areas)) }
     {
         let turned = self.areas.used() == SLOT_COUNT;
@@ -101,7 +101,7 @@ impl<D: Disk> Store<D> {
         requires epoch { (books self.old).place.epoch < 2 ^ 63 }
         requires true_books { D.tells → AreTrue D.reading D.may_leave (books self.old) self.old.disk }
 
-        ensures committed { D.tells → OnOk result (Commits entity version stamp.now bytes.now table.now (D.reading self.new.disk) (books self.old) (books self.new)) }
+        ensures committed { D.tells → OnOk result (CommitsInFreeBlocks entity version stamp.now bytes.now table.now (D.reading self.new.disk) (books self.old) (books self.new)) }
         ensures true_books { D.tells → OnOk result (AreTrue D.reading D.may_leave (books self.new) self.new.disk) }
         ensures stable { D.tells → OnOk result (Only (D.reading self.new.disk) (D.may_leave self.new.disk)) }
         ensures same_used { D.tells → SameUsed (books self.old) (D.reading self.old.disk) (D.reading self.new.disk) }
@@ -110,7 +110,7 @@ impl<D: Disk> Store<D> {
             → LeavesOnly D.clock D.left_since self.old.disk self.new.disk (StoresKeptOrMore (D.reading self.old.disk) (books self.old) entity version stamp.now bytes.now table.now) }
         ensures only_write_fault { (e : Fault) → IsErrOf result e → e ≡ StoreFault.WriteFault }
         ensures failed { OnErr result (Rose (D.faults self.old.disk) (D.faults self.new.disk) × HasFailedShut (books self.old) (books self.new)) }
-        ensures pages { SamePages self.old self.new }
+        ensures pages { self.new.read_calls ≡ self.old.read_calls }
         ensures begins { Begins 1300 (shown D.block_count D.clock D.faults self.old.disk (books self.old).begun) (shown D.block_count D.clock D.faults self.new.disk (books self.new).begun) }
     {
         let need = (bytes.len() + 1023) / 1024;
@@ -158,7 +158,7 @@ impl<D: Disk> Store<D> {
         requires epoch { (books self.old).place.epoch < 2 ^ 63 }
         requires true_books { D.tells → AreTrue D.reading D.may_leave (books self.old) self.old.disk }
 
-        ensures committed { D.tells → OnOk result (Commits entity version stamp.now blob.now pages.now.0 (D.reading self.new.disk) (books self.old) (books self.new)) }
+        ensures committed { D.tells → OnOk result (CommitsInFreeBlocks entity version stamp.now blob.now pages.now.0 (D.reading self.new.disk) (books self.old) (books self.new)) }
         ensures true_books { D.tells → OnOk result (AreTrue D.reading D.may_leave (books self.new) self.new.disk) }
         ensures stable { D.tells → OnOk result (Only (D.reading self.new.disk) (D.may_leave self.new.disk)) }
         ensures same_used { D.tells → SameUsed (books self.old) (D.reading self.old.disk) (D.reading self.new.disk) }
@@ -174,7 +174,7 @@ impl<D: Disk> Store<D> {
         ensures untouched { IsErrOf result StoreFault.Shut ⊎ ((b : TooFew) × IsErrOf result (StoreFault.NoBlocks b)) → self.new ≡ self.old }
         ensures write_fault { IsErrOf result StoreFault.WriteFault → Rose (D.faults self.old.disk) (D.faults self.new.disk) × HasFailedShut (books self.old) (books self.new) }
         ensures no_read { IsErrOf result StoreFault.ReadFault → ⊥ }
-        ensures pages { SamePages self.old self.new }
+        ensures pages { self.new.read_calls ≡ self.old.read_calls }
         ensures begins { Begins 1300 (shown D.block_count D.clock D.faults self.old.disk (books self.old).begun) (shown D.block_count D.clock D.faults self.new.disk (books self.new).begun) }
     {
         if self.shut {

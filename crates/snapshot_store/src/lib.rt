@@ -5,6 +5,7 @@ mod blob_reading;
 mod choosing;
 mod commits;
 mod faults;
+mod laws;
 mod naming;
 mod numbers;
 mod opening;
@@ -16,6 +17,7 @@ mod store;
 mod taking;
 
 pub use faults::StoreFault;
+pub use laws::same_kept_law;
 pub use opening::{OpenFault, OpenWhy};
 pub use store::Store;
 

@@ -133,9 +133,9 @@ fn on_shelves(alloc: Global, recs: &[Rec], blocks: u32) -> Result<Shelved, Alloc
 // The areas and the memory of a store, from the log of an image.
 pub(crate) fn found<D: Disk>(alloc: Global, disk: &mut D) -> Result<(Areas, Shelved), OpenWhy>
     ensures records { D.tells → IfOk result (λ f. HasRecords (logged_recs f.1.log) (D.reading disk.old)) }
-    ensures whole { IfOk result (λ f. IsWhole D.block_count (state_of disk.new f.0 f.1.log f.1.kept f.1.cut f.1.blocks true false 0 0)) }
+    ensures whole { IfOk result (λ f. IsWhole D.block_count (state_of disk.new f.0 f.1.log f.1.kept f.1.cut f.1.blocks true false 0)) }
     ensures blocks { IfOk result (λ f. f.1.blocks ≡ fresh_ledger f.1.blocks.end (logged_recs f.1.log)) }
-    ensures log { D.tells → IfOk result (λ f. HasStableLog D.reading D.may_leave (books (state_of disk.new f.0 f.1.log f.1.kept f.1.cut f.1.blocks true false 0 0)) disk.new) }
+    ensures log { D.tells → IfOk result (λ f. HasStableLog D.reading D.may_leave (books (state_of disk.new f.0 f.1.log f.1.kept f.1.cut f.1.blocks true false 0)) disk.new) }
     ensures range { IfOk result (λ f. AreInRange f.1.blocks.end (logged_recs f.1.log)) }
     ensures older { IfOk result (λ f. AllPairs IsOlder (logged_recs f.1.log)) }
     ensures areas { IfOk result (λ f. (begun_of f.0 ≡ 1) × (epoch_of f.0 ≤ last_number)) }
@@ -190,7 +190,6 @@ impl<D: Disk> Store<D> {
                     blocks,
                     small: true,
                     shut: false,
-                    written: 0,
                     read_calls: 0,
                 })
             }

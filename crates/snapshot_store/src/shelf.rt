@@ -1,7 +1,7 @@
 // Records with the blocks of their pages, in room that is taken once.
 ghost use Rattle.std.specs.Prelude.{◌≡◌, ◌<◌, ◌≤◌, ◌++◌, ◌∷◌, [], length, filter, slice_index, slice_index_or, IfOk};
 ghost use Rattle.image_blocks.specs.Layout.{slot_count};
-ghost use Rattle.snapshot_store.specs.Shelves.{is_from, nothing_logged};
+ghost use Rattle.snapshot_store.specs.Shelves.{AreTallied, is_from, nothing_logged, records_of};
 ghost use Rattle.store_model.specs.Books.{logged_recs};
 
 use hop_base::{Cut, Entity, Rec};
@@ -17,19 +17,22 @@ pub(crate) struct Shelf {
     recs: Vec<Rec>,
     tables: Vec<ShadowTable>,
     used: usize,
+    // how many of them each entity has
+    counts: [u16; 64],
 }
 
 impl Model for Shelf {
     ghost use Rattle.std.specs.Prelude.{◌≡◌, ◌≤◌, List, length, take};
     ghost use Rattle.image_blocks.specs.Layout.{slot_count};
-    ghost use Rattle.snapshot_store.specs.Shelves.{logged_with};
+    ghost use Rattle.snapshot_store.specs.Shelves.{AreTallied, logged_with};
     ghost use Rattle.store_model.specs.Books.{Logged};
 
     ghost Value = { List Logged };
 
     ghost view = { λ s. take s.used (logged_with s.recs.items s.tables.items) };
 
-    ghost invariant = { λ s. (length s.recs.items ≡ slot_count) × (length s.tables.items ≡ slot_count) × (s.used ≤ slot_count) };
+    ghost invariant = { λ s. (length s.recs.items ≡ slot_count) × (length s.tables.items ≡ slot_count) × (s.used ≤ slot_count)
+        × AreTallied s.counts (take s.used s.recs.items) };
 }
 
 // What stands on a shelf where nothing was put yet.
@@ -43,6 +46,18 @@ pub(crate) fn no_record() -> Rec {
     }
 }
 
+// How many of the records each entity has.
+fn tally(recs: &[Rec]) -> [u16; 64]
+    requires { length recs.now ≤ slot_count }
+    ensures { AreTallied result recs.now }
+{
+    let mut counts = [0; 64];
+    for rec in recs {
+        counts[rec.entity.number() as usize] += 1;
+    }
+    counts
+}
+
 impl Shelf {
     // An empty shelf. It takes about a megabyte.
     pub(crate) fn new(alloc: Global) -> Result<Shelf, Memory>
@@ -52,6 +67,7 @@ impl Shelf {
             recs: vec![in alloc; no_record(); SLOT_COUNT as usize]?,
             tables: vec![in alloc; ShadowTable::new(); SLOT_COUNT as usize]?,
             used: 0,
+            counts: [0; 64],
         })
     }
 
@@ -61,6 +77,13 @@ impl Shelf {
         ensures few { result ≤ slot_count }
     {
         self.used
+    }
+
+    // How many records an entity has.
+    pub(crate) fn count(&self, entity: Entity) -> u16
+        ensures { result ≡ records_of entity self.now }
+    {
+        self.counts[entity.number() as usize]
     }
 
     // The records.
@@ -94,6 +117,7 @@ impl Shelf {
         self.recs[self.used] = *rec;
         self.tables[self.used] = *table;
         self.used += 1;
+        self.counts[rec.entity.number() as usize] += 1;
     }
 
     // Takes off all records.
@@ -101,6 +125,7 @@ impl Shelf {
         ensures { self.new ≡ [] }
     {
         self.used = 0;
+        self.counts = [0; 64];
     }
 
     // Holds what the other shelf holds.
@@ -112,6 +137,7 @@ impl Shelf {
             self.tables[i] = other.tables[i];
         }
         self.used = other.used;
+        self.counts = other.counts;
     }
 
     // Keeps the records at or above a choice.
@@ -128,5 +154,6 @@ impl Shelf {
             }
         }
         self.used = kept;
+        self.counts = tally(&self.recs[..kept]);
     }
 }

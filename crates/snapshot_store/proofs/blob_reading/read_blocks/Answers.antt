@@ -1,4 +1,4 @@
-use Rattle.std.proofs.Common.{◌≡◌, ◌<◌, ◌+◌, ◌/◌, ◌++◌, List, ℕ, length, get_or, min, take, sym, ap, ◌∙◌, arith}
+use Rattle.std.proofs.Common.{◌≡◌, ◌<◌, ◌++◌, length, get_or, min, take, ap, ◌∙◌, arith}
 use Rattle.disk_trait.specs.Image.{Image, block_at}
 use Rattle.image_blocks.specs.Bodies.{blocks_for}
 use Rattle.log_reading.proofs.ReadSoFar.{ReadsOnly-trans}

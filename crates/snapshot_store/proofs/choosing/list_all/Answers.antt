@@ -1,12 +1,8 @@
-use Rattle.std.proofs.Common.{◌≡◌, ℕ, ◌+◌, ◌<◌, ◌≤◌, List, length, take, ap, sym, subst, ◌∙◌, arith}
-use Rattle.std.proofs.lemmas.List.{length-map, length-take, take_all}
-use Rattle.hop_base.specs.declared.records.Rec.{Rec}
-use Rattle.page_shadow.specs.Ledger.{Ledger}
-use Rattle.store_model.specs.Books.{Logged}
-use Rattle.snapshot_store.specs.Choosing.{table_of, with_tables}
-use Rattle.snapshot_store.specs.Naming.{IsPlaced}
+use Rattle.std.proofs.Common.{ap, ◌∙◌, arith}
+use Rattle.std.proofs.lemmas.List.{take_all}
+use Rattle.snapshot_store.specs.Choosing.{with_tables}
 use Rattle.snapshot_store.proofs.Listing.{recounted_then}
-use Rattle.snapshot_store.proofs.ChosenListed.{few_listed, listed_none, placed_at, placed_still, recounted_same, sized_still, table_at, with_more}
+use Rattle.snapshot_store.proofs.ChosenListed.{few_listed, listed_none, placed_at, placed_still, recounted_same, sized_still, with_more}
 use Rattle.snapshot_store.proofs.choosing.list_all.Goals as goal
 
 pub loop-rec-init : goal.loop-rec-init

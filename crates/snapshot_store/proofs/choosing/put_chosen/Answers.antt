@@ -1,4 +1,4 @@
-use Rattle.std.proofs.Common.{◌≡◌, ◌<◌, ◌++◌, List, Option, Some, None, length, take, ap, sym, append-nil, ◌∙◌, arith}
+use Rattle.std.proofs.Common.{◌≡◌, ◌++◌, Option, length, take, ap, sym, append-nil, ◌∙◌, arith}
 use Rattle.std.proofs.lemmas.List.{take_more_set}
 use Rattle.hop_base.specs.declared.records.Rec.{Rec}
 use Rattle.snapshot_store.specs.Choosing.{listed}

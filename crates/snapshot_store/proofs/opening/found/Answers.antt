@@ -1,9 +1,8 @@
-use Rattle.std.proofs.Common.{◌≡◌, ◌≤◌, ℕ, List, length, map, sym, ap, subst, ◌∙◌, arith}
+use Rattle.std.proofs.Common.{◌≡◌, List, map, sym, ap, subst, ◌∙◌, arith}
 use Rattle.disk_trait.specs.Disk.{Only}
 use Rattle.disk_trait.specs.Image.{Image}
 use Rattle.disk_trait.proofs.Phases.{IsImage-reading, told}
 use Rattle.hop_base.specs.declared.records.Rec.{Rec}
-use Rattle.image_blocks.specs.Logs.{HasRecords}
 use Rattle.image_blocks.specs.Logs.{Place}
 use Rattle.log_reading.specs.Logs.{AreInRange}
 use Rattle.snapshot_store.specs.Opening.{fresh_ledger, unread}

@@ -1,7 +1,6 @@
 use Rattle.std.proofs.Common.{◌≡◌, ℕ, ◌+◌, ◌++◌, ◌∷◌, [], List, ◌∙◌, ap, sym, map, take}
 use Rattle.std.proofs.lemmas.List.{take_more}
 use Rattle.hop_base.specs.declared.records.Rec.{Rec}
-use Rattle.store_model.specs.Books.{Logged}
 use Rattle.snapshot_store.specs.Opening.{unread}
 use Rattle.snapshot_store.proofs.Opened.{shelve_more}
 use Rattle.snapshot_store.proofs.opening.shelve.Goals as goal

@@ -1,6 +1,5 @@
-use Rattle.std.proofs.Common.{◌≡◌, ◌≤◌, length, [], sym, ap, ◌∙◌, refl, arith}
+use Rattle.std.proofs.Common.{◌≤◌, length, [], sym, ap, ◌∙◌, arith}
 use Rattle.std.proofs.lemmas.List.{get_or_past}
-use Rattle.disk_trait.specs.Image.{block_at}
 use Rattle.disk_trait.proofs.Phases.{IsImage-reading}
 use Rattle.store_model.specs.Books.{words_of_bytes}
 use Rattle.snapshot_store.proofs.paging.read_words.Goals as goal

@@ -1,23 +1,22 @@
-use Rattle.std.proofs.Common.{◌≡◌, Bool, List, false, set, ap, subst, sym, ◌∙◌, true, length, ◌<◌, refl, arith}
+use Rattle.std.proofs.Common.{◌≡◌, false, set, ap, subst, sym, ◌∙◌, true, length, ◌<◌, refl, arith}
 use Rattle.page_shadow.specs.Ledger.{Ledger, is_held}
 use Rattle.store_model.specs.Books.{free_in}
 use Rattle.snapshot_store.specs.State.{State, books, state_of}
 use Rattle.snapshot_store.proofs.Holding.{held_by}
-use Rattle.snapshot_store.proofs.PageCalls.{free_given, held_put, same_written}
+use Rattle.snapshot_store.proofs.PageCalls.{free_given, held_put}
 use Rattle.snapshot_store.proofs.paged_store.StorePageStore.give_back.Goals as goal
 
 pub returns-clause-between : goal.returns-clause-between
 returns-clause-between g c =
     let i = c.self.inside in
-    let st : State g.row.D.Denot = state_of i.disk i.areas i.log i.kept i.cut i.blocks i.small i.shut i.written i.read_calls in
+    let st : State g.row.D.Denot = state_of i.disk i.areas i.log i.kept i.cut i.blocks i.small i.shut i.read_calls in
     rw (← c.self.view_is)
-    (same_written g.D.Disk.tells g.D.Disk.clock g.D.Disk.reading g.D.Disk.may_leave g.D.Disk.left_since _ _ _ _ st.written _
-    (held_by g.D.Disk.tells g.D.Disk.clock g.D.Disk.reading g.D.Disk.may_leave g.D.Disk.left_since st c.give_back.new.self (set c.self.inside.blocks.held c.args.block false) c.give_back.ensures (λ image told left. g.met.D.Disk.only_now c.self.inside.disk image told left)))
+    (held_by g.D.Disk.tells g.D.Disk.clock g.D.Disk.reading g.D.Disk.may_leave g.D.Disk.left_since st c.give_back.new.self (set c.self.inside.blocks.held c.args.block false) c.give_back.ensures (λ image told left. g.met.D.Disk.only_now c.self.inside.disk image told left))
 
 pub returns-clause-free : goal.returns-clause-free
 returns-clause-free g c =
     let i = c.self.inside in
-    let st : State g.row.D.Denot = state_of i.disk i.areas i.log i.kept i.cut i.blocks i.small i.shut i.written i.read_calls in
+    let st : State g.row.D.Denot = state_of i.disk i.areas i.log i.kept i.cut i.blocks i.small i.shut i.read_calls in
     let held : is_held i.blocks c.args.block ≡ true = subst (λ (s : State g.row.D.Denot). is_held s.blocks c.args.block ≡ true) (sym c.self.view_is) c.requires in
     rw (← c.self.view_is) (ap (λ (l : Ledger). free_in (books (record st { blocks = l }))) c.give_back.ensures ∙ free_given g.D.Disk.block_count st c.args.block c.self.invariant held)
 

@@ -1,4 +1,4 @@
-use Rattle.std.proofs.Common.{◌≡◌, ℕ, refl, sym, ap, subst, ◌∙◌}
+use Rattle.std.proofs.Common.{refl, sym, ◌∙◌}
 use Rattle.disk_trait.proofs.Phases.{told}
 use Rattle.snapshot_store.specs.State.{State, books, state_of}
 use Rattle.snapshot_store.proofs.PageCalls.{read_between, words_read, worked}
@@ -23,7 +23,7 @@ pub returns-then-is_err-clause-between : goal.returns-then-is_err-clause-between
 returns-then-is_err-clause-between g c =
     let i = c.self.inside in
     let disk = g.met.D.Disk in
-    let st : State g.row.D.Denot = state_of i.disk i.areas i.log i.kept i.cut i.blocks i.small i.shut i.written i.read_calls in
+    let st : State g.row.D.Denot = state_of i.disk i.areas i.log i.kept i.cut i.blocks i.small i.shut i.read_calls in
     rw (← c.self.view_is)
     (read_between g.D.Disk.tells g.D.Disk.block_count g.D.Disk.clock g.D.Disk.reading g.D.Disk.may_leave g.D.Disk.left_since g.D.Disk.faults (λ t. told t disk.counts_now disk.only_now) (books st) _ i.disk c.read_words.new.disk c.if-self.false c.read_words.ensures.same)
 
@@ -31,7 +31,7 @@ pub returns-clause-between : goal.returns-clause-between
 returns-clause-between g c =
     let i = c.self.inside in
     let disk = g.met.D.Disk in
-    let st : State g.row.D.Denot = state_of i.disk i.areas i.log i.kept i.cut i.blocks i.small i.shut i.written i.read_calls in
+    let st : State g.row.D.Denot = state_of i.disk i.areas i.log i.kept i.cut i.blocks i.small i.shut i.read_calls in
     rw (← c.self.view_is)
     (read_between g.D.Disk.tells g.D.Disk.block_count g.D.Disk.clock g.D.Disk.reading g.D.Disk.may_leave g.D.Disk.left_since g.D.Disk.faults (λ t. told t disk.counts_now disk.only_now) (books st) _ i.disk c.read_words.new.disk c.if-self.false c.read_words.ensures.same)
 

@@ -1,7 +1,6 @@
-use Rattle.std.proofs.Common.{◌≡◌, ◌<◌, ◌≤◌, ℕ, true, false, length, refl, sym, ap, subst, ◌∙◌, arith}
+use Rattle.std.proofs.Common.{◌≡◌, ◌<◌, true, false, length, refl, sym, subst, ◌∙◌, arith}
 use Rattle.disk_trait.proofs.Phases.{IsImage-reading, told}
 use Rattle.disk_trait.proofs.Ticks.{Ticks-one}
-use Rattle.image_blocks.specs.Layout.{pool_at}
 use Rattle.page_shadow.specs.Ledger.{is_held}
 use Rattle.store_model.specs.Books.{kept_names}
 use Rattle.snapshot_store.specs.State.{State, books, state_of}
@@ -44,7 +43,7 @@ pub returns-then-is_err-clause-between : goal.returns-then-is_err-clause-between
 returns-then-is_err-clause-between g c =
     let i = c.self.inside in
     let disk = g.met.D.Disk in
-    let st : State g.row.D.Denot = state_of i.disk i.areas i.log i.kept i.cut i.blocks i.small i.shut i.written i.read_calls in
+    let st : State g.row.D.Denot = state_of i.disk i.areas i.log i.kept i.cut i.blocks i.small i.shut i.read_calls in
     let held : is_held i.blocks c.args.block ≡ true = subst (λ (s : State g.row.D.Denot). is_held s.blocks c.args.block ≡ true) (sym c.self.view_is) c.requires.held in
     let not_kept : kept_names (books st) c.args.block ≡ false = subst (λ (s : State g.row.D.Denot). kept_names (books s) c.args.block ≡ false) (sym c.self.view_is) c.requires.not_kept in
     rw (← c.self.view_is)
@@ -55,7 +54,7 @@ pub returns-clause-between : goal.returns-clause-between
 returns-clause-between g c =
     let i = c.self.inside in
     let disk = g.met.D.Disk in
-    let st : State g.row.D.Denot = state_of i.disk i.areas i.log i.kept i.cut i.blocks i.small i.shut i.written i.read_calls in
+    let st : State g.row.D.Denot = state_of i.disk i.areas i.log i.kept i.cut i.blocks i.small i.shut i.read_calls in
     let held : is_held i.blocks c.args.block ≡ true = subst (λ (s : State g.row.D.Denot). is_held s.blocks c.args.block ≡ true) (sym c.self.view_is) c.requires.held in
     let not_kept : kept_names (books st) c.args.block ≡ false = subst (λ (s : State g.row.D.Denot). kept_names (books s) c.args.block ≡ false) (sym c.self.view_is) c.requires.not_kept in
     rw (← c.self.view_is)

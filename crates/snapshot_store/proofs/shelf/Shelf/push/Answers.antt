@@ -2,6 +2,7 @@ use Rattle.std.proofs.Common.{sym, ◌≡◌, ◌∙◌, length, arith}
 use Rattle.std.proofs.lemmas.List.{length-set}
 use Rattle.image_blocks.specs.Layout.{slot_count}
 use Rattle.snapshot_store.proofs.Shelving.{has_room, one_pushed, used_len}
+use Rattle.snapshot_store.proofs.Tallies.{tally_pushed}
 use Rattle.snapshot_store.proofs.shelf.Shelf.push.Goals as goal
 
 pub index_mut-requires : goal.index_mut-requires
@@ -28,6 +29,7 @@ invariant_of-self c =
       length-set c.self.inside.recs.items c.self.inside.used c.args.rec.now ∙ inv.0,
       length-set c.self.inside.tables.items c.self.inside.used c.args.table.now ∙ inv.1,
       omega (arith, room, used),
+      tally_pushed c.self.inside.counts c.self.inside.recs.items c.self.inside.used c.number.result c.args.rec.now (omega arith) (omega arith) c.number.ensures.number (omega (arith, room, used, all)) inv.3,
     )
 
 pub returns : goal.returns

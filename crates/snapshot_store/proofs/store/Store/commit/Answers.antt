@@ -25,7 +25,7 @@ exactly x y same one two b = (
 pub returns-then-free-need-clause-any_moment : goal.returns-then-free-need-clause-any_moment
 returns-then-free-need-clause-any_moment g c =
     let i = c.self.inside in
-    let st : State g.row.D.Denot = state_of i.disk i.areas i.log i.kept i.cut i.blocks i.small i.shut i.written i.read_calls in
+    let st : State g.row.D.Denot = state_of i.disk i.areas i.log i.kept i.cut i.blocks i.small i.shut i.read_calls in
     let right = rw (← c.self.view_is) at c.requires.true_books in
     rw (← c.self.view_is)
     (λ t small own working.
@@ -35,7 +35,7 @@ returns-then-free-need-clause-any_moment g c =
 pub returns-then-free-need-clause-no_blocks : goal.returns-then-free-need-clause-no_blocks
 returns-then-free-need-clause-no_blocks g c =
     let i = c.self.inside in
-    let st : State g.row.D.Denot = state_of i.disk i.areas i.log i.kept i.cut i.blocks i.small i.shut i.written i.read_calls in
+    let st : State g.row.D.Denot = state_of i.disk i.areas i.log i.kept i.cut i.blocks i.small i.shut i.read_calls in
     let free : c.free-free.result ≡ free_in (books st) = c.free-free.ensures ∙ free_is g.D.Disk.block_count st c.self.invariant in
     let need : (c.len.result + 1023) / 1024 ≡ blocks_for (length c.args.blob.now) = ap blocks_for c.len.ensures.len in
     let x : TooFew = record { need = (c.len.result + 1023) / 1024; free = c.free-free.result } in
@@ -47,7 +47,7 @@ returns-then-free-need-clause-no_blocks g c =
 pub write_record-requires-clause-free : goal.write_record-requires-clause-free
 write_record-requires-clause-free g c =
     let i = c.self.inside in
-    let st : State g.row.D.Denot = state_of i.disk i.areas i.log i.kept i.cut i.blocks i.small i.shut i.written i.read_calls in
+    let st : State g.row.D.Denot = state_of i.disk i.areas i.log i.kept i.cut i.blocks i.small i.shut i.read_calls in
     let free : c.free-free.result ≡ free_in (books st) = c.free-free.ensures ∙ free_is g.D.Disk.block_count st c.self.invariant in
     let need : blocks_for (length c.as_slice.result.now) ≡ (c.len.result + 1023) / 1024 = ap blocks_for (ap length c.as_slice.ensures.bytes ∙ sym c.len.ensures.len) in
     rw (← c.self.view_is) (let low = c.if-free-need.false in omega (arith, low, free, need))
@@ -55,7 +55,7 @@ write_record-requires-clause-free g c =
 pub returns-clause-no_blocks : goal.returns-clause-no_blocks
 returns-clause-no_blocks g c =
     let i = c.self.inside in
-    let st : State g.row.D.Denot = state_of i.disk i.areas i.log i.kept i.cut i.blocks i.small i.shut i.written i.read_calls in
+    let st : State g.row.D.Denot = state_of i.disk i.areas i.log i.kept i.cut i.blocks i.small i.shut i.read_calls in
     let free : c.free-free.result ≡ free_in (books st) = c.free-free.ensures ∙ free_is g.D.Disk.block_count st c.self.invariant in
     let need : (c.len.result + 1023) / 1024 ≡ blocks_for (length c.args.blob.now) = ap blocks_for c.len.ensures.len in
     rw (← c.self.view_is)

@@ -1,4 +1,4 @@
-use Rattle.std.proofs.Common.{◌≡◌, ◌≤◌, ◌<◌, ℕ, Bool, true, false, List, length, take, refl, sym, ap, subst, ◌∙◌, arith}
+use Rattle.std.proofs.Common.{◌≡◌, ◌≤◌, false, List, length, take, refl, sym, ap, subst, ◌∙◌, arith}
 use Rattle.std.specs.Result.{is_err}
 use Rattle.std.proofs.lemmas.List.{length-take}
 use Rattle.disk_trait.specs.Moments.{LeavesOnly}
@@ -17,7 +17,7 @@ use Rattle.snapshot_store.proofs.store.Store.keep_chosen.Goals as goal
 pub turn-requires-clause-stands : goal.turn-requires-clause-stands
 turn-requires-clause-stands g c t failed =
     let i = c.self.inside in
-    let st : State g.row.D.Denot = state_of i.disk i.areas i.log i.kept i.cut i.blocks i.small i.shut i.written i.read_calls in
+    let st : State g.row.D.Denot = state_of i.disk i.areas i.log i.kept i.cut i.blocks i.small i.shut i.read_calls in
     let log = rw (← c.self.view_is) at c.requires.log in
     (recs_in (books st), found_logged g.D.Disk.reading g.D.Disk.may_leave g.D.Disk.block_count st c.self.invariant c.if-self.false (log t))
 
@@ -25,7 +25,7 @@ pub returns-then-is_err-clause-any_moment : goal.returns-then-is_err-clause-any_
 returns-then-is_err-clause-any_moment g c =
     let i = c.self.inside in
     let disk = g.met.D.Disk in
-    let st : State g.row.D.Denot = state_of i.disk i.areas i.log i.kept i.cut i.blocks i.small i.shut i.written i.read_calls in
+    let st : State g.row.D.Denot = state_of i.disk i.areas i.log i.kept i.cut i.blocks i.small i.shut i.read_calls in
     let log = rw (← c.self.view_is) at c.requires.log in
     let range = rw (← c.self.view_is) at c.requires.range in
     let row : List Rec = take c.chosen_recs-recs.result.1 c.chosen_recs-recs.result.0 in
@@ -41,7 +41,7 @@ pub returns-clause-any_moment : goal.returns-clause-any_moment
 returns-clause-any_moment g c =
     let i = c.self.inside in
     let disk = g.met.D.Disk in
-    let st : State g.row.D.Denot = state_of i.disk i.areas i.log i.kept i.cut i.blocks i.small i.shut i.written i.read_calls in
+    let st : State g.row.D.Denot = state_of i.disk i.areas i.log i.kept i.cut i.blocks i.small i.shut i.read_calls in
     let log = rw (← c.self.view_is) at c.requires.log in
     let range = rw (← c.self.view_is) at c.requires.range in
     let row : List Rec = take c.chosen_recs-recs.result.1 c.chosen_recs-recs.result.0 in
@@ -56,7 +56,7 @@ returns-clause-any_moment g c =
 pub list_all-requires-clause-placed : goal.list_all-requires-clause-placed
 list_all-requires-clause-placed g c =
     let i = c.self.inside in
-    let st : State g.row.D.Denot = state_of i.disk i.areas i.log i.kept i.cut i.blocks i.small i.shut i.written i.read_calls in
+    let st : State g.row.D.Denot = state_of i.disk i.areas i.log i.kept i.cut i.blocks i.small i.shut i.read_calls in
     let placed = rw (← c.self.view_is) at c.requires.placed in
     let row_is = c.chosen_recs-recs.ensures.chosen ∙ chosen_row st c.recs.result.now c.recs.ensures in
     placed_row c.args.tables.now (take c.chosen_recs-recs.result.1 c.chosen_recs-recs.result.0) (are_chosen st) i.blocks c.count_names.new.ledger row_is c.count_names.ensures placed
@@ -64,7 +64,7 @@ list_all-requires-clause-placed g c =
 pub invariant_of-self-2 : goal.invariant_of-self-2
 invariant_of-self-2 g c =
     let i = c.self.inside in
-    let st : State g.row.D.Denot = state_of i.disk i.areas i.log i.kept i.cut i.blocks i.small i.shut i.written i.read_calls in
+    let st : State g.row.D.Denot = state_of i.disk i.areas i.log i.kept i.cut i.blocks i.small i.shut i.read_calls in
     let range = rw (← c.self.view_is) at c.requires.range in
     let older = rw (← c.self.view_is) at c.requires.older in
     let row : List Rec = take c.chosen_recs-recs.result.1 c.chosen_recs-recs.result.0 in
@@ -77,7 +77,7 @@ invariant_of-self-2 g c =
 pub returns-clause-true_books : goal.returns-clause-true_books
 returns-clause-true_books g c t =
     let i = c.self.inside in
-    let st : State g.row.D.Denot = state_of i.disk i.areas i.log i.kept i.cut i.blocks i.small i.shut i.written i.read_calls in
+    let st : State g.row.D.Denot = state_of i.disk i.areas i.log i.kept i.cut i.blocks i.small i.shut i.read_calls in
     let log = rw (← c.self.view_is) at c.requires.log in
     let range = rw (← c.self.view_is) at c.requires.range in
     let older = rw (← c.self.view_is) at c.requires.older in
@@ -91,7 +91,7 @@ returns-clause-true_books g c t =
     whole_rows g.D.Disk.block_count st c.turn.new.disk c.turn.new.self c.args.tables.now row c.copy_from.new.self c.list_all.new.kept c.count_names.new.ledger c.list_all.new.ledger c.self.invariant c.turn.ensures.begins.count
     c.count_names.ensures c.list_all.ensures.ledger c.list_all.ensures.listed row_is c.list_all.ensures.kept c.copy_from.ensures older range few (worked c.turn.result ok c.turn.ensures.areas.working) (worked c.turn.result ok c.turn.ensures.areas.used) in
     kept_books_true g.D.Disk.reading g.D.Disk.may_leave g.D.Disk.block_count st
-    (state_of c.turn.new.disk c.turn.new.self c.copy_from.new.self c.list_all.new.kept i.cut c.list_all.new.ledger i.small false i.written i.read_calls) c.args.tables.now row (log t) whole row_is
+    (state_of c.turn.new.disk c.turn.new.self c.copy_from.new.self c.list_all.new.kept i.cut c.list_all.new.ledger i.small false i.read_calls) c.args.tables.now row (log t) whole row_is
     (c.copy_from.ensures ∙ c.list_all.ensures.kept) c.list_all.ensures.kept (ap (λ (l : Ledger). l.end) c.list_all.ensures.ledger.only ∙ ap (λ (l : Ledger). l.end) c.count_names.ensures)
     c.self.invariant.first c.self.invariant.most range placed (spelt t) (worked c.turn.result ok (c.turn.ensures.turned t (c.self.invariant.working c.if-self.false))) (c.turn.ensures.outside t) (worked c.turn.result ok (c.turn.ensures.stable t))
     (next_is i.areas c.turn.new.self (worked c.turn.result ok c.turn.ensures.areas.area) (worked c.turn.result ok c.turn.ensures.areas.epoch))
@@ -102,7 +102,7 @@ returns-clause-stable g c t = worked c.turn.result (sym c.is_err.ensures.value �
 pub returns-clause-kept : goal.returns-clause-kept
 returns-clause-kept g c =
     let i = c.self.inside in
-    let st : State g.row.D.Denot = state_of i.disk i.areas i.log i.kept i.cut i.blocks i.small i.shut i.written i.read_calls in
+    let st : State g.row.D.Denot = state_of i.disk i.areas i.log i.kept i.cut i.blocks i.small i.shut i.read_calls in
     let row_is = c.chosen_recs-recs.ensures.chosen ∙ chosen_row st c.recs.result.now c.recs.ensures in
     let ok : is_err c.turn.result ≡ false = sym c.is_err.ensures.value ∙ c.if-is_err.false in
     let rows = c.list_all.ensures.kept ∙ ap (with_tables c.args.tables.now) row_is in

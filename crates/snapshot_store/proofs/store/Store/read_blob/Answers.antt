@@ -1,4 +1,3 @@
-use Rattle.std.proofs.Common.{◌≡◌, refl, sym, ap, subst, ◌∙◌}
 use Rattle.disk_trait.proofs.Phases.{told}
 use Rattle.snapshot_store.specs.State.{State, books, state_of}
 use Rattle.snapshot_store.proofs.Opened.{log_read}
@@ -9,7 +8,7 @@ pub returns-then-is_err-clause-between : goal.returns-then-is_err-clause-between
 returns-then-is_err-clause-between g c =
     let i = c.self.inside in
     let disk = g.met.D.Disk in
-    let st : State g.row.D.Denot = state_of i.disk i.areas i.log i.kept i.cut i.blocks i.small i.shut i.written i.read_calls in
+    let st : State g.row.D.Denot = state_of i.disk i.areas i.log i.kept i.cut i.blocks i.small i.shut i.read_calls in
     rw (← c.self.view_is)
     (read_between g.D.Disk.tells g.D.Disk.block_count g.D.Disk.clock g.D.Disk.reading g.D.Disk.may_leave g.D.Disk.left_since g.D.Disk.faults (λ t. told t disk.counts_now disk.only_now) (books st) _ i.disk c.read_bytes.new.disk c.if-self.false c.read_bytes.ensures.same)
 
@@ -17,20 +16,20 @@ pub returns-clause-between : goal.returns-clause-between
 returns-clause-between g c =
     let i = c.self.inside in
     let disk = g.met.D.Disk in
-    let st : State g.row.D.Denot = state_of i.disk i.areas i.log i.kept i.cut i.blocks i.small i.shut i.written i.read_calls in
+    let st : State g.row.D.Denot = state_of i.disk i.areas i.log i.kept i.cut i.blocks i.small i.shut i.read_calls in
     rw (← c.self.view_is)
     (read_between g.D.Disk.tells g.D.Disk.block_count g.D.Disk.clock g.D.Disk.reading g.D.Disk.may_leave g.D.Disk.left_since g.D.Disk.faults (λ t. told t disk.counts_now disk.only_now) (books st) _ i.disk c.read_bytes.new.disk c.if-self.false c.read_bytes.ensures.same)
 
 pub returns-then-is_err-clause-log : goal.returns-then-is_err-clause-log
 returns-then-is_err-clause-log g c =
     let i = c.self.inside in
-    let st : State g.row.D.Denot = state_of i.disk i.areas i.log i.kept i.cut i.blocks i.small i.shut i.written i.read_calls in
+    let st : State g.row.D.Denot = state_of i.disk i.areas i.log i.kept i.cut i.blocks i.small i.shut i.read_calls in
     rw (← c.self.view_is)
     (λ t log. log_read g.D.Disk.tells g.D.Disk.block_count g.D.Disk.reading g.D.Disk.may_leave g.D.Disk.left_since g.D.Disk.clock g.D.Disk.faults (books st) _ i.disk c.read_bytes.new.disk t c.read_bytes.ensures.same log)
 
 pub returns-clause-log : goal.returns-clause-log
 returns-clause-log g c =
     let i = c.self.inside in
-    let st : State g.row.D.Denot = state_of i.disk i.areas i.log i.kept i.cut i.blocks i.small i.shut i.written i.read_calls in
+    let st : State g.row.D.Denot = state_of i.disk i.areas i.log i.kept i.cut i.blocks i.small i.shut i.read_calls in
     rw (← c.self.view_is)
     (λ t log. log_read g.D.Disk.tells g.D.Disk.block_count g.D.Disk.reading g.D.Disk.may_leave g.D.Disk.left_since g.D.Disk.clock g.D.Disk.faults (books st) _ i.disk c.read_bytes.new.disk t c.read_bytes.ensures.same log)

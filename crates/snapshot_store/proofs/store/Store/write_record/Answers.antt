@@ -11,7 +11,7 @@ use Rattle.store_model.specs.Books.{recs_in}
 use Rattle.snapshot_store.specs.Keeping.{HasRecounted}
 use Rattle.snapshot_store.specs.State.{State, books, state_of}
 use Rattle.snapshot_store.specs.Taking.{HasReleased}
-use Rattle.snapshot_store.proofs.Committable.{IsRecordOf, blob_bytes, taken_placed, taken_places}
+use Rattle.snapshot_store.proofs.Committable.{IsRecordOf, blob_bytes, in_free, taken_placed, taken_places}
 use Rattle.snapshot_store.proofs.Course.{commits, failed_shut, moments_behind, recounted_either, stands_now, true_behind, used_same}
 use Rattle.snapshot_store.proofs.Holding.{free_is, kept_is}
 use Rattle.snapshot_store.proofs.Listing.{few_blocks}
@@ -21,7 +21,7 @@ use Rattle.snapshot_store.proofs.store.Store.write_record.Goals.{in-Ok, in-Err}
 pub take_blocks-blocks-requires-clause-free : goal.take_blocks-blocks-requires-clause-free
 take_blocks-blocks-requires-clause-free g c =
     let i = c.self.inside in
-    let st : State g.row.D.Denot = state_of i.disk i.areas i.log i.kept i.cut i.blocks i.small i.shut i.written i.read_calls in
+    let st : State g.row.D.Denot = state_of i.disk i.areas i.log i.kept i.cut i.blocks i.small i.shut i.read_calls in
     let free = rw (← c.self.view_is) at c.requires.free in
     let is = free_is g.D.Disk.block_count st c.self.invariant in
     omega (arith, free, is)
@@ -29,7 +29,7 @@ take_blocks-blocks-requires-clause-free g c =
 pub put_record-done-requires-clause-few : goal.put_record-done-requires-clause-few
 put_record-done-requires-clause-few g c =
     let i = c.self.inside in
-    let st : State g.row.D.Denot = state_of i.disk i.areas i.log i.kept i.cut i.blocks i.small i.shut i.written i.read_calls in
+    let st : State g.row.D.Denot = state_of i.disk i.areas i.log i.kept i.cut i.blocks i.small i.shut i.read_calls in
     let room = rw (← c.self.view_is) at c.requires.room in
     let kept = ap length (kept_is g.D.Disk.block_count st c.self.invariant) in
     let many = c.spelled_blocks.ensures.many in
@@ -45,7 +45,7 @@ put_record-done-requires-clause-places g c =
 pub put_record-done-requires-clause-placed : goal.put_record-done-requires-clause-placed
 put_record-done-requires-clause-placed g c =
     let i = c.self.inside in
-    let st : State g.row.D.Denot = state_of i.disk i.areas i.log i.kept i.cut i.blocks i.small i.shut i.written i.read_calls in
+    let st : State g.row.D.Denot = state_of i.disk i.areas i.log i.kept i.cut i.blocks i.small i.shut i.read_calls in
     let r : Rec = record { entity = c.args.entity; version = c.args.version; stamp = c.args.stamp.now; length = length c.args.bytes.now; blocks = c.take_blocks-blocks.result } in
     let pages = rw (← c.self.view_is) at c.requires.pages in
     taken_placed g.D.Disk.block_count st c.self.invariant c.take_blocks-blocks.new.ledger r c.args.table.now c.take_blocks-blocks.ensures c.requires.bytes.1 pages (omega arith)
@@ -53,7 +53,7 @@ put_record-done-requires-clause-placed g c =
 pub put_record-done-requires-clause-stands : goal.put_record-done-requires-clause-stands
 put_record-done-requires-clause-stands g c =
     let i = c.self.inside in
-    let st : State g.row.D.Denot = state_of i.disk i.areas i.log i.kept i.cut i.blocks i.small i.shut i.written i.read_calls in
+    let st : State g.row.D.Denot = state_of i.disk i.areas i.log i.kept i.cut i.blocks i.small i.shut i.read_calls in
     let working = rw (← c.self.view_is) at c.requires.working in
     let right = rw (← c.self.view_is) at c.requires.true_books in
     λ t. (recs_in (books st), stands_now g.D.Disk.block_count g.D.Disk.reading g.D.Disk.may_leave st c.self.invariant working.0 (right t))
@@ -61,9 +61,9 @@ put_record-done-requires-clause-stands g c =
 pub release_blocks-requires-clause-range : goal.release_blocks-requires-clause-range
 release_blocks-requires-clause-range g c k lt =
     let i = c.self.inside in
-    let st : State g.row.D.Denot = state_of i.disk i.areas i.log i.kept i.cut i.blocks i.small i.shut i.written i.read_calls in
+    let st : State g.row.D.Denot = state_of i.disk i.areas i.log i.kept i.cut i.blocks i.small i.shut i.read_calls in
     let j = c.self-2.inside in
-    let st2 : State g.row.D.Denot = state_of j.disk j.areas j.log j.kept j.cut j.blocks j.small j.shut j.written j.read_calls in
+    let st2 : State g.row.D.Denot = state_of j.disk j.areas j.log j.kept j.cut j.blocks j.small j.shut j.read_calls in
     let r : Rec = record { entity = c.args.entity; version = c.args.version; stamp = c.args.stamp.now; length = length c.args.bytes.now; blocks = c.take_blocks-blocks.result } in
     let same : HasRecounted c.take_blocks-blocks.new.ledger c.self-2.inside.blocks = rw (← c.self-2.view_is) at (recounted_either _ c.put_record-done.result (record { rec = r; table = c.args.table.now }) (record st { blocks = c.take_blocks-blocks.new.ledger }) c.put_record-done.new.self c.put_record-done.ensures.put c.put_record-done.ensures.failed) in
     let inside : k < (blocks_for (length c.args.bytes.now)) = (let len = length-take (blocks_for (length c.args.bytes.now)) c.take_blocks-blocks.result in omega (arith, lt, len)) in
@@ -82,9 +82,9 @@ release_blocks-requires-clause-different g c i k lt less is =
 pub returns-clause-committed : goal.returns-clause-committed
 returns-clause-committed g c t =
     let i = c.self.inside in
-    let st : State g.row.D.Denot = state_of i.disk i.areas i.log i.kept i.cut i.blocks i.small i.shut i.written i.read_calls in
+    let st : State g.row.D.Denot = state_of i.disk i.areas i.log i.kept i.cut i.blocks i.small i.shut i.read_calls in
     let j = c.self-2.inside in
-    let st2 : State g.row.D.Denot = state_of j.disk j.areas j.log j.kept j.cut j.blocks j.small j.shut j.written j.read_calls in
+    let st2 : State g.row.D.Denot = state_of j.disk j.areas j.log j.kept j.cut j.blocks j.small j.shut j.read_calls in
     let r : Rec = record { entity = c.args.entity; version = c.args.version; stamp = c.args.stamp.now; length = length c.args.bytes.now; blocks = c.take_blocks-blocks.result } in
     let newer = rw (← c.self.view_is) at c.requires.newer in
     let is : IsRecordOf r c.args.bytes.now (recs_in (books st)) = record { entity = c.requires.entity; length_is = refl; some = c.requires.bytes.0; most = c.requires.bytes.1; first = newer.0; newer = newer.1; own = c.requires.own; components = omega arith; places = omega arith } in
@@ -96,8 +96,10 @@ returns-clause-committed g c t =
       | in-Ok w ↦
           let put = rw (← c.self-2.view_is) at w.in-Ok.ensures.put in
           let has = rw (← c.self-2.view_is) at (w.in-Ok.ensures.blob t) in
+          let epoch = rw (← c.self-2.view_is) at w.in-Ok.ensures.epoch in
           let done = commits st st2 c.take_blocks-blocks.new.ledger c.release_blocks.new.ledger (blocks_for (length c.args.bytes.now)) c.take_blocks-blocks.result c.take_blocks-blocks.ensures released r c.args.table.now put g.D.Disk.block_count c.self.invariant working.0 (g.D.Disk.reading c.self-2.inside.disk) c.args.bytes.now refl
-          (blob_bytes r c.args.bytes.now (take (blocks_for (length c.args.bytes.now)) c.spelled_blocks.result) (recs_in (books st)) (g.D.Disk.reading c.self-2.inside.disk) is c.spelled_blocks.ensures has) in
+          (blob_bytes r c.args.bytes.now (take (blocks_for (length c.args.bytes.now)) c.spelled_blocks.result) (recs_in (books st)) (g.D.Disk.reading c.self-2.inside.disk) is c.spelled_blocks.ensures has)
+          (in_free g.D.Disk.block_count st c.self.invariant c.take_blocks-blocks.new.ledger r c.take_blocks-blocks.ensures) epoch in
           rw (← c.self.view_is) (rw w.result-is done)
       | in-Err w ↦ rw w.result-is tt
     ]
@@ -105,9 +107,9 @@ returns-clause-committed g c t =
 pub returns-clause-true_books : goal.returns-clause-true_books
 returns-clause-true_books g c t =
     let i = c.self.inside in
-    let st : State g.row.D.Denot = state_of i.disk i.areas i.log i.kept i.cut i.blocks i.small i.shut i.written i.read_calls in
+    let st : State g.row.D.Denot = state_of i.disk i.areas i.log i.kept i.cut i.blocks i.small i.shut i.read_calls in
     let j = c.self-2.inside in
-    let st2 : State g.row.D.Denot = state_of j.disk j.areas j.log j.kept j.cut j.blocks j.small j.shut j.written j.read_calls in
+    let st2 : State g.row.D.Denot = state_of j.disk j.areas j.log j.kept j.cut j.blocks j.small j.shut j.read_calls in
     let r : Rec = record { entity = c.args.entity; version = c.args.version; stamp = c.args.stamp.now; length = length c.args.bytes.now; blocks = c.take_blocks-blocks.result } in
     let newer = rw (← c.self.view_is) at c.requires.newer in
     let is : IsRecordOf r c.args.bytes.now (recs_in (books st)) = record { entity = c.requires.entity; length_is = refl; some = c.requires.bytes.0; most = c.requires.bytes.1; first = newer.0; newer = newer.1; own = c.requires.own; components = omega arith; places = omega arith } in
@@ -132,9 +134,9 @@ returns-clause-true_books g c t =
 pub returns-clause-any_moment : goal.returns-clause-any_moment
 returns-clause-any_moment g c =
     let i = c.self.inside in
-    let st : State g.row.D.Denot = state_of i.disk i.areas i.log i.kept i.cut i.blocks i.small i.shut i.written i.read_calls in
+    let st : State g.row.D.Denot = state_of i.disk i.areas i.log i.kept i.cut i.blocks i.small i.shut i.read_calls in
     let j = c.self-2.inside in
-    let st2 : State g.row.D.Denot = state_of j.disk j.areas j.log j.kept j.cut j.blocks j.small j.shut j.written j.read_calls in
+    let st2 : State g.row.D.Denot = state_of j.disk j.areas j.log j.kept j.cut j.blocks j.small j.shut j.read_calls in
     let r : Rec = record { entity = c.args.entity; version = c.args.version; stamp = c.args.stamp.now; length = length c.args.bytes.now; blocks = c.take_blocks-blocks.result } in
     let newer = rw (← c.self.view_is) at c.requires.newer in
     let is : IsRecordOf r c.args.bytes.now (recs_in (books st)) = record { entity = c.requires.entity; length_is = refl; some = c.requires.bytes.0; most = c.requires.bytes.1; first = newer.0; newer = newer.1; own = c.requires.own; components = omega arith; places = omega arith } in
@@ -145,14 +147,14 @@ returns-clause-any_moment g c =
     rw (← c.self.view_is)
     (λ t small own.
     moments_behind g.D.Disk.block_count g.D.Disk.reading g.D.Disk.may_leave st st2 c.take_blocks-blocks.new.ledger c.release_blocks.new.ledger r (take (blocks_for (length c.args.bytes.now)) c.spelled_blocks.result) c.args.bytes.now c.args.table.now c.self.invariant working.0 is c.spelled_blocks.ensures pages c.take_blocks-blocks.ensures (right t)
-    (told t g.met.D.Disk.counts_now g.met.D.Disk.only_now) small own (moments t))
+    (told t g.met.D.Disk.counts_now g.met.D.Disk.only_now) (in_free g.D.Disk.block_count st c.self.invariant c.take_blocks-blocks.new.ledger r c.take_blocks-blocks.ensures) small own (moments t))
 
 pub returns-clause-failed : goal.returns-clause-failed
 returns-clause-failed g c =
     let i = c.self.inside in
-    let st : State g.row.D.Denot = state_of i.disk i.areas i.log i.kept i.cut i.blocks i.small i.shut i.written i.read_calls in
+    let st : State g.row.D.Denot = state_of i.disk i.areas i.log i.kept i.cut i.blocks i.small i.shut i.read_calls in
     let j = c.self-2.inside in
-    let st2 : State g.row.D.Denot = state_of j.disk j.areas j.log j.kept j.cut j.blocks j.small j.shut j.written j.read_calls in
+    let st2 : State g.row.D.Denot = state_of j.disk j.areas j.log j.kept j.cut j.blocks j.small j.shut j.read_calls in
     let released : HasReleased (blocks_for (length c.args.bytes.now)) c.self-2.inside.blocks c.release_blocks.new.ledger (take (blocks_for (length c.args.bytes.now)) c.take_blocks-blocks.result) =
     subst (λ (k : ℕ). HasReleased k c.self-2.inside.blocks c.release_blocks.new.ledger (take (blocks_for (length c.args.bytes.now)) c.take_blocks-blocks.result)) (length-take-le (blocks_for (length c.args.bytes.now)) c.take_blocks-blocks.result (let few = few_blocks (length c.args.bytes.now) c.requires.bytes.1 in omega (arith, few))) c.release_blocks.ensures in
     elim c.match-done.branch [
@@ -165,7 +167,7 @@ returns-clause-failed g c =
 pub returns-clause-begins : goal.returns-clause-begins
 returns-clause-begins g c =
     let i = c.self.inside in
-    let st : State g.row.D.Denot = state_of i.disk i.areas i.log i.kept i.cut i.blocks i.small i.shut i.written i.read_calls in
+    let st : State g.row.D.Denot = state_of i.disk i.areas i.log i.kept i.cut i.blocks i.small i.shut i.read_calls in
     let room = rw (← c.self.view_is) at c.requires.room in
     let kept = ap length (kept_is g.D.Disk.block_count st c.self.invariant) in
     let many = c.spelled_blocks.ensures.many in
@@ -176,7 +178,7 @@ returns-clause-begins g c =
 pub returns-clause-same_used : goal.returns-clause-same_used
 returns-clause-same_used g c =
     let i = c.self.inside in
-    let st : State g.row.D.Denot = state_of i.disk i.areas i.log i.kept i.cut i.blocks i.small i.shut i.written i.read_calls in
+    let st : State g.row.D.Denot = state_of i.disk i.areas i.log i.kept i.cut i.blocks i.small i.shut i.read_calls in
     let r : Rec = record { entity = c.args.entity; version = c.args.version; stamp = c.args.stamp.now; length = length c.args.bytes.now; blocks = c.take_blocks-blocks.result } in
     let many = c.spelled_blocks.ensures.many in
     let outside = rw (← c.self-2.view_is) at c.put_record-done.ensures.outside in

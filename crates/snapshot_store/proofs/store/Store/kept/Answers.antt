@@ -1,6 +1,0 @@
-use Rattle.std.proofs.Common.{◌∙◌}
-use Rattle.snapshot_store.proofs.Holding.{named_is}
-use Rattle.snapshot_store.proofs.store.Store.kept.Goals as goal
-
-pub returns : goal.returns
-returns g c = rw (← c.self.view_is) (c.is_named.ensures ∙ named_is g.D.Disk.block_count _ c.self.invariant c.args.block)
