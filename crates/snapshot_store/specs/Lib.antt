@@ -8,4 +8,5 @@ pub mod Committed
 pub mod Opening
 pub mod OpenFaults
 pub mod ReadAnswers
+pub mod Rests
 pub mod Choosing

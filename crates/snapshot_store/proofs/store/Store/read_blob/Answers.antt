@@ -4,8 +4,8 @@ use Rattle.snapshot_store.proofs.Opened.{log_read}
 use Rattle.snapshot_store.proofs.PageCalls.{read_between}
 use Rattle.snapshot_store.proofs.store.Store.read_blob.Goals as goal
 
-pub returns-then-is_err-clause-between : goal.returns-then-is_err-clause-between
-returns-then-is_err-clause-between g c =
+pub returns-in-Err-clause-between : goal.returns-in-Err-clause-between
+returns-in-Err-clause-between g c =
     let i = c.self.inside in
     let disk = g.met.D.Disk in
     let st : State g.row.D.Denot = state_of i.disk i.areas i.log i.kept i.cut i.blocks i.small i.shut i.read_calls in
@@ -20,8 +20,8 @@ returns-clause-between g c =
     rw (← c.self.view_is)
     (read_between g.D.Disk.tells g.D.Disk.block_count g.D.Disk.clock g.D.Disk.reading g.D.Disk.may_leave g.D.Disk.left_since g.D.Disk.faults (λ t. told t disk.counts_now disk.only_now) (books st) _ i.disk c.read_bytes.new.disk c.if-self.false c.read_bytes.ensures.same)
 
-pub returns-then-is_err-clause-log : goal.returns-then-is_err-clause-log
-returns-then-is_err-clause-log g c =
+pub returns-in-Err-clause-log : goal.returns-in-Err-clause-log
+returns-in-Err-clause-log g c =
     let i = c.self.inside in
     let st : State g.row.D.Denot = state_of i.disk i.areas i.log i.kept i.cut i.blocks i.small i.shut i.read_calls in
     rw (← c.self.view_is)
