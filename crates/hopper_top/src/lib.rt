@@ -15,12 +15,3 @@ pub use output::put_output;
 pub use reads::{ReadScript, read_source};
 pub use statuses::{Outcome, Status};
 pub use top::hopper;
-
-#[cfg(test)]
-mod image_tests;
-#[cfg(test)]
-mod run_tests;
-#[cfg(test)]
-mod test_calls;
-#[cfg(test)]
-mod tests;

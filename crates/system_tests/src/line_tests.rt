@@ -1,11 +1,12 @@
+//! The lines of printed values and of faults.
 ghost use Rattle.std.specs.Prelude.{IfOk};
 ghost use Rattle.history_model.specs.Plains.{atlas_of};
 ghost use Rattle.hopper_top.specs.Lines.{HasShortNames};
 
-use crate::{Fault, put_fault, put_output};
 use disk_trait::NoBlocks;
 use history_model::PlainAtlas;
 use hop_base::{Answer, Entity, Entry, Event, Reply, Touched};
+use hopper_top::{Fault, put_fault, put_output};
 use script_read::{Refusal, Why};
 use std::alloc::{AllocError, Global};
 use std::test::Fail;

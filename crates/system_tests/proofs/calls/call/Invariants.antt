@@ -1,5 +1,5 @@
 use Rattle.manager_gate.specs.Managers.{counted_word}
-use Rattle.hopper_top.proofs.test_calls.call.Given as goal
+use Rattle.system_tests.proofs.calls.call.Given as goal
 
 -- words that count up from the tag
 abbrev pub ghost-hopper : goal.ghost-hopper

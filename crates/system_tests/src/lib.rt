@@ -1,0 +1,19 @@
+//! Tests of the whole system over a disk, a source and a sink in memory: a file for each theme.
+#![tactic(auto)]
+
+#[cfg(test)]
+mod calls;
+#[cfg(test)]
+mod edge_tests;
+#[cfg(test)]
+mod image_tests;
+#[cfg(test)]
+mod line_tests;
+#[cfg(test)]
+mod refusal_tests;
+#[cfg(test)]
+mod run_tests;
+#[cfg(test)]
+mod scripts;
+#[cfg(test)]
+mod stop_tests;

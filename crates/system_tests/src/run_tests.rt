@@ -1,0 +1,103 @@
+//! What runs print, and their histories.
+ghost use Rattle.std.specs.Prelude.{◌≡◌, IfOk};
+
+use crate::calls::run;
+use crate::scripts::{
+    ALL_PAGES, CIRCLES, COUNTS_ON, DENIED_OVER_A_MAPPING, FIVE, FULL_CHAIN, LAST_NUMBER, NO_ENTRY,
+    ORDERED, PAST_THE_PAGE, PRIVATE_FIRST, PRIVATE_IN_ONE_HOST, STOPS_ITSELF, TAGGED, TAKES,
+    UNSTABLE,
+};
+use hop_base::{Answer, Entity, Entry, Event, Reply, Touch, Touched};
+use hopper_top::Status;
+use std::test::Fail;
+
+#[test]
+fn a_run_prints_its_lines_and_ends(rt: HostRuntime) -> Result<(), Fail> {
+    let runs: [(&[u8], &str, usize); 17] = [
+        (FIVE, "l 5\n", 8),
+        (PAST_THE_PAGE, "l 3\nl 0\n", 10),
+        (b"", "", 0),
+        (TAGGED, "l 137\n", 7),
+        (PRIVATE_FIRST, "l 1000\nl 2000\nl 1000\n", 19),
+        (PRIVATE_IN_ONE_HOST, "l 2000\nl 3000\nl 2000\n", 17),
+        (CIRCLES, "l 0\nl 0\nl 4\nl 4\n", 18),
+        (DENIED_OVER_A_MAPPING, "l 17\n", 9),
+        (NO_ENTRY, "l 18\nl 8\n", 10),
+        (FULL_CHAIN, "m 7\nl 6\n", 74),
+        (ALL_PAGES, "l 32896\n", 2824),
+        (LAST_NUMBER, "l 10\n", 73),
+        (STOPS_ITSELF, "", 4),
+        (TAKES, "l 1\nl 0\nl 1\n", 10),
+        (COUNTS_ON, "", 107),
+        (ORDERED, "m 0\nl 0\n", 8),
+        (UNSTABLE, "l 23\n", 6),
+    ];
+    for (text, lines, entries) in runs {
+        let (put, outcome) = run(rt.alloc(), text)?;
+        assert_eq!(rt; put.as_str(), lines);
+        assert!(rt; matches!(outcome.status, Status::Done), "{lines}");
+        assert_eq!(rt; outcome.history.len(), entries);
+    }
+    Ok(())
+}
+
+fn entity(number: u8) -> Result<Entity, Fail>
+    ensures { IfOk result (λ entity. entity ≡ number) }
+{
+    Ok(Entity::new(number).ok_or("an entity")?)
+}
+
+/// An entry of version 0, as births, steps and Stable entries are.
+fn entry(event: Event, actor: Entity, touched: Touched, answer: Answer) -> Entry {
+    Entry {
+        event,
+        actor,
+        touched,
+        version: 0,
+        answer,
+    }
+}
+
+fn write(entity: Entity, version: u64) -> Touch
+    ensures { result.entity ≡ entity }
+{
+    Touch {
+        version,
+        entity,
+        wrote: true,
+    }
+}
+
+fn read(entity: Entity, version: u64) -> Touch
+    ensures { result.entity ≡ entity }
+{
+    Touch {
+        version,
+        entity,
+        wrote: false,
+    }
+}
+
+#[test]
+fn a_history_has_births_a_stable_and_the_steps(rt: HostRuntime) -> Result<(), Fail> {
+    let (_, outcome) = run(rt.alloc(), FIVE)?;
+    let atlas = Entity::ATLAS;
+    let a = entity(1)?;
+    let l = entity(41)?;
+    let born_a = Touched::two(write(atlas, 1), write(a, 1));
+    let born_l = Touched::three(write(atlas, 2), write(a, 2), write(l, 1));
+    let stored = Touched::two(write(a, 3), write(l, 3));
+    let loaded = Touched::two(read(a, 3), write(l, 4));
+    let history = [
+        entry(Event::Birth, a, born_a, Answer::Quiet),
+        entry(Event::Birth, l, born_l, Answer::Quiet),
+        entry(Event::Stable, atlas, Touched::none(), Answer::Quiet),
+        entry(Event::Step, l, Touched::one(write(l, 2)), Answer::Quiet),
+        entry(Event::Step, l, stored, Answer::Reply(Reply::Ok)),
+        entry(Event::Step, l, loaded, Answer::Read(5)),
+        entry(Event::Step, l, Touched::one(write(l, 5)), Answer::Print(5)),
+        entry(Event::Step, l, Touched::one(write(l, 6)), Answer::Quiet),
+    ];
+    assert_eq!(rt; outcome.history.as_slice(), history.as_slice());
+    Ok(())
+}
