@@ -1,5 +1,5 @@
 -- What mappings and births by a program rest on, and what they make of the list of edges.
-use Rattle.std.specs.Prelude.{◌≡◌, ℕ, ◌+◌, ◌-◌, ◌<◌, Bool, false, not, ◌&&◌, ◌||◌, ◌==◌, nat_lt, nat_le, if◌then◌else◌, List, [], ◌∷◌, length, Option, Some, None, slice_index_or}
+use Rattle.std.specs.Prelude.{◌≡◌, ℕ, ◌+◌, ◌-◌, Bool, false, not, ◌&&◌, ◌||◌, ◌==◌, nat_lt, nat_le, if◌then◌else◌, List, [], ◌∷◌, length, Option, Some, None, slice_index_or}
 use Rattle.hop_base.specs.declared.capabilities.Region.{Region}
 use Rattle.hop_base.specs.declared.histories.Answer.{Answer}
 use Rattle.hop_model.specs.Outcomes.{Outcome}

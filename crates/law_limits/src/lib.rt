@@ -1,12 +1,15 @@
 //! Runs that show why laws of runs have their premises. The functions do nothing: the contract of each tells a run.
 #![tactic(auto)]
 
-ghost use Rattle.std.specs.Prelude.{[], ◌∷◌, ◌≡◌, Some};
+ghost use Rattle.std.specs.Prelude.{[], ◌∷◌, ◌≡◌, Some, false};
 ghost use Rattle.hop_model.specs.Births.{next_birth};
-ghost use Rattle.hop_model.specs.Histories.{event_of};
+ghost use Rattle.hop_model.specs.Histories.{IsLegalRun, commits_in, event_of, has_wish, run_after, start_run};
 ghost use Rattle.hop_model.specs.Parts.{thing_at};
 ghost use Rattle.hop_model.specs.Soundness.{IsSound};
 ghost use Rattle.script_form.specs.Rules.{IsScript};
+ghost use Rattle.run_rules.specs.Newest.{newest_in};
+ghost use Rattle.run_rules.specs.Wishes.{HasOpenWish};
+ghost use Rattle.law_limits.specs.Beyond.{halting, if_written_twice, with_stray};
 ghost use Rattle.law_limits.specs.Clash.{bears_b, clashing, with_clash, with_locus};
 ghost use Rattle.worked_runs.specs.Snapshots.{asks, no_tables, no_words, recorded};
 
@@ -24,4 +27,14 @@ pub fn kinds_clash_holds()
     ensures sound { IsSound (λ x. (with_locus x).cell) }
     ensures born { next_birth no_words clashing with_locus ≡ Some (bears_b, with_clash) }
     ensures unsound { IsSound (λ x. (with_clash x).cell) → ⊥ }
+{}
+
+/// Where a start has a locus with number 64, which no sound state has, its record is none of those chosen at the start, though the rules
+/// keep its version there as that of its newest commit. So after a Step of it the history tells an open wish that the rules don't see.
+pub fn beyond_64_holds()
+    ensures legal { IsLegalRun no_words if_written_twice with_stray no_tables halting }
+    ensures newest { ((run_after no_words no_tables (start_run with_stray) halting).newest 64 ≡ 1)
+        × (newest_in (commits_in no_words no_tables with_stray halting) 64 ≡ 0) }
+    ensures told { HasOpenWish no_words no_tables with_stray halting 64 if_written_twice }
+    ensures kept { has_wish if_written_twice (run_after no_words no_tables (start_run with_stray) halting) 64 ≡ false }
 {}

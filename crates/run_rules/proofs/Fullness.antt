@@ -1,12 +1,12 @@
 -- When an entity was full, and which open wishes are due.
-use Rattle.std.proofs.Common.{◌≡◌, ℕ, ◌<◌, Bool, true, false, not, ◌&&◌, ◌||◌, nat_le, IsTrue, List, [], ◌∷◌, ◌++◌, ◌↔◌, refl, sym, ap, subst, ◌∙◌, inl, inr, ◌⊎◌}
+use Rattle.std.proofs.Common.{◌≡◌, ℕ, ◌<◌, Bool, true, false, not, ◌&&◌, ◌||◌, nat_le, IsTrue, List, [], ◌∷◌, ◌++◌, Some, ◌↔◌, refl, sym, ap, subst, ◌∙◌, inl, inr, ◌⊎◌}
 use Rattle.std.specs.List.{list_any}
 use Rattle.std.proofs.lemmas.Bool.{false≢true}
 use Rattle.hop_base.specs.declared.histories.Entry.{Entry}
 use Rattle.hop_base.specs.declared.histories.Event.TheVariants.{Birth, Step, Snap as SnapEvent, Stable, Tried}
 use Rattle.hop_model.specs.State.{Supply, KernelState}
 use Rattle.hop_model.specs.Scripts.{Script}
-use Rattle.hop_model.specs.Histories.{Policy, Run, writes, commits_above, commits_in, has_wish, is_due, is_full, may, goes_on, went_on, IsLegalRun, start_run, run_after}
+use Rattle.hop_model.specs.Histories.{Policy, Run, asked_by, locus_in, writes, commits_above, commits_in, has_wish, is_due, is_full, may, goes_on, went_on, IsLegalRun, start_run, run_after}
 use Rattle.hop_model.proofs.Basics.{both, not_false, or_false_left, or_false_right, or_left, or_right}
 use Rattle.hop_model.proofs.LegalRuns.{state_after}
 use Rattle.run_laws.specs.StepEntries.{is_step}
@@ -14,7 +14,7 @@ use Rattle.run_laws.proofs.Cuts.{cut_kept}
 use Rattle.run_laws.proofs.Wishes.{legal_back, run_append}
 use Rattle.run_laws.proofs.Writing.{step_is, step_writes_asked}
 use Rattle.run_rules.specs.Wishes.{HasOpenWish, IsNamedBySnap, WasNeverFull, is_full_after, steps_on}
-use Rattle.run_rules.proofs.Wishes.{NamesAt, wish_told}
+use Rattle.run_rules.proofs.Wishes.{wish_told}
 
 or_cases : (a b : Bool) → (a || b) ≡ true → (a ≡ true) ⊎ (b ≡ true)
 or_cases true b h = inl refl
@@ -141,7 +141,7 @@ module _ (s : Supply) (script : Script) (x : ℕ) where
 
 -- DUE
 
-module _ (s : Supply) (policy : Policy) (script : Script) (x : ℕ) (low : x < 64) (w : KernelState) (es : List Entry) (legal : IsLegalRun s policy w script es) where
+module _ (s : Supply) (policy : Policy) (script : Script) (x : ℕ) (w : KernelState) (es : List Entry) (legal : IsLegalRun s policy w script es) where
   -- a Step wrote what has an open wish
   step_in : (before later : List Entry) (e : Entry) → es ≡ before ++ e ∷ later → e.event ≡ Step → writes e x ≡ true → list_any (steps_on x) es ≡ true
   step_in before later e split made wrote =
@@ -155,10 +155,10 @@ module _ (s : Supply) (policy : Policy) (script : Script) (x : ℕ) (low : x < 6
       let split = subst (IsLegalRun s policy w script) k.split legal in
       let back = legal_back s policy script (start_run w) k.before (k.step ∷ k.later) split in
       let step = step_is s k.step.actor r.state k.step (subst (may s policy script r k.step) k.made back.0.1).4 in
-      let named = subst (NamesAt s policy script x low w es legal k.step) (sym (state_after s policy script (start_run w) k.before)) k.named in
+      let named = subst (λ (v : KernelState). asked_by k.step.answer (locus_in (v k.step.actor).cell) ≡ Some x) (sym (state_after s policy script (start_run w) k.before)) k.named in
       step_in k.before k.later k.step k.split k.made (step_writes_asked s k.step.actor r.state k.step x step named)
 
-  wish_writes : HasOpenWish s script w es x policy → list_any (steps_on x) es ≡ true
+  pub wish_writes : HasOpenWish s script w es x policy → list_any (steps_on x) es ≡ true
   wish_writes h = elim h as (λ _. list_any (steps_on x) es ≡ true) [ inl k ↦ step_in k.0.before k.0.later k.0.step k.0.split k.0.made k.0.wrote | inr k ↦ named_writes k ]
 
   never_full : (run_after s script (start_run w) es).was_full x ≡ false → WasNeverFull s script w es x
@@ -180,10 +180,14 @@ module _ (s : Supply) (policy : Policy) (script : Script) (x : ℕ) (low : x < 6
             false≢true (sym (never k.front k.rest k.split front k.none) ∙ sym (full_told s script w k.front x) ∙ k.full))
       ])
 
-  pub due_told : IsTrue (is_due policy (run_after s script (start_run w) es) x) ↔ (HasOpenWish s script w es x policy × WasNeverFull s script w es x)
-  due_told =
-      let r = run_after s script (start_run w) es in
-      let wish = wish_told s policy script x low w es legal in (
+  -- where an open wish is told
+  pub due_by : IsTrue (has_wish policy (run_after s script (start_run w) es) x) ↔ HasOpenWish s script w es x policy
+      → IsTrue (is_due policy (run_after s script (start_run w) es) x) ↔ (HasOpenWish s script w es x policy × WasNeverFull s script w es x)
+  due_by wish =
+      let r = run_after s script (start_run w) es in (
         λ due. (wish.0 (and_first (has_wish policy r x) (not (r.was_full x)) due), never_full (not_of (has_wish policy r x) (r.was_full x) due)),
         λ k. both (has_wish policy r x) (not (r.was_full x)) (wish.1 k.0) (ap not (of_never_full (wish_writes k.0) k.1)),
       )
+
+  pub due_told : x < 64 → IsTrue (is_due policy (run_after s script (start_run w) es) x) ↔ (HasOpenWish s script w es x policy × WasNeverFull s script w es x)
+  due_told low = due_by (wish_told s policy script x low w es legal)

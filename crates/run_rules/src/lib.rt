@@ -49,8 +49,8 @@ pub fn open_wish_law()
         → (run_after s script (start_run w) es).newest x ≡ newest_in (commits_in s script w es) x }
 {}
 
-/// An entity is full exactly where four or more of its commits so far are at or above the computed choice over all commits so far, which
-/// is the greatest closed one in a legal run from a sound state.
+/// An entity is full exactly where four or more of its commits so far are at or above the computed choice over all commits so far. (From a
+/// sound state that is the greatest closed one: `sound_cuts::one_greatest_law`.)
 pub fn full_law()
     ensures { (s : Supply) (script : Script) (w : KernelState) (es : List Entry) (x : ℕ)
         → is_full (run_after s script (start_run w) es) x ≡ is_full_after s script w es x }

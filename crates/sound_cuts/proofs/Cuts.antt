@@ -1,11 +1,12 @@
 -- The cut of a run from a sound state, and how it goes on.
 use Rattle.std.proofs.Common.{◌≡◌, ℕ, ◌<◌, ◌≤◌, ◌++◌, ◌↔◌, false, IsTrue, nat_le, List, option_to_list, inl, inr, refl, sym, ap, subst, ◌∙◌, ◌⊎◌, arith}
+use Rattle.std.proofs.lemmas.Bool.{cases_lt, false≢true}
 use Rattle.std.proofs.lemmas.Bool.Decides.{nat_tests}
 use Rattle.std.proofs.lemmas.List.{append_assoc}
 use Rattle.hop_base.specs.declared.histories.Entry.{Entry}
 use Rattle.hop_model.specs.Choices.{Among, Commit, IsBelow, IsClosedChoice, IsGreatest, greatest}
 use Rattle.hop_model.specs.Fronts.{IsChoice, tried_commits}
-use Rattle.hop_model.specs.Histories.{Policy, Run, commits_above, commits_in, event_of, is_due, is_full, run_after, start_run}
+use Rattle.hop_model.specs.Histories.{Policy, Run, commits_above, commits_in, event_of, has_wish, is_due, is_full, run_after, start_run}
 use Rattle.hop_model.specs.Parts.{after, part_of}
 use Rattle.hop_model.specs.Scripts.{Script}
 use Rattle.hop_model.specs.State.{KernelState, Supply}
@@ -17,8 +18,10 @@ use Rattle.run_laws.proofs.Places.{cuts_stay}
 use Rattle.run_laws.proofs.Wishes.{legal_front, run_append}
 use Rattle.sound_runs.proofs.Standing.{legal_below}
 use Rattle.sound_states.proofs.Empty.{none_beyond}
-use Rattle.run_rules.proofs.Fullness.{due_told}
+use Rattle.run_rules.proofs.Fullness.{due_by, wish_writes}
+use Rattle.run_rules.proofs.Wishes.{wish_told}
 use Rattle.run_rules.specs.Wishes.{HasOpenWish, WasNeverFull}
+use Rattle.sound_cuts.proofs.Beyond.{no_steps, no_wishes}
 use Rattle.sound_cuts.specs.Runs.{IsSoundRun, WasFullNowhere, part_state}
 
 module _ (s : Supply) (policy : Policy) (script : Script) (w : KernelState) where
@@ -77,9 +80,18 @@ module _ (s : Supply) (policy : Policy) (script : Script) (w : KernelState) wher
         (nowhere front rest is some none (greatest start (commits_in s script w front))
         (front_greatest front (at_front front rest is) (commits_in s script w front) (option_to_list (run_after s script (start_run w) front).tried) refl))
 
-    pub due_greatest : x < 64 → IsTrue (is_due policy (run_after s script (start_run w) es) x) ↔ (HasOpenWish s script w es x policy × WasFullNowhere s script w es x)
-    due_greatest low =
-        let told = due_told s policy script x low w es k.legal in
+    pub wish_cases : IsTrue (has_wish policy (run_after s script (start_run w) es) x) ↔ HasOpenWish s script w es x policy
+    wish_cases = elim (cases_lt x 64) as (λ _. IsTrue (has_wish policy (run_after s script (start_run w) es) x) ↔ HasOpenWish s script w es x policy) [
+      | inl low ↦ wish_told s policy script x low w es k.legal
+      | inr far ↦ (
+        λ wish. absurd (false≢true (sym (no_wishes s policy script w es k x far) ∙ wish)),
+        λ open_wish. absurd (false≢true (sym (no_steps s policy script w es k x far) ∙ wish_writes s policy script x w es k.legal open_wish)),
+      )
+    ]
+
+    pub due_greatest : IsTrue (is_due policy (run_after s script (start_run w) es) x) ↔ (HasOpenWish s script w es x policy × WasFullNowhere s script w es x)
+    due_greatest =
+        let told = due_by s policy script x w es k.legal wish_cases in
         ((λ due. let both = told.0 due in (both.0, by_greatest both.1)), (λ both. told.1 (both.0, by_computed both.1)))
 
   pub run_rises : (es fs : List Entry) → IsSoundRun s policy script w (es ++ fs) → IsBelow (run_after s script (start_run w) es).cut (run_after s script (start_run w) (es ++ fs)).cut

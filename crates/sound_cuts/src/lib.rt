@@ -7,7 +7,7 @@ ghost use Rattle.hop_base.specs.declared.histories.Event.TheVariants.{Stable};
 ghost use Rattle.cut_laws.specs.Agreeing.{nothing};
 ghost use Rattle.hop_model.specs.Choices.{Commit, IsBelow, IsGreatest, greatest};
 ghost use Rattle.hop_model.specs.Fronts.{tried_commits};
-ghost use Rattle.hop_model.specs.Histories.{Policy, commits_above, commits_in, event_of, has_changed, is_due, is_full, run_after, start_run};
+ghost use Rattle.hop_model.specs.Histories.{Policy, commits_above, commits_in, event_of, has_changed, has_wish, is_due, is_full, run_after, start_run};
 ghost use Rattle.hop_model.specs.Parts.{after, is_event, part_of};
 ghost use Rattle.hop_model.specs.Scripts.{Script};
 ghost use Rattle.hop_model.specs.Soundness.{is_born, is_born_container, is_born_locus};
@@ -30,14 +30,18 @@ pub fn one_greatest_law()
         → IsGreatest (λ x. (w x).version) (commits_in s script w es) (run_after s script (start_run w) es).cut }
 {}
 
-/// An entity is full exactly where four or more of its commits are at or above the greatest closed choice over the completed ones. A wish of an
-/// entity below 64 is due exactly where it is open and the entity was full at no place from the last Step that writes it on.
+/// An entity is full exactly where four or more of its commits are at or above the greatest closed choice over the completed ones. A wish is
+/// open exactly in its two cases, and it is due exactly where it is open and the entity was full at no place from the last Step that writes
+/// it on.
 pub fn full_entity_law()
     ensures full { (s : Supply) (policy : Policy) (script : Script) (w : KernelState) (es : List Entry) (q : ℕ → ℕ) (x : ℕ)
         → IsSoundRun s policy script w es → IsGreatest (λ x. (w x).version) (commits_in s script w es) q
         → IsTrue (is_full (run_after s script (start_run w) es) x) ↔ (4 ≤ commits_above (commits_in s script w es) q x) }
+    ensures wish { (s : Supply) (policy : Policy) (script : Script) (w : KernelState) (es : List Entry) (x : ℕ)
+        → IsSoundRun s policy script w es
+        → IsTrue (has_wish policy (run_after s script (start_run w) es) x) ↔ HasOpenWish s script w es x policy }
     ensures due { (s : Supply) (policy : Policy) (script : Script) (w : KernelState) (es : List Entry) (x : ℕ)
-        → IsSoundRun s policy script w es → x < 64
+        → IsSoundRun s policy script w es
         → IsTrue (is_due policy (run_after s script (start_run w) es) x)
         ↔ (HasOpenWish s script w es x policy × WasFullNowhere s script w es x) }
 {}

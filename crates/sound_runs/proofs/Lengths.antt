@@ -166,7 +166,8 @@ cond_one false = omega arith
 names_few : (w : KernelState) → IsSound (λ x. (w x).cell) → names_in (atlas_in (w 0).cell) ≤ 63
 names_few w sound = subst (λ c. names_in (atlas_in c) ≤ 63) (sym sound.1.atlas) (let p = sound.1.names.few_containers in let q = sound.1.names.few_loci in omega (arith, p, q))
 
-not_written : (ts : List Touch) (x : ℕ) → touch_at ts x ≡ None → list_any (λ t. t.entity == x && t.wrote) ts ≡ false
+-- what isn't touched isn't written
+pub not_written : (ts : List Touch) (x : ℕ) → touch_at ts x ≡ None → list_any (λ t. t.entity == x && t.wrote) ts ≡ false
 not_written [] x none = refl
 not_written (t ∷ ts) x none = elim (t.entity == x) as (λ b. (if b then Some t else touch_at ts x) ≡ None → (b && t.wrote || list_any (λ t. t.entity == x && t.wrote) ts) ≡ false) [
   | true ↦ λ e. cc

@@ -38,7 +38,7 @@ pub fn sound_run_law()
         → AllBelow64 es }
 {}
 
-/// No birth is owed again once none is: steps take no name from the atlas.
+/// Once no birth is owed none is owed again.
 pub fn births_end_law()
     ensures over { (s : Supply) (policy : Policy) (script : Script) (w : KernelState) (es fs : List Entry)
         → IsScript script → NamesNoLocus script w → IsSound (λ x. (w x).cell) → IsLegalRun s policy w script (es ++ fs)
@@ -53,7 +53,7 @@ pub fn history_length_law()
         → length es ≤ 4 * 23 * script.steps + 200 }
 {}
 
-/// At most 320 commits are at or above the cut: five of each entity.
+/// At most 320 commits are at or above the cut.
 pub fn kept_records_law()
     ensures few { (s : Supply) (policy : Policy) (script : Script) (w : KernelState) (es : List Entry)
         → IsScript script → NamesNoLocus script w → IsSound (λ x. (w x).cell)
