@@ -1,5 +1,6 @@
 -- The kept records are those of the log at or above its greatest closed choice.
-use Rattle.std.proofs.Common.{◌≡◌, ℕ, Bool, true, false, List, [], ◌∷◌, nat_le, if◌then◌else◌, refl, sym, ap, ◌∙◌}
+use Rattle.std.proofs.Common.{◌≡◌, ℕ, Bool, true, false, List, [], ◌∷◌, nat_le, if◌then◌else◌, refl, sym, ap, ◌∙◌, arith}
+use Rattle.std.proofs.lemmas.List.{get_or_past}
 use Rattle.std.specs.Prelude.{filter, map}
 use Rattle.disk_trait.specs.Image.{Image}
 use Rattle.hop_base.specs.declared.records.Rec.{Rec}
@@ -9,7 +10,7 @@ use Rattle.cut_laws.specs.Agreeing.{nothing}
 use Rattle.cut_laws.proofs.Filters.{filter_within}
 use Rattle.cut_laws.specs.Records.{AgreeInRecs, commits_of, is_rec_from, recs_from}
 use Rattle.image_meaning.specs.Stores.{recs_of}
-use Rattle.store_model.specs.Books.{Books, Logged, cut_in, kept_for, kept_of, logged_recs, recs_in}
+use Rattle.store_model.specs.Books.{Books, HaveComponents, Logged, cut_in, kept_for, kept_of, logged_recs, recs_in}
 
 abbrev at_or_above : (ℕ → ℕ) → Logged → Bool
 at_or_above cut l = nat_le (cut l.rec.entity) l.rec.version
@@ -26,6 +27,11 @@ kept_recs_by image cut (l ∷ ls) =
 
 pub kept_recs : (image : Image) (b : Books) → recs_of (kept_of image b) ≡ recs_from (cut_in b) (recs_in b)
 kept_recs image b = kept_recs_by image (cut_in b) b.logged
+
+-- no component of a record is past the last entity
+pub narrow_recs : (recs : List Rec) → HaveComponents recs → IsNarrow (commits_of recs)
+narrow_recs [] all = tt
+narrow_recs (r ∷ recs) (one, all) = ((λ y far. get_or_past r.stamp y 0 (omega (arith, one, far))), narrow_recs recs all)
 
 -- those at or above a choice are all at or above it
 above_again : (cut : ℕ → ℕ) (rs : List Rec) → recs_from cut (recs_from cut rs) ≡ recs_from cut rs

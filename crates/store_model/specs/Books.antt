@@ -36,6 +36,10 @@ logged_recs ls = map (λ (l : Logged). l.rec) ls
 abbrev pub recs_in : Books → List Rec
 recs_in b = logged_recs b.logged
 
+-- each record has as many components as there are entities, as a `Rec` of the code has
+abbrev pub HaveComponents : List Rec → Type 0
+HaveComponents recs = AllByRecursion (λ (r : Rec). length r.stamp ≡ 64) recs
+
 -- the greatest closed choice over all records of the log
 abbrev pub cut_in : Books → ℕ → ℕ
 cut_in b = cut_of (recs_in b)

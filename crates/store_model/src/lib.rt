@@ -5,11 +5,10 @@
 
 ghost use Rattle.std.specs.Prelude.{◌≡◌, ℕ, false};
 ghost use Rattle.disk_trait.specs.Image.{Image};
-ghost use Rattle.hop_model.specs.Choices.{IsNarrow};
-ghost use Rattle.cut_laws.specs.Records.{AgreeInRecs, commits_of, recs_from};
+ghost use Rattle.cut_laws.specs.Records.{AgreeInRecs, recs_from};
 ghost use Rattle.image_meaning.specs.Stores.{Stores, recs_of};
 ghost use Rattle.store_model.specs.Between.{OnlyPages};
-ghost use Rattle.store_model.specs.Books.{AreSmall, AreTrue, Books, cut_in, kept_of, recs_in};
+ghost use Rattle.store_model.specs.Books.{AreSmall, AreTrue, Books, HaveComponents, cut_in, kept_of, recs_in};
 ghost use Rattle.store_model.specs.Owning.{OwnedLaw};
 
 use disk_trait::Disk;
@@ -21,10 +20,11 @@ pub fn stored_law<D: Disk>()
         → (c : Image) → D.may_leave disk c → Stores b.count (kept_of (D.reading disk) b) c }
 {}
 
-/// The kept records are those of the log at or above its greatest closed choice, so the log agrees with them from there on.
+/// The kept records are those of the log at or above its greatest closed choice. Where each record has its 64 components, the log
+/// agrees with them from there on.
 pub fn kept_records_law()
     ensures kept { (image : Image) (b : Books) → recs_of (kept_of image b) ≡ recs_from (cut_in b) (recs_in b) }
-    ensures agree { (image : Image) (b : Books) → IsNarrow (commits_of (recs_in b))
+    ensures agree { (image : Image) (b : Books) → HaveComponents (recs_in b)
         → AgreeInRecs (recs_in b) (recs_of (kept_of image b)) }
 {}
 
