@@ -9,7 +9,6 @@ ghost use Rattle.hop_model.specs.State.{Supply, KernelState};
 ghost use Rattle.hop_model.specs.Scripts.{Script};
 ghost use Rattle.hop_model.specs.Serial.{IsSerialFront};
 ghost use Rattle.hop_model.specs.Parts.{after};
-ghost use Rattle.hop_model.specs.Choices.{Commit};
 ghost use Rattle.hop_model.specs.Histories.{Policy, IsLegalRun, commits_in, event_of};
 ghost use Rattle.run_cuts.specs.Left.{AckedWithin, IsReached, IsStop};
 ghost use Rattle.run_cuts.specs.Marks.{completes};

@@ -1,14 +1,14 @@
 //! Laws of legal runs. The functions do nothing: the contract of each is a law.
 #![tactic(auto)]
 
-ghost use Rattle.std.specs.Prelude.{[], ◌≡◌, ◌≤◌, ◌++◌, ℕ, List, None, count_by, false, filter, length, take, true};
+ghost use Rattle.std.specs.Prelude.{[], ◌≡◌, ◌≤◌, ◌++◌, ℕ, List, count_by, false, filter, length, take};
 ghost use Rattle.std.specs.List.{list_any};
 ghost use Rattle.hop_base.specs.declared.histories.Entry.{Entry};
 ghost use Rattle.hop_model.specs.State.{Supply, KernelState};
 ghost use Rattle.hop_model.specs.Scripts.{Script};
-ghost use Rattle.hop_model.specs.Choices.{Commit, IsGreatest, greatest};
+ghost use Rattle.hop_model.specs.Choices.{Commit, greatest};
 ghost use Rattle.hop_model.specs.Fronts.{IsChoice, tried_commits};
-ghost use Rattle.hop_model.specs.Histories.{AllBelow64, Policy, IsLegalRun, commits_above, commits_in, event_of, has_changed, is_due, run_after, start_run, version_after, writes};
+ghost use Rattle.hop_model.specs.Histories.{Policy, IsLegalRun, commits_in, event_of, is_due, run_after, start_run, version_after, writes};
 ghost use Rattle.hop_model.specs.Parts.{after, part_of, thing_at};
 ghost use Rattle.hop_model.specs.Vectors.{StampsBelow};
 ghost use Rattle.cut_laws.specs.Agreeing.{AreFromStart, HoldsStart};
