@@ -1,2 +1,3 @@
 pub mod Founding
 pub mod Going
+pub mod Recorded

@@ -3,6 +3,7 @@
 
 ghost use Rattle.std.specs.Prelude.{◌≡◌, ℕ, List, Some, true, false};
 ghost use Rattle.hop_base.specs.declared.histories.Entry.{Entry};
+ghost use Rattle.hop_base.specs.declared.histories.Event.TheVariants.{Birth as BirthEvent, Snap as SnapEvent, Stable as StableEvent};
 ghost use Rattle.hop_model.specs.State.{KernelState, Supply};
 ghost use Rattle.hop_model.specs.Scripts.{Script};
 ghost use Rattle.hop_model.specs.Steps.{step};
@@ -10,7 +11,7 @@ ghost use Rattle.hop_model.specs.Histories.{Policy, Run, IsLegalRun, after_step,
 ghost use Rattle.kernel_cells.specs.declared.cells.Cell.{Cell as ACell};
 ghost use Rattle.kernel_cells.specs.Cells.{HasCell};
 ghost use Rattle.kernel_cells.specs.Wishes.{HasWish};
-ghost use Rattle.wish_laws.specs.Founded.{IsFoundedCell, IsFoundedIn};
+ghost use Rattle.wish_laws.specs.Founded.{IsFoundedCell, IsFoundedIn, IsRecordMark, IsRecordedNow, TakesBirth};
 
 /// In a legal run an entity that a step wrote or a snap named since its newest commit has changed since, so each entity with an
 /// open wish has; and each cell that the run has says the same.
@@ -44,4 +45,29 @@ pub fn unwritten_cell_law()
     ensures wish { (s : Supply) (script : Script) (r : Run) (me : ℕ) (e : Entry) (v : KernelState) (steps : ℕ) (c : ACell)
         → step s me r.state ≡ Some (e, v) → writes e c.clock.entity ≡ false → HasWish steps r c
         → HasWish steps (goes_on s script r e) c }
+{}
+
+/// A run goes on after a Snap or a Stable: its state stays. The entity of the Snap, and after a Stable each entity, has its newest
+/// record then; other wishes stay, and after a Stable those of cells that haven't changed since their newest record.
+pub fn recorded_wish_law()
+    ensures state { (s : Supply) (script : Script) (r : Run) (e : Entry) → IsRecordMark e.event
+        → (goes_on s script r e).state ≡ r.state }
+    ensures snap { (s : Supply) (script : Script) (r : Run) (e : Entry) (words : ℕ → List ℕ) (steps : ℕ) (c d : ACell)
+        → e.event ≡ SnapEvent → e.actor ≡ c.clock.entity → HasCell s words r.state c → HasWish steps r c → IsRecordedNow c d
+        → HasWish steps (goes_on s script r e) d }
+    ensures others { (s : Supply) (script : Script) (r : Run) (e : Entry) (steps : ℕ) (c : ACell)
+        → e.event ≡ SnapEvent → (c.clock.entity ≡ e.actor → ⊥) → HasWish steps r c → HasWish steps (goes_on s script r e) c }
+    ensures stable { (s : Supply) (script : Script) (r : Run) (e : Entry) (words : ℕ → List ℕ) (steps : ℕ) (c d : ACell)
+        → e.event ≡ StableEvent → HasCell s words r.state c → HasWish steps r c → IsRecordedNow c d
+        → HasWish steps (goes_on s script r e) d }
+    ensures settled { (s : Supply) (script : Script) (r : Run) (e : Entry) (words : ℕ → List ℕ) (steps : ℕ) (c : ACell)
+        → e.event ≡ StableEvent → HasCell s words r.state c → HasWish steps r c → IsFoundedCell c
+        → c.clock.version ≡ c.wish.newest → HasWish steps (goes_on s script r e) c }
+{}
+
+/// A run goes on after a birth: it has the wish of each cell that has taken the birth in.
+pub fn birth_wish_law()
+    ensures { (s : Supply) (script : Script) (r : Run) (e : Entry) (steps : ℕ) (c d : ACell)
+        → e.event ≡ BirthEvent → HasWish steps r c → TakesBirth (writes e c.clock.entity) c d
+        → HasWish steps (goes_on s script r e) d }
 {}
