@@ -16,7 +16,7 @@ use Rattle.store_model.specs.Books.{AreHeldPages, AreSmall, AreTrue, Books, Comm
 use Rattle.store_commit.specs.BlobBytes.{HoldsBytes}
 use Rattle.store_commit.specs.Ready.{AreAt, CanCommit, HasCommitted, ReadyLaw, books_after, next_in}
 use Rattle.store_commit.specs.Storing.{HasLogged, IsCommitBlock, IsReady, Next, StoresOneMore, new_of, roomy_log as roomy_recs}
-use Rattle.snapshot_store.specs.Committed.{CommitsInFreeBlocks, HasFailedShut, IsInFreeBlocks, SameUsed, StoresKeptOrMore}
+use Rattle.snapshot_store.specs.Committed.{CommitsInFreeBlocks, HasFailedShut, HasNewRecord, IsInFreeBlocks, SameUsed, StoresKeptOrMore}
 use Rattle.snapshot_store.specs.Keeping.{HasRecounted}
 use Rattle.snapshot_store.specs.Putting.{HasFailed, HasPut, roomy_log}
 use Rattle.snapshot_store.specs.State.{IsWhole, State, books}
@@ -114,6 +114,21 @@ module _ {D : Type 0} (st st2 : State D) (mid last : Ledger) (many : ℕ) (block
       same_held = same_held put.ledger.only;
       same_found = same_found put.ledger.only;
       same_count = same_end put.ledger.only;
+    }
+
+    pub new_record : IsInFreeBlocks (books st) r → (epoch_of st.areas ≤ epoch_of st2.areas) × (epoch_of st2.areas ≤ epoch_of st.areas + 1) → HasNewRecord r.entity r.version r.length r.stamp table (books st) (books (record st2 { blocks = last }))
+    new_record free epoch = record {
+      rec = r;
+      entity_is = refl;
+      version_is = refl;
+      stamp_is = refl;
+      length_is = refl;
+      log = logged_by (nat_lt (used_of st.areas) slot_count) put.log;
+      same_held = same_held put.ledger.only;
+      same_found = same_found put.ledger.only;
+      same_count = same_end put.ledger.only;
+      free = free;
+      epoch = epoch;
     }
 
     pub commits : (reading : Image) (bytes : List ℕ) → r.length ≡ length bytes → blob_in reading r ≡ bytes → IsInFreeBlocks (books st) r → (epoch_of st.areas ≤ epoch_of st2.areas) × (epoch_of st2.areas ≤ epoch_of st.areas + 1)

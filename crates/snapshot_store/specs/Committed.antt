@@ -1,5 +1,5 @@
 -- What a commit leaves of a store, and what a stop leaves of it.
-use Rattle.std.specs.Prelude.{◌≡◌, ◌⊎◌, ◌+◌, ◌<◌, ◌≤◌, ℕ, true, false, Contains, List}
+use Rattle.std.specs.Prelude.{◌≡◌, ◌⊎◌, ◌+◌, ◌<◌, ◌≤◌, ℕ, true, false, Contains, List, [], ◌∷◌, ◌++◌}
 use Rattle.disk_trait.specs.Image.{Image, block_at}
 use Rattle.hop_base.specs.declared.records.Rec.{Rec}
 use Rattle.image_blocks.specs.Bodies.{blob_blocks}
@@ -17,6 +17,20 @@ pub record IsInFreeBlocks (b : Books) (r : Rec) : Type 0 where
 pub record CommitsInFreeBlocks (entity version : ℕ) (stamp blob table : List ℕ) (reading : Image) (old new : Books) : Type 0 where
   pub commits : Commits entity version stamp blob table reading old new
   pub free : IsInFreeBlocks old commits.rec
+  pub epoch : (old.place.epoch ≤ new.place.epoch) × (new.place.epoch ≤ old.place.epoch + 1)
+
+-- WHAT IT LEAVES IN MEMORY, whatever the disk tells: the log has one record more, of this length and with these pages
+pub record HasNewRecord (entity version length : ℕ) (stamp table : List ℕ) (old new : Books) : Type 0 where
+  pub rec : Rec
+  pub entity_is : rec.entity ≡ entity
+  pub version_is : rec.version ≡ version
+  pub stamp_is : rec.stamp ≡ stamp
+  pub length_is : rec.length ≡ length
+  pub log : (new.logged ≡ old.logged ++ record { rec = rec; table = table } ∷ []) ⊎ (new.logged ≡ kept_in old ++ record { rec = rec; table = table } ∷ [])
+  pub same_held : new.held ≡ old.held
+  pub same_found : new.found ≡ old.found
+  pub same_count : new.count ≡ old.count
+  pub free : IsInFreeBlocks old rec
   pub epoch : (old.place.epoch ≤ new.place.epoch) × (new.place.epoch ≤ old.place.epoch + 1)
 
 -- the image stores what was kept, and a new record in blocks that weren't in use

@@ -11,7 +11,7 @@ ghost use Rattle.image_blocks.specs.Bodies.{blocks_for};
 ghost use Rattle.image_blocks.specs.Layout.{most_length, slot_count};
 ghost use Rattle.log_turn.specs.Standing.{Stands, begun_of, epoch_of, used_of};
 ghost use Rattle.store_commit.specs.Storing.{HasBlob, HasLogged, HasPlaces, IsCommitBlock, IsReady, Next, StoresOneMore, new_of, roomy_log as roomy_recs};
-ghost use Rattle.snapshot_store.specs.Committed.{CommitsInFreeBlocks, HasFailedShut, SameUsed, StoresKeptOrMore};
+ghost use Rattle.snapshot_store.specs.Committed.{CommitsInFreeBlocks, HasFailedShut, HasNewRecord, SameUsed, StoresKeptOrMore};
 ghost use Rattle.snapshot_store.specs.Naming.{IsPlaced};
 ghost use Rattle.snapshot_store.specs.Putting.{HasFailed, HasPut, are_small};
 ghost use Rattle.snapshot_store.specs.State.{books};
@@ -102,6 +102,7 @@ impl<D: Disk> Store<D> {
         requires true_books { D.tells → AreTrue D.reading D.may_leave (books self.old) self.old.disk }
 
         ensures committed { D.tells → OnOk result (CommitsInFreeBlocks entity version stamp.now bytes.now table.now (D.reading self.new.disk) (books self.old) (books self.new)) }
+        ensures in_memory { OnOk result (HasNewRecord entity version (length bytes.now) stamp.now table.now (books self.old) (books self.new)) }
         ensures true_books { D.tells → OnOk result (AreTrue D.reading D.may_leave (books self.new) self.new.disk) }
         ensures stable { D.tells → OnOk result (Only (D.reading self.new.disk) (D.may_leave self.new.disk)) }
         ensures same_used { D.tells → SameUsed (books self.old) (D.reading self.old.disk) (D.reading self.new.disk) }
@@ -159,6 +160,7 @@ impl<D: Disk> Store<D> {
         requires true_books { D.tells → AreTrue D.reading D.may_leave (books self.old) self.old.disk }
 
         ensures committed { D.tells → OnOk result (CommitsInFreeBlocks entity version stamp.now blob.now pages.now.0 (D.reading self.new.disk) (books self.old) (books self.new)) }
+        ensures in_memory { OnOk result (HasNewRecord entity version (length blob.now) stamp.now pages.now.0 (books self.old) (books self.new)) }
         ensures true_books { D.tells → OnOk result (AreTrue D.reading D.may_leave (books self.new) self.new.disk) }
         ensures stable { D.tells → OnOk result (Only (D.reading self.new.disk) (D.may_leave self.new.disk)) }
         ensures same_used { D.tells → SameUsed (books self.old) (D.reading self.old.disk) (D.reading self.new.disk) }

@@ -12,7 +12,7 @@ use Rattle.snapshot_store.specs.Keeping.{HasRecounted}
 use Rattle.snapshot_store.specs.State.{State, books, state_of}
 use Rattle.snapshot_store.specs.Taking.{HasReleased}
 use Rattle.snapshot_store.proofs.Committable.{IsRecordOf, blob_bytes, in_free, taken_placed, taken_places}
-use Rattle.snapshot_store.proofs.Course.{commits, failed_shut, moments_behind, recounted_either, stands_now, true_behind, used_same}
+use Rattle.snapshot_store.proofs.Course.{commits, failed_shut, moments_behind, new_record, recounted_either, stands_now, true_behind, used_same}
 use Rattle.snapshot_store.proofs.Holding.{free_is, kept_is}
 use Rattle.snapshot_store.proofs.Listing.{few_blocks}
 use Rattle.snapshot_store.proofs.store.Store.write_record.Goals as goal
@@ -99,6 +99,27 @@ returns-clause-committed g c t =
           let epoch = rw (← c.self-2.view_is) at w.in-Ok.ensures.epoch in
           let done = commits st st2 c.take_blocks-blocks.new.ledger c.release_blocks.new.ledger (blocks_for (length c.args.bytes.now)) c.take_blocks-blocks.result c.take_blocks-blocks.ensures released r c.args.table.now put g.D.Disk.block_count c.self.invariant working.0 (g.D.Disk.reading c.self-2.inside.disk) c.args.bytes.now refl
           (blob_bytes r c.args.bytes.now (take (blocks_for (length c.args.bytes.now)) c.spelled_blocks.result) (recs_in (books st)) (g.D.Disk.reading c.self-2.inside.disk) is c.spelled_blocks.ensures has)
+          (in_free g.D.Disk.block_count st c.self.invariant c.take_blocks-blocks.new.ledger r c.take_blocks-blocks.ensures) epoch in
+          rw (← c.self.view_is) (rw w.result-is done)
+      | in-Err w ↦ rw w.result-is tt
+    ]
+
+pub returns-clause-in_memory : goal.returns-clause-in_memory
+returns-clause-in_memory g c =
+    let i = c.self.inside in
+    let st : State g.row.D.Denot = state_of i.disk i.areas i.log i.kept i.cut i.blocks i.small i.shut i.read_calls in
+    let j = c.self-2.inside in
+    let st2 : State g.row.D.Denot = state_of j.disk j.areas j.log j.kept j.cut j.blocks j.small j.shut j.read_calls in
+    let r : Rec = record { entity = c.args.entity; version = c.args.version; stamp = c.args.stamp.now; length = length c.args.bytes.now; blocks = c.take_blocks-blocks.result } in
+    let working = rw (← c.self.view_is) at c.requires.working in
+    let pages = rw (← c.self.view_is) at c.requires.pages in
+    let released : HasReleased (blocks_for (length c.args.bytes.now)) c.self-2.inside.blocks c.release_blocks.new.ledger (take (blocks_for (length c.args.bytes.now)) c.take_blocks-blocks.result) =
+    subst (λ (k : ℕ). HasReleased k c.self-2.inside.blocks c.release_blocks.new.ledger (take (blocks_for (length c.args.bytes.now)) c.take_blocks-blocks.result)) (length-take-le (blocks_for (length c.args.bytes.now)) c.take_blocks-blocks.result (let few = few_blocks (length c.args.bytes.now) c.requires.bytes.1 in omega (arith, few))) c.release_blocks.ensures in
+    elim c.match-done.branch [
+      | in-Ok w ↦
+          let put = rw (← c.self-2.view_is) at w.in-Ok.ensures.put in
+          let epoch = rw (← c.self-2.view_is) at w.in-Ok.ensures.epoch in
+          let done = new_record st st2 c.take_blocks-blocks.new.ledger c.release_blocks.new.ledger (blocks_for (length c.args.bytes.now)) c.take_blocks-blocks.result c.take_blocks-blocks.ensures released r c.args.table.now put g.D.Disk.block_count c.self.invariant working.0
           (in_free g.D.Disk.block_count st c.self.invariant c.take_blocks-blocks.new.ledger r c.take_blocks-blocks.ensures) epoch in
           rw (← c.self.view_is) (rw w.result-is done)
       | in-Err w ↦ rw w.result-is tt
