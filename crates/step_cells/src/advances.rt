@@ -1,0 +1,42 @@
+// Steps of a locus over the cells that they touch.
+ghost use Rattle.std.specs.Prelude.{◌≡◌, ◌≢◌, ◌<◌, ◌^◌, ℕ, List, [], ◌∷◌};
+ghost use Rattle.hop_model.specs.State.{Supply};
+ghost use Rattle.beside_steps.specs.Besides.{FitsBeside};
+ghost use Rattle.step_plans.specs.Plans.{IsPlanned};
+ghost use Rattle.step_plans.specs.declared.plans.Plan.TheVariants as plan;
+ghost use Rattle.step_cells.specs.Advances.{StepsCells};
+
+use crate::noting::{named_by_snap, note};
+use beside_steps::step_beside;
+use hop_base::{Entry, Instr};
+use kernel_cells::{Cell, step_alone};
+
+/// The step of a locus that touches it alone.
+pub fn advance_alone(locus: &mut Cell) -> Entry
+    requires planned { IsPlanned locus.old plan.Alone }
+    requires few { locus.old.clock.version < 2 ^ 63 }
+    ensures step { (s : Supply) → (words : ℕ → List ℕ) → StepsCells s words words locus.old.clock.entity (locus.old ∷ []) (locus.new ∷ []) result }
+    ensures entity { locus.new.clock.entity ≡ locus.old.clock.entity }
+{
+    let named = named_by_snap(locus);
+    let entry = step_alone(locus);
+    note(locus, &entry, &named);
+    entry
+}
+
+/// The step of a locus beside another entity that it neither looks at nor maps into. Both are written.
+pub fn advance_beside(locus: &mut Cell, other: &mut Cell, instr: Instr) -> Entry
+    requires planned { IsPlanned locus.old (plan.Beside other.old.clock.entity instr) }
+    requires fits { FitsBeside instr other.old.part }
+    requires apart { other.old.clock.entity ≢ locus.old.clock.entity }
+    requires few { (locus.old.clock.version < 2 ^ 63) × (other.old.clock.version < 2 ^ 63) }
+    ensures step { (s : Supply) → (words : ℕ → List ℕ)
+        → StepsCells s words words locus.old.clock.entity (locus.old ∷ other.old ∷ []) (locus.new ∷ other.new ∷ []) result }
+    ensures entities { (locus.new.clock.entity ≡ locus.old.clock.entity) × (other.new.clock.entity ≡ other.old.clock.entity) }
+{
+    let named = named_by_snap(locus);
+    let entry = step_beside(locus, other, instr);
+    note(locus, &entry, &named);
+    note(other, &entry, &named);
+    entry
+}

@@ -1,0 +1,11 @@
+//! Steps of a locus over lent cells, which take the step in: the cells, their versions, clocks and wishes are those after it.
+#![tactic(auto)]
+
+mod advances;
+mod bearings;
+mod lookings;
+mod noting;
+
+pub use advances::{advance_alone, advance_beside};
+pub use bearings::{advance_barren, advance_making, advance_mapping, advance_spawning};
+pub use lookings::advance_looking;

@@ -1,0 +1,47 @@
+// The step of a locus that looks at a container.
+ghost use Rattle.std.specs.Prelude.{◌≡◌, ◌<◌, ◌^◌, ℕ, [], ◌∷◌, IfErr, IfOk, OnErr, OnOk};
+ghost use Rattle.fault_paging.specs.Calls.{IsCausedBy};
+ghost use Rattle.kernel_cells.specs.Cells.{part_of};
+ghost use Rattle.look_steps.specs.Looking.{LeavesMemory, MayLook};
+ghost use Rattle.step_plans.specs.Plans.{IsPlanned};
+ghost use Rattle.step_plans.specs.declared.plans.Plan.TheVariants as plan;
+ghost use Rattle.step_cells.specs.Advances.{StepsCells};
+
+use crate::noting::{named_by_snap, note};
+use fault_paging::PageFault;
+use hop_base::Entry;
+use kernel_cells::Cell;
+use look_steps::step_look;
+use manager_gate::{Gate, Policy, Supplier};
+use page_store::PageStore;
+
+/// The step of a locus that makes one look of a load or a store at a container. On a fault of paging nothing has
+/// changed in the model, so that the same step can be tried again. A container makes no steps, so that it has some left.
+pub fn advance_looking<B: PageStore, S: Supplier, P: Policy>(
+    locus: &mut Cell,
+    other: &mut Cell,
+    store: &mut B,
+    gate: &Gate<S, P>,
+) -> Result<Entry, PageFault>
+    requires keeps { S.keeps gate.now.supply }
+    requires planned { IsPlanned locus.old (plan.Look other.old.clock.entity) }
+    requires memory { MayLook (S.word gate.now.supply) B.tells (B.held store.old) (B.words store.old) other.old.part }
+    requires lower { other.old.clock.entity < locus.old.clock.entity }
+    requires few { (locus.old.clock.version < 2 ^ 63) × (other.old.clock.version < 2 ^ 63) }
+    requires left { 0 < other.old.left }
+    ensures step { B.tells → IfOk result (StepsCells (S.word gate.now.supply) (B.words store.old) (B.words store.new) locus.old.clock.entity (locus.old ∷ other.old ∷ []) (locus.new ∷ other.new ∷ [])) }
+    ensures locus_stays { OnErr result (locus.new ≡ locus.old) }
+    ensures other_stays { OnErr result ((other.new.clock ≡ other.old.clock) × (other.new.wish ≡ other.old.wish) × (other.new.left ≡ other.old.left)) }
+    ensures same_part { OnErr result (B.tells → part_of (S.word gate.now.supply) (B.words store.new) other.new.part ≡ part_of (S.word gate.now.supply) (B.words store.old) other.old.part) }
+    ensures memory { LeavesMemory (S.word gate.now.supply) B.tells B.held B.kept_names B.words other.old.part other.new.part store.old store.new }
+    ensures cause { IfErr result (IsCausedBy (B.free store.old) (B.faults store.old) (B.faults store.new) (B.is_shut store.old) (B.is_shut store.new)) }
+    ensures same_shut { OnOk result (B.is_shut store.new ≡ B.is_shut store.old) }
+    ensures between { B.Pages store.old store.new }
+    ensures entities { (locus.new.clock.entity ≡ locus.old.clock.entity) × (other.new.clock.entity ≡ other.old.clock.entity) }
+{
+    let named = named_by_snap(locus);
+    let entry = step_look(locus, other, store, gate)?;
+    note(locus, &entry, &named);
+    note(other, &entry, &named);
+    Ok(entry)
+}

@@ -1,0 +1,59 @@
+// Cells take in a step.
+ghost use Rattle.std.specs.Prelude.{◌≡◌, ◌<◌, ℕ, List, Option};
+ghost use Rattle.hop_base.specs.declared.histories.Answer.TheVariants.{Reply as Replied};
+ghost use Rattle.hop_base.specs.declared.instructions.Reply.TheVariants.{Ok as OkReply};
+ghost use Rattle.hop_model.specs.Histories.{asked_by, asks, locus_in};
+ghost use Rattle.hop_model.specs.Refusals.{instr_at};
+ghost use Rattle.hop_model.specs.State.{LocusState, Supply};
+ghost use Rattle.wanted_act.specs.Views.{IsReadyLocus};
+ghost use Rattle.locus_machine.specs.Loci.{locus_of};
+ghost use Rattle.locus_machine.specs.declared.loci.Locus.{Locus as ALocus};
+ghost use Rattle.kernel_cells.specs.Cells.{part_of, IsRunning};
+ghost use Rattle.step_cells.specs.Advances.{TakesIn};
+
+use hop_base::{Answer, Entity, Entry, Instr, Reply};
+use kernel_cells::{Cell, Part};
+use locus_machine::Locus;
+use wanted_act::{fetch, named_entity};
+
+/// The entity that the locus names where its instruction is a snap.
+fn named_by_locus(locus: &Locus) -> Option<Entity>
+    requires { IsReadyLocus (locus_of locus.now) }
+    ensures { result ≡ asks (Replied OkReply) (instr_at (locus_of locus.now)) (locus_of locus.now) }
+{
+    let view = locus.view();
+    match fetch(&view) {
+        Instr::Snap(slot) => Some(named_entity(&view, slot)),
+        _ => None,
+    }
+}
+
+/// The same, of the running locus of a cell.
+pub(crate) fn named_by_snap(cell: &Cell) -> Option<Entity>
+    requires { (l : ALocus) × IsRunning cell.now.part l }
+    ensures { (s : Supply) → (words : ℕ → List ℕ) → result ≡ asked_by (Replied OkReply) (locus_in (part_of s words cell.now.part)) }
+{
+    match &cell.part {
+        Part::Locus(Some(locus)) => named_by_locus(locus),
+        _ => unreachable!(),
+    }
+}
+
+/// The entity for which a step that is answered so asks a record.
+fn asked_for(answer: Answer, named: &Option<Entity>) -> Option<Entity>
+    ensures { (l : Option LocusState) → named.now ≡ asked_by (Replied OkReply) l → result ≡ asked_by answer l }
+{
+    match answer {
+        Answer::Reply(Reply::Ok) => *named,
+        _ => None,
+    }
+}
+
+/// The cell takes in a step that touched it, of a locus whose snap would name this entity.
+pub(crate) fn note(cell: &mut Cell, entry: &Entry, named: &Option<Entity>)
+    requires { cell.old.clock.entity ≡ entry.now.actor → 0 < cell.old.left }
+    ensures { TakesIn entry.now named.now cell.old cell.new }
+{
+    let asked = asked_for(entry.answer, named);
+    cell.note_step(entry, asked);
+}
