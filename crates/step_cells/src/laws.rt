@@ -1,0 +1,20 @@
+// Laws of cells at a step. The functions do nothing: the contract of each is a law.
+ghost use Rattle.std.specs.Prelude.{◌≡◌, ℕ, List, Some, false};
+ghost use Rattle.hop_base.specs.declared.histories.Entry.{Entry as AnEntry};
+ghost use Rattle.hop_model.specs.Histories.{noting, writes, Run};
+ghost use Rattle.hop_model.specs.State.{KernelState, Supply};
+ghost use Rattle.hop_model.specs.Steps.{step};
+ghost use Rattle.kernel_cells.specs.Cells.{HasCell};
+ghost use Rattle.kernel_cells.specs.Wishes.{HasWish};
+ghost use Rattle.kernel_cells.specs.declared.cells.Cell.{Cell as ACell};
+
+/// A cell whose entity a step doesn't write is as it was.
+pub fn unlent_cells_law()
+    ensures { (s : Supply) (words : ℕ → List ℕ) (me : ℕ) (w v : KernelState) (e : AnEntry) (c : ACell) → step s me w ≡ Some (e, v)
+        → writes e c.clock.entity ≡ false → HasCell s words w c → HasCell s words v c }
+{}
+
+/// A wish is the same once it is noted which entities are full.
+pub fn noting_law()
+    ensures { (steps : ℕ) (r : Run) (c : ACell) → HasWish steps r c → HasWish steps (noting r) c }
+{}
