@@ -1,0 +1,14 @@
+use Rattle.std.proofs.Common.{◌≡◌, length}
+use Rattle.atlas_dir.specs.Directory.{edges_of}
+use Rattle.atlas_dir.proofs.Paths.{unmarked}
+use Rattle.part_checks.proofs.Circling.{AreFree}
+use Rattle.part_checks.proofs.circles.has_no_circle.Given as goal
+
+abbrev pub invariant-loop-container : goal.invariant-loop-container
+invariant-loop-container l = record {
+  all : length l.marks ≡ 41;
+  free : AreFree (edges_of l.atlas) l.marks;
+}
+
+abbrev pub decreases-loop-container : goal.decreases-loop-container
+decreases-loop-container l = unmarked l.marks

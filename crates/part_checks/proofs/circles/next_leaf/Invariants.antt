@@ -1,0 +1,12 @@
+use Rattle.std.proofs.Common.{◌≡◌, ◌<◌, ℕ, false}
+use Rattle.atlas_dir.specs.Directory.{edges_of}
+use Rattle.atlas_dir.specs.Reached.{is_marked}
+use Rattle.circle_law.specs.Containers.{IsAmongContainers}
+use Rattle.part_checks.specs.Circles.{ShowsUnmarked}
+use Rattle.part_checks.proofs.circles.next_leaf.Given as goal
+
+abbrev pub invariant-loop-container : goal.invariant-loop-container
+invariant-loop-container l = record {
+  none : (x : ℕ) → x < l.container → is_marked l.marks x ≡ false → ShowsUnmarked (edges_of l.atlas) l.marks x;
+  inside : 0 < l.container → IsAmongContainers (edges_of l.atlas);
+}

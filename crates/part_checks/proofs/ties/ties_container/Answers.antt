@@ -1,0 +1,20 @@
+use Rattle.std.proofs.Common.{sym, ap, ◌∙◌, subst, Bool, ◌&&◌}
+use Rattle.std.specs.Prelude.{◌↔◌, IsTrue}
+use Rattle.std.specs.List.{list_all}
+use Rattle.hop_base.specs.declared.capabilities.Region.{Region}
+use Rattle.hop_model.specs.Soundness.{is_born_container}
+use Rattle.image_meaning.specs.Fits.{IsTiedContainer}
+use Rattle.kernel_calls.specs.Calls.{atlas_state}
+use Rattle.locus_machine.specs.Loci.{container_with}
+use Rattle.part_checks.specs.Chosen.{no_words}
+use Rattle.part_checks.proofs.Naming.{tied_container}
+use Rattle.part_checks.proofs.ties.ties_container.Goals as goal
+
+pub returns : goal.returns
+returns c =
+    let a = atlas_state c.args.atlas.now in
+    let state = container_with no_words c.args.head.now in
+    let named = c.are_born-named.result in
+    subst (λ (b : Bool). IsTrue (b && named) ↔ IsTiedContainer a state)
+    (sym (c.all_shown-shown.ensures ∙ ap (list_all (λ (r : Region). is_born_container a r.target)) c.as_slice.ensures.all))
+    (tied_container a state named c.are_born-named.ensures)

@@ -1,0 +1,16 @@
+use Rattle.std.proofs.Common.{sym, ap, ◌∙◌, subst, Bool, ◌&&◌}
+use Rattle.std.specs.Prelude.{◌↔◌, IsTrue}
+use Rattle.std.specs.List.{list_all}
+use Rattle.image_meaning.specs.Fits.{IsTiedLocus}
+use Rattle.kernel_calls.specs.Calls.{atlas_state}
+use Rattle.locus_machine.specs.Loci.{locus_of}
+use Rattle.part_checks.proofs.Naming.{is_called, is_private, tied_locus_by}
+use Rattle.part_checks.proofs.ties.ties_locus.Goals as goal
+
+pub returns : goal.returns
+returns c =
+    let a = atlas_state c.args.atlas.now in
+    tied_locus_by a (locus_of c.args.locus.now) _ _ _ _ _ c.is_born_container-hosted.ensures
+    (c.all_called-called.ensures ∙ ap (list_all (is_called a)) c.as_slice.ensures.calls)
+    (c.all_private-private.ensures ∙ ap (list_all (is_private a)) c.as_slice-2.ensures.privates)
+    c.are_born-named.ensures c.ties_walk-walking.ensures

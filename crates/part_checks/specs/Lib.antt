@@ -1,0 +1,3 @@
+pub mod Chosen
+pub mod Circles
+pub mod Ties

@@ -1,0 +1,20 @@
+//! What is chosen of an entity.
+use atlas_dir::Atlas;
+use hop_base::Rec;
+use locus_machine::Locus;
+use snapshot_reading::ContainerBlob;
+
+/// What the blob of a chosen record spells.
+#[derive(Drop, Debug)]
+pub enum ChosenPart {
+    Atlas(Atlas),
+    Container(ContainerBlob),
+    Locus(Locus),
+}
+
+/// A chosen record and its part.
+#[derive(Drop, Debug)]
+pub struct ChosenEntity {
+    pub rec: Rec,
+    pub part: ChosenPart,
+}

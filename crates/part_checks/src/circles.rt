@@ -1,0 +1,60 @@
+//! Whether the edges of an atlas make a circle: containers that show none but marked ones are marked until there is no more.
+ghost use Rattle.std.specs.Prelude.{◌≡◌, ◌↔◌, ◌<◌, IsTrue, IfSome, IfNone};
+ghost use Rattle.std.specs.List.{list_all};
+ghost use Rattle.circle_law.specs.Containers.{IsAmongContainers};
+ghost use Rattle.atlas_dir.specs.Directory.{edges_of};
+ghost use Rattle.hop_model.specs.Soundness.{HasNoCircle};
+ghost use Rattle.part_checks.specs.Circles.{IsLeaf, IsStuck, ShowsUnmarked};
+
+use atlas_dir::{Atlas, CONTAINERS};
+use hop_base::Entity;
+
+/// One more than the greatest number of a container.
+const SIDE: usize = CONTAINERS + 1;
+
+// Whether the container shows regions of one that isn't marked.
+fn shows_unmarked(atlas: &Atlas, container: u8, marks: &[bool; SIDE]) -> bool
+    requires { container < SIDE }
+    ensures shows { IsTrue result ↔ ShowsUnmarked (edges_of atlas.now) marks.now container }
+    ensures inside { IsAmongContainers (edges_of atlas.now) }
+{
+    for other in 0..SIDE as u8 {
+        let count = atlas.count(Entity::of(container), Entity::of(other));
+        if count > 0 && !marks[other as usize] {
+            return true;
+        }
+    }
+    false
+}
+
+// A container that isn't marked and shows no regions of others that aren't.
+fn next_leaf(atlas: &Atlas, marks: &[bool; SIDE]) -> Option<u8>
+    ensures some { IfSome result (IsLeaf (edges_of atlas.now) marks.now) }
+    ensures none { IfNone result (IsStuck (edges_of atlas.now) marks.now) }
+    ensures inside { IsAmongContainers (edges_of atlas.now) }
+{
+    for container in 0..SIDE as u8 {
+        let is_leaf = !shows_unmarked(atlas, container, marks);
+        if is_leaf && !marks[container as usize] {
+            return Some(container);
+        }
+    }
+    None
+}
+
+fn all_marked(marks: &[bool]) -> bool
+    ensures { result ≡ list_all (λ mark. mark) marks.now }
+{
+    marks.iter().all(|mark| *mark)
+}
+
+/// Whether no container shows itself over edges. It looks at each count of two containers 41 times at most.
+pub fn has_no_circle(atlas: &Atlas) -> bool
+    ensures { IsTrue result ↔ HasNoCircle (edges_of atlas.now) }
+{
+    let mut marks = [false; SIDE];
+    while let Some(container) = next_leaf(atlas, &marks) {
+        marks[container as usize] = true;
+    }
+    all_marked(&marks)
+}

@@ -1,0 +1,15 @@
+//! Whether the parts that the chosen records of an image spell fit each other: check 5 of an image, without a disk.
+//!
+//! The atlas is chosen and names each chosen entity; what a part names is born and of the right kind; the atlas counts exactly
+//! the regions that containers show, which make no circle; and the block of each page is named once.
+#![tactic(auto)]
+
+mod born;
+mod chosen;
+mod circles;
+mod ties;
+
+pub use born::{are_born, is_born, is_born_container};
+pub use chosen::{ChosenEntity, ChosenPart};
+pub use circles::has_no_circle;
+pub use ties::{ties_container, ties_locus};
