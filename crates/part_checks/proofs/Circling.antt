@@ -1,6 +1,6 @@
 -- Marks that spread from containers that show no others: those that are marked are on no circle, and where none is left to be
 -- marked each unmarked one leads on to an unmarked one, so that some path comes back.
-use Rattle.std.proofs.Common.{◌≡◌, ℕ, zero, suc, ◌+◌, ◌<◌, ◌≤◌, Bool, true, false, ◌&&◌, ◌⊎◌, inl, inr, List, [], ◌∷◌, ◌++◌, length, set, refl, sym, ap, subst, ◌∙◌, ⊎_elim, arith, get_or-set_same, get_or-set_other}
+use Rattle.std.proofs.Common.{◌≡◌, ℕ, zero, suc, ◌<◌, ◌≤◌, Bool, true, false, ◌⊎◌, inl, inr, List, [], ◌∷◌, ◌++◌, length, set, refl, sym, ap, subst, ◌∙◌, ⊎_elim, arith, get_or-set_other}
 use Rattle.std.specs.Prelude.{◌↔◌, IsTrue, replicate}
 use Rattle.std.specs.List.{list_all}
 use Rattle.std.proofs.lemmas.Bool.{false≢true, cases_eq, cases_lt}
@@ -10,7 +10,7 @@ use Rattle.atlas_reading.proofs.Pigeons.{pigeons}
 use Rattle.circle_law.specs.Containers.{IsAmongContainers}
 use Rattle.hop_base.specs.Edges.{Edges, IsPath}
 use Rattle.hop_model.specs.Soundness.{HasNoCircle}
-use Rattle.part_checks.specs.Circles.{IsLeaf, IsStuck, ShowsUnmarked}
+use Rattle.part_checks.specs.Circles.{IsLeaf, IsStuck}
 
 -- what a marked container shows is marked, and no marked one is on a circle
 pub record AreFree (edges : Edges) (marks : List Bool) : Type 0 where

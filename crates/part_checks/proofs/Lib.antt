@@ -1,2 +1,7 @@
 pub mod Naming
 pub mod Circling
+pub mod Tallies
+pub mod Uses
+pub mod Choices
+pub mod Counting
+pub mod Fitting

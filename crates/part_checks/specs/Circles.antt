@@ -1,5 +1,5 @@
 -- Marks of containers, spread from those that show no others.
-use Rattle.std.specs.Prelude.{◌≡◌, ℕ, ◌<◌, Bool, true, false, List}
+use Rattle.std.specs.Prelude.{◌≡◌, ℕ, ◌<◌, Bool, false, List}
 use Rattle.atlas_dir.specs.Reached.{is_marked}
 use Rattle.hop_base.specs.Edges.{Edges}
 

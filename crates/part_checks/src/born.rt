@@ -1,5 +1,5 @@
 //! Who is born, and whether those that a list of capabilities names are.
-ghost use Rattle.std.specs.Prelude.{◌≡◌, ◌↔◌, IsTrue};
+ghost use Rattle.std.specs.Prelude.{◌≡◌, ◌↔◌, ◌<◌, ℕ, IsTrue};
 ghost use Rattle.std.specs.List.{list_all};
 ghost use Rattle.hop_model.specs.Soundness.{is_born as born, is_born_container as born_container};
 ghost use Rattle.image_meaning.specs.Fits.{NamesBorn};
@@ -8,7 +8,7 @@ ghost use Rattle.part_checks.specs.Ties.{slot_born};
 
 use atlas_dir::Atlas;
 use cap_list::CapList;
-use hop_base::{Cap, Entity, FIRST_LOCUS, Kind};
+use hop_base::{Cap, Entity, FIRST_LOCUS, Kind, MOST_ENTITIES};
 
 /// Whether the entity is a container that is born.
 pub fn is_born_container(atlas: &Atlas, entity: Entity) -> bool
@@ -20,12 +20,13 @@ pub fn is_born_container(atlas: &Atlas, entity: Entity) -> bool
 
 /// Whether the entity is born. The atlas always is.
 pub fn is_born(atlas: &Atlas, entity: Entity) -> bool
-    ensures { result ≡ born (atlas_state atlas.now) entity }
+    ensures born { result ≡ born (atlas_state atlas.now) entity }
+    ensures numbers { (x : ℕ) → IsTrue (born (atlas_state atlas.now) x) → x < MOST_ENTITIES }
 {
     let number = entity.number();
-    number == 0
-        || is_born_container(atlas, entity)
-        || FIRST_LOCUS <= number && number < FIRST_LOCUS + atlas.named(Kind::Locus)
+    let is_container = is_born_container(atlas, entity);
+    let loci = atlas.named(Kind::Locus);
+    number == 0 || is_container || FIRST_LOCUS <= number && number < FIRST_LOCUS + loci
 }
 
 // Whether the slot is empty or names an entity that is born.

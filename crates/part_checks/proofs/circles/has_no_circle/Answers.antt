@@ -1,9 +1,7 @@
 -- Each turn marks one more; where none is left to be marked, all are exactly where no path comes back.
-use Rattle.std.proofs.Common.{◌≡◌, ℕ, zero, suc, Bool, true, false, refl, sym, ap, ◌∙◌, subst, arith, length-set}
-use Rattle.std.specs.Prelude.{replicate, ◌↔◌, IsTrue}
-use Rattle.std.proofs.lemmas.Bool.{false≢true}
+use Rattle.std.proofs.Common.{Bool, true, refl, sym, ◌∙◌, subst, arith, length-set}
+use Rattle.std.specs.Prelude.{◌↔◌, IsTrue}
 use Rattle.atlas_dir.specs.Directory.{edges_of}
-use Rattle.atlas_dir.specs.Reached.{is_marked}
 use Rattle.atlas_dir.proofs.Paths.{unmarked_less}
 use Rattle.hop_model.specs.Soundness.{HasNoCircle}
 use Rattle.part_checks.proofs.Circling.{free_at_first, free_more, marks_tell}

@@ -1,7 +1,5 @@
-use Rattle.std.proofs.Common.{sym, ap, ◌∙◌, subst, Bool, ◌&&◌}
-use Rattle.std.specs.Prelude.{◌↔◌, IsTrue}
+use Rattle.std.proofs.Common.{ap, ◌∙◌}
 use Rattle.std.specs.List.{list_all}
-use Rattle.image_meaning.specs.Fits.{IsTiedLocus}
 use Rattle.kernel_calls.specs.Calls.{atlas_state}
 use Rattle.locus_machine.specs.Loci.{locus_of}
 use Rattle.part_checks.proofs.Naming.{is_called, is_private, tied_locus_by}
