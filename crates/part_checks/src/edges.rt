@@ -1,10 +1,8 @@
 //! Whether the atlas counts exactly the regions that containers show, and each entity that it names is chosen.
-ghost use Rattle.std.specs.Prelude.{◌≡◌, ◌↔◌, ◌≤◌, ◌<◌, ℕ, IsTrue, Some, length, slice_index};
+ghost use Rattle.std.specs.Prelude.{◌≡◌, ◌↔◌, ◌≤◌, IsTrue, length};
 ghost use Rattle.atlas_dir.specs.Directory.{edges_of};
 ghost use Rattle.circle_law.specs.Containers.{IsAmongContainers};
-ghost use Rattle.hop_model.specs.Soundness.{is_born as born};
-ghost use Rattle.image_meaning.specs.Fits.{IsTiedAtlas, shown_by};
-ghost use Rattle.image_meaning.specs.Parts.{Part};
+ghost use Rattle.image_meaning.specs.Fits.{IsTiedAtlas};
 ghost use Rattle.kernel_calls.specs.Calls.{atlas_state};
 ghost use Rattle.part_checks.specs.Chosen.{parts_of};
 ghost use Rattle.part_checks.specs.Edges.{IsTally, IsRow, AreRows, AreAllChosen, regions_in};

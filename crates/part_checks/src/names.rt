@@ -1,5 +1,5 @@
 //! How often the blocks of pages and blobs are named.
-ghost use Rattle.std.specs.Prelude.{◌≡◌, ◌≤◌, ◌<◌, ◌+◌, ℕ, IfOk, length, take};
+ghost use Rattle.std.specs.Prelude.{◌≡◌, ◌+◌, ℕ, IfOk, length, take};
 ghost use Rattle.std.specs.List.{list_all};
 ghost use Rattle.image_blocks.specs.Bodies.{blob_blocks};
 ghost use Rattle.image_meaning.specs.Parts.{table_in};
