@@ -16,6 +16,7 @@ use Rattle.part_checks.specs.Chosen.{entity_at, part_in, part_of, parts_of, reco
 use Rattle.part_checks.specs.Fits.{AreFit, AreFitBy, IsFirstUnfit, IsFirstUnfitBy, IsFitBy}
 use Rattle.part_checks.specs.Naming.{AreUses, block_passes, count_of, names_in, names_of}
 use Rattle.part_checks.specs.declared.chosen.ChosenEntity.{ChosenEntity}
+use Rattle.image_meaning.proofs.Fitting.{same_part}
 use Rattle.part_checks.proofs.Choices.{part_there}
 use Rattle.part_checks.proofs.Counting.{contained, counted, counted_once, one_of, only_of, twice, two_of, uncounted}
 
@@ -41,9 +42,6 @@ NoTable b o = ForSome o (λ part. Contains (table_in part) b → ⊥)
 record_same : (r q : Rec) → Some r ≡ Some q → r ≡ q
 record_same r q e = cc
 
-part_same : (p q : Part) → Some p ≡ Some q → p ≡ q
-part_same p q e = cc
-
 no_record : (r : Rec) (o : Option Rec) → o ≡ None → o ≡ Some r → ⊥
 no_record r o e f = cc
 
@@ -57,7 +55,7 @@ no_blob b e none r is has =
 
 no_table : (b : ℕ) (e : ChosenEntity) → count_of (table_in (part_of e.part)) b ≡ 0 → NoTable b (Some (part_of e.part))
 no_table b e none p is has =
-    let some = contained (table_in (part_of e.part)) b (subst (λ (q : Part). Contains (table_in q) b) (sym (part_same (part_of e.part) p is)) has) in
+    let some = contained (table_in (part_of e.part)) b (subst (λ (q : Part). Contains (table_in q) b) (sym (same_part (part_of e.part) p is)) has) in
     omega (arith, none, some)
 
 unnamed : (b : ℕ) (o : Option ChosenEntity) → names_in b o ≡ 0 → NoBlob b (record_in o) × NoTable b (part_in o)

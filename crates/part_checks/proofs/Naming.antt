@@ -9,6 +9,7 @@ use Rattle.hop_base.specs.declared.capabilities.Cap.{Cap}
 use Rattle.hop_base.specs.declared.capabilities.Private.{Private}
 use Rattle.hop_base.specs.declared.capabilities.Region.{Region}
 use Rattle.hop_base.specs.declared.instructions.Call.{Call}
+use Rattle.hop_model.proofs.Basics.{both as both_true}
 use Rattle.hop_model.specs.Soundness.{is_born, is_born_container}
 use Rattle.hop_model.specs.State.{AtlasState, ContainerState, LocusState}
 use Rattle.image_meaning.specs.Fits.{IsTiedContainer, IsTiedLocus, NamesBorn}
@@ -17,10 +18,6 @@ use Rattle.part_checks.specs.Ties.{IsTiedWalk, slot_born}
 pub both : (p q : Bool) → (p && q) ≡ true → (p ≡ true) × (q ≡ true)
 both true q e = (refl, e)
 both false q e = absurd (false≢true e)
-
-pub and_true : (p q : Bool) → p ≡ true → q ≡ true → (p && q) ≡ true
-and_true true q e f = f
-and_true false q e f = absurd (false≢true e)
 
 -- CAPABILITIES
 
@@ -40,7 +37,7 @@ names_born a (Some c ∷ caps) e zero cap h =
 all_born : (a : AtlasState) (caps : List (Option Cap)) → NamesBorn a caps → list_all (slot_born a) caps ≡ true
 all_born a [] h = refl
 all_born a (None ∷ caps) h = all_born a caps (λ slot cap e. h (suc slot) cap e)
-all_born a (Some c ∷ caps) h = and_true (is_born a c.entity) (list_all (slot_born a) caps) (h 0 c refl) (all_born a caps (λ slot cap e. h (suc slot) cap e))
+all_born a (Some c ∷ caps) h = both_true (is_born a c.entity) (list_all (slot_born a) caps) (h 0 c refl) (all_born a caps (λ slot cap e. h (suc slot) cap e))
 
 pub named_all : (a : AtlasState) (caps : List (Option Cap)) → IsTrue (list_all (slot_born a) caps) ↔ NamesBorn a caps
 named_all a caps = (names_born a caps, all_born a caps)
@@ -52,7 +49,7 @@ pub tied_container : (a : AtlasState) (c : ContainerState) (named : Bool) → (I
 tied_container a c named born = (
   λ e. let parts = both (list_all (λ (r : Region). is_born_container a r.target) c.regions) named e in
       record { regions = AllPass-from_list_all (λ (r : Region). is_born_container a r.target) c.regions parts.0; caps = born.0 parts.1 },
-  λ t. and_true (list_all (λ (r : Region). is_born_container a r.target) c.regions) named (list_all-from_AllPass (λ (r : Region). is_born_container a r.target) c.regions t.regions) (born.1 t.caps),
+  λ t. both_true (list_all (λ (r : Region). is_born_container a r.target) c.regions) named (list_all-from_AllPass (λ (r : Region). is_born_container a r.target) c.regions t.regions) (born.1 t.caps),
 )
 
 abbrev pub is_called : AtlasState → Call → Bool
@@ -80,11 +77,11 @@ tied_locus a l named walking born walks = (
       },
   λ t. let privates = list_all-from_AllPass (is_private a) l.privates
       (All-weaker (λ (p : Private). IsTrue (is_born_container a p.made) × IsTrue (is_born_container a p.region.target)) (λ (p : Private). is_private a p ≡ true)
-      (λ p f. and_true (is_born_container a p.made) (is_born_container a p.region.target) f.0 f.1) l.privates t.privates) in
-      let front = and_true (is_born_container a l.host) (list_all (is_called a) l.chain) t.host (list_all-from_AllPass (is_called a) l.chain t.chain) in
-      let second = and_true (is_born_container a l.host && list_all (is_called a) l.chain) (list_all (is_private a) l.privates) front privates in
-      let third = and_true (is_born_container a l.host && list_all (is_called a) l.chain && list_all (is_private a) l.privates) named second (born.1 t.caps) in
-      and_true (is_born_container a l.host && list_all (is_called a) l.chain && list_all (is_private a) l.privates && named) walking third (walks.1 (record { at = t.walk; looking = t.looking })),
+      (λ p f. both_true (is_born_container a p.made) (is_born_container a p.region.target) f.0 f.1) l.privates t.privates) in
+      let front = both_true (is_born_container a l.host) (list_all (is_called a) l.chain) t.host (list_all-from_AllPass (is_called a) l.chain t.chain) in
+      let second = both_true (is_born_container a l.host && list_all (is_called a) l.chain) (list_all (is_private a) l.privates) front privates in
+      let third = both_true (is_born_container a l.host && list_all (is_called a) l.chain && list_all (is_private a) l.privates) named second (born.1 t.caps) in
+      both_true (is_born_container a l.host && list_all (is_called a) l.chain && list_all (is_private a) l.privates && named) walking third (walks.1 (record { at = t.walk; looking = t.looking })),
 )
 
 pub tied_locus_by : (a : AtlasState) (l : LocusState) (hosted called private named walking : Bool) → hosted ≡ is_born_container a l.host → called ≡ list_all (is_called a) l.chain

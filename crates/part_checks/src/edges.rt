@@ -11,12 +11,12 @@ use crate::born::is_born;
 use crate::chosen::{ChosenEntity, ChosenPart};
 use crate::circles::has_no_circle;
 use atlas_dir::Atlas;
-use hop_base::{Entity, MOST_ENTITIES, Region};
+use hop_base::{Entity, MOST_ENTITIES, MOST_REGIONS, Region};
 
 // The regions that a chosen part shows.
 fn regions_of(chosen: &Option<ChosenEntity>) -> &[Region]
     ensures regions { result.now ≡ regions_in chosen.now }
-    ensures few { length result.now ≤ 16 }
+    ensures few { length result.now ≤ MOST_REGIONS }
 {
     match chosen {
         Some(entity) => match &entity.part {
@@ -29,7 +29,7 @@ fn regions_of(chosen: &Option<ChosenEntity>) -> &[Region]
 
 // How many of the regions show each entity.
 fn tally(regions: &[Region]) -> [u8; MOST_ENTITIES as usize]
-    requires { length regions.now ≤ 16 }
+    requires { length regions.now ≤ MOST_REGIONS }
     ensures counts { IsTally result regions.now }
     ensures all { length result ≡ MOST_ENTITIES }
 {
