@@ -7,6 +7,7 @@ ghost use Rattle.locus_machine.specs.declared.loci.Head.{Head as AHead};
 ghost use Rattle.locus_machine.specs.declared.loci.Locus.{Locus as ALocus};
 ghost use Rattle.kernel_cells.specs.Cells.{HasCell, IsRunning};
 ghost use Rattle.kernel_cells.specs.Steps.{Steps};
+ghost use Rattle.beside_steps.specs.Besides.{KeepsMemory};
 ghost use Rattle.map_steps.specs.Mapping.{IsDirectoryPart, IsHeadPart, MayMap, WantsMapping};
 
 use crate::parts::map_in_parts;
@@ -26,6 +27,7 @@ pub fn step_mapping(locus: &mut Cell, atlas: &mut Cell, other: &mut Cell, instr:
     ensures step { (s : Supply) → (words : ℕ → List ℕ) → (w : KernelState)
         → HasCell s words w locus.old → HasCell s words w atlas.old → HasCell s words w other.old
         → Steps s locus.old.clock.entity w result (λ v. HasCell s words v locus.new × HasCell s words v atlas.new × HasCell s words v other.new) }
+    ensures memory { KeepsMemory other.old.part other.new.part }
     ensures entities { (locus.new.clock.entity ≡ locus.old.clock.entity) × (atlas.new.clock.entity ≡ atlas.old.clock.entity) × (other.new.clock.entity ≡ other.old.clock.entity) }
     ensures wishes { (locus.new.wish ≡ locus.old.wish) × (atlas.new.wish ≡ atlas.old.wish) × (other.new.wish ≡ other.old.wish) }
     ensures left { (locus.new.left ≡ locus.old.left) × (atlas.new.left ≡ atlas.old.left) × (other.new.left ≡ other.old.left) }

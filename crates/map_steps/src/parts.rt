@@ -10,6 +10,7 @@ ghost use Rattle.locus_machine.specs.declared.loci.Head.{Head as AHead};
 ghost use Rattle.locus_machine.specs.declared.loci.Locus.{Locus as ALocus};
 ghost use Rattle.kernel_calls.specs.Calls.{atlas_state, AtlasCallMade};
 ghost use Rattle.kernel_cells.specs.Cells.{part_of, IsRunning};
+ghost use Rattle.beside_steps.specs.Besides.{KeepsMemory};
 ghost use Rattle.map_steps.specs.Mapping.{IsDirectoryPart, IsHeadPart, MakesThree, MayMap, WantsMapping};
 
 use atlas_dir::Atlas;
@@ -28,7 +29,8 @@ fn map_head(
     requires ready { IsReadyLocus (locus_of locus.old) }
     requires wants { WantsMapping (locus_of locus.old) instr number }
     requires may { MayMap atlas.old (locus_of locus.old) number head.old }
-    ensures { (me : ℕ) → (s : Supply) → (words : ℕ → ℕ)
+    ensures extent { (head.new.tag ≡ head.old.tag) × (head.new.pages ≡ head.old.pages) }
+    ensures made { (me : ℕ) → (s : Supply) → (words : ℕ → ℕ)
         → AtlasCallMade (outcome s (locus_of locus.old) (wanted me (locus_of locus.old)) (atlas_state atlas.old) (ContainerCell (container_with words head.old)))
         (locus_of locus.new) result (atlas_state atlas.new) (Some (ContainerCell (container_with words head.new))) None }
 {
@@ -49,7 +51,8 @@ fn map_part(
     requires ready { IsReadyLocus (locus_of locus.old) }
     requires wants { WantsMapping (locus_of locus.old) instr number }
     requires may { (h : AHead) × IsHeadPart other.old h × MayMap atlas.old (locus_of locus.old) number h }
-    ensures { (me : ℕ) → (s : Supply) → (words : ℕ → List ℕ)
+    ensures memory { KeepsMemory other.old other.new }
+    ensures made { (me : ℕ) → (s : Supply) → (words : ℕ → List ℕ)
         → AtlasCallMade (outcome s (locus_of locus.old) (wanted me (locus_of locus.old)) (atlas_state atlas.old) (part_of s words other.old))
         (locus_of locus.new) result (atlas_state atlas.new) (Some (part_of s words other.new)) None }
 {
@@ -74,7 +77,8 @@ fn map_with_atlas(
     requires ready { IsReadyLocus (locus_of locus.old) }
     requires wants { WantsMapping (locus_of locus.old) instr number }
     requires may { (d : Directory) × IsDirectoryPart atlas.old d × (h : AHead) × IsHeadPart other.old h × MayMap d (locus_of locus.old) number h }
-    ensures { (me : ℕ) → (s : Supply) → (words : ℕ → List ℕ) → (a : AtlasState) → part_of s words atlas.old ≡ AtlasCell a
+    ensures memory { KeepsMemory other.old other.new }
+    ensures made { (me : ℕ) → (s : Supply) → (words : ℕ → List ℕ) → (a : AtlasState) → part_of s words atlas.old ≡ AtlasCell a
         → MakesThree (outcome s (locus_of locus.old) (wanted me (locus_of locus.old)) a (part_of s words other.old))
         (LocusCell (locus_of locus.new)) (part_of s words atlas.new) (part_of s words other.new) result }
 {
@@ -96,7 +100,8 @@ pub(crate) fn map_in_parts(
 ) -> Answer
     requires wants { (l : ALocus) × IsRunning part.old l × WantsMapping (locus_of l) instr number
         × (d : Directory) × IsDirectoryPart atlas.old d × (h : AHead) × IsHeadPart other.old h × MayMap d (locus_of l) number h }
-    ensures { (me : ℕ) → (s : Supply) → (words : ℕ → List ℕ) → (l : LocusState) → (a : AtlasState)
+    ensures memory { KeepsMemory other.old other.new }
+    ensures made { (me : ℕ) → (s : Supply) → (words : ℕ → List ℕ) → (l : LocusState) → (a : AtlasState)
         → part_of s words part.old ≡ LocusCell l → part_of s words atlas.old ≡ AtlasCell a
         → MakesThree (outcome s l (wanted me l) a (part_of s words other.old))
         (part_of s words part.new) (part_of s words atlas.new) (part_of s words other.new) result }
