@@ -1,7 +1,7 @@
 // Steps of a locus over the cells that they touch.
 ghost use Rattle.std.specs.Prelude.{◌≡◌, ◌≢◌, ◌<◌, ◌^◌, ℕ, List, [], ◌∷◌};
 ghost use Rattle.hop_model.specs.State.{Supply};
-ghost use Rattle.beside_steps.specs.Besides.{FitsBeside};
+ghost use Rattle.beside_steps.specs.Besides.{FitsBeside, KeepsMemory};
 ghost use Rattle.step_plans.specs.Plans.{IsPlanned};
 ghost use Rattle.step_plans.specs.declared.plans.Plan.TheVariants as plan;
 ghost use Rattle.step_cells.specs.Advances.{StepsCells};
@@ -32,6 +32,7 @@ pub fn advance_beside(locus: &mut Cell, other: &mut Cell, instr: Instr) -> Entry
     requires few { (locus.old.clock.version < 2 ^ 63) × (other.old.clock.version < 2 ^ 63) }
     ensures step { (s : Supply) → (words : ℕ → List ℕ)
         → StepsCells s words words locus.old.clock.entity (locus.old ∷ other.old ∷ []) (locus.new ∷ other.new ∷ []) result }
+    ensures memory { KeepsMemory other.old.part other.new.part }
     ensures entities { (locus.new.clock.entity ≡ locus.old.clock.entity) × (other.new.clock.entity ≡ other.old.clock.entity) }
 {
     let named = named_by_snap(locus);

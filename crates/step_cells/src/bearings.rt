@@ -6,6 +6,7 @@ ghost use Rattle.locus_machine.specs.Loci.{locus_of};
 ghost use Rattle.locus_machine.specs.declared.loci.Head.{Head as AHead};
 ghost use Rattle.locus_machine.specs.declared.loci.Locus.{Locus as ALocus};
 ghost use Rattle.kernel_cells.specs.Cells.{IsRunning};
+ghost use Rattle.beside_steps.specs.Besides.{KeepsMemory};
 ghost use Rattle.birth_steps.specs.Bearing.{IsNewContainer, IsUnbornContainer, NoNumberFree};
 ghost use Rattle.map_steps.specs.Mapping.{IsDirectoryPart, IsHeadPart, MayMap};
 ghost use Rattle.step_plans.specs.Plans.{IsPlanned};
@@ -29,6 +30,7 @@ pub fn advance_mapping(locus: &mut Cell, atlas: &mut Cell, other: &mut Cell, ins
     requires few { (locus.old.clock.version < 2 ^ 63) × (atlas.old.clock.version < 2 ^ 63) × (other.old.clock.version < 2 ^ 63) }
     ensures step { (s : Supply) → (words : ℕ → List ℕ)
         → StepsCells s words words locus.old.clock.entity (locus.old ∷ atlas.old ∷ other.old ∷ []) (locus.new ∷ atlas.new ∷ other.new ∷ []) result }
+    ensures memory { KeepsMemory other.old.part other.new.part }
     ensures entities { (locus.new.clock.entity ≡ locus.old.clock.entity) × (atlas.new.clock.entity ≡ atlas.old.clock.entity) × (other.new.clock.entity ≡ other.old.clock.entity) }
 {
     let named = named_by_snap(locus);

@@ -1,5 +1,5 @@
 // Laws of cells at a step. The functions do nothing: the contract of each is a law.
-ghost use Rattle.std.specs.Prelude.{◌≡◌, ℕ, List, Some, false};
+ghost use Rattle.std.specs.Prelude.{◌≡◌, ℕ, Bool, List, Some, false};
 ghost use Rattle.hop_base.specs.declared.histories.Entry.{Entry as AnEntry};
 ghost use Rattle.hop_model.specs.Histories.{noting, writes, Run};
 ghost use Rattle.hop_model.specs.State.{KernelState, Supply};
@@ -7,6 +7,11 @@ ghost use Rattle.hop_model.specs.Steps.{step};
 ghost use Rattle.kernel_cells.specs.Cells.{HasCell};
 ghost use Rattle.kernel_cells.specs.Wishes.{HasWish};
 ghost use Rattle.kernel_cells.specs.declared.cells.Cell.{Cell as ACell};
+ghost use Rattle.kernel_cells.specs.declared.cells.Part.{Part as APart};
+ghost use Rattle.look_steps.specs.Looking.{MayLook};
+ghost use Rattle.beside_steps.specs.Besides.{KeepsMemory};
+
+use page_store::PageStore;
 
 /// A cell whose entity a step doesn't write is as it was.
 pub fn unlent_cells_law()
@@ -17,4 +22,10 @@ pub fn unlent_cells_law()
 /// A wish is the same once it is noted which entities are full.
 pub fn noting_law()
     ensures { (steps : ℕ) (r : Run) (c : ACell) → HasWish steps r c → HasWish steps (noting r) c }
+{}
+
+/// A part that keeps its memory may be looked at as before.
+pub fn kept_memory_law<B: PageStore>()
+    ensures { (s : Supply) (held : ℕ → Bool) (words : ℕ → List ℕ) (p q : APart)
+        → KeepsMemory p q → MayLook s B.tells held words p → MayLook s B.tells held words q }
 {}

@@ -9,5 +9,5 @@ mod noting;
 
 pub use advances::{advance_alone, advance_beside};
 pub use bearings::{advance_barren, advance_making, advance_mapping, advance_spawning};
-pub use laws::{noting_law, unlent_cells_law};
+pub use laws::{kept_memory_law, noting_law, unlent_cells_law};
 pub use lookings::advance_looking;

@@ -16,7 +16,7 @@ use manager_gate::{Gate, Policy, Supplier};
 use page_store::PageStore;
 
 /// The step of a locus that makes one look of a load or a store at a container. On a fault of paging nothing has
-/// changed in the model, so that the same step can be tried again. A container makes no steps, so that it has some left.
+/// changed in the model, so that the same step can be tried again.
 pub fn advance_looking<B: PageStore, S: Supplier, P: Policy>(
     locus: &mut Cell,
     other: &mut Cell,
@@ -28,7 +28,6 @@ pub fn advance_looking<B: PageStore, S: Supplier, P: Policy>(
     requires memory { MayLook (S.word gate.now.supply) B.tells (B.held store.old) (B.words store.old) other.old.part }
     requires lower { other.old.clock.entity < locus.old.clock.entity }
     requires few { (locus.old.clock.version < 2 ^ 63) × (other.old.clock.version < 2 ^ 63) }
-    requires left { 0 < other.old.left }
     ensures step { B.tells → IfOk result (StepsCells (S.word gate.now.supply) (B.words store.old) (B.words store.new) locus.old.clock.entity (locus.old ∷ other.old ∷ []) (locus.new ∷ other.new ∷ [])) }
     ensures locus_stays { OnErr result (locus.new ≡ locus.old) }
     ensures other_stays { OnErr result ((other.new.clock ≡ other.old.clock) × (other.new.wish ≡ other.old.wish) × (other.new.left ≡ other.old.left)) }

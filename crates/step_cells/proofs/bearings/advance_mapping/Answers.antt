@@ -1,4 +1,5 @@
-use Rattle.std.proofs.Common.{sym, ◌∙◌, arith}
+use Rattle.std.proofs.Common.{sym, subst, ◌∙◌, arith}
+use Rattle.beside_steps.specs.Besides.{KeepsMemory}
 use Rattle.step_cells.proofs.Taking.{AreThree, acts_first, takes_three}
 use Rattle.step_cells.proofs.bearings.advance_mapping.Goals as goal
 
@@ -29,3 +30,6 @@ returns-clause-step c s words =
     takes_three s words c.args.locus.now c.args.atlas.now c.args.other.now mid.locus mid.atlas mid.other c.note.new.cell c.note-2.new.cell c.note-3.new.cell c.step_mapping-entry.result c.named_by_snap-named.result made.step
     c.note.ensures c.note-2.ensures c.note-3.ensures (record { entity = made.entities.0; wish = made.wishes.0; left = made.left.0 }) (record { entity = made.entities.1; wish = made.wishes.1; left = made.left.1 })
     (record { entity = made.entities.2; wish = made.wishes.2; left = made.left.2 }) (c.named_by_snap-named.ensures s words)
+
+pub returns-clause-memory : goal.returns-clause-memory
+returns-clause-memory c = subst (KeepsMemory c.args.other.now.part) (sym c.note-3.ensures.part) c.step_mapping-entry.ensures.memory

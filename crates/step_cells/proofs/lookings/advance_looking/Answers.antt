@@ -1,5 +1,11 @@
+use Rattle.std.proofs.Common.{arith}
 use Rattle.step_cells.proofs.Taking.{takes_two}
 use Rattle.step_cells.proofs.lookings.advance_looking.Goals as goal
+
+pub note-requires-2 : goal.note-requires-2
+note-requires-2 g c acts =
+    let made = c.in_ok-entry.ensures in
+    absurd (omega (arith, c.requires.lower, made.entities.1, made.actor, acts))
 
 pub returns-clause-step : goal.returns-clause-step
 returns-clause-step g c tells =

@@ -1,0 +1,45 @@
+-- Parts that keep their memory.
+use Rattle.std.proofs.Common.{◌≡◌, ℕ, Bool, List, Option, Some, None, option_map, refl, sym, ap, subst, ◌∙◌}
+use Rattle.hop_model.specs.State.{Supply}
+use Rattle.locus_machine.specs.declared.loci.Head.{Head}
+use Rattle.fault_paging.specs.declared.paged.PagedMemory.{PagedMemory}
+use Rattle.fault_paging.specs.Words.{AreCleanTrue, IsSoundTable}
+use Rattle.kernel_cells.specs.declared.cells.Part.{Part}
+use Rattle.kernel_cells.specs.declared.cells.Part.TheVariants as part
+use Rattle.beside_steps.specs.Besides.{KeepsMemory, head_of, memory_of}
+use Rattle.look_steps.specs.Looking.{MayLook}
+
+tags : Option Head → Option ℕ
+tags o = option_map (λ (h : Head). h.tag) o
+
+counts : Option Head → Option ℕ
+counts o = option_map (λ (h : Head). h.pages) o
+
+same_number : (n k : ℕ) → Some n ≡ Some k → n ≡ k
+same_number n k e = cc
+
+same_memory : (m k : PagedMemory) → Some m ≡ Some k → m ≡ k
+same_memory m k e = cc
+
+pub looks_again : (s : Supply) (tells : Type 0) (held : ℕ → Bool) (words : ℕ → List ℕ) (p q : Part) → KeepsMemory p q → MayLook s tells held words p → MayLook s tells held words q
+unfolding tags counts
+looks_again s tells held words p q keeps may = by q (keeps.memory ∙ ap memory_of may.is) (keeps.tag ∙ ap (λ p. tags (head_of p)) may.is) (keeps.pages ∙ ap (λ p. counts (head_of p)) may.is)
+  where
+    by_head : (m : PagedMemory) (o : Option Head) → m ≡ may.memory → tags o ≡ Some may.head.tag → counts o ≡ Some may.head.pages → MayLook s tells held words (part.Container (record { head = o; memory = m }))
+    by_head m (Some k) same tag pages = record {
+      head = k;
+      memory = m;
+      is = refl;
+      of = record {
+        tag = ap (λ (m : PagedMemory). m.tag) same ∙ may.of.tag ∙ sym (same_number k.tag may.head.tag tag);
+        pages = ap (λ (m : PagedMemory). m.pages) same ∙ may.of.pages ∙ sym (same_number k.pages may.head.pages pages);
+      };
+      table = subst (IsSoundTable held) (sym same) may.table;
+      clean = λ told. subst (AreCleanTrue s words) (sym same) (may.clean told);
+    }
+    by_head m None same tag pages = cc
+
+    by : (q : Part) → memory_of q ≡ Some may.memory → tags (head_of q) ≡ Some may.head.tag → counts (head_of q) ≡ Some may.head.pages → MayLook s tells held words q
+    by (part.Container b) memory tag pages = by_head b.memory b.head (same_memory b.memory may.memory memory) tag pages
+    by (part.Atlas d) memory tag pages = cc
+    by (part.Locus l) memory tag pages = cc
