@@ -16,17 +16,17 @@ use Rattle.snapshot_store.specs.Shelves.{nothing_logged}
 use Rattle.snapshot_store.proofs.Shelving.{lt-not-leb}
 
 -- a block other than 0 is itself alone
-use_same : (n m : ℕ) → m ≢ 0 → m ≡ n → is_use n m ≡ true
+pub use_same : (n m : ℕ) → m ≢ 0 → m ≡ n → is_use n m ≡ true
 use_same n m some is = ap (λ (b : Bool). not b && (m == n)) (ne_test m 0 some) ∙ eq-eqb m n is
 
-use_other : (n m : ℕ) → n ≢ m → is_use n m ≡ false
+pub use_other : (n m : ℕ) → n ≢ m → is_use n m ≡ false
 use_other n m apart = ap (λ (b : Bool). not (m == 0) && b) (ne_test m n (λ is. apart (sym is))) ∙ none (not (m == 0))
   where
     none : (b : Bool) → (b && false) ≡ false
     none true = refl
     none false = refl
 
-use_zero : (n m : ℕ) → m ≡ 0 → is_use n m ≡ false
+pub use_zero : (n m : ℕ) → m ≡ 0 → is_use n m ≡ false
 use_zero n m is = ap (λ (b : Bool). not b && (m == n)) (eq-eqb m 0 is)
 
 -- 0 adds nothing

@@ -5,6 +5,7 @@ mod Tallies
 mod Counting
 mod Marks
 mod Listing
+mod Holds
 mod Choices
 mod Committable
 mod Returned

@@ -1,6 +1,6 @@
 -- The chosen records of an image, ascending by entity.
-use Rattle.std.specs.Prelude.{◌≡◌, ◌⊎◌, ℕ, List, [], ◌∷◌, Bool, true, false, Result, IsErrOf, Option, Some, None, map, slice_index, slice_index_or}
-use Rattle.std.specs.List.{flat_map}
+use Rattle.std.specs.Prelude.{◌≡◌, ◌⊎◌, ℕ, List, [], ◌∷◌, Bool, true, false, ◌||◌, Result, IsErrOf, Option, Some, None, map, slice_index, slice_index_or}
+use Rattle.std.specs.List.{flat_map, list_any}
 use Rattle.disk_trait.specs.Image.{Image, SameOutside}
 use Rattle.hop_base.specs.Edges.{upto}
 use Rattle.hop_base.specs.declared.records.Rec.{Rec}
@@ -11,6 +11,7 @@ use Rattle.page_shadow.specs.declared.ShadowTable.{ShadowTable}
 use Rattle.disk_trait.specs.declared.disk.NoBlocks.{NoBlocks as TooFew}
 use Rattle.snapshot_store.specs.declared.faults.StoreFault.{StoreFault}
 use Rattle.snapshot_store.specs.declared.faults.StoreFault.TheVariants.{NoBlocks, ReadFault, Shut, WriteFault}
+use Rattle.snapshot_store.specs.Holds.{names_page}
 use Rattle.snapshot_store.specs.State.{State, books}
 use Rattle.store_model.specs.Books.{Books, IsBeforePool, Logged, logged_recs, recs_in}
 
@@ -40,7 +41,8 @@ pub record IsKeeping (reading : Image) (b : Books) (chosen : List Rec) (c : Imag
   pub blocks : count_in c ≡ b.count
   pub records : HasRecords (recs_in b) c ⊎ HasRecords chosen c
 
--- THE STORE AS IT IS THEN: its log and its kept records are the chosen ones with their tables, and no block counts as named that none of them names
+-- THE STORE AS IT IS THEN: its log and its kept records are the chosen ones with their tables, whose blocks are held too, and no block counts as
+-- named that none of them names
 abbrev pub kept_rows : {D : Type 0} → List ShadowTable → State D → List Logged
 kept_rows tables st = with_tables tables (are_chosen st)
 
@@ -53,7 +55,7 @@ pub record HasKept {D : Type 0} (tables : List ShadowTable) (old new : State D) 
   pub kept : new.kept ≡ kept_rows tables old
   pub cut : new.cut ≡ old.cut
   pub read : (books new).found ≡ false
-  pub same_held : (books new).held ≡ (books old).held
+  pub held : (n : ℕ) → (books new).held n ≡ ((books old).held n || list_any (names_page n) (kept_rows tables old))
   pub same_count : (books new).count ≡ (books old).count
   pub same_small : (books new).small ≡ (books old).small
   pub working : (books new).shut ≡ false

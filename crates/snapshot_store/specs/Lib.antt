@@ -9,4 +9,5 @@ pub mod Opening
 pub mod OpenFaults
 pub mod ReadAnswers
 pub mod Rests
+pub mod Holds
 pub mod Choosing

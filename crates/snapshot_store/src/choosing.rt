@@ -18,6 +18,7 @@ ghost use Rattle.snapshot_store.specs.State.{books};
 ghost use Rattle.store_model.specs.Books.{AreTrue, kept_of, recs_in};
 
 use crate::StoreFault;
+use crate::page_holding::hold_pages;
 use crate::settling::list_record;
 use crate::shelf::{Shelf, no_record};
 use crate::store::Store;
@@ -111,8 +112,9 @@ fn count_names(ledger: &mut Ledger)
 
 impl<D: Disk> Store<D> {
     /// Keeps of the records of an image that was opened the chosen ones alone, ascending by entity, with the tables of their pages'
-    /// blocks, one for each entity: the log is turned to them. From now on blocks are free that no chosen record names. It takes no
-    /// memory, and goes over the records once for each entity.
+    /// blocks, one for each entity: the log is turned to them. These tables are working page tables from now on: their blocks are
+    /// held until they are given back. Free are the blocks that are neither held nor named by a chosen record. It takes no memory,
+    /// and goes over the records once for each entity.
     ///
     /// `Shut` comes exactly after an earlier failure of this value, and then nothing is changed. `WriteFault` comes only where the
     /// disk's count of faults rose, and shuts the store. No other fault comes. That is 137 writes and syncs at most.
@@ -147,6 +149,7 @@ impl<D: Disk> Store<D> {
         }
         count_names(&mut self.blocks);
         list_all(&mut self.kept, &mut self.blocks, &recs[..used], tables);
+        hold_pages(&mut self.blocks, &self.kept);
         self.log.copy_from(&self.kept);
         self.shut = false;
         Ok(())

@@ -9,6 +9,7 @@ mod laws;
 mod naming;
 mod numbers;
 mod opening;
+mod page_holding;
 mod paged_store;
 mod paging;
 mod settling;

@@ -2,7 +2,7 @@ use Rattle.std.proofs.Common.{◌≡◌, ◌<◌, ◌++◌, length, get_or, min,
 use Rattle.disk_trait.specs.Image.{Image, block_at}
 use Rattle.image_blocks.specs.Bodies.{blocks_for}
 use Rattle.log_reading.proofs.ReadSoFar.{ReadsOnly-trans}
-use Rattle.snapshot_store.proofs.BlobReads.{blob_more, blob_whole, rest_more, rest_of_none, rest_whole}
+use Rattle.snapshot_store.proofs.BlobReads.{blob_more, blob_whole, rest_more, rest_whole}
 use Rattle.snapshot_store.specs.Rests.{IsRest}
 use Rattle.snapshot_store.proofs.blob_reading.read_blocks.Goals as goal
 

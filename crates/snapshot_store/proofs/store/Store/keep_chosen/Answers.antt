@@ -1,4 +1,5 @@
-use Rattle.std.proofs.Common.{◌≡◌, ◌≤◌, false, List, length, take, refl, sym, ap, subst, ◌∙◌, arith}
+use Rattle.std.proofs.Common.{◌≡◌, ◌≤◌, ◌||◌, false, List, length, take, refl, sym, ap, subst, ◌∙◌, arith}
+use Rattle.std.specs.List.{list_any}
 use Rattle.std.specs.Result.{is_err}
 use Rattle.std.proofs.lemmas.List.{length-take}
 use Rattle.disk_trait.specs.Moments.{LeavesOnly}
@@ -6,9 +7,11 @@ use Rattle.disk_trait.proofs.Phases.{told}
 use Rattle.hop_base.specs.declared.records.Rec.{Rec}
 use Rattle.image_blocks.specs.Logs.{AreFitting}
 use Rattle.page_shadow.specs.Ledger.{Ledger, is_held}
-use Rattle.store_model.specs.Books.{recs_in}
+use Rattle.store_model.specs.Books.{Logged, recs_in}
 use Rattle.snapshot_store.specs.Choosing.{IsKeeping, are_chosen, with_tables}
+use Rattle.snapshot_store.specs.Holds.{names_page}
 use Rattle.snapshot_store.specs.State.{State, books, state_of}
+use Rattle.snapshot_store.proofs.Holds.{held_whole}
 use Rattle.snapshot_store.proofs.Keep.{chosen_fit, chosen_row, found_logged, placed_row, whole_rows}
 use Rattle.snapshot_store.proofs.PageCalls.{worked}
 use Rattle.snapshot_store.proofs.Turned.{kept_books_true, moments_keeping, next_is}
@@ -61,6 +64,15 @@ list_all-requires-clause-placed g c =
     let row_is = c.chosen_recs-recs.ensures.chosen ∙ chosen_row st c.recs.result.now c.recs.ensures in
     placed_row c.args.tables.now (take c.chosen_recs-recs.result.1 c.chosen_recs-recs.result.0) (are_chosen st) i.blocks c.count_names.new.ledger row_is c.count_names.ensures placed
 
+pub hold_pages-requires-clause-marked : goal.hold_pages-requires-clause-marked
+hold_pages-requires-clause-marked g c =
+    let same : c.list_all.new.ledger ≡ record c.self.inside.blocks { all_named = false; names = c.list_all.new.ledger.names } =
+    c.list_all.ensures.ledger.only ∙ ap (λ (l : Ledger). record l { names = c.list_all.new.ledger.names }) c.count_names.ensures in
+    ap (λ (l : Ledger). length l.held) same ∙ (c.self.invariant.marked ∙ sym (ap (λ (l : Ledger). l.end) same))
+
+pub hold_pages-requires-clause-placed : goal.hold_pages-requires-clause-placed
+hold_pages-requires-clause-placed g c = c.list_all.ensures.listed.placed
+
 pub invariant_of-self-2 : goal.invariant_of-self-2
 invariant_of-self-2 g c =
     let i = c.self.inside in
@@ -71,8 +83,11 @@ invariant_of-self-2 g c =
     let row_is : row ≡ are_chosen st = c.chosen_recs-recs.ensures.chosen ∙ chosen_row st c.recs.result.now c.recs.ensures in
     let few : length row ≤ 64 = (let cut = length-take c.chosen_recs-recs.result.1 c.chosen_recs-recs.result.0 in let most = c.chosen_recs-recs.ensures.few in omega (arith, cut, most)) in
     let ok : is_err c.turn.result ≡ false = sym c.is_err.ensures.value ∙ c.if-is_err.false in
-    whole_rows g.D.Disk.block_count st c.turn.new.disk c.turn.new.self c.args.tables.now row c.copy_from.new.self c.list_all.new.kept c.count_names.new.ledger c.list_all.new.ledger c.self.invariant c.turn.ensures.begins.count
-    c.count_names.ensures c.list_all.ensures.ledger c.list_all.ensures.listed row_is c.list_all.ensures.kept c.copy_from.ensures older range few (worked c.turn.result ok c.turn.ensures.areas.working) (worked c.turn.result ok c.turn.ensures.areas.used)
+    let listed : State g.row.D.Denot = state_of c.turn.new.disk c.turn.new.self c.copy_from.new.self c.list_all.new.kept i.cut c.list_all.new.ledger i.small false i.read_calls in
+    held_whole g.D.Disk.block_count listed c.hold_pages.new.ledger
+    (whole_rows g.D.Disk.block_count st c.turn.new.disk c.turn.new.self c.args.tables.now row c.copy_from.new.self c.list_all.new.kept c.count_names.new.ledger c.list_all.new.ledger c.self.invariant c.turn.ensures.begins.count
+    c.count_names.ensures c.list_all.ensures.ledger c.list_all.ensures.listed row_is c.list_all.ensures.kept c.copy_from.ensures older range few (worked c.turn.result ok c.turn.ensures.areas.working) (worked c.turn.result ok c.turn.ensures.areas.used))
+    c.list_all.ensures.listed c.hold_pages.ensures
 
 pub returns-clause-true_books : goal.returns-clause-true_books
 returns-clause-true_books g c t =
@@ -87,12 +102,15 @@ returns-clause-true_books g c t =
     let row_is : row ≡ are_chosen st = c.chosen_recs-recs.ensures.chosen ∙ chosen_row st c.recs.result.now c.recs.ensures in
     let few : length row ≤ 64 = (let cut = length-take c.chosen_recs-recs.result.1 c.chosen_recs-recs.result.0 in let most = c.chosen_recs-recs.ensures.few in omega (arith, cut, most)) in
     let ok : is_err c.turn.result ≡ false = sym c.is_err.ensures.value ∙ c.if-is_err.false in
+    let listed : State g.row.D.Denot = state_of c.turn.new.disk c.turn.new.self c.copy_from.new.self c.list_all.new.kept i.cut c.list_all.new.ledger i.small false i.read_calls in
     let whole =
-    whole_rows g.D.Disk.block_count st c.turn.new.disk c.turn.new.self c.args.tables.now row c.copy_from.new.self c.list_all.new.kept c.count_names.new.ledger c.list_all.new.ledger c.self.invariant c.turn.ensures.begins.count
-    c.count_names.ensures c.list_all.ensures.ledger c.list_all.ensures.listed row_is c.list_all.ensures.kept c.copy_from.ensures older range few (worked c.turn.result ok c.turn.ensures.areas.working) (worked c.turn.result ok c.turn.ensures.areas.used) in
+    held_whole g.D.Disk.block_count listed c.hold_pages.new.ledger
+    (whole_rows g.D.Disk.block_count st c.turn.new.disk c.turn.new.self c.args.tables.now row c.copy_from.new.self c.list_all.new.kept c.count_names.new.ledger c.list_all.new.ledger c.self.invariant c.turn.ensures.begins.count
+    c.count_names.ensures c.list_all.ensures.ledger c.list_all.ensures.listed row_is c.list_all.ensures.kept c.copy_from.ensures older range few (worked c.turn.result ok c.turn.ensures.areas.working) (worked c.turn.result ok c.turn.ensures.areas.used))
+    c.list_all.ensures.listed c.hold_pages.ensures in
     kept_books_true g.D.Disk.reading g.D.Disk.may_leave g.D.Disk.block_count st
-    (state_of c.turn.new.disk c.turn.new.self c.copy_from.new.self c.list_all.new.kept i.cut c.list_all.new.ledger i.small false i.read_calls) c.args.tables.now row (log t) whole row_is
-    (c.copy_from.ensures ∙ c.list_all.ensures.kept) c.list_all.ensures.kept (ap (λ (l : Ledger). l.end) c.list_all.ensures.ledger.only ∙ ap (λ (l : Ledger). l.end) c.count_names.ensures)
+    (state_of c.turn.new.disk c.turn.new.self c.copy_from.new.self c.list_all.new.kept i.cut c.hold_pages.new.ledger i.small false i.read_calls) c.args.tables.now row (log t) whole row_is
+    (c.copy_from.ensures ∙ c.list_all.ensures.kept) c.list_all.ensures.kept (ap (λ (l : Ledger). l.end) c.hold_pages.ensures.only ∙ (ap (λ (l : Ledger). l.end) c.list_all.ensures.ledger.only ∙ ap (λ (l : Ledger). l.end) c.count_names.ensures))
     c.self.invariant.first c.self.invariant.most range placed (spelt t) (worked c.turn.result ok (c.turn.ensures.turned t (c.self.invariant.working c.if-self.false))) (c.turn.ensures.outside t) (worked c.turn.result ok (c.turn.ensures.stable t))
     (next_is i.areas c.turn.new.self (worked c.turn.result ok c.turn.ensures.areas.area) (worked c.turn.result ok c.turn.ensures.areas.epoch))
 
@@ -111,9 +129,12 @@ returns-clause-kept g c =
       log = c.copy_from.ensures ∙ rows;
       kept = rows;
       cut = refl;
-      read = ap (λ (l : Ledger). l.all_named) c.list_all.ensures.ledger.only ∙ ap (λ (l : Ledger). l.all_named) c.count_names.ensures;
-      same_held = ap is_held c.list_all.ensures.ledger.only ∙ ap is_held c.count_names.ensures;
-      same_count = ap (λ (l : Ledger). l.end) c.list_all.ensures.ledger.only ∙ ap (λ (l : Ledger). l.end) c.count_names.ensures;
+      read = ap (λ (l : Ledger). l.all_named) c.hold_pages.ensures.only ∙ (ap (λ (l : Ledger). l.all_named) c.list_all.ensures.ledger.only ∙ ap (λ (l : Ledger). l.all_named) c.count_names.ensures);
+      held = λ n.
+          c.hold_pages.ensures.held n
+          ∙ (ap (λ (l : Ledger). is_held l n || list_any (names_page n) c.list_all.new.kept) (c.list_all.ensures.ledger.only ∙ ap (λ (l : Ledger). record l { names = c.list_all.new.ledger.names }) c.count_names.ensures)
+          ∙ ap (λ (ls : List Logged). is_held i.blocks n || list_any (names_page n) ls) rows);
+      same_count = ap (λ (l : Ledger). l.end) c.hold_pages.ensures.only ∙ (ap (λ (l : Ledger). l.end) c.list_all.ensures.ledger.only ∙ ap (λ (l : Ledger). l.end) c.count_names.ensures);
       same_small = refl;
       working = refl;
       place = next_is i.areas c.turn.new.self (worked c.turn.result ok c.turn.ensures.areas.area) (worked c.turn.result ok c.turn.ensures.areas.epoch);
