@@ -27,7 +27,7 @@ use Rattle.record_laws.proofs.Settled.{front_block, settled}
 some_same : {X : Type 0} (x y : X) → Some x ≡ Some y → x ≡ y
 some_same x y e = cc
 
-no_blocks : (page : ℕ) → slice_index (replicate 256 0) page ≡ 0
+pub no_blocks : (page : ℕ) → slice_index (replicate 256 0) page ≡ 0
 no_blocks page = elim (cases_lt page 256) as (λ _. slice_index (replicate 256 0) page ≡ 0) [
   | inl low ↦ get_or-replicate 256 page 0 0 low
   | inr high ↦ get_or_past (replicate 256 0) page 0 (let len : length {A = ℕ} (replicate 256 0) ≡ 256 = length-replicate {A = ℕ} 256 0 in omega (arith, high, len))

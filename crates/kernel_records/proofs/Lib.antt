@@ -1,0 +1,4 @@
+pub mod Spelling
+pub mod Staying
+pub mod Rests
+pub mod Joining

@@ -1,0 +1,34 @@
+use Rattle.std.proofs.Common.{◌≡◌, ℕ, ◌≤◌, List, length, sym, ap, subst}
+use Rattle.std.specs.Prelude.{IfSome}
+use Rattle.image_blocks.specs.Bodies.{blocks_for}
+use Rattle.image_meaning.specs.Parts.{Spells}
+use Rattle.cell_blobs.specs.Blobs.{blob_need, spelt_in}
+use Rattle.store_model.specs.Books.{free_in}
+use Rattle.snapshot_store.specs.State.{books}
+use Rattle.page_shadow.specs.Ledger.{is_held}
+use Rattle.kernel_records.proofs.Rests.{held_pages, only_write}
+use Rattle.kernel_records.proofs.Spelling.{bytes_some}
+use Rattle.kernel_records.proofs.recording.record_cell.Goals as goal
+
+pub commit-requires-clause-blob : goal.commit-requires-clause-blob
+commit-requires-clause-blob g c =
+    let may = c.requires.may.spellable in
+    bytes_some (spelt_in c.args.cell.now.part) may.spelt c.write_part.new.blob may.born c.write_part.ensures.spells
+
+pub commit-requires-clause-pages : goal.commit-requires-clause-pages
+commit-requires-clause-pages g c = rw c.table_of-table.ensures (held_pages (is_held c.args.store.now.blocks) c.args.cell.now.part c.requires.may.table)
+
+pub returns-clause-spelt : goal.returns-clause-spelt
+returns-clause-spelt g c =
+    let spells : IfSome (spelt_in c.args.cell.now.part) (λ p. Spells p c.write_part.new.blob) = c.write_part.ensures.spells in
+    record {
+      spells = subst (λ (bytes : List ℕ). IfSome (spelt_in c.args.cell.now.part) (λ p. Spells p bytes)) c.write_part.ensures.bytes spells;
+      components = c.read_stamp.ensures;
+    }
+
+pub returns-clause-failed : goal.returns-clause-failed
+returns-clause-failed g c =
+    let e = c.commit.ensures in
+    let need : blob_need c.args.cell.now.part ≡ blocks_for (length c.write_part.new.blob) = ap (λ (bytes : List ℕ). blocks_for (length bytes)) (sym c.write_part.ensures.bytes) in
+    only_write c.commit.result (books c.args.store.now).shut (blocks_for (length c.write_part.new.blob)) (free_in (books c.args.store.now)) c.requires.working
+    (subst (λ (n : ℕ). n ≤ free_in (books c.args.store.now)) need c.requires.free) e.shut e.no_blocks e.no_read e.write_fault

@@ -1,0 +1,93 @@
+// The commit of a cell.
+ghost use Rattle.std.specs.Prelude.{◌≡◌, ◌↔◌, ◌⊎◌, ◌+◌, ◌≤◌, true, false, Ok, OnOk, IsErrOf};
+ghost use Rattle.disk_trait.specs.Disk.{Only};
+ghost use Rattle.disk_trait.specs.Moments.{LeavesOnly};
+ghost use Rattle.disk_trait.specs.declared.disk.NoBlocks.{NoBlocks as TooFew};
+ghost use Rattle.cell_blobs.specs.Blobs.{blob_need, is_recorded, page_need};
+ghost use Rattle.kernel_records.specs.Committing.{CommitCounts, HasCommitted, HasFailedWrite, IsRecorded, IsTooFew, MayCommit, StoresKeptOrCell};
+ghost use Rattle.snapshot_store.specs.Putting.{are_small};
+ghost use Rattle.snapshot_store.specs.State.{books};
+ghost use Rattle.snapshot_store.specs.declared.faults.StoreFault.{StoreFault as Fault};
+ghost use Rattle.store_model.specs.Books.{AreSmall, AreTrue, free_in, kept_names};
+
+use crate::flushing::flush_part;
+use crate::recording::record_cell;
+use block_code::Blob;
+use cell_blobs::{is_recorded, need_cell};
+use disk_trait::{Disk, NoBlocks};
+use kernel_cells::{Cell, Wish};
+use snapshot_store::{Store, StoreFault};
+
+/// Writes the changed pages of a cell and commits a record of it, for all of which enough blocks are free.
+fn put_cell<D: Disk>(
+    cell: &mut Cell,
+    store: &mut Store<D>,
+    blob: &mut Blob,
+) -> Result<(), StoreFault>
+    requires may { MayCommit (books store.old) cell.old }
+    requires working { (books store.old).shut ≡ false }
+    requires free { page_need (kept_names (books store.old)) cell.old.part + blob_need cell.old.part ≤ free_in (books store.old) }
+    requires true_books { D.tells → AreTrue D.reading D.may_leave (books store.old) store.old.disk }
+    ensures only_part { cell.new ≡ record cell.old { part = cell.new.part } }
+    ensures committed { D.tells → OnOk result (HasCommitted D.tells D.clock D.reading D.may_leave D.left_since cell.old cell.new store.old store.new) }
+    ensures true_books { D.tells → OnOk result (AreTrue D.reading D.may_leave (books store.new) store.new.disk) }
+    ensures stable { D.tells → OnOk result (Only (D.reading store.new.disk) (D.may_leave store.new.disk)) }
+    ensures any_moment { D.tells → AreSmall (books store.old) → are_small cell.old.clock.version cell.old.clock.stamp.0 ≡ true
+        → LeavesOnly D.clock D.left_since store.old.disk store.new.disk (StoresKeptOrCell D.tells D.clock D.reading D.may_leave D.left_since cell.old cell.new store.old) }
+    ensures failed { (e : Fault) → IsErrOf result e → (e ≡ StoreFault.WriteFault) × HasFailedWrite D.faults store.old store.new }
+    ensures counts { CommitCounts D.clock D.faults store.old store.new }
+{
+    if flush_part(&mut cell.part, store).is_err() {
+        return Err(StoreFault::WriteFault);
+    }
+    record_cell(cell, store, blob)
+}
+
+/// Commits a record of the entity, with its changed pages and its blob, and tells whether one was made: none is where the entity hasn't
+/// changed since its newest record. Then the newest record has the cell's version, and no record is wished. What was in `blob` is lost.
+///
+/// A fault comes only where a record is to be made. `Shut` comes exactly after an earlier failure of the store, and `NoBlocks` exactly
+/// where then fewer blocks are free than `need_cell` counts, with both numbers; then nothing is changed. `WriteFault` comes only where
+/// the disk's count of faults rose, and shuts the store: the record may be found when the image is opened again, or not.
+///
+/// That is one write for each changed page, at most 256, and what `Store::commit` takes.
+pub fn commit_cell<D: Disk>(
+    cell: &mut Cell,
+    store: &mut Store<D>,
+    blob: &mut Blob,
+) -> Result<bool, StoreFault>
+    requires may { is_recorded cell.old ≡ false → MayCommit (books store.old) cell.old }
+    requires true_books { D.tells → AreTrue D.reading D.may_leave (books store.old) store.old.disk }
+    ensures recorded { is_recorded cell.old ≡ true → (result ≡ Ok false) × (cell.new ≡ cell.old) × (store.new ≡ store.old) }
+    ensures made { is_recorded cell.old ≡ false → OnOk result ((result ≡ Ok true) × IsRecorded cell.old cell.new) }
+    ensures committed { D.tells → is_recorded cell.old ≡ false → OnOk result (HasCommitted D.tells D.clock D.reading D.may_leave D.left_since cell.old cell.new store.old store.new) }
+    ensures true_books { D.tells → OnOk result (AreTrue D.reading D.may_leave (books store.new) store.new.disk) }
+    ensures stable { D.tells → is_recorded cell.old ≡ false → OnOk result (Only (D.reading store.new.disk) (D.may_leave store.new.disk)) }
+    ensures any_moment { D.tells → is_recorded cell.old ≡ false → (books store.old).shut ≡ false → AreSmall (books store.old) → are_small cell.old.clock.version cell.old.clock.stamp.0 ≡ true
+        → LeavesOnly D.clock D.left_since store.old.disk store.new.disk (StoresKeptOrCell D.tells D.clock D.reading D.may_leave D.left_since cell.old cell.new store.old) }
+    ensures shut { IsErrOf result StoreFault.Shut ↔ ((is_recorded cell.old ≡ false) × ((books store.old).shut ≡ true)) }
+    ensures no_blocks { (b : TooFew) → IsErrOf result (StoreFault.NoBlocks b) ↔ IsTooFew cell.old (books store.old) b }
+    ensures untouched { IsErrOf result StoreFault.Shut ⊎ ((b : TooFew) × IsErrOf result (StoreFault.NoBlocks b)) → (cell.new ≡ cell.old) × (store.new ≡ store.old) }
+    ensures write_fault { IsErrOf result StoreFault.WriteFault → HasFailedWrite D.faults store.old store.new × (cell.new ≡ record cell.old { part = cell.new.part }) }
+    ensures no_read { IsErrOf result StoreFault.ReadFault → ⊥ }
+    ensures counts { CommitCounts D.clock D.faults store.old store.new }
+{
+    if is_recorded(cell) {
+        return Ok(false);
+    }
+    if store.is_shut() {
+        return Err(StoreFault::Shut);
+    }
+    let need = need_cell(cell, store, blob);
+    let free = store.free();
+    if free < need {
+        return Err(StoreFault::NoBlocks(NoBlocks { need, free }));
+    }
+    put_cell(cell, store, blob)?;
+    cell.wish = Wish {
+        by_step: false,
+        asked: false,
+        newest: cell.clock.version,
+    };
+    Ok(true)
+}
