@@ -1,2 +1,3 @@
 pub mod Flushing
 pub mod Committing
+pub mod Told
