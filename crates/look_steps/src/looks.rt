@@ -34,6 +34,7 @@ fn write_look(locus: &mut Clock, other: &mut Clock, answer: Answer) -> Entry
     requires lower { other.old.entity < locus.old.entity }
     ensures entity_locus { locus.new.entity ≡ locus.old.entity }
     ensures entity_other { other.new.entity ≡ other.old.entity }
+    ensures actor { result.actor ≡ locus.old.entity }
     ensures carries { (w : KernelState) → HasClock w locus.old → HasClock w other.old → (j : ModelCell) → (k : Option ModelCell) → is_some k ≡ is_stored answer
         → CarriesTwo StepEvent locus.old.entity answer w (looking other.old.entity k ∷ writing locus.old.entity j ∷ []) result other.new locus.new }
 {
@@ -66,6 +67,7 @@ pub fn step_look<B: PageStore, S: Supplier, P: Policy>(
     ensures cause { IfErr result (IsCausedBy (B.free store.old) (B.faults store.old) (B.faults store.new) (B.is_shut store.old) (B.is_shut store.new)) }
     ensures same_shut { OnOk result (B.is_shut store.new ≡ B.is_shut store.old) }
     ensures between { B.Pages store.old store.new }
+    ensures actor { IfOk result (λ e. e.actor ≡ locus.old.clock.entity) }
     ensures rest { (locus.new.wish ≡ locus.old.wish) × (locus.new.left ≡ locus.old.left) × (other.new.wish ≡ other.old.wish) × (other.new.left ≡ other.old.left) }
     ensures entities { (locus.new.clock.entity ≡ locus.old.clock.entity) × (other.new.clock.entity ≡ other.old.clock.entity) }
 {

@@ -1,7 +1,9 @@
 use Rattle.std.proofs.Common.{[], ◌∷◌, sym, ◌∙◌}
 use Rattle.hop_base.specs.declared.histories.Event.TheVariants.{Step}
 use Rattle.event_clocks.specs.Clocks.{writing, CarriesTwo}
+use Rattle.hop_model.specs.State.{NotBorn}
 use Rattle.look_steps.specs.Looking.{looking}
+use Rattle.look_steps.proofs.Actors.{acts_two}
 use Rattle.look_steps.proofs.Stored.{stored_case, read_case}
 use Rattle.look_steps.proofs.looks.write_look.Goals as goal
 
@@ -16,3 +18,15 @@ returns-clause-carries c w hasl haso j k tells =
     let me = c.args.locus.now.entity in
     read_case (λ k. CarriesTwo Step me c.args.answer w (looking c.args.other.now.entity k ∷ writing me j ∷ []) c.read_and_write.result c.args.other.now c.read_and_write.new.b) k
     (tells ∙ sym c.stores.ensures ∙ c.if-stores.false) (c.read_and_write.ensures.carries w haso hasl j)
+
+pub returns-then-stores-clause-actor : goal.returns-then-stores-clause-actor
+returns-then-stores-clause-actor c =
+    let other = c.args.other.now in
+    let locus = c.args.locus.now in
+    acts_two Step locus.entity c.args.answer _ other locus c.write_two.new.a c.write_two.new.b c.write_two.result c.requires.lower (λ w first second. c.write_two.ensures.carries w first second NotBorn NotBorn)
+
+pub returns-clause-actor : goal.returns-clause-actor
+returns-clause-actor c =
+    let other = c.args.other.now in
+    let locus = c.args.locus.now in
+    acts_two Step locus.entity c.args.answer _ other locus other c.read_and_write.new.b c.read_and_write.result c.requires.lower (λ w first second. c.read_and_write.ensures.carries w first second NotBorn)
