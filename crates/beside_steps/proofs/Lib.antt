@@ -1,3 +1,4 @@
 pub mod Wants
 pub mod Pairs
 pub mod BesideSteps
+pub mod Extents

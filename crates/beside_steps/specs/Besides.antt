@@ -1,5 +1,5 @@
 -- Steps of a locus beside another entity.
-use Rattle.std.specs.Prelude.{◌≡◌, ℕ, Bool, true, false, IsTrue, IsSome, nat_lt, if◌then◌else◌, List, [], ◌∷◌, Some, None}
+use Rattle.std.specs.Prelude.{◌≡◌, ℕ, Bool, true, false, IsTrue, IsSome, nat_lt, if◌then◌else◌, List, [], ◌∷◌, Option, Some, None, option_map}
 use Rattle.hop_base.specs.declared.histories.Answer.{Answer}
 use Rattle.hop_base.specs.declared.instructions.Instr.{Instr}
 use Rattle.hop_base.specs.declared.instructions.Instr.TheVariants.{Invoke, Leave, Return, Take, Give, Snap}
@@ -8,6 +8,8 @@ use Rattle.hop_model.specs.Changes.{Access}
 use Rattle.hop_model.specs.Outcomes.{Outcome}
 use Rattle.hop_model.specs.State.{LocusState, Cell, LocusCell}
 use Rattle.wanted_act.specs.Views.{may_name_itself}
+use Rattle.locus_machine.specs.declared.loci.Head.{Head}
+use Rattle.fault_paging.specs.declared.paged.PagedMemory.{PagedMemory}
 use Rattle.event_clocks.specs.Clocks.{writing}
 use Rattle.kernel_cells.specs.declared.cells.Part.{Part}
 use Rattle.kernel_cells.specs.declared.cells.Part.TheVariants as part
@@ -48,3 +50,18 @@ pub record MakesBoth (o : Outcome) (locus other : Cell) (answer : Answer) : Type
 -- the locus and another entity are written, the lower number first
 abbrev pub pair_of : ℕ → Cell → ℕ → Cell → List Access
 pair_of me j x k = if nat_lt x me then writing x k ∷ writing me j ∷ [] else writing me j ∷ writing x k ∷ []
+
+-- the memory of a container, and its head where it is born
+abbrev pub memory_of : Part → Option PagedMemory
+memory_of (part.Container b) = Some b.memory
+memory_of p = None
+
+abbrev pub head_of : Part → Option Head
+head_of (part.Container b) = b.head
+head_of p = None
+
+-- the part's memory is the same, of a container with the same tag and as many pages
+pub record KeepsMemory (old new : Part) : Type 0 where
+  pub memory : memory_of new ≡ memory_of old
+  pub tag : option_map (λ (h : Head). h.tag) (head_of new) ≡ option_map (λ (h : Head). h.tag) (head_of old)
+  pub pages : option_map (λ (h : Head). h.pages) (head_of new) ≡ option_map (λ (h : Head). h.pages) (head_of old)

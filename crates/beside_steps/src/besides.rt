@@ -7,7 +7,7 @@ ghost use Rattle.locus_machine.specs.declared.loci.Locus.{Locus as ALocus};
 ghost use Rattle.event_clocks.specs.Clocks.{CarriesTwo, HasClock};
 ghost use Rattle.kernel_cells.specs.Cells.{HasCell, IsRunning};
 ghost use Rattle.kernel_cells.specs.Steps.{Steps};
-ghost use Rattle.beside_steps.specs.Besides.{pair_of, FitsBeside, WantsOther};
+ghost use Rattle.beside_steps.specs.Besides.{pair_of, FitsBeside, KeepsMemory, WantsOther};
 
 use crate::parts::act_in_parts;
 use event_clocks::{Clock, write_two};
@@ -41,6 +41,7 @@ pub fn step_beside(locus: &mut Cell, other: &mut Cell, instr: Instr) -> Entry
     requires few_other { other.old.clock.version < 2 ^ 63 }
     ensures step { (s : Supply) → (words : ℕ → List ℕ) → (w : KernelState) → HasCell s words w locus.old → HasCell s words w other.old
         → Steps s locus.old.clock.entity w result (λ v. HasCell s words v locus.new × HasCell s words v other.new) }
+    ensures memory { KeepsMemory other.old.part other.new.part }
     ensures entities { (locus.new.clock.entity ≡ locus.old.clock.entity) × (other.new.clock.entity ≡ other.old.clock.entity) }
     ensures rest_locus { (locus.new.wish ≡ locus.old.wish) × (locus.new.left ≡ locus.old.left) }
     ensures rest_other { (other.new.wish ≡ other.old.wish) × (other.new.left ≡ other.old.left) }

@@ -8,7 +8,7 @@ ghost use Rattle.locus_machine.specs.Loci.{locus_of, container_with};
 ghost use Rattle.locus_machine.specs.declared.loci.Locus.{Locus as ALocus};
 ghost use Rattle.kernel_calls.specs.Calls.{CallMade};
 ghost use Rattle.kernel_cells.specs.Cells.{part_of, IsRunning};
-ghost use Rattle.beside_steps.specs.Besides.{calls_container, is_snap, FitsBeside, MakesBoth, WantsOther};
+ghost use Rattle.beside_steps.specs.Besides.{calls_container, is_snap, FitsBeside, KeepsMemory, MakesBoth, WantsOther};
 
 use hop_base::{Answer, Entity, Instr, Reply};
 use invocation::{back, invoke, leave};
@@ -33,7 +33,8 @@ fn act_on_head(locus: &mut Locus, number: Entity, head: &mut Head, instr: Instr)
     requires ready { IsReadyLocus (locus_of locus.old) }
     requires wants { WantsOther (locus_of locus.old) instr number }
     requires calls { IsTrue (calls_container instr) }
-    ensures { (me : ℕ) → (s : Supply) → (a : AtlasState) → (words : ℕ → ℕ) → me ≢ number
+    ensures extent { (head.new.tag ≡ head.old.tag) × (head.new.pages ≡ head.old.pages) }
+    ensures made { (me : ℕ) → (s : Supply) → (a : AtlasState) → (words : ℕ → ℕ) → me ≢ number
         → CallMade (outcome s (locus_of locus.old) (wanted me (locus_of locus.old)) a (ContainerCell (container_with words head.old)))
         (locus_of locus.new) result (Some (ContainerCell (container_with words head.new))) }
 {
@@ -70,7 +71,8 @@ fn act_beside(locus: &mut Locus, number: Entity, other: &mut Part, instr: Instr)
     requires ready { IsReadyLocus (locus_of locus.old) }
     requires wants { WantsOther (locus_of locus.old) instr number }
     requires fits { FitsBeside instr other.old }
-    ensures { (me : ℕ) → (s : Supply) → (words : ℕ → List ℕ) → (a : AtlasState) → me ≢ number
+    ensures memory { KeepsMemory other.old other.new }
+    ensures made { (me : ℕ) → (s : Supply) → (words : ℕ → List ℕ) → (a : AtlasState) → me ≢ number
         → CallMade (outcome s (locus_of locus.old) (wanted me (locus_of locus.old)) a (part_of s words other.old))
         (locus_of locus.new) result (Some (part_of s words other.new)) }
 {
@@ -96,7 +98,8 @@ pub(crate) fn act_in_parts(
 ) -> Answer
     requires wants { (l : ALocus) × IsRunning part.old l × WantsOther (locus_of l) instr number }
     requires fits { FitsBeside instr other.old }
-    ensures { (me : ℕ) → (s : Supply) → (words : ℕ → List ℕ) → (l : LocusState) → (a : AtlasState) → me ≢ number
+    ensures memory { KeepsMemory other.old other.new }
+    ensures made { (me : ℕ) → (s : Supply) → (words : ℕ → List ℕ) → (l : LocusState) → (a : AtlasState) → me ≢ number
         → part_of s words part.old ≡ LocusCell l
         → MakesBoth (outcome s l (wanted me l) a (part_of s words other.old)) (part_of s words part.new) (part_of s words other.new) result }
 {

@@ -14,5 +14,5 @@ returns-clause-step c s words w hasl haso =
     let is = ap (part_of s words) run.1.is in
     let touches = fits_touches me c.args.other.now.clock.entity l c.args.instr c.args.other.now.part run.2 c.requires.fits c.requires.apart in
     stepped_both s words w c.args.locus.now c.args.other.now _ _ l c.act_in_parts-answer.result c.write_both.result hasl haso is run.1.runs touches c.requires.apart
-    (c.act_in_parts-answer.ensures me s words l no_atlas (λ e. c.requires.apart (sym e)) is)
+    (c.act_in_parts-answer.ensures.made me s words l no_atlas (λ e. c.requires.apart (sym e)) is)
     c.write_both.ensures.entity_locus c.write_both.ensures.entity_other (λ j k. c.write_both.ensures.carries w hasl.clock haso.clock j k)
