@@ -1,0 +1,49 @@
+-- What a sound state says of a mapping.
+use Rattle.std.proofs.Common.{◌≡◌, ℕ, ◌<◌, true, false, ◌||◌, ◌==◌, count_by, List, sym, ap, ◌∙◌}
+use Rattle.hop_base.specs.declared.instructions.Instr.{Instr}
+use Rattle.hop_base.specs.declared.instructions.Instr.TheVariants.{Map, Unmap}
+use Rattle.hop_model.specs.Refusals.{instr_at}
+use Rattle.hop_model.specs.Soundness.{AreSound}
+use Rattle.hop_model.specs.State.{Supply, ContainerState, LocusState, Cell, LocusCell}
+use Rattle.wanted_act.specs.Views.{may_name_itself}
+use Rattle.atlas_dir.specs.Directory.{Directory}
+use Rattle.locus_machine.specs.declared.loci.Head.{Head}
+use Rattle.locus_machine.proofs.Alone.{wanted_says}
+use Rattle.directory_laws.proofs.BirthLaws.{meets_mapping}
+use Rattle.history_model.proofs.WantLemmas.{Neighbour, OfContainer, OfNamed}
+use Rattle.kernel_calls.specs.Calls.{atlas_state, is_map, is_unmap}
+use Rattle.kernel_cells.specs.declared.cells.Part.{Part}
+use Rattle.kernel_cells.specs.Cells.{part_of}
+use Rattle.map_steps.specs.Mapping.{IsHeadPart, MayMap, WantsMapping}
+use Rattle.plan_laws.proofs.SoundParts.{born_part}
+use Rattle.plan_laws.proofs.SoundPlans.{beside_here, container_low}
+
+yes_no : true ≡ false → ⊥
+yes_no e = cc
+
+mapping_apart : (i : Instr) → (is_map i || is_unmap i) ≡ true → may_name_itself i ≡ true → ⊥
+mapping_apart (Map d a c b n rights) maps names = yes_no (sym names)
+mapping_apart (Unmap d a) maps names = yes_no (sym names)
+mapping_apart i maps names = yes_no (sym maps)
+
+pub map_here : (s : Supply) (words : ℕ → List ℕ) (d : Directory) (cells : ℕ → Cell) (me x : ℕ) (l : LocusState) (i : Instr) (p : Part)
+    → AreSound (atlas_state d) cells → cells me ≡ LocusCell l → WantsMapping l i x → part_of s words p ≡ cells x
+    → (h : Head) × IsHeadPart p h × MayMap d l x h × (0 < x) × (x < me)
+map_here s words d cells me x l i p sound is wants there = by (beside_here (atlas_state d) cells me l sound is i x at wants.allowed wants.other)
+  where
+    at : instr_at l ≡ i
+    at = sym (wanted_says 64 l).instr ∙ wants.instr
+
+    by : Neighbour (atlas_state d) i x → (h : Head) × IsHeadPart p h × MayMap d l x h × (0 < x) × (x < me)
+    by (OfContainer born) =
+        let meets = meets_mapping d cells sound in
+        let f = sound.containers x born in
+        let low = container_low (atlas_state d) cells me l sound is x born in
+        let b = born_part s words p f.0 (there ∙ f.1) in (
+          b.head,
+          record { memory = b.memory; is = b.is },
+          record { number = meets.number x f.0 f.1; caps = meets.caps me l is; counted = λ y. meets.counted x f.0 f.1 y ∙ ap (λ (c : ContainerState). count_by (λ r. r.target == y) c.regions) (sym b.state) },
+          low.0,
+          low.1,
+        )
+    by (OfNamed born names atlas) = absurd (mapping_apart i wants.maps names)
