@@ -1,11 +1,10 @@
 -- What holds of a store between calls goes on.
-use Rattle.std.proofs.Common.{◌≡◌, ℕ, zero, suc, replicate, ◌+◌, ◌≤◌, ◌⊎◌, inl, inr, true, false, List, [], ◌∷◌, length, refl, sym, subst, ◌∙◌, arith}
+use Rattle.std.proofs.Common.{◌≡◌, ℕ, zero, suc, replicate, ◌+◌, ◌⊎◌, inl, inr, false, List, [], ◌∷◌, length, refl, sym, subst, ◌∙◌, arith}
 use Rattle.std.specs.Prelude.{Err, IsErrOf, slice_index}
 use Rattle.std.proofs.lemmas.Bool.{false≢true}
 use Rattle.disk_trait.specs.Image.{Image}
 use Rattle.disk_trait.specs.declared.disk.NoBlocks.{NoBlocks as TooFew}
-use Rattle.image_blocks.specs.Layout.{last_number}
-use Rattle.store_model.specs.Books.{AreTrue, Books}
+use Rattle.store_model.specs.Books.{AreTrue}
 use Rattle.snapshot_store.specs.Committed.{HasFailedShut, HasNewRecord}
 use Rattle.snapshot_store.specs.State.{State, books}
 use Rattle.snapshot_store.specs.declared.faults.StoreFault.{StoreFault as Fault}

@@ -1,6 +1,8 @@
 //! A caller of the store of snapshot records over any disk.
 #![tactic(auto)]
 
+mod kept_pages;
 mod own;
 
+pub use kept_pages::keep_but_one;
 pub use own::{OwnStore, Unmade};
