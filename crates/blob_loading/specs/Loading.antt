@@ -1,0 +1,30 @@
+-- What is read of one chosen record's blob.
+use Rattle.std.specs.Prelude.{◌≡◌, ◌⊎◌, ℕ, List}
+use Rattle.disk_trait.specs.Image.{Image}
+use Rattle.hop_base.specs.declared.entities.Kind.{Kind}
+use Rattle.hop_base.specs.declared.records.Rec.{Rec}
+use Rattle.image_blocks.specs.Checks.{Bad}
+use Rattle.image_meaning.specs.Foreign.{IsBadRest, IsBadSpelling, blob_bad}
+use Rattle.image_meaning.specs.Parts.{Spells, kind_in}
+use Rattle.part_checks.specs.Chosen.{part_of}
+use Rattle.part_checks.specs.declared.chosen.ChosenPart.{ChosenPart}
+use Rattle.snapshot_reading.specs.declared.places.BadBlob.{BadBlob}
+use Rattle.snapshot_reading.specs.declared.places.BadBlob.TheVariants.{Malformed, TooLong}
+
+-- the part is of this kind, and the bytes spell it
+pub record IsRead (kind : Kind) (bytes : List ℕ) (part : ChosenPart) : Type 0 where
+  pub same : kind_in (part_of part) ≡ kind
+  pub spells : Spells (part_of part) bytes
+
+abbrev pub place_in : BadBlob → ℕ
+place_in (Malformed place) = place
+place_in (TooLong place) = place
+
+-- where the image is bad, for what a reader of bytes tells
+abbrev pub bad_for : Rec → ℕ → BadBlob → Bad
+bad_for r body (Malformed place) = blob_bad r place
+bad_for r body (TooLong place) = record { block = body; place = 4 }
+
+-- check 4 of one record: its blob is no spelling, or bytes behind it in its last block aren't 0
+abbrev pub IsBadRecord : Image → Rec → ℕ → Bad → Type 0
+IsBadRecord image r body bad = IsBadSpelling r.entity image r body bad ⊎ IsBadRest r.entity image r bad

@@ -1,0 +1,12 @@
+//! One chosen blob of an image, read: its blocks, what its bytes spell, and the rest of its last block.
+#![tactic(auto)]
+
+mod loading;
+mod parsing;
+mod places;
+mod rooms;
+
+pub use loading::load;
+
+#[cfg(test)]
+mod tests;

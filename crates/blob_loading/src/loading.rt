@@ -1,0 +1,70 @@
+//! One chosen record's blob, read and told.
+ghost use Rattle.std.specs.Prelude.{◌≡◌, ◌≤◌, ◌<◌, All, IfOk, IfErr, length};
+ghost use Rattle.disk_trait.specs.Disk.{HasCause};
+ghost use Rattle.disk_trait.specs.Image.{Image};
+ghost use Rattle.image_blocks.specs.Bodies.{blob_blocks, blob_room, blocks_for};
+ghost use Rattle.image_meaning.specs.Parts.{IsSpelt};
+ghost use Rattle.log_reading.specs.Reads.{ReadsOnly};
+ghost use Rattle.part_checks.specs.Chosen.{part_of};
+ghost use Rattle.blob_loading.specs.Loading.{IsBadRecord};
+
+use crate::parsing::parse;
+use crate::places::{bad_of, first_rest};
+use crate::rooms::read_room;
+use block_code::{Blob, MOST_BLOB_BYTES};
+use disk_trait::{Disk, DiskFault};
+use hop_base::Rec;
+use image_blocks::Bad;
+use part_checks::ChosenPart;
+
+// The blocks of a record's blob.
+fn blocks_of(rec: &Rec) -> &[u32]
+    requires { rec.now.length ≤ MOST_BLOB_BYTES }
+    ensures blocks { result.now ≡ blob_blocks rec.now }
+    ensures needed { length result.now ≡ blocks_for rec.now.length }
+{
+    let needed = (rec.length as usize + 1023) / 1024;
+    &rec.blocks[..needed]
+}
+
+// What the bytes in a record's blocks spell, or where they are bad.
+fn told(rec: &Rec, body: u32, room: &[u8]) -> Result<ChosenPart, Bad>
+    requires some { 1 ≤ rec.now.length }
+    requires within { rec.now.length ≤ length room.now }
+    requires few { length room.now ≤ MOST_BLOB_BYTES }
+    ensures spelt { (image : Image) → room.now ≡ blob_room image rec.now → IfOk result (λ part. IsSpelt image rec.now.entity rec.now (part_of part)) }
+    ensures foreign { (image : Image) → room.now ≡ blob_room image rec.now → IfErr result (IsBadRecord image rec.now body) }
+{
+    let length = rec.length as usize;
+    let part = match parse(rec.entity.kind(), &room[..length]) {
+        Ok(part) => part,
+        Err(bad) => return Err(bad_of(rec, body, bad)),
+    };
+    match first_rest(room, length) {
+        Some(place) => Err(Bad {
+            block: rec.blocks[place / 1024],
+            place: (place % 1024) as u16,
+        }),
+        None => Ok(part),
+    }
+}
+
+/// Reads what a chosen record's blob spells, or tells its first bad place. `body` is the block of the record's body; `room` holds
+/// anything afterwards. It reads 8 blocks at most, and begins no write and no sync.
+pub fn load<D: Disk>(
+    disk: &mut D,
+    rec: &Rec,
+    body: u32,
+    room: &mut Blob,
+) -> Result<Result<ChosenPart, Bad>, DiskFault>
+    requires some { 1 ≤ rec.now.length }
+    requires few { rec.now.length ≤ MOST_BLOB_BYTES }
+    requires there { All (λ b. b < D.block_count disk.old) (blob_blocks rec.now) }
+    ensures spelt { D.tells → IfOk result (λ r. IfOk r (λ part. IsSpelt (D.reading disk.old) rec.now.entity rec.now (part_of part))) }
+    ensures foreign { D.tells → IfOk result (λ r. IfErr r (IsBadRecord (D.reading disk.old) rec.now body)) }
+    ensures cause { HasCause (D.faults disk.old) (D.faults disk.new) result }
+    ensures same { ReadsOnly D.tells D.block_count D.reading D.may_leave D.left_since D.clock D.faults disk.old disk.new }
+{
+    read_room(disk, blocks_of(rec), room)?;
+    Ok(told(rec, body, room.as_slice()))
+}

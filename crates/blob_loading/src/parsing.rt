@@ -1,0 +1,32 @@
+//! What bytes spell, by the kind that is wanted.
+ghost use Rattle.std.specs.Prelude.{◌≡◌, IfOk, IfErr};
+ghost use Rattle.image_meaning.specs.Parts.{kind_in, Spells};
+ghost use Rattle.part_checks.specs.Chosen.{part_of};
+ghost use Rattle.snapshot_reading.specs.Places.{IsBadBlob};
+ghost use Rattle.blob_loading.specs.Loading.{IsRead};
+
+use atlas_reading::read_atlas;
+use hop_base::Kind;
+use part_checks::ChosenPart;
+use snapshot_reading::{BadBlob, read_container, read_locus};
+
+// What the bytes of an entity of this kind spell.
+pub(crate) fn parse(kind: Kind, bytes: &[u8]) -> Result<ChosenPart, BadBlob>
+    ensures part { IfOk result (IsRead kind bytes.now) }
+    ensures bad { IfErr result (IsBadBlob kind bytes.now) }
+{
+    match kind {
+        Kind::Atlas => match read_atlas(bytes) {
+            Ok(atlas) => Ok(ChosenPart::Atlas(atlas)),
+            Err(bad) => Err(bad),
+        },
+        Kind::Container => match read_container(bytes) {
+            Ok(container) => Ok(ChosenPart::Container(container)),
+            Err(bad) => Err(bad),
+        },
+        Kind::Locus => match read_locus(bytes) {
+            Ok(locus) => Ok(ChosenPart::Locus(locus)),
+            Err(bad) => Err(bad),
+        },
+    }
+}
