@@ -13,29 +13,29 @@ use std::test::Fail;
 
 #[test]
 fn a_run_prints_its_lines_and_ends(rt: HostRuntime) -> Result<(), Fail> {
-    let runs: [(&[u8], &str, usize); 17] = [
-        (FIVE, "l 5\n", 8),
-        (PAST_THE_PAGE, "l 3\nl 0\n", 10),
-        (b"", "", 0),
-        (TAGGED, "l 137\n", 7),
-        (PRIVATE_FIRST, "l 1000\nl 2000\nl 1000\n", 19),
-        (PRIVATE_IN_ONE_HOST, "l 2000\nl 3000\nl 2000\n", 17),
-        (CIRCLES, "l 0\nl 0\nl 4\nl 4\n", 18),
-        (DENIED_OVER_A_MAPPING, "l 17\n", 9),
-        (NO_ENTRY, "l 18\nl 8\n", 10),
-        (FULL_CHAIN, "m 7\nl 6\n", 74),
-        (ALL_PAGES, "l 32896\n", 2824),
-        (LAST_NUMBER, "l 10\n", 73),
-        (STOPS_ITSELF, "", 4),
-        (TAKES, "l 1\nl 0\nl 1\n", 10),
-        (COUNTS_ON, "", 107),
-        (ORDERED, "m 0\nl 0\n", 8),
-        (UNSTABLE, "l 23\n", 6),
+    let runs: [(&[u8], &[u8], usize); 17] = [
+        (FIVE, b"l 5\n", 8),
+        (PAST_THE_PAGE, b"l 3\nl 0\n", 10),
+        (b"", b"", 0),
+        (TAGGED, b"l 137\n", 7),
+        (PRIVATE_FIRST, b"l 1000\nl 2000\nl 1000\n", 19),
+        (PRIVATE_IN_ONE_HOST, b"l 2000\nl 3000\nl 2000\n", 17),
+        (CIRCLES, b"l 0\nl 0\nl 4\nl 4\n", 18),
+        (DENIED_OVER_A_MAPPING, b"l 17\n", 9),
+        (NO_ENTRY, b"l 18\nl 8\n", 10),
+        (FULL_CHAIN, b"m 7\nl 6\n", 74),
+        (ALL_PAGES, b"l 32896\n", 2824),
+        (LAST_NUMBER, b"l 10\n", 73),
+        (STOPS_ITSELF, b"", 4),
+        (TAKES, b"l 1\nl 0\nl 1\n", 10),
+        (COUNTS_ON, b"", 107),
+        (ORDERED, b"m 0\nl 0\n", 8),
+        (UNSTABLE, b"l 23\n", 6),
     ];
     for (text, lines, entries) in runs {
         let (put, outcome) = run(rt.alloc(), text)?;
-        assert_eq!(rt; put.as_str(), lines);
-        assert!(rt; matches!(outcome.status, Status::Done), "{lines}");
+        assert_eq!(rt; put.as_bytes(), lines);
+        assert!(rt; matches!(outcome.status, Status::Done));
         assert_eq!(rt; outcome.history.len(), entries);
     }
     Ok(())
