@@ -178,4 +178,8 @@ module _ {B : Type 0} (tells : Type 0) (held kept : B → ℕ → Bool) (words :
           );
       held_words = held_words_kept;
       kept_words = kept_words_kept;
+      news = λ p. elim (cases_eq p page) [
+        | inl same ↦ inr (ap (λ q. kept b (block_at moved q)) same ∙ ap (kept b) block_here ∙ moves.not_kept)
+        | inr differs ↦ inl (block_there p differs)
+      ];
     }

@@ -1,5 +1,5 @@
 -- A page comes into a frame with its words, which are its block's or the supplier's. No word changes.
-use Rattle.std.proofs.Common.{◌≡◌, ◌≢◌, ◌↔◌, ◌⊎◌, ℕ, ◌+◌, ◌-◌, ◌^◌, ◌<◌, ◌≤◌, Bool, true, false, ◌||◌, List, length, set, slice_index, is_some, count_by, Option, Some, None, Ok, Err, IsErrOf, IsOk, refl, sym, ap, ◌∙◌, inl, inr, subst, arith}
+use Rattle.std.proofs.Common.{◌≡◌, ◌≢◌, ◌↔◌, ℕ, ◌+◌, ◌-◌, ◌^◌, ◌<◌, ◌≤◌, Bool, true, false, ◌||◌, List, length, set, slice_index, is_some, count_by, Option, Some, None, Ok, Err, IsErrOf, IsOk, refl, sym, ap, ◌∙◌, inl, inr, subst, arith}
 use Rattle.std.proofs.lemmas.Bool.{cases_eq, cases_lt}
 use Rattle.hop_model.specs.State.{Supply}
 use Rattle.disk_trait.specs.Disk.{Ticks}
@@ -40,6 +40,7 @@ keeps_read tells held kept words m m' t b b' b'' k same_held same_kept same = re
   no_others = λ n h out. k.no_others n (sym (ap (λ f. f n) same_held) ∙ h) out;
   held_words = λ t n h out. let before = k.held_stay n h out in same t n (left_true _ _ before.0) (λ x. x) ∙ k.held_words t n h out;
   kept_words = λ t n names. same t n (right_true _ _ (ap (λ f. f n) k.same_kept ∙ names)) (λ x. x) ∙ k.kept_words t n names;
+  news = k.news;
 }
 
 -- THE PAGE COMES

@@ -1,5 +1,5 @@
 -- A page leaves its frame: the clock's victim, after it was saved. No word changes.
-use Rattle.std.proofs.Common.{◌≡◌, ◌≢◌, ◌↔◌, ◌⊎◌, ℕ, ◌+◌, ◌<◌, ◌≤◌, Bool, true, false, ◌&&◌, ◌||◌, ◌==◌, List, length, set, Option, Some, None, Result, is_some, IsSome, IsErrOf, OnOk, OnSome, count_by, refl, sym, ap, ◌∙◌, inl, inr, subst, arith}
+use Rattle.std.proofs.Common.{◌≡◌, ◌≢◌, ◌↔◌, ℕ, ◌+◌, ◌<◌, ◌≤◌, Bool, true, false, ◌&&◌, ◌||◌, ◌==◌, List, length, set, Option, Some, None, Result, is_some, IsSome, IsErrOf, OnOk, OnSome, count_by, refl, sym, ap, ◌∙◌, inl, inr, subst, arith}
 use Rattle.std.proofs.lemmas.Bool.{cases_eq}
 use Rattle.hop_model.specs.State.{Supply}
 use Rattle.page_store.specs.declared.faults.PageFault.{PageFault}
@@ -78,6 +78,7 @@ keeps_from tells held kept words m m' t t' b b' k = record {
   no_others = k.no_others;
   held_words = k.held_words;
   kept_words = k.kept_words;
+  news = k.news;
 }
 
 -- THE PAGE LEAVES

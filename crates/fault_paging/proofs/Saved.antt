@@ -67,6 +67,13 @@ keeps_trans tells held kept words m m' m'' b b' b'' first second = record {
   no_others = λ n h out. let a = second.no_others n h out in first.no_others n a.0 a.1;
   held_words = λ t n h out. let a = first.held_stay n h out in second.held_words t n a.0 a.1 ∙ first.held_words t n h out;
   kept_words = λ t n names. second.kept_words t n (ap (λ f. f n) first.same_kept ∙ names) ∙ first.kept_words t n names;
+  news = λ p. elim (second.news p) [
+    | inl same ↦ elim (first.news p) [
+      | inl before ↦ inl (same ∙ before)
+      | inr fresh ↦ inr (ap (kept b) same ∙ fresh)
+    ]
+    | inr fresh ↦ inr (sym (ap (λ f. f (block_at m'' p)) first.same_kept) ∙ fresh)
+  ];
 }
 
 -- a page is saved, and the pages so far are unchanged

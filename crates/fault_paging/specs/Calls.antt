@@ -27,6 +27,8 @@ pub record Keeps {B : Type 0} (tells : Type 0) (held kept : B → ℕ → Bool) 
   pub no_others : (n : ℕ) → held b' n ≡ true → (IsOfTable m' n → ⊥) → (held b n ≡ true) × (IsOfTable m n → ⊥)
   pub held_words : tells → (n : ℕ) → held b n ≡ true → (IsOfTable m n → ⊥) → words b' n ≡ words b n
   pub kept_words : tells → (n : ℕ) → kept b n ≡ true → words b' n ≡ words b n
+  -- a page has the block that it had, or one that no kept record names
+  pub news : (page : ℕ) → (block_at m' page ≡ block_at m page) ⊎ (kept b (block_at m' page) ≡ false)
 
 -- a new block is held that wasn't held and that no kept record names, and the one before, if any, no more
 pub record Moves (held kept held' : ℕ → Bool) (block fresh : ℕ) : Type 0 where

@@ -19,6 +19,7 @@ loop-page-init g c = record {
     no_others = λ n h out. (h, out);
     held_words = λ _ _ _ _. refl;
     kept_words = λ _ _ _. refl;
+    news = λ _. inl refl;
   };
   pages = record { same_tag = refl; same_pages = refl; same_frames = refl; same_blocks = λ _ _. refl; none_changed = λ _ e. e };
   residents = λ p. refl;
