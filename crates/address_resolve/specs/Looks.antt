@@ -5,10 +5,12 @@ use Rattle.hop_base.specs.declared.histories.Answer.TheVariants.{Read}
 use Rattle.hop_base.specs.declared.instructions.Instr.{Instr}
 use Rattle.hop_base.specs.declared.instructions.Instr.TheVariants.{Load, Store}
 use Rattle.hop_base.specs.declared.instructions.Reply.TheVariants.{Ok}
-use Rattle.hop_model.specs.State.{ContainerState, LocusState, ContainerCell}
-use Rattle.hop_model.specs.Outcomes.{Outcome, finish, look_address, own, set_reg, with_other, with_word}
+use Rattle.hop_model.specs.State.{AtlasState, ContainerState, LocusState, ContainerCell, Supply}
+use Rattle.hop_model.specs.Acts.{wanted}
+use Rattle.hop_model.specs.Outcomes.{Outcome, finish, look_address, outcome, own, set_reg, with_other, with_word}
 use Rattle.hop_model.specs.Refusals.{instr_at, reg}
 use Rattle.hop_model.specs.Words.{covers}
+use Rattle.locus_machine.specs.Loci.{container_with}
 use Rattle.locus_machine.specs.declared.loci.Head.{Head}
 use Rattle.fault_paging.specs.declared.paged.PagedMemory.{PagedMemory}
 use Rattle.address_resolve.specs.declared.aim.Access.{Access}
@@ -75,3 +77,18 @@ NamesRegister (Writes v) = Unit {0}
 abbrev pub done_by : LocusState → ContainerState → ℕ → Access → Outcome
 done_by l c address (Reads d) = own (finish (set_reg l d (c.words address)) Ok) (Read (c.words address))
 done_by l c address (Writes v) = with_other l Ok (ContainerCell (with_word c address v))
+
+-- WHATEVER THE STORE TELLS
+-- There are words which the container may have had, and which it may have then, with which the look makes this locus and this answer.
+
+pub record LooksSomehow (l m : LocusState) (h : Head) (answer : Answer) : Type 0 where
+  pub before : ℕ → ℕ
+  pub after : ℕ → ℕ
+  pub made : (me : ℕ) (s : Supply) (a : AtlasState)
+      → Looked (outcome s l (wanted me l) a (ContainerCell (container_with before h))) m answer (container_with before h) (container_with after h)
+
+-- the same of a look that comes to the word
+pub record ReachesSomehow (l m : LocusState) (address : ℕ) (access : Access) (answer : Answer) : Type 0 where
+  pub before : ℕ → ℕ
+  pub after : ℕ → ℕ
+  pub made : (h : Head) → Looked (done_by l (container_with before h) address access) m answer (container_with before h) (container_with after h)

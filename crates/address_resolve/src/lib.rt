@@ -11,7 +11,7 @@ ghost use Rattle.locus_machine.specs.Loci.{container_with, locus_of};
 ghost use Rattle.invocation.specs.Entries.{WantsBeside};
 ghost use Rattle.fault_paging.specs.Words.{AreCleanTrue, IsSoundTable, words_of};
 ghost use Rattle.fault_paging.specs.Calls.{Counts, IsCausedBy, Keeps, KeepsBlocks, MakesRoom, MarksOne};
-ghost use Rattle.address_resolve.specs.Looks.{address_of, comes_to_word, is_look, is_store, IsMemoryOf, Looked};
+ghost use Rattle.address_resolve.specs.Looks.{address_of, comes_to_word, is_look, is_store, IsMemoryOf, Looked, LooksSomehow};
 
 use crate::aim::aim_of;
 use crate::shown::shown;
@@ -54,6 +54,7 @@ pub fn look<B: PageStore, S: Supplier, P: Policy>(
     ensures looked { B.tells → IfOk result (λ answer. (me : ℕ) → (s : Supply) → (a : AtlasState)
         → Looked (outcome s (locus_of locus.old) (wanted me (locus_of locus.old)) a (ContainerCell (container_with (words_of (S.word gate.now.supply) (B.words store.old) memory.old) head.now))) (locus_of locus.new) answer
         (container_with (words_of (S.word gate.now.supply) (B.words store.old) memory.old) head.now) (container_with (words_of (S.word gate.now.supply) (B.words store.new) memory.new) head.now)) }
+    ensures somehow { IfOk result (LooksSomehow (locus_of locus.old) (locus_of locus.new) head.now) }
     ensures ready { IsReadyLocus (locus_of locus.new) }
     ensures failed { OnErr result ((locus.new ≡ locus.old) × (B.tells → words_of (S.word gate.now.supply) (B.words store.new) memory.new ≡ words_of (S.word gate.now.supply) (B.words store.old) memory.old)) }
     ensures untouched { comes_to_word head.now (address_of (locus_of locus.old)) ≡ false → IsOk result × (memory.new ≡ memory.old) × (store.new ≡ store.old) }

@@ -4,7 +4,7 @@ ghost use Rattle.locus_machine.specs.declared.loci.Head.{Head};
 ghost use Rattle.locus_machine.specs.Loci.{container_with, locus_of};
 ghost use Rattle.fault_paging.specs.Words.{AreCleanTrue, IsSoundTable, words_of};
 ghost use Rattle.fault_paging.specs.Calls.{Counts, IsCausedBy, Keeps, KeepsBlocks, MakesRoom, MarksOne};
-ghost use Rattle.address_resolve.specs.Looks.{done_by, writes, Looked, NamesRegister};
+ghost use Rattle.address_resolve.specs.Looks.{done_by, writes, Looked, NamesRegister, ReachesSomehow};
 
 use crate::aim::{Access, Aim};
 use fault_paging::{PageFault, PagedMemory};
@@ -31,6 +31,7 @@ pub(crate) fn at_word<B: PageStore, S: Supplier, P: Policy>(
     ensures looked { B.tells → IfOk result (λ answer. (h : Head)
         → Looked (done_by (locus_of locus.old) (container_with (words_of (S.word gate.now.supply) (B.words store.old) memory.old) h) aim.address aim.access) (locus_of locus.new) answer
         (container_with (words_of (S.word gate.now.supply) (B.words store.old) memory.old) h) (container_with (words_of (S.word gate.now.supply) (B.words store.new) memory.new) h)) }
+    ensures somehow { IfOk result (ReachesSomehow (locus_of locus.old) (locus_of locus.new) aim.address aim.access) }
     ensures ready { IsReadyLocus (locus_of locus.new) }
     ensures failed { OnErr result ((locus.new ≡ locus.old) × (B.tells → words_of (S.word gate.now.supply) (B.words store.new) memory.new ≡ words_of (S.word gate.now.supply) (B.words store.old) memory.old)) }
     ensures clean { B.tells → AreCleanTrue (S.word gate.now.supply) (B.words store.new) memory.new }

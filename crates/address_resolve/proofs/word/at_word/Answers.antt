@@ -1,6 +1,10 @@
-use Rattle.std.proofs.Common.{refl}
+use Rattle.std.proofs.Common.{refl, sym, subst}
 use Rattle.std.proofs.lemmas.Result.{err_from_is_err_and}
 use Rattle.fault_paging.proofs.Bringing.{room_err, room_ok}
+use Rattle.hop_base.specs.declared.histories.Answer.TheVariants.{Read}
+use Rattle.locus_machine.specs.Loci.{locus_of}
+use Rattle.address_resolve.specs.Looks.{ReachesSomehow}
+use Rattle.address_resolve.proofs.Somehow.{load_reaches, store_reaches}
 use Rattle.address_resolve.proofs.word.at_word.Goals as goal
 
 pub returns-in_err-word-in-Load-clause-room : goal.returns-in_err-word-in-Load-clause-room
@@ -24,3 +28,19 @@ pub returns-in_ok-store-in-Store-clause-room : goal.returns-in_ok-store-in-Store
 returns-in_ok-store-in-Store-clause-room g c =
     let room = c.in_ok-store-in-Store.ensures.room in
     room_ok _ _ _ c.args.memory.now c.store.new.self c.store.new.self (λ p. refl) _ _ _ room.stay room.chooses room.shut
+
+pub returns-in_ok-word-in-Load-clause-somehow : goal.returns-in_ok-word-in-Load-clause-somehow
+returns-in_ok-word-in-Load-clause-somehow g c =
+    let l = locus_of c.args.locus.now in
+    let m = locus_of c.finish.new.self in
+    let address = c.args.aim.address in
+    let word = c.in_ok-word-in-Load.word in
+    subst (λ access. ReachesSomehow l m address access (Read word)) (sym c.in-Load.is) (load_reaches l m address c.in-Load.d word (Read word) c.finish.ensures.locus refl)
+
+pub returns-in_ok-store-in-Store-clause-somehow : goal.returns-in_ok-store-in-Store-clause-somehow
+returns-in_ok-store-in-Store-clause-somehow g c =
+    let l = locus_of c.args.locus.now in
+    let m = locus_of c.finish-in-Store.new.self in
+    let address = c.args.aim.address in
+    let answer = c.finish-in-Store.result in
+    subst (λ access. ReachesSomehow l m address access answer) (sym c.in-Store.is) (store_reaches l m address c.in-Store.word answer c.finish-in-Store.ensures.locus c.finish-in-Store.ensures.answer)
