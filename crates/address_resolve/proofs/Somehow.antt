@@ -1,5 +1,5 @@
 -- Looks at words that nobody tells.
-use Rattle.std.proofs.Common.{◌≡◌, ℕ, refl, sym, ap, subst, ◌∙◌}
+use Rattle.std.proofs.Common.{◌≡◌, ◌≢◌, ℕ, ◌*◌, ◌/◌, ◌<◌, ◌≤◌, refl, sym, ap, subst, ◌∙◌, arith, eq-eqb, ne_eqb}
 use Rattle.hop_base.specs.declared.histories.Answer.{Answer}
 use Rattle.hop_base.specs.declared.histories.Answer.TheVariants.{Read, Reply as Replied}
 use Rattle.hop_base.specs.declared.instructions.Reply.TheVariants.{Ok}
@@ -14,20 +14,33 @@ use Rattle.address_resolve.specs.declared.aim.Access.{Access}
 use Rattle.address_resolve.specs.declared.aim.Access.TheVariants.{Load as Reads, Store as Writes}
 use Rattle.address_resolve.proofs.Cases.{shows_looked}
 
--- a container whose every word is the one that was read
+put_there : (words : ℕ → ℕ) (address word : ℕ) → put words address word address ≡ word
+put_there words address word = rw (eq-eqb address address refl) refl
+
+put_elsewhere : (words : ℕ → ℕ) (address word at : ℕ) → at ≢ address → put words address word at ≡ words at
+put_elsewhere words address word at apart = rw (ne_eqb at address apart) refl
+
+-- the word that was read is put in
 pub load_reaches : (l m : LocusState) (address d word : ℕ) (answer : Answer) → m ≡ finish (set_reg l d word) Ok → answer ≡ Read word → ReachesSomehow l m address (Reads d) answer
 load_reaches l m address d word answer is says = record {
-  before = λ _. word;
-  after = λ _. word;
-  made = λ h. record { locus = is; answers = says; container = refl; newborn = refl };
+  before = λ words. put words address word;
+  after = λ words. put words address word;
+  elsewhere = λ words at apart. (put_elsewhere words address word at apart, put_elsewhere words address word at apart);
+  made = λ words h. record {
+    locus = is ∙ ap (λ v. finish (set_reg l d v) Ok) (sym (put_there words address word));
+    answers = says ∙ ap Read (sym (put_there words address word));
+    container = refl;
+    newborn = refl;
+  };
 }
 
--- a container with any words, of which one is written
+-- any words, of which one is written
 pub store_reaches : (l m : LocusState) (address word : ℕ) (answer : Answer) → m ≡ finish l Ok → answer ≡ Replied Ok → ReachesSomehow l m address (Writes word) answer
 store_reaches l m address word answer is says = record {
-  before = λ _. 0;
-  after = put (λ _. 0) address word;
-  made = λ h. record { locus = is; answers = says; container = refl; newborn = refl };
+  before = λ words. words;
+  after = λ words. put words address word;
+  elsewhere = λ words at apart. (refl, put_elsewhere words address word at apart);
+  made = λ words h. record { locus = is; answers = says; container = refl; newborn = refl };
 }
 
 -- the look of an aim, at any words
@@ -37,22 +50,24 @@ Makes l h address access = (me : ℕ) (s : Supply) (a : AtlasState) (c : Contain
 
 pub shown_somehow : (l m : LocusState) (h : Head) (address needed : ℕ) (access : Access) (answer : Answer) → Makes l h address access → needed ≡ needed_by access
     → ((words : ℕ → ℕ) (done : Outcome) → Shows (looked l (container_with words h) address needed done) m answer) → LooksSomehow l m h answer
-shown_somehow l m h address needed access answer makes same shows =
-    let here = container_with (λ _. 0) h in
-    record {
-      before = λ _. 0;
-      after = λ _. 0;
-      made = λ me s a. shows_looked _ _ m answer here (makes me s a here ∙ ap (λ n. looked l here address n (done_by l here address access)) (sym same)) (shows (λ _. 0) (done_by l here address access));
-    }
+shown_somehow l m h address needed access answer makes same shows = record {
+  before = λ words. words;
+  after = λ words. words;
+  past = λ words at _. (refl, refl);
+  made = λ words me s a.
+      let here = container_with words h in
+      shows_looked _ _ m answer here (makes me s a here ∙ ap (λ n. looked l here address n (done_by l here address access)) (sym same)) (shows words (done_by l here address access));
+}
 
-pub reached_somehow : (l m : LocusState) (h : Head) (address needed : ℕ) (access : Access) (answer : Answer) → Makes l h address access → needed ≡ needed_by access
+pub reached_somehow : (l m : LocusState) (h : Head) (address needed : ℕ) (access : Access) (answer : Answer) → Makes l h address access → needed ≡ needed_by access → address / 128 < h.pages
     → ((words : ℕ → ℕ) (done : Outcome) → looked l (container_with words h) address needed done ≡ done) → ReachesSomehow l m address access answer → LooksSomehow l m h answer
-reached_somehow l m h address needed access answer makes same comes reaches =
-    let here = container_with reaches.before h in
-    let done = done_by l here address access in
-    record {
-      before = reaches.before;
-      after = reaches.after;
-      made = λ me s a. subst (λ o. Looked o m answer here (container_with reaches.after h))
-          (sym (makes me s a here ∙ ap (λ n. looked l here address n done) (sym same) ∙ comes reaches.before done)) (reaches.made h);
-    }
+reached_somehow l m h address needed access answer makes same low comes reaches = record {
+  before = reaches.before;
+  after = reaches.after;
+  past = λ words at high. reaches.elsewhere words at (λ here. absurd (omega (arith, low, high, here)));
+  made = λ words me s a.
+      let here = container_with (reaches.before words) h in
+      let done = done_by l here address access in
+      subst (λ o. Looked o m answer here (container_with (reaches.after words) h))
+      (sym (makes me s a here ∙ ap (λ n. looked l here address n done) (sym same) ∙ comes (reaches.before words) done)) (reaches.made words h);
+}

@@ -1,5 +1,5 @@
 -- What a look wants, when it comes to a word, and what it makes of locus and container.
-use Rattle.std.specs.Prelude.{◌≡◌, ℕ, ◌/◌, ◌<◌, Bool, true, false, ◌&&◌, nat_lt, None, find, is_some, not, unwrap_or}
+use Rattle.std.specs.Prelude.{◌≡◌, ◌≢◌, ℕ, ◌*◌, ◌/◌, ◌<◌, ◌≤◌, Bool, true, false, ◌&&◌, nat_lt, None, find, is_some, not, unwrap_or}
 use Rattle.hop_base.specs.declared.histories.Answer.{Answer}
 use Rattle.hop_base.specs.declared.histories.Answer.TheVariants.{Read}
 use Rattle.hop_base.specs.declared.instructions.Instr.{Instr}
@@ -79,16 +79,19 @@ done_by l c address (Reads d) = own (finish (set_reg l d (c.words address)) Ok) 
 done_by l c address (Writes v) = with_other l Ok (ContainerCell (with_word c address v))
 
 -- WHATEVER THE STORE TELLS
--- There are words which the container may have had, and which it may have then, with which the look makes this locus and this answer.
+-- Of any words, with one of the container's own put in, the look makes this locus and this answer, and these words of the container.
 
 pub record LooksSomehow (l m : LocusState) (h : Head) (answer : Answer) : Type 0 where
-  pub before : ℕ → ℕ
-  pub after : ℕ → ℕ
-  pub made : (me : ℕ) (s : Supply) (a : AtlasState)
-      → Looked (outcome s l (wanted me l) a (ContainerCell (container_with before h))) m answer (container_with before h) (container_with after h)
+  pub before : (ℕ → ℕ) → ℕ → ℕ
+  pub after : (ℕ → ℕ) → ℕ → ℕ
+  pub past : (words : ℕ → ℕ) (at : ℕ) → h.pages * 128 ≤ at → (before words at ≡ words at) × (after words at ≡ words at)
+  pub made : (words : ℕ → ℕ) (me : ℕ) (s : Supply) (a : AtlasState)
+      → Looked (outcome s l (wanted me l) a (ContainerCell (container_with (before words) h))) m answer (container_with (before words) h) (container_with (after words) h)
 
 -- the same of a look that comes to the word
 pub record ReachesSomehow (l m : LocusState) (address : ℕ) (access : Access) (answer : Answer) : Type 0 where
-  pub before : ℕ → ℕ
-  pub after : ℕ → ℕ
-  pub made : (h : Head) → Looked (done_by l (container_with before h) address access) m answer (container_with before h) (container_with after h)
+  pub before : (ℕ → ℕ) → ℕ → ℕ
+  pub after : (ℕ → ℕ) → ℕ → ℕ
+  pub elsewhere : (words : ℕ → ℕ) (at : ℕ) → at ≢ address → (before words at ≡ words at) × (after words at ≡ words at)
+  pub made : (words : ℕ → ℕ) (h : Head)
+      → Looked (done_by l (container_with (before words) h) address access) m answer (container_with (before words) h) (container_with (after words) h)

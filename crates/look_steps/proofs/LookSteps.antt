@@ -18,14 +18,15 @@ use Rattle.locus_machine.proofs.Alone.{wanted_allowed, wanted_says}
 use Rattle.invocation.specs.Entries.{WantsBeside}
 use Rattle.invocation.proofs.Entered.{instr_is}
 use Rattle.address_resolve.specs.Looks.{is_look}
-use Rattle.event_clocks.specs.Clocks.{writing, CarriesTwo}
+use Rattle.event_clocks.specs.Clocks.{writing, CarriesTwo, HasClock}
+use Rattle.event_clocks.specs.declared.Clock.{Clock}
 use Rattle.event_clocks.proofs.Changing.{access_first, access_second, read_at, written_at}
 use Rattle.kernel_cells.specs.declared.cells.Cell.{Cell}
 use Rattle.kernel_cells.specs.Cells.{HasCell, part_of}
 use Rattle.kernel_cells.specs.Steps.{Steps}
 use Rattle.kernel_cells.proofs.Stepping.{step_by, stepped_entry, written_cell}
 use Rattle.look_steps.specs.Looking.{MakesLook, is_stored, looking}
-use Rattle.look_steps.proofs.Stored.{Touches, look_apart}
+use Rattle.look_steps.proofs.Stored.{TellsStores, Touches, look_apart}
 
 -- WHAT IS TOUCHED
 
@@ -57,22 +58,21 @@ looked_cell : (w : KernelState) (accesses : List Access) (x : ℕ) (o : Option M
 looked_cell w accesses x None old new at there is = ap (λ (e : EntityState). e.cell) (read_at w accesses x (looking x None) at refl) ∙ there ∙ is
 looked_cell w accesses x (Some k) old new at there is = ap (λ (e : EntityState). e.cell) (written_at w accesses x (looking x (Some k)) k at refl) ∙ is
 
-pub stepped_look : (s : Supply) (words words' : ℕ → List ℕ) (w : KernelState) (c d c' d' : Cell) (l : LocusState) (answer : Answer) (e : Entry)
-    → HasCell s words w c → HasCell s words w d → part_of s words c.part ≡ LocusCell l → l.condition ≡ Running → Touches c.clock.entity l d.clock.entity → d.clock.entity < c.clock.entity
-    → MakesLook (outcome s l (wanted c.clock.entity l) no_atlas (part_of s words d.part)) (part_of s words' c'.part) (part_of s words d.part) (part_of s words' d'.part) answer
-    → is_some (outcome s l (wanted c.clock.entity l) no_atlas (part_of s words d.part)).other ≡ is_stored (outcome s l (wanted c.clock.entity l) no_atlas (part_of s words d.part)).answer
-    → c'.clock.entity ≡ c.clock.entity → d'.clock.entity ≡ d.clock.entity
-    → ((j : ModelCell) (k : Option ModelCell) → is_some k ≡ is_stored answer → CarriesTwo Step c.clock.entity answer w (looking d.clock.entity k ∷ writing c.clock.entity j ∷ []) e d'.clock c'.clock)
-    → Steps s c.clock.entity w e (λ v. HasCell s words' v c' × HasCell s words' v d')
-stepped_look s words words' w c d c' d' l answer e hasc hasd is runs touches lt makes tells samec samed carries =
+-- the locus c looks at the entity of the clock k, whose cell it leaves as new
+pub stepped_at : (s : Supply) (words words' : ℕ → List ℕ) (w : KernelState) (c c' : Cell) (k k' : Clock) (old new : ModelCell) (l : LocusState) (answer : Answer) (e : Entry)
+    → HasCell s words w c → (w k.entity).cell ≡ old → part_of s words c.part ≡ LocusCell l → l.condition ≡ Running → Touches c.clock.entity l k.entity → k.entity < c.clock.entity
+    → MakesLook (outcome s l (wanted c.clock.entity l) no_atlas old) (part_of s words' c'.part) old new answer → TellsStores (outcome s l (wanted c.clock.entity l) no_atlas old)
+    → c'.clock.entity ≡ c.clock.entity → k'.entity ≡ k.entity
+    → ((j : ModelCell) (o : Option ModelCell) → is_some o ≡ is_stored answer → CarriesTwo Step c.clock.entity answer w (looking k.entity o ∷ writing c.clock.entity j ∷ []) e k' c'.clock)
+    → Steps s c.clock.entity w e (λ v. HasCell s words' v c' × ((v k'.entity).cell ≡ new) × HasClock v k')
+stepped_at s words words' w c c' k k' old new l answer e hasc there is runs touches lt makes tells samec samek carries =
     let me = c.clock.entity in
-    let x = d.clock.entity in
-    let old = part_of s words d.part in
+    let x = k.entity in
     let o = outcome s l (wanted me l) no_atlas old in
     let j = LocusCell o.locus in
     let accesses : List Access = looking x o.other ∷ writing me j ∷ [] in
     let in_state : outcome_in s l (wanted me l) w ≡ o =
-    (λ i. outcome s l (wanted me l) (seen_atlas w (touches.atlas i)) (seen_other w (touches.other i))) ∙ ap (outcome s l (wanted me l) no_atlas) hasd.part in
+    (λ i. outcome s l (wanted me l) (seen_atlas w (touches.atlas i)) (seen_other w (touches.other i))) ∙ ap (outcome s l (wanted me l) no_atlas) there in
     let steps : step s me w ≡ Some (carried_by w Step me accesses o.answer) =
     step_by s w me l (wanted me l) o accesses (hasc.part ∙ is) runs refl in_state (accesses_looking me x (wanted me l) o touches.atlas touches.other makes.newborn lt) in
     let made = carries j o.other (tells ∙ ap is_stored (sym makes.answers)) in (
@@ -80,9 +80,7 @@ stepped_look s words words' w c d c' d' l answer e hasc hasd is runs touches lt 
       stepped_entry s w me accesses o.answer answer e steps made.entry makes.answers,
       (
         written_cell s words' w accesses me (writing me j) j c' (access_second (looking x o.other) (writing me j) [] lt) refl samec makes.locus_made made.second,
-        record {
-          part = ap (λ y. (changed w accesses y).cell) samed ∙ looked_cell w accesses x o.other old (part_of s words' d'.part) (access_first (looking x o.other) (writing me j ∷ [])) hasd.part makes.other_made;
-          clock = made.first;
-        },
+        ap (λ y. (changed w accesses y).cell) samek ∙ looked_cell w accesses x o.other old new (access_first (looking x o.other) (writing me j ∷ [])) there makes.other_made,
+        made.first,
       ),
     )

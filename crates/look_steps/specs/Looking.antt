@@ -1,16 +1,24 @@
 -- Looks over the cells of a locus and a container.
-use Rattle.std.specs.Prelude.{◌≡◌, ℕ, Bool, true, false, List, Option, Some, None, unwrap_or}
+use Rattle.std.specs.Prelude.{◌≡◌, ◌≤◌, ℕ, ◌*◌, Bool, true, false, List, Option, Some, None, unwrap_or}
 use Rattle.hop_base.specs.declared.histories.Answer.{Answer}
 use Rattle.hop_base.specs.declared.histories.Answer.TheVariants.{Reply as Replied}
+use Rattle.hop_base.specs.declared.histories.Entry.{Entry}
 use Rattle.hop_base.specs.declared.instructions.Reply.TheVariants.{Ok}
 use Rattle.hop_model.specs.Changes.{Access}
-use Rattle.hop_model.specs.Outcomes.{Outcome}
-use Rattle.hop_model.specs.State.{Supply, Cell, LocusCell}
+use Rattle.hop_model.specs.Acts.{wanted}
+use Rattle.hop_model.specs.Outcomes.{Outcome, outcome}
+use Rattle.hop_model.specs.State.{Supply, AtlasState, Cell, LocusState, NotBorn, AtlasCell, ContainerCell, LocusCell, KernelState}
+use Rattle.locus_machine.specs.Loci.{container_with}
 use Rattle.locus_machine.specs.declared.loci.Head.{Head}
+use Rattle.kernel_calls.specs.Calls.{atlas_state}
 use Rattle.fault_paging.specs.declared.paged.PagedMemory.{PagedMemory}
 use Rattle.fault_paging.specs.Words.{AreCleanTrue, IsSoundTable}
 use Rattle.fault_paging.specs.Calls.{Keeps, KeepsBlocks}
 use Rattle.address_resolve.specs.Looks.{IsMemoryOf}
+use Rattle.event_clocks.specs.Clocks.{HasClock}
+use Rattle.kernel_cells.specs.Cells.{HasCell, locus_cell, part_of}
+use Rattle.kernel_cells.specs.Steps.{Steps}
+use Rattle.kernel_cells.specs.declared.cells.Cell.{Cell as KernelCell}
 use Rattle.kernel_cells.specs.declared.cells.Part.{Part}
 use Rattle.kernel_cells.specs.declared.cells.Part.TheVariants as part
 
@@ -51,3 +59,47 @@ is_stored answer = false
 -- the container with its new cell, if it is written
 abbrev pub looking : ℕ → Option Cell → Access
 looking x k = record { entity = x; new = k }
+
+-- WHATEVER THE STORE TELLS
+
+abbrev pub head_with : (ℕ → ℕ) → Option Head → Cell
+head_with words None = NotBorn
+head_with words (Some h) = ContainerCell (container_with words h)
+
+-- what a part is in the model if the memory of a container has these words
+abbrev pub part_with : (ℕ → ℕ) → Part → Cell
+part_with words (part.Atlas a) = AtlasCell (atlas_state a)
+part_with words (part.Container b) = head_with words b.head
+part_with words (part.Locus l) = locus_cell l
+
+-- the state has the cell at its number, with these words
+pub record HasCellWith (words : ℕ → ℕ) (w : KernelState) (c : KernelCell) : Type 0 where
+  pub part : (w c.clock.entity).cell ≡ part_with words c.part
+  pub clock : HasClock w c.clock
+
+abbrev pub pages_of : Option Head → ℕ
+pages_of None = 0
+pages_of (Some h) = h.pages
+
+-- the number of pages of a container
+abbrev pub pages_in : Part → ℕ
+pages_in (part.Atlas a) = 0
+pages_in (part.Container b) = pages_of b.head
+pages_in (part.Locus l) = 0
+
+-- Of any words, with one of its own put in, the container p is left as q with these words by the look that makes the locus l this m.
+pub record MakesSomehow (l m p q : Part) (answer : Answer) : Type 0 where
+  pub before : (ℕ → ℕ) → ℕ → ℕ
+  pub after : (ℕ → ℕ) → ℕ → ℕ
+  pub past : (own : ℕ → ℕ) (at : ℕ) → pages_in p * 128 ≤ at → (before own at ≡ own at) × (after own at ≡ own at)
+  pub made : (own : ℕ → ℕ) (me : ℕ) (s : Supply) (words : ℕ → List ℕ) (state : LocusState) (a : AtlasState) → part_of s words l ≡ LocusCell state
+      → MakesLook (outcome s state (wanted me state) a (part_with (before own) p)) (part_of s words m) (part_with (before own) p) (part_with (after own) q) answer
+
+-- The same of the step: in each state that has the locus c, and the container d with such words, the step gives this entry, and a state
+-- that has them as they are left.
+pub record StepsSomehow (c c' d d' : KernelCell) (e : Entry) : Type 0 where
+  pub before : (ℕ → ℕ) → ℕ → ℕ
+  pub after : (ℕ → ℕ) → ℕ → ℕ
+  pub past : (own : ℕ → ℕ) (at : ℕ) → pages_in d.part * 128 ≤ at → (before own at ≡ own at) × (after own at ≡ own at)
+  pub step : (own : ℕ → ℕ) (s : Supply) (words : ℕ → List ℕ) (w : KernelState) → HasCell s words w c → HasCellWith (before own) w d
+      → Steps s c.clock.entity w e (λ v. HasCell s words v c' × HasCellWith (after own) v d')

@@ -10,7 +10,7 @@ ghost use Rattle.address_resolve.specs.Looks.{is_look};
 ghost use Rattle.event_clocks.specs.Clocks.{writing, CarriesTwo, HasClock};
 ghost use Rattle.kernel_cells.specs.Cells.{part_of, HasCell, IsRunning};
 ghost use Rattle.kernel_cells.specs.Steps.{Steps};
-ghost use Rattle.look_steps.specs.Looking.{is_stored, looking, LeavesMemory, MayLook};
+ghost use Rattle.look_steps.specs.Looking.{is_stored, looking, LeavesMemory, MayLook, StepsSomehow};
 
 use crate::parts::look_in_parts;
 use event_clocks::{Clock, read_and_write, write_two};
@@ -61,6 +61,7 @@ pub fn step_look<B: PageStore, S: Supplier, P: Policy>(
     ensures step { B.tells → IfOk result (λ e. (w : KernelState)
         → HasCell (S.word gate.now.supply) (B.words store.old) w locus.old → HasCell (S.word gate.now.supply) (B.words store.old) w other.old
         → Steps (S.word gate.now.supply) locus.old.clock.entity w e (λ v. HasCell (S.word gate.now.supply) (B.words store.new) v locus.new × HasCell (S.word gate.now.supply) (B.words store.new) v other.new)) }
+    ensures somehow { IfOk result (StepsSomehow locus.old locus.new other.old other.new) }
     ensures locus_stays { OnErr result (locus.new ≡ locus.old) }
     ensures other_stays { OnErr result ((other.new.clock ≡ other.old.clock) × (B.tells → part_of (S.word gate.now.supply) (B.words store.new) other.new.part ≡ part_of (S.word gate.now.supply) (B.words store.old) other.old.part)) }
     ensures memory { LeavesMemory (S.word gate.now.supply) B.tells B.held B.kept_names B.words other.old.part other.new.part store.old store.new }

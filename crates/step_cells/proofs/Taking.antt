@@ -17,7 +17,8 @@ use Rattle.event_clocks.specs.declared.Clock.{Clock}
 use Rattle.kernel_cells.specs.Cells.{HasCell, part_of}
 use Rattle.kernel_cells.specs.Steps.{Steps}
 use Rattle.kernel_cells.specs.Wishes.{HasWish}
-use Rattle.step_cells.specs.Advances.{StepsCells, TakesIn}
+use Rattle.look_steps.specs.Looking.{HasCellWith, StepsSomehow, part_with}
+use Rattle.step_cells.specs.Advances.{AdvancesSomehow, StepsCells, TakesIn}
 
 -- WHO STEPS
 
@@ -125,6 +126,28 @@ takes_two s words words' a b c d c' d' e named steps first second as_first as_se
   wishes = λ count r v has wish. (
     wish_kept s words count r v e named a.clock.entity a.part a c c' first as_first has.0.part names wish.0,
     (wish_kept s words count r v e named a.clock.entity a.part b d d' second as_second has.0.part names wish.1.0, tt),
+  );
+}
+
+-- the same where a step of some words of the container is known
+cell_kept_with : (words : ℕ → ℕ) (w : KernelState) (e : Entry) (named : Option ℕ) (c d : Cell) → TakesIn e named c d → HasCellWith words w c → HasCellWith words w d
+cell_kept_with words w e named c d h has = record {
+  part = ap (λ (k : Clock). (w k.entity).cell) h.clock ∙ has.part ∙ ap (part_with words) (sym h.part);
+  clock = subst (HasClock w) (sym h.clock) has.clock;
+}
+
+pub takes_somehow : (a b c d c' d' : Cell) (e : Entry) (named : Option ℕ) → StepsSomehow a c b d e → TakesIn e named c c' → TakesIn e named d d' → IsLeftAs a c → IsLeftAs b d
+    → ((s : Supply) (words : ℕ → List ℕ) → named ≡ asked_by (Replied Ok) (locus_in (part_of s words a.part))) → AdvancesSomehow a c' b d' e
+takes_somehow a b c d c' d' e named steps first second as_first as_second names = record {
+  steps = record {
+    before = steps.before;
+    after = steps.after;
+    past = steps.past;
+    step = λ own s words w hasa hasb. let r = steps.step own s words w hasa hasb in (r.0, r.1, (cell_kept s words r.0 e named c c' first r.2.0, cell_kept_with (steps.after own) r.0 e named d d' second r.2.1));
+  };
+  wishes = λ s words count r v hasa wisha wishb. (
+    wish_kept s words count r v e named a.clock.entity a.part a c c' first as_first hasa.part (names s words) wisha,
+    wish_kept s words count r v e named a.clock.entity a.part b d d' second as_second hasa.part (names s words) wishb,
   );
 }
 

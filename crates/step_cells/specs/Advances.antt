@@ -9,6 +9,7 @@ use Rattle.kernel_cells.specs.declared.cells.Cell.{Cell}
 use Rattle.kernel_cells.specs.Cells.{HasCell}
 use Rattle.kernel_cells.specs.Steps.{Steps}
 use Rattle.kernel_cells.specs.Wishes.{HasWish}
+use Rattle.look_steps.specs.Looking.{StepsSomehow}
 
 -- the state has each of the cells
 abbrev pub HasCells : Supply → (ℕ → List ℕ) → KernelState → List Cell → Type 0
@@ -26,6 +27,15 @@ pub record StepsCells (s : Supply) (words words' : ℕ → List ℕ) (me : ℕ) 
   pub step : (w : KernelState) → HasCells s words w old → Steps s me w e (λ v. HasCells s words' v new)
   pub wishes : (steps : ℕ) (r : Run) (v : KernelState) → HasCells s words r.state old → HasWishes steps r old
       → HasWishes steps (after_step r e (locus_in (r.state me).cell) v) new
+
+-- WHATEVER THE STORE TELLS
+-- The look of the locus c at the container d is its step at some words of the container. Each run that has the locus, and both wishes,
+-- goes on to one that has the wishes as they are left.
+
+pub record AdvancesSomehow (c c' d d' : Cell) (e : Entry) : Type 0 where
+  pub steps : StepsSomehow c c' d d' e
+  pub wishes : (s : Supply) (words : ℕ → List ℕ) (count : ℕ) (r : Run) (v : KernelState) → HasCell s words r.state c → HasWish count r c → HasWish count r d
+      → HasWish count (after_step r e (locus_in (r.state c.clock.entity).cell) v) c' × HasWish count (after_step r e (locus_in (r.state c.clock.entity).cell) v) d'
 
 -- the cell has taken in the step, of a locus whose snap would name this entity
 pub record TakesIn (e : Entry) (named : Option ℕ) (old new : Cell) : Type 0 where

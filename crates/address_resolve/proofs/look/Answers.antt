@@ -30,4 +30,4 @@ returns-clause-somehow g c =
     let aim = c.aim_of-aim.result in
     let reaches = subst (λ (k : Locus). IfOk c.at_word.result (ReachesSomehow (locus_of k) m aim.address aim.access)) c.in_default.ensures.same c.at_word.ensures.somehow in
     IfOk-weaker c.at_word.result (ReachesSomehow l m aim.address aim.access) (LooksSomehow l m c.args.head.now)
-    (λ answer. reached_somehow l m c.args.head.now aim.address c.needed.result.0 aim.access answer c.aim_of-aim.ensures.makes c.needed.ensures c.in_default.ensures.done) reaches
+    (λ answer. reached_somehow l m c.args.head.now aim.address c.needed.result.0 aim.access answer c.aim_of-aim.ensures.makes c.needed.ensures c.in_default.ensures.comes.0 c.in_default.ensures.done) reaches

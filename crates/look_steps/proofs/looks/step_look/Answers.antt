@@ -4,8 +4,9 @@ use Rattle.hop_model.specs.Outcomes.{outcome}
 use Rattle.hop_model.specs.State.{no_atlas}
 use Rattle.locus_machine.specs.Loci.{locus_of}
 use Rattle.kernel_cells.specs.Cells.{part_of}
+use Rattle.look_steps.specs.Looking.{part_with}
 use Rattle.look_steps.proofs.Stored.{TellsStores, look_tells}
-use Rattle.look_steps.proofs.LookSteps.{look_touches, stepped_look}
+use Rattle.look_steps.proofs.LookSteps.{look_touches, stepped_at}
 use Rattle.look_steps.proofs.looks.step_look.Goals as goal
 
 pub returns-clause-step : goal.returns-clause-step
@@ -19,6 +20,26 @@ returns-clause-step g c tells w hasc hasd =
     let x = c.args.other.now.clock.entity in
     let there = ap (part_of s words) c.requires.memory.is in
     let stores = subst (λ k. TellsStores (outcome s l (wanted me l) no_atlas k)) (sym there) (look_tells s l no_atlas x me _ run.2) in
-    stepped_look s words words' w c.args.locus.now c.args.other.now _ _ l _ c.write_look.result hasc hasd (ap (part_of s words) run.1.is) run.1.runs (look_touches me x l run.2) c.requires.lower
+    let r = stepped_at s words words' w c.args.locus.now _ c.args.other.now.clock _ _ _ l _ c.write_look.result hasc hasd.part (ap (part_of s words) run.1.is) run.1.runs (look_touches me x l run.2) c.requires.lower
     (c.in_ok-answer.ensures.looked tells me s words' l no_atlas (ap (part_of s words') run.1.is)) stores
-    c.write_look.ensures.entity_locus c.write_look.ensures.entity_other (λ j k told. c.write_look.ensures.carries w hasc.clock hasd.clock j k told)
+    c.write_look.ensures.entity_locus c.write_look.ensures.entity_other (λ j k told. c.write_look.ensures.carries w hasc.clock hasd.clock j k told) in
+    (r.0, r.1, (r.2.0, record { part = r.2.1; clock = r.2.2 }))
+
+pub returns-clause-somehow : goal.returns-clause-somehow
+returns-clause-somehow g c =
+    let made = c.in_ok-answer.ensures.somehow in
+    let run = c.requires.wants in
+    let l = locus_of run.0 in
+    let me = c.args.locus.now.clock.entity in
+    let x = c.args.other.now.clock.entity in
+    record {
+      before = made.before;
+      after = made.after;
+      past = made.past;
+      step = λ own s words w hasc hasd.
+          let stores = subst (λ k. TellsStores (outcome s l (wanted me l) no_atlas k)) (sym (ap (part_with (made.before own)) c.requires.memory.is)) (look_tells s l no_atlas x me _ run.2) in
+          let r = stepped_at s words words w c.args.locus.now _ c.args.other.now.clock _ _ _ l _ c.write_look.result hasc hasd.part (ap (part_of s words) run.1.is) run.1.runs (look_touches me x l run.2) c.requires.lower
+          (made.made own me s words l no_atlas (ap (part_of s words) run.1.is)) stores
+          c.write_look.ensures.entity_locus c.write_look.ensures.entity_other (λ j k told. c.write_look.ensures.carries w hasc.clock hasd.clock j k told) in
+          (r.0, r.1, (r.2.0, record { part = r.2.1; clock = r.2.2 }));
+    }
