@@ -1,5 +1,10 @@
 pub mod Spelling
 pub mod Staying
+pub mod Leaving
 pub mod Rests
+pub mod Faulting
 pub mod Joining
 pub mod Telling
+pub mod Raising
+pub mod Fewer
+pub mod Newest

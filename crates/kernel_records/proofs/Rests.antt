@@ -1,14 +1,26 @@
--- What a record of a cell whose pages are written asks of the store, and how it may fail.
-use Rattle.std.proofs.Common.{◌≡◌, ◌≢◌, ◌↔◌, ℕ, ◌<◌, ◌≤◌, Bool, true, false, refl, sym, ◌∙◌, arith}
-use Rattle.std.specs.Prelude.{IsErrOf, Result, slice_index}
+-- What a record of a cell whose pages are written asks of the store, what it leaves, and how it may fail.
+use Rattle.std.proofs.Common.{◌≡◌, ◌≢◌, ◌⊎◌, inl, inr, ℕ, ◌≤◌, ◌&&◌, Bool, true, false, List, [], ◌∷◌, ◌++◌, length, refl, sym, ap, subst, ◌∙◌, arith}
+use Rattle.std.specs.Prelude.{IsErrOf, OnOk, Result, Ok, Err, slice_index}
 use Rattle.std.proofs.lemmas.Bool.{false≢true}
-use Rattle.disk_trait.specs.declared.disk.NoBlocks.{NoBlocks as TooFew}
+use Rattle.std.proofs.lemmas.List.{same_from_push}
+use Rattle.disk_trait.specs.Counts.{Rose}
+use Rattle.disk_trait.specs.Image.{Image}
+use Rattle.hop_base.specs.declared.records.Rec.{Rec}
+use Rattle.image_blocks.specs.Bodies.{blob_in, blocks_for}
+use Rattle.kernel_cells.specs.declared.cells.Cell.{Cell}
 use Rattle.kernel_cells.specs.declared.cells.Part.{Part}
 use Rattle.kernel_cells.specs.declared.cells.Part.TheVariants as part
+use Rattle.cell_blobs.specs.Blobs.{bytes_of, spelt_in}
 use Rattle.record_laws.specs.Cells.{IsSoundIn, table_of}
 use Rattle.record_laws.proofs.Telling.{no_blocks}
+use Rattle.snapshot_store.specs.CommitAnswers.{CommitAnswers}
+use Rattle.snapshot_store.specs.Committed.{CommitsInFreeBlocks, HasFailedShut, HasNewRecord}
+use Rattle.snapshot_store.specs.Putting.{are_small}
+use Rattle.snapshot_store.specs.State.{State, books}
 use Rattle.snapshot_store.specs.declared.faults.StoreFault.{StoreFault as Fault}
 use Rattle.snapshot_store.specs.declared.faults.StoreFault.TheVariants.{NoBlocks, ReadFault, Shut, WriteFault}
+use Rattle.store_model.specs.Books.{Books, Logged, free_in, kept_in}
+use Rattle.kernel_records.specs.Committing.{HasRecord}
 
 -- the blocks of a part's table are held
 pub held_pages : (held : ℕ → Bool) (q : Part) → IsSoundIn held q → (page : ℕ) → slice_index (table_of q) page ≢ 0 → held (slice_index (table_of q) page) ≡ true
@@ -17,10 +29,45 @@ held_pages held (part.Container b) sound page some = sound.held_blocks page some
 held_pages held (part.Locus l) sound page some = absurd (some (no_blocks page))
 
 -- where the store works and has room only a write fails
-pub only_write : {A B : Type 0} (r : Result (Unit {0}) Fault) (shut : Bool) (need free : ℕ) → shut ≡ false → need ≤ free
-    → (shut ≡ true ↔ IsErrOf r Shut) → ((b : TooFew) → IsErrOf r (NoBlocks b) ↔ ((shut ≡ false) × (free < need) × (b ≡ record { need = need; free = free })))
-    → (IsErrOf r ReadFault → ⊥) → (IsErrOf r WriteFault → A × B) → (e : Fault) → IsErrOf r e → (e ≡ WriteFault) × A × B
-only_write r shut need free working room is_shut none no_read failed (NoBlocks b) h = absurd (let less = ((none b).0 h).1 in omega (arith, less, room))
-only_write r shut need free working room is_shut none no_read failed ReadFault h = absurd (no_read h)
-only_write r shut need free working room is_shut none no_read failed WriteFault h = let both = failed h in (refl, both.0, both.1)
-only_write r shut need free working room is_shut none no_read failed Shut h = absurd (false≢true (sym working ∙ is_shut.1 h))
+pub only_write : {D : Type 0} (faults : D → ℕ) (length : ℕ) (r : Result (Unit {0}) Fault) (old new : State D) → CommitAnswers faults length r old new → (books old).shut ≡ false → blocks_for length ≤ free_in (books old)
+    → (e : Fault) → IsErrOf r e → (e ≡ WriteFault) × Rose (faults old.disk) (faults new.disk) × HasFailedShut (books old) (books new)
+only_write faults length r old new answers working room (NoBlocks b) h = absurd (let less = ((answers.no_blocks b).0 h).fewer in omega (arith, less, room))
+only_write faults length r old new answers working room ReadFault h = absurd (answers.no_read h)
+only_write faults length r old new answers working room WriteFault h = let both = answers.write_fault h in (refl, both.0, both.1)
+only_write faults length r old new answers working room Shut h = absurd (false≢true (sym working ∙ answers.shut.1 h))
+
+-- THE NEW RECORD is the same for the disk and in memory: the last of the log
+last_is : (a b now : List Logged) (k l : Logged) → now ≡ a ++ k ∷ [] → now ≡ b ++ l ∷ [] → k ≡ l
+last_is a b now k l one two = (same_from_push a b k l (sym one ∙ two)).1
+
+last_of : (a b now : List Logged) (k l : Logged) → (now ≡ a ++ k ∷ []) ⊎ (now ≡ b ++ k ∷ []) → (now ≡ a ++ l ∷ []) ⊎ (now ≡ b ++ l ∷ []) → k ≡ l
+last_of a b now k l (inl one) (inl two) = last_is a a now k l one two
+last_of a b now k l (inl one) (inr two) = last_is a b now k l one two
+last_of a b now k l (inr one) (inl two) = last_is b a now k l one two
+last_of a b now k l (inr one) (inr two) = last_is b b now k l one two
+
+module _ {D : Type 0} (tells : Type 0) (clock : D → ℕ) (reading : D → Image) (may_leave : D → Image → Type 0) (left_since : D → ℕ → Image → Type 0) (c : Cell) (old new : State D) where
+  has_record : (made : HasNewRecord c.clock.entity c.clock.version (length (bytes_of (spelt_in c.part))) c.clock.stamp.0 (table_of c.part) (books old) (books new))
+      → (tells → CommitsInFreeBlocks c.clock.entity c.clock.version c.clock.stamp.0 (bytes_of (spelt_in c.part)) (table_of c.part) (reading new.disk) (books old) (books new))
+      → (books new).small ≡ ((books old).small && are_small c.clock.version c.clock.stamp.0) → HasRecord tells clock reading may_leave left_since c old new
+  has_record made committed small = record {
+    made = made;
+    blob = λ t.
+        let k = (committed t).commits in
+        let same : k.rec ≡ made.rec = ap (λ (l : Logged). l.rec) (last_of (books old).logged (kept_in (books old)) (books new).logged (record { rec = k.rec; table = table_of c.part }) (record { rec = made.rec; table = table_of c.part }) k.log made.log) in
+        subst (λ (r : Rec). blob_in (reading new.disk) r ≡ bytes_of (spelt_in c.part)) same k.blob_is;
+    small = small;
+  }
+
+  -- with the blob and the table as they were handed over
+  pub record_made : (r : Result (Unit {0}) Fault) (blob table : List ℕ) → blob ≡ bytes_of (spelt_in c.part) → table ≡ table_of c.part
+      → OnOk r (HasNewRecord c.clock.entity c.clock.version (length blob) c.clock.stamp.0 table (books old) (books new))
+      → (tells → OnOk r (CommitsInFreeBlocks c.clock.entity c.clock.version c.clock.stamp.0 blob table (reading new.disk) (books old) (books new)))
+      → OnOk r ((books new).small ≡ ((books old).small && are_small c.clock.version c.clock.stamp.0)) → OnOk r (HasRecord tells clock reading may_leave left_since c old new)
+  record_made (Err e) blob table is_blob is_table made committed small = tt
+  record_made (Ok x) blob table is_blob is_table made committed small = has_record
+      (subst (λ (t : List ℕ). HasNewRecord c.clock.entity c.clock.version (length (bytes_of (spelt_in c.part))) c.clock.stamp.0 t (books old) (books new)) is_table
+      (subst (λ (b : List ℕ). HasNewRecord c.clock.entity c.clock.version (length b) c.clock.stamp.0 table (books old) (books new)) is_blob made))
+      (λ t. subst (λ (u : List ℕ). CommitsInFreeBlocks c.clock.entity c.clock.version c.clock.stamp.0 (bytes_of (spelt_in c.part)) u (reading new.disk) (books old) (books new)) is_table
+      (subst (λ (b : List ℕ). CommitsInFreeBlocks c.clock.entity c.clock.version c.clock.stamp.0 b table (reading new.disk) (books old) (books new)) is_blob (committed t)))
+      small

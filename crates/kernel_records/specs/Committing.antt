@@ -1,22 +1,28 @@
 -- The commit of a cell: what it asks, and what it leaves.
-use Rattle.std.specs.Prelude.{◌≡◌, ◌⊎◌, ℕ, ◌+◌, ◌<◌, ◌≤◌, ◌^◌, true, false, All, IfSome, length}
+use Rattle.std.specs.Prelude.{◌≡◌, ◌↔◌, ◌⊎◌, ℕ, ◌+◌, ◌<◌, ◌≤◌, ◌^◌, ◌&&◌, true, false, All, IfSome, IsErrOf, Result, length}
 use Rattle.disk_tally.specs.Counts.{CountsOn}
 use Rattle.disk_trait.specs.Counts.{Rose}
 use Rattle.disk_trait.specs.Image.{Image}
 use Rattle.disk_trait.specs.declared.disk.NoBlocks.{NoBlocks as TooFew}
 use Rattle.hop_base.specs.declared.records.Rec.{Rec}
 use Rattle.hop_model.specs.State.{Supply}
+use Rattle.image_blocks.specs.Bodies.{blob_in}
 use Rattle.image_blocks.specs.Layout.{slot_count}
 use Rattle.image_meaning.specs.Parts.{Spells}
 use Rattle.image_meaning.specs.Stores.{Stores}
 use Rattle.store_model.specs.Between.{OnlyPages}
 use Rattle.store_model.specs.Books.{Books, free_in, kept_in, kept_names, kept_of, recs_in}
-use Rattle.snapshot_store.specs.Committed.{CommitsInFreeBlocks, SameUsed, StoresMoreInFreeBlocks}
-use Rattle.snapshot_store.specs.State.{State, books}
+use Rattle.snapshot_store.specs.Committed.{HasNewRecord, SameUsed, StoresMoreInFreeBlocks}
+use Rattle.snapshot_store.specs.Putting.{are_small}
+use Rattle.snapshot_store.specs.State.{HoldsPoolBlocks, State, books}
+use Rattle.snapshot_store.specs.declared.faults.StoreFault.{StoreFault}
+use Rattle.snapshot_store.specs.declared.faults.StoreFault.TheVariants.{NoBlocks, ReadFault, Shut, WriteFault}
 use Rattle.vector_stamps.specs.Stamps.{component}
 use Rattle.kernel_cells.specs.declared.cells.Cell.{Cell}
+use Rattle.kernel_cells.specs.declared.cells.Part.{Part}
 use Rattle.kernel_cells.specs.Cells.{part_of}
-use Rattle.cell_blobs.specs.Blobs.{bytes_of, is_recorded, need_in, spelt_in}
+use Rattle.wish_laws.specs.Founded.{IsRecordedNow}
+use Rattle.cell_blobs.specs.Blobs.{bytes_of, need_in, spelt_in}
 use Rattle.record_laws.specs.Cells.{IsCleanIn, IsSettled, IsSoundIn, IsSpellable, table_of, words_on}
 use Rattle.kernel_records.specs.Flushing.{Flushes}
 
@@ -37,29 +43,64 @@ pub record IsSpelt (c : Cell) : Type 0 where
   pub spells : IfSome (spelt_in c.part) (λ p. Spells p (bytes_of (spelt_in c.part)))
   pub components : length c.clock.stamp.0 ≡ 64
 
-module _ {D : Type 0} (tells : Type 0) (clock : D → ℕ) (reading : D → Image) (may_leave : D → Image → Type 0) (left_since : D → ℕ → Image → Type 0) where
-  -- THE PAGES ARE WRITTEN: from the one store to the other nothing but pages was written, and the cell's part has its blocks there
-  pub record HasPages (c d : Cell) (old new : State D) : Type 0 where
-    pub flushes : Flushes tells (λ (st : State D). (books st).held) (λ (st : State D). kept_names (books st)) (λ (st : State D). words_on (reading st.disk)) c.part d.part old new
-    pub only : OnlyPages tells clock reading may_leave left_since old.disk new.disk (books old) (books new) (books old).begun (books new).begun
-    pub table : IsSoundIn (books new).held d.part
-    pub means : (s : Supply) → IsCleanIn s (words_on (reading old.disk)) c.part
-        → (part_of s (words_on (reading new.disk)) d.part ≡ part_of s (words_on (reading old.disk)) c.part) × IsCleanIn s (words_on (reading new.disk)) d.part
+-- as many blocks as the image has, the same are held, and the blobs of found records are read or not as before
+pub record HoldsSame (old new : Books) : Type 0 where
+  pub same_held : new.held ≡ old.held
+  pub same_found : new.found ≡ old.found
+  pub same_count : new.count ≡ old.count
 
-  -- A COMMIT of the cell: its pages are written, and then its record in blocks that weren't in use; what kept records and working page
-  -- tables name stays as it is
-  pub record HasCommitted (c d : Cell) (old new : State D) : Type 0 where
+module _ {D : Type 0} (tells : Type 0) (clock : D → ℕ) (reading : D → Image) (may_leave : D → Image → Type 0) (left_since : D → ℕ → Image → Type 0) where
+  -- the part is what it was with each supplier, and its pages are clean
+  abbrev pub KeepsMeaning : Part → Part → State D → State D → Type 0
+  KeepsMeaning p q old new = (s : Supply) → IsCleanIn s (words_on (reading old.disk)) p
+      → (part_of s (words_on (reading new.disk)) q ≡ part_of s (words_on (reading old.disk)) p) × IsCleanIn s (words_on (reading new.disk)) q
+
+  -- THE PAGES of a part ARE WRITTEN, all or some of them: from the one store to the other nothing but pages was written, and the part has
+  -- its blocks there
+  pub record HasPages (p q : Part) (old new : State D) : Type 0 where
+    pub flushes : Flushes tells (λ (st : State D). (books st).held) (λ (st : State D). kept_names (books st)) (λ (st : State D). words_on (reading st.disk)) p q old new
+    pub only : OnlyPages tells clock reading may_leave left_since old.disk new.disk (books old) (books new) (books old).begun (books new).begun
+    pub table : IsSoundIn (books new).held q
+    pub means : tells → KeepsMeaning p q old new
+
+  -- WHAT A COMMIT OF THE CELL LEAVES, whatever the disk tells and whatever comes of it: pages are written, and behind that the same blocks
+  -- are held, all of them of the pool, and what kept records and working page tables name stays as it is. The cell has the same clock, and
+  -- means what it did.
+  pub record LeavesCell (c d : Cell) (old new : State D) : Type 0 where
     pub flushed : State D
-    pub pages : HasPages c d old flushed
-    pub commits : CommitsInFreeBlocks d.clock.entity d.clock.version d.clock.stamp.0 (bytes_of (spelt_in d.part)) (table_of d.part) (reading new.disk) (books flushed) (books new)
-    pub same_used : SameUsed (books flushed) (reading flushed.disk) (reading new.disk)
+    pub pages : HasPages c.part d.part old flushed
+    pub pool : HoldsPoolBlocks (books flushed)
+    pub holds : HoldsSame (books flushed) (books new)
+    pub same_used : tells → SameUsed (books flushed) (reading flushed.disk) (reading new.disk)
+    pub held_words : tells → (n : ℕ) → (books flushed).held n ≡ true → words_on (reading new.disk) n ≡ words_on (reading flushed.disk) n
+    pub means : tells → KeepsMeaning c.part d.part old new
+    pub same_clock : d.clock ≡ c.clock
+    pub same_left : d.left ≡ c.left
+
+  -- the books have a record of the cell more, in blocks that weren't in use, and its blob reads as the cell is spelt
+  pub record HasRecord (c : Cell) (old new : State D) : Type 0 where
+    pub made : HasNewRecord c.clock.entity c.clock.version (length (bytes_of (spelt_in c.part))) c.clock.stamp.0 (table_of c.part) (books old) (books new)
+    pub blob : tells → blob_in (reading new.disk) made.rec ≡ bytes_of (spelt_in c.part)
+    pub small : (books new).small ≡ ((books old).small && are_small c.clock.version c.clock.stamp.0)
+
+  -- A COMMIT of the cell: its pages are written, none is changed any more, and behind them its record
+  pub record HasCommitted (c d : Cell) (old new : State D) : Type 0 where
+    pub leaves : LeavesCell c d old new
+    pub has : HasRecord d leaves.flushed new
     pub spelt : IsSpelt d
     pub settled : IsSettled d.part
+    pub recorded : IsRecordedNow c d
+
+  -- NO RECORD came in memory: the log is the same, and of the cell nothing but the part is another
+  pub record HasNotCommitted (c d : Cell) (old new : State D) : Type 0 where
+    pub leaves : LeavesCell c d old new
+    pub same_logged : (books new).logged ≡ (books old).logged
+    pub only_part : d ≡ record c { part = d.part }
 
   -- the image stores what was kept, and a record of the cell whose pages are written
   pub record StoresCell (c d : Cell) (old : State D) (image : Image) : Type 0 where
     pub flushed : State D
-    pub pages : HasPages c d old flushed
+    pub pages : HasPages c.part d.part old flushed
     pub more : StoresMoreInFreeBlocks (reading flushed.disk) (books flushed) d.clock.entity d.clock.version d.clock.stamp.0 (bytes_of (spelt_in d.part)) (table_of d.part) image
     pub spelt : IsSpelt d
 
@@ -72,21 +113,18 @@ pub record CommitCounts {D : Type 0} (clock faults : D → ℕ) (old new : State
   pub counts : CountsOn (clock old.disk) (clock new.disk) (books old).begun (books new).begun
   pub later : faults old.disk ≤ faults new.disk
 
--- after a write or a sync failed: the count of faults rose, the store is shut, and no record came in memory
-pub record HasFailedWrite {D : Type 0} (faults : D → ℕ) (old new : State D) : Type 0 where
-  pub rose : Rose (faults old.disk) (faults new.disk)
-  pub shut : (books new).shut ≡ true
-  pub same_logged : (books new).logged ≡ (books old).logged
-
--- the cell is recorded: its newest record is of its present version, none is wished, and beside the part all else is as it was
-pub record IsRecorded (c d : Cell) : Type 0 where
-  pub same_clock : d.clock ≡ c.clock
-  pub same_left : d.left ≡ c.left
-  pub wish : d.wish ≡ record { by_step = false; asked = false; newest = c.clock.version }
-
--- fewer blocks are free than a record of the cell needs, which is to be made in a store that works; both numbers
+-- fewer blocks are free in a store that works than a record of the cell needs; both numbers
 pub record IsTooFew (c : Cell) (b : Books) (n : TooFew) : Type 0 where
-  pub changed : is_recorded c ≡ false
   pub working : b.shut ≡ false
   pub fewer : free_in b < need_in (kept_names b) c
   pub numbers : n ≡ record { need = need_in (kept_names b) c; free = free_in b }
+
+-- WHICH FAULT COMES WHEN, all of them only where a record is to be made: Shut exactly of a store that is shut, and NoBlocks exactly where
+-- fewer blocks are free than are needed, and then nothing is changed; WriteFault only where the count of faults rose, and then the store is
+-- shut; nothing else goes wrong
+pub record CellFaults {D T : Type 0} (faults : D → ℕ) (is_made : Type 0) (result : Result T StoreFault) (c d : Cell) (old new : State D) : Type 0 where
+  pub shut : IsErrOf result Shut ↔ (is_made × ((books old).shut ≡ true))
+  pub no_blocks : (b : TooFew) → IsErrOf result (NoBlocks b) ↔ (is_made × IsTooFew c (books old) b)
+  pub untouched : IsErrOf result Shut ⊎ ((b : TooFew) × IsErrOf result (NoBlocks b)) → (d ≡ c) × (new ≡ old)
+  pub write_fault : IsErrOf result WriteFault → is_made × Rose (faults old.disk) (faults new.disk) × ((books new).shut ≡ true)
+  pub no_read : IsErrOf result ReadFault → ⊥

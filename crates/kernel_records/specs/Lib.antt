@@ -1,3 +1,5 @@
 pub mod Flushing
 pub mod Committing
 pub mod Told
+pub mod Snapping
+pub mod Keeping

@@ -1,24 +1,36 @@
--- THE LAW of a cell's commit.
+-- THE LAWS of a cell's commit.
 use Rattle.std.specs.Prelude.{◌≡◌, ℕ}
 use Rattle.disk_trait.specs.Image.{Image}
 use Rattle.hop_base.specs.declared.records.Rec.{Rec}
 use Rattle.hop_model.specs.State.{KernelState, Supply}
 use Rattle.store_model.specs.Books.{kept_for}
 use Rattle.kernel_model.specs.Telling.{TellsOf}
-use Rattle.snapshot_store.specs.State.{State}
+use Rattle.snapshot_store.specs.State.{State, books}
 use Rattle.kernel_cells.specs.declared.cells.Cell.{Cell}
 use Rattle.kernel_cells.specs.Cells.{HasCell}
-use Rattle.record_laws.specs.Cells.{IsCleanIn, IsSpellable, table_of, words_on}
-use Rattle.kernel_records.specs.Committing.{HasCommitted}
+use Rattle.record_laws.specs.Cells.{IsCleanIn, IsSoundIn, IsSpellable, table_of, words_on}
+use Rattle.kernel_records.specs.Committing.{HasCommitted, LeavesCell}
 
--- the state has the cell, whose pages are clean, and the record tells what the entity is there
-pub record IsTold {D : Type 0} (reading : D → Image) (s : Supply) (w : KernelState) (d : Cell) (new : State D) (r : Rec) : Type 0 where
+-- the state has the cell, whose pages are clean, and whose blocks are held, each once
+pub record IsStill {D : Type 0} (reading : D → Image) (s : Supply) (w : KernelState) (d : Cell) (new : State D) : Type 0 where
   pub has : HasCell s (words_on (reading new.disk)) w d
   pub clean : IsCleanIn s (words_on (reading new.disk)) d.part
+  pub table : IsSoundIn (books new).held d.part
+
+-- and the record tells what the entity is there
+pub record IsTold {D : Type 0} (reading : D → Image) (s : Supply) (w : KernelState) (d : Cell) (new : State D) (r : Rec) : Type 0 where
+  pub still : IsStill reading s w d new
   pub tells_of : TellsOf s w (reading new.disk) (table_of d.part) (kept_for (reading new.disk) (record { rec = r; table = table_of d.part }))
+
+-- a state that had the cell has it after its commit, also where that failed
+abbrev pub LeftCellLaw : {D : Type 0} → Type 0 → (D → ℕ) → (D → Image) → (D → Image → Type 0) → (D → ℕ → Image → Type 0) → Type 0
+LeftCellLaw {D = D} tells clock reading may_leave left_since = (s : Supply) (w : KernelState) (c d : Cell) (old new : State D)
+    → tells → LeavesCell tells clock reading may_leave left_since c d old new
+    → HasCell s (words_on (reading old.disk)) w c → IsCleanIn s (words_on (reading old.disk)) c.part
+    → IsStill reading s w d new
 
 abbrev pub ToldCommitLaw : {D : Type 0} → Type 0 → (D → ℕ) → (D → Image) → (D → Image → Type 0) → (D → ℕ → Image → Type 0) → Type 0
 ToldCommitLaw {D = D} tells clock reading may_leave left_since = (s : Supply) (w : KernelState) (c d : Cell) (old new : State D)
-    → (h : HasCommitted tells clock reading may_leave left_since c d old new) → d.clock ≡ c.clock → IsSpellable c
+    → tells → (h : HasCommitted tells clock reading may_leave left_since c d old new) → IsSpellable c
     → HasCell s (words_on (reading old.disk)) w c → IsCleanIn s (words_on (reading old.disk)) c.part
-    → IsTold reading s w d new h.commits.commits.rec
+    → IsTold reading s w d new h.has.made.rec

@@ -1,10 +1,10 @@
 // The commit of a cell.
-ghost use Rattle.std.specs.Prelude.{◌≡◌, ◌↔◌, ◌⊎◌, ◌+◌, ◌≤◌, true, false, Ok, OnOk, IsErrOf};
+ghost use Rattle.std.specs.Prelude.{◌≡◌, ◌↔◌, ◌⊎◌, ◌+◌, ◌≤◌, true, false, Ok, OnOk, OnErr, IsErrOf};
+ghost use Rattle.disk_trait.specs.Counts.{Rose};
 ghost use Rattle.disk_trait.specs.Disk.{Only};
 ghost use Rattle.disk_trait.specs.Moments.{LeavesOnly};
-ghost use Rattle.disk_trait.specs.declared.disk.NoBlocks.{NoBlocks as TooFew};
 ghost use Rattle.cell_blobs.specs.Blobs.{blob_need, is_recorded, page_need};
-ghost use Rattle.kernel_records.specs.Committing.{CommitCounts, HasCommitted, HasFailedWrite, IsRecorded, IsTooFew, MayCommit, StoresKeptOrCell};
+ghost use Rattle.kernel_records.specs.Committing.{CellFaults, CommitCounts, HasCommitted, HasNotCommitted, MayCommit, StoresKeptOrCell};
 ghost use Rattle.snapshot_store.specs.Putting.{are_small};
 ghost use Rattle.snapshot_store.specs.State.{books};
 ghost use Rattle.snapshot_store.specs.declared.faults.StoreFault.{StoreFault as Fault};
@@ -18,7 +18,7 @@ use disk_trait::{Disk, NoBlocks};
 use kernel_cells::{Cell, Wish};
 use snapshot_store::{Store, StoreFault};
 
-/// Writes the changed pages of a cell and commits a record of it, for all of which enough blocks are free.
+/// Writes the changed pages of a cell and commits a record of it, for all of which enough blocks are free. Then no record is wished.
 fn put_cell<D: Disk>(
     cell: &mut Cell,
     store: &mut Store<D>,
@@ -28,19 +28,27 @@ fn put_cell<D: Disk>(
     requires working { (books store.old).shut ≡ false }
     requires free { page_need (kept_names (books store.old)) cell.old.part + blob_need cell.old.part ≤ free_in (books store.old) }
     requires true_books { D.tells → AreTrue D.reading D.may_leave (books store.old) store.old.disk }
-    ensures only_part { cell.new ≡ record cell.old { part = cell.new.part } }
-    ensures committed { D.tells → OnOk result (HasCommitted D.tells D.clock D.reading D.may_leave D.left_since cell.old cell.new store.old store.new) }
+    ensures made { OnOk result (HasCommitted D.tells D.clock D.reading D.may_leave D.left_since cell.old cell.new store.old store.new) }
+    ensures unmade { OnErr result (HasNotCommitted D.tells D.clock D.reading D.may_leave D.left_since cell.old cell.new store.old store.new) }
     ensures true_books { D.tells → OnOk result (AreTrue D.reading D.may_leave (books store.new) store.new.disk) }
     ensures stable { D.tells → OnOk result (Only (D.reading store.new.disk) (D.may_leave store.new.disk)) }
     ensures any_moment { D.tells → AreSmall (books store.old) → are_small cell.old.clock.version cell.old.clock.stamp.0 ≡ true
         → LeavesOnly D.clock D.left_since store.old.disk store.new.disk (StoresKeptOrCell D.tells D.clock D.reading D.may_leave D.left_since cell.old cell.new store.old) }
-    ensures failed { (e : Fault) → IsErrOf result e → (e ≡ StoreFault.WriteFault) × HasFailedWrite D.faults store.old store.new }
+    ensures failed { (e : Fault) → IsErrOf result e → (e ≡ StoreFault.WriteFault) × Rose (D.faults store.old.disk) (D.faults store.new.disk) × ((books store.new).shut ≡ true) }
     ensures counts { CommitCounts D.clock D.faults store.old store.new }
 {
-    if flush_part(&mut cell.part, store).is_err() {
+    let flushed = flush_part(&mut cell.part, store);
+    store.held_law();
+    if flushed.is_err() {
         return Err(StoreFault::WriteFault);
     }
-    record_cell(cell, store, blob)
+    record_cell(cell, store, blob)?;
+    cell.wish = Wish {
+        by_step: false,
+        asked: false,
+        newest: cell.clock.version,
+    };
+    Ok(())
 }
 
 /// Commits a record of the entity, with its changed pages and its blob, and tells whether one was made: none is where the entity hasn't
@@ -48,7 +56,8 @@ fn put_cell<D: Disk>(
 ///
 /// A fault comes only where a record is to be made. `Shut` comes exactly after an earlier failure of the store, and `NoBlocks` exactly
 /// where then fewer blocks are free than `need_cell` counts, with both numbers; then nothing is changed. `WriteFault` comes only where
-/// the disk's count of faults rose, and shuts the store: the record may be found when the image is opened again, or not.
+/// the disk's count of faults rose, and shuts the store: the record may be found when the image is opened again, or not, and the cell and
+/// what other cells hold in blocks mean what they did.
 ///
 /// That is one write for each changed page, at most 256, and what `Store::commit` takes.
 pub fn commit_cell<D: Disk>(
@@ -59,22 +68,19 @@ pub fn commit_cell<D: Disk>(
     requires may { is_recorded cell.old ≡ false → MayCommit (books store.old) cell.old }
     requires true_books { D.tells → AreTrue D.reading D.may_leave (books store.old) store.old.disk }
     ensures recorded { is_recorded cell.old ≡ true → (result ≡ Ok false) × (cell.new ≡ cell.old) × (store.new ≡ store.old) }
-    ensures made { is_recorded cell.old ≡ false → OnOk result ((result ≡ Ok true) × IsRecorded cell.old cell.new) }
-    ensures committed { D.tells → is_recorded cell.old ≡ false → OnOk result (HasCommitted D.tells D.clock D.reading D.may_leave D.left_since cell.old cell.new store.old store.new) }
+    ensures made { is_recorded cell.old ≡ false → OnOk result ((result ≡ Ok true) × HasCommitted D.tells D.clock D.reading D.may_leave D.left_since cell.old cell.new store.old store.new) }
+    ensures unmade { OnErr result (HasNotCommitted D.tells D.clock D.reading D.may_leave D.left_since cell.old cell.new store.old store.new) }
     ensures true_books { D.tells → OnOk result (AreTrue D.reading D.may_leave (books store.new) store.new.disk) }
     ensures stable { D.tells → is_recorded cell.old ≡ false → OnOk result (Only (D.reading store.new.disk) (D.may_leave store.new.disk)) }
     ensures any_moment { D.tells → is_recorded cell.old ≡ false → (books store.old).shut ≡ false → AreSmall (books store.old) → are_small cell.old.clock.version cell.old.clock.stamp.0 ≡ true
         → LeavesOnly D.clock D.left_since store.old.disk store.new.disk (StoresKeptOrCell D.tells D.clock D.reading D.may_leave D.left_since cell.old cell.new store.old) }
-    ensures shut { IsErrOf result StoreFault.Shut ↔ ((is_recorded cell.old ≡ false) × ((books store.old).shut ≡ true)) }
-    ensures no_blocks { (b : TooFew) → IsErrOf result (StoreFault.NoBlocks b) ↔ IsTooFew cell.old (books store.old) b }
-    ensures untouched { IsErrOf result StoreFault.Shut ⊎ ((b : TooFew) × IsErrOf result (StoreFault.NoBlocks b)) → (cell.new ≡ cell.old) × (store.new ≡ store.old) }
-    ensures write_fault { IsErrOf result StoreFault.WriteFault → HasFailedWrite D.faults store.old store.new × (cell.new ≡ record cell.old { part = cell.new.part }) }
-    ensures no_read { IsErrOf result StoreFault.ReadFault → ⊥ }
+    ensures faults { CellFaults D.faults (is_recorded cell.old ≡ false) result cell.old cell.new store.old store.new }
     ensures counts { CommitCounts D.clock D.faults store.old store.new }
 {
     if is_recorded(cell) {
         return Ok(false);
     }
+    store.held_law();
     if store.is_shut() {
         return Err(StoreFault::Shut);
     }
@@ -84,10 +90,5 @@ pub fn commit_cell<D: Disk>(
         return Err(StoreFault::NoBlocks(NoBlocks { need, free }));
     }
     put_cell(cell, store, blob)?;
-    cell.wish = Wish {
-        by_step: false,
-        asked: false,
-        newest: cell.clock.version,
-    };
     Ok(true)
 }

@@ -1,13 +1,13 @@
 // A record of a cell whose pages are written.
-ghost use Rattle.std.specs.Prelude.{◌≡◌, ◌⊎◌, ◌+◌, ◌≤◌, ◌&&◌, true, false, length, OnOk, IsErrOf};
+ghost use Rattle.std.specs.Prelude.{◌≡◌, ◌⊎◌, ◌+◌, ◌≤◌, true, false, length, OnOk, IsErrOf};
 ghost use Rattle.disk_tally.specs.Counts.{Begins, shown};
 ghost use Rattle.disk_trait.specs.Counts.{Rose};
 ghost use Rattle.disk_trait.specs.Disk.{Only};
 ghost use Rattle.disk_trait.specs.Moments.{LeavesOnly};
 ghost use Rattle.cell_blobs.specs.Blobs.{blob_need, bytes_of, spelt_in};
 ghost use Rattle.record_laws.specs.Cells.{table_of};
-ghost use Rattle.kernel_records.specs.Committing.{IsSpelt, MayCommit};
-ghost use Rattle.snapshot_store.specs.Committed.{CommitsInFreeBlocks, HasFailedShut, SameUsed, StoresKeptOrMore};
+ghost use Rattle.kernel_records.specs.Committing.{HasRecord, IsSpelt, MayCommit};
+ghost use Rattle.snapshot_store.specs.Committed.{HasFailedShut, SameUsed, StoresKeptOrMore};
 ghost use Rattle.snapshot_store.specs.Putting.{are_small};
 ghost use Rattle.snapshot_store.specs.State.{books};
 ghost use Rattle.snapshot_store.specs.declared.faults.StoreFault.{StoreFault as Fault};
@@ -48,11 +48,10 @@ pub(crate) fn record_cell<D: Disk>(
     requires free { blob_need cell.now.part ≤ free_in (books store.old) }
     requires true_books { D.tells → AreTrue D.reading D.may_leave (books store.old) store.old.disk }
     ensures spelt { IsSpelt cell.now }
-    ensures committed { D.tells → OnOk result (CommitsInFreeBlocks cell.now.clock.entity cell.now.clock.version cell.now.clock.stamp.0 (bytes_of (spelt_in cell.now.part)) (table_of cell.now.part) (D.reading store.new.disk) (books store.old) (books store.new)) }
+    ensures made { OnOk result (HasRecord D.tells D.clock D.reading D.may_leave D.left_since cell.now store.old store.new) }
     ensures true_books { D.tells → OnOk result (AreTrue D.reading D.may_leave (books store.new) store.new.disk) }
     ensures stable { D.tells → OnOk result (Only (D.reading store.new.disk) (D.may_leave store.new.disk)) }
     ensures same_used { D.tells → SameUsed (books store.old) (D.reading store.old.disk) (D.reading store.new.disk) }
-    ensures small { OnOk result ((books store.new).small ≡ ((books store.old).small && are_small cell.now.clock.version cell.now.clock.stamp.0)) }
     ensures any_moment { D.tells → AreSmall (books store.old) → are_small cell.now.clock.version cell.now.clock.stamp.0 ≡ true
         → LeavesOnly D.clock D.left_since store.old.disk store.new.disk (StoresKeptOrMore (D.reading store.old.disk) (books store.old) cell.now.clock.entity cell.now.clock.version cell.now.clock.stamp.0 (bytes_of (spelt_in cell.now.part)) (table_of cell.now.part)) }
     ensures failed { (e : Fault) → IsErrOf result e → (e ≡ StoreFault.WriteFault) × Rose (D.faults store.old.disk) (D.faults store.new.disk) × HasFailedShut (books store.old) (books store.new) }

@@ -8,6 +8,7 @@ mod Listing
 mod Holds
 mod Choices
 mod Committable
+mod CommitAnswering
 mod Returned
 mod Course
 mod Opened

@@ -5,13 +5,14 @@ use Rattle.hop_base.specs.declared.records.Rec.{Rec}
 use Rattle.image_blocks.specs.Bodies.{blob_blocks}
 use Rattle.image_blocks.specs.Layout.{pool_at}
 use Rattle.image_meaning.specs.Stores.{Stores}
+use Rattle.snapshot_store.specs.State.{HoldsPoolBlocks}
 use Rattle.store_model.specs.Between.{OnlyPages}
 use Rattle.store_model.specs.Books.{Books, Commits, StoresMore, is_used, kept_in, kept_of}
 
 -- the blocks of the record's blob weren't in use, and those that were held are of the pool
 pub record IsInFreeBlocks (b : Books) (r : Rec) : Type 0 where
   pub fresh : (n : ℕ) → Contains (blob_blocks r) n → is_used b n ≡ false
-  pub pool : (n : ℕ) → b.held n ≡ true → (pool_at ≤ n) × (n < b.count)
+  pub pool : HoldsPoolBlocks b
 
 -- WHAT A COMMIT LEAVES, in blocks that weren't in use, after one turn at most
 pub record CommitsInFreeBlocks (entity version : ℕ) (stamp blob table : List ℕ) (reading : Image) (old new : Books) : Type 0 where

@@ -5,6 +5,7 @@ pub mod Taking
 pub mod State
 pub mod Putting
 pub mod Committed
+pub mod CommitAnswers
 pub mod Opening
 pub mod OpenFaults
 pub mod ReadAnswers

@@ -38,6 +38,10 @@ books st = record {
   begun = begun_of st.areas;
 }
 
+-- each block that is held is one of the pool
+abbrev pub HoldsPoolBlocks : Books → Type 0
+HoldsPoolBlocks b = (n : ℕ) → b.held n ≡ true → (pool_at ≤ n) × (n < b.count)
+
 -- WHAT IS TRUE OF EVERY STORE. The image has a pool, and its disk at least its blocks. The ledger is of the pool's blocks: it tells which are
 -- held, and once the blobs of found records are read it counts how often kept records name each. The log has a record for each used slot at
 -- most, the kept records are those at or above the choice, which is the greatest one. Until the disk failed the areas work, and have as many
@@ -49,7 +53,7 @@ pub record IsWhole {D : Type 0} (block_count : D → ℕ) (st : State D) : Type 
   pub first : st.blocks.first ≡ pool_at
   pub sized : length st.blocks.names ≡ st.blocks.end
   pub marked : length st.blocks.held ≡ st.blocks.end
-  pub held : (n : ℕ) → is_held st.blocks n ≡ true → (pool_at ≤ n) × (n < st.blocks.end)
+  pub held : HoldsPoolBlocks (books st)
   pub few : length st.log ≤ slot_count
   pub kept : AreKept st.log st.kept (slice_index st.cut.0)
   pub listed : st.blocks.all_named ≡ false → AreListed st.blocks st.kept

@@ -1,16 +1,16 @@
 // Committing a record.
-ghost use Rattle.std.specs.Prelude.{◌≡◌, ◌↔◌, ◌⊎◌, ◌+◌, ◌*◌, ◌^◌, ◌<◌, ◌≤◌, ◌&&◌, ◌++◌, ◌∷◌, [], ℕ, List, All, true, false, length, slice_index, OnOk, OnErr, IsErrOf};
+ghost use Rattle.std.specs.Prelude.{◌≡◌, ◌+◌, ◌*◌, ◌^◌, ◌<◌, ◌≤◌, ◌&&◌, ◌++◌, ◌∷◌, [], ℕ, List, All, true, false, length, slice_index, OnOk, OnErr, IsErrOf};
 ghost use Rattle.disk_trait.specs.Counts.{Rose};
 ghost use Rattle.disk_trait.specs.Disk.{Only};
 ghost use Rattle.disk_trait.specs.Image.{SameOutside};
 ghost use Rattle.disk_trait.specs.Moments.{LeavesOnly};
-ghost use Rattle.disk_trait.specs.declared.disk.NoBlocks.{NoBlocks as TooFew};
 ghost use Rattle.disk_tally.specs.Counts.{Begins, shown};
 ghost use Rattle.hop_base.specs.declared.records.Rec.{Rec as Record};
 ghost use Rattle.image_blocks.specs.Bodies.{blocks_for};
 ghost use Rattle.image_blocks.specs.Layout.{most_length, slot_count};
 ghost use Rattle.log_turn.specs.Standing.{Stands, begun_of, epoch_of, used_of};
 ghost use Rattle.store_commit.specs.Storing.{HasBlob, HasLogged, HasPlaces, IsCommitBlock, IsReady, Next, StoresOneMore, new_of, roomy_log as roomy_recs};
+ghost use Rattle.snapshot_store.specs.CommitAnswers.{CommitAnswers};
 ghost use Rattle.snapshot_store.specs.Committed.{CommitsInFreeBlocks, HasFailedShut, HasNewRecord, SameUsed, StoresKeptOrMore};
 ghost use Rattle.snapshot_store.specs.Naming.{IsPlaced};
 ghost use Rattle.snapshot_store.specs.Putting.{HasFailed, HasPut, are_small};
@@ -170,12 +170,7 @@ impl<D: Disk> Store<D> {
         ensures any_moment { D.tells → AreSmall (books self.old) → are_small version stamp.now ≡ true → (books self.old).shut ≡ false
             → LeavesOnly D.clock D.left_since self.old.disk self.new.disk (StoresKeptOrMore (D.reading self.old.disk) (books self.old) entity version stamp.now blob.now pages.now.0) }
 
-        ensures shut { (books self.old).shut ≡ true ↔ IsErrOf result StoreFault.Shut }
-        ensures no_blocks { (b : TooFew) → IsErrOf result (StoreFault.NoBlocks b) ↔ (((books self.old).shut ≡ false) × (free_in (books self.old) < blocks_for (length blob.now))
-            × (b ≡ record { need = blocks_for (length blob.now); free = free_in (books self.old) })) }
-        ensures untouched { IsErrOf result StoreFault.Shut ⊎ ((b : TooFew) × IsErrOf result (StoreFault.NoBlocks b)) → self.new ≡ self.old }
-        ensures write_fault { IsErrOf result StoreFault.WriteFault → Rose (D.faults self.old.disk) (D.faults self.new.disk) × HasFailedShut (books self.old) (books self.new) }
-        ensures no_read { IsErrOf result StoreFault.ReadFault → ⊥ }
+        ensures answers { CommitAnswers D.faults (length blob.now) result self.old self.new }
         ensures pages { self.new.read_calls ≡ self.old.read_calls }
         ensures begins { Begins 1300 (shown D.block_count D.clock D.faults self.old.disk (books self.old).begun) (shown D.block_count D.clock D.faults self.new.disk (books self.new).begun) }
     {

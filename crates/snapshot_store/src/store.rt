@@ -37,7 +37,14 @@ impl<D: Disk> Model for Store<D> {
 }
 
 impl<D: Disk> Store<D> {
-    ghost use Rattle.snapshot_store.specs.State.{State, books};
+    ghost use Rattle.snapshot_store.specs.State.{HoldsPoolBlocks, State, books};
+
+    /// The law: each block that is held, of any store, is one of the pool. It does nothing.
+    pub fn held_law(&self)
+        ensures { HoldsPoolBlocks (books self.now) }
+    {
+        let _ = &self.blocks;
+    }
 
     /// How many blocks are free: those that no kept record and no working page table names.
     pub fn free(&self) -> u32

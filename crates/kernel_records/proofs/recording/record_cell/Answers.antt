@@ -6,7 +6,7 @@ use Rattle.cell_blobs.specs.Blobs.{blob_need, spelt_in}
 use Rattle.store_model.specs.Books.{free_in}
 use Rattle.snapshot_store.specs.State.{books}
 use Rattle.page_shadow.specs.Ledger.{is_held}
-use Rattle.kernel_records.proofs.Rests.{held_pages, only_write}
+use Rattle.kernel_records.proofs.Rests.{held_pages, only_write, record_made}
 use Rattle.kernel_records.proofs.Spelling.{bytes_some}
 use Rattle.kernel_records.proofs.recording.record_cell.Goals as goal
 
@@ -26,9 +26,12 @@ returns-clause-spelt g c =
       components = c.read_stamp.ensures;
     }
 
+pub returns-clause-made : goal.returns-clause-made
+returns-clause-made g c =
+    record_made g.D.Disk.tells g.D.Disk.clock g.D.Disk.reading g.D.Disk.may_leave g.D.Disk.left_since c.args.cell.now c.args.store.now c.commit.new.self c.commit.result c.write_part.new.blob c.table_of-table.result.0
+    c.write_part.ensures.bytes c.table_of-table.ensures c.commit.ensures.in_memory c.commit.ensures.committed c.commit.ensures.small
+
 pub returns-clause-failed : goal.returns-clause-failed
 returns-clause-failed g c =
-    let e = c.commit.ensures in
     let need : blob_need c.args.cell.now.part ≡ blocks_for (length c.write_part.new.blob) = ap (λ (bytes : List ℕ). blocks_for (length bytes)) (sym c.write_part.ensures.bytes) in
-    only_write c.commit.result (books c.args.store.now).shut (blocks_for (length c.write_part.new.blob)) (free_in (books c.args.store.now)) c.requires.working
-    (subst (λ (n : ℕ). n ≤ free_in (books c.args.store.now)) need c.requires.free) e.shut e.no_blocks e.no_read e.write_fault
+    only_write g.D.Disk.faults (length c.write_part.new.blob) c.commit.result c.args.store.now c.commit.new.self c.commit.ensures.answers c.requires.working (subst (λ (n : ℕ). n ≤ free_in (books c.args.store.now)) need c.requires.free)

@@ -14,5 +14,5 @@ invariant_of-self g c =
     let working = sym c.is_shut.ensures ∙ c.if-is_shut.false in
     elim c.match-commit.branch [
       | in-Ok w ↦ own_more g.D.Disk.tells g.D.Disk.reading g.D.Disk.may_leave st c.commit.new.self c.self.inside.commits c.self.invariant w.in-Ok.ensures.in_memory working w.in-Ok.ensures.true_books
-      | in-Err w ↦ own_failed g.D.Disk.tells g.D.Disk.reading g.D.Disk.may_leave st c.commit.new.self c.self.inside.commits c.self.invariant (Rose (g.D.Disk.faults st.disk) (g.D.Disk.faults c.commit.new.self.disk)) w.in-Err.fault w.in-Err.ensures.untouched w.in-Err.ensures.write_fault w.in-Err.ensures.no_read
+      | in-Err w ↦ own_failed g.D.Disk.tells g.D.Disk.reading g.D.Disk.may_leave st c.commit.new.self c.self.inside.commits c.self.invariant (Rose (g.D.Disk.faults st.disk) (g.D.Disk.faults c.commit.new.self.disk)) w.in-Err.fault w.in-Err.ensures.answers.untouched w.in-Err.ensures.answers.write_fault w.in-Err.ensures.answers.no_read
     ]

@@ -1,0 +1,74 @@
+-- The faults of a commit, handed on, and where a snapshot is made.
+use Rattle.std.proofs.Common.{◌≡◌, ◌⊎◌, inl, inr, ℕ, ◌<◌, ◌≤◌, Bool, true, false, ◌&&◌, ◌||◌, ◌==◌, List, nat_lt, refl, sym, ap, ◌∙◌, arith}
+use Rattle.std.specs.Prelude.{IsErrOf, Result}
+use Rattle.std.proofs.lemmas.Bool.Decides.{nat_tests}
+use Rattle.disk_trait.specs.declared.disk.NoBlocks.{NoBlocks as TooFew}
+use Rattle.hop_model.specs.Histories.{Policy}
+use Rattle.hop_model.specs.State.{Supply}
+use Rattle.kernel_cells.specs.declared.cells.Cell.{Cell}
+use Rattle.kernel_cells.specs.Cells.{part_of}
+use Rattle.kernel_cells.specs.Wishes.{is_open}
+use Rattle.wish_laws.specs.Founded.{IsFoundedCell}
+use Rattle.cell_blobs.specs.Blobs.{is_recorded}
+use Rattle.store_model.specs.Books.{Books, kept_in}
+use Rattle.snapshot_store.specs.Shelves.{records_of}
+use Rattle.snapshot_store.specs.State.{State}
+use Rattle.snapshot_store.specs.declared.faults.StoreFault.{StoreFault as Fault}
+use Rattle.snapshot_store.specs.declared.faults.StoreFault.TheVariants.{NoBlocks, ReadFault, Shut, WriteFault}
+use Rattle.kernel_records.specs.Committing.{CellFaults}
+use Rattle.kernel_records.specs.Snapping.{is_snapped}
+
+-- a call that hands on the faults of another, and makes a record where that does
+pub handed_on : {D T U : Type 0} (faults : D → ℕ) (P Q : Type 0) (r : Result T Fault) (r' : Result U Fault) (c d : Cell) (old new : State D) → (P → Q) → (Q → P) → ((f : Fault) → IsErrOf r f → IsErrOf r' f) → ((f : Fault) → IsErrOf r' f → IsErrOf r f)
+    → CellFaults faults P r c d old new → CellFaults faults Q r' c d old new
+handed_on faults P Q r r' c d old new to from on back h = record {
+  shut = ((λ is. let both = h.shut.0 (back Shut is) in (to both.0, both.1)), (λ both. on Shut (h.shut.1 (from both.0, both.1))));
+  no_blocks = λ b. ((λ is. let both = (h.no_blocks b).0 (back (NoBlocks b) is) in (to both.0, both.1)), (λ both. on (NoBlocks b) ((h.no_blocks b).1 (from both.0, both.1))));
+  untouched = λ is. h.untouched (each is);
+  write_fault = λ is. let all = h.write_fault (back WriteFault is) in (to all.0, all.1, all.2);
+  no_read = λ is. h.no_read (back ReadFault is);
+}
+  where
+    each : IsErrOf r' Shut ⊎ ((b : TooFew) × IsErrOf r' (NoBlocks b)) → IsErrOf r Shut ⊎ ((b : TooFew) × IsErrOf r (NoBlocks b))
+    each (inl is) = inl (back Shut is)
+    each (inr is) = inr (is.0, back (NoBlocks is.0) is.1)
+
+-- WHERE A SNAPSHOT IS MADE
+
+both_true : (a b : Bool) → a ≡ true → b ≡ true → (a && b) ≡ true
+both_true a b one two = ap (λ (x : Bool). x && b) one ∙ two
+
+left_true : (a b : Bool) → (a && b) ≡ true → a ≡ true
+left_true true b is = refl
+left_true false b is = is
+
+right_true : (a b : Bool) → (a && b) ≡ true → b ≡ true
+right_true true b is = is
+right_true false b is = absurd (cc is)
+
+noted : (by_step due asked : Bool) → (by_step && due || asked) ≡ true → (by_step || asked) ≡ true
+noted true due asked is = refl
+noted false due asked is = is
+
+module _ (policy : Policy) (s : Supply) (words : ℕ → List ℕ) (c : Cell) (b : Books) where
+  pub snapped : is_open policy (part_of s words c.part) c.clock.version c.wish ≡ true → records_of c.clock.entity (kept_in b) < 4 → is_snapped policy s words c b ≡ true
+  snapped is few = both_true (is_open policy (part_of s words c.part) c.clock.version c.wish) (nat_lt (records_of c.clock.entity (kept_in b)) 4) is (has_few (records_of c.clock.entity (kept_in b)) few)
+    where
+      has_few : (n : ℕ) → n < 4 → nat_lt n 4 ≡ true
+      has_few n lt = grind (arith, nat_tests)
+
+  pub is_wished : is_snapped policy s words c b ≡ true → is_open policy (part_of s words c.part) c.clock.version c.wish ≡ true
+  is_wished is = left_true (is_open policy (part_of s words c.part) c.clock.version c.wish) (nat_lt (records_of c.clock.entity (kept_in b)) 4) is
+
+  pub is_few : is_snapped policy s words c b ≡ true → records_of c.clock.entity (kept_in b) < 4
+  is_few is = few (records_of c.clock.entity (kept_in b)) (right_true (is_open policy (part_of s words c.part) c.clock.version c.wish) (nat_lt (records_of c.clock.entity (kept_in b)) 4) is)
+    where
+      few : (n : ℕ) → nat_lt n 4 ≡ true → n < 4
+      few n lt = grind (arith, nat_tests)
+
+  -- the entity has changed since its newest record
+  pub is_changed : IsFoundedCell c → is_open policy (part_of s words c.part) c.clock.version c.wish ≡ true → is_recorded c ≡ false
+  is_changed founded is = newer c.wish.newest c.clock.version (founded.changed (noted c.wish.by_step _ c.wish.asked is))
+    where
+      newer : (n v : ℕ) → n < v → (v == n) ≡ false
+      newer n v lt = grind (arith, nat_tests)

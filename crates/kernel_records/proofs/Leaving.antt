@@ -1,0 +1,112 @@
+-- What a commit leaves, from what its stages leave.
+use Rattle.std.proofs.Common.{◌≡◌, ◌⊎◌, inl, inr, ℕ, ◌<◌, Bool, true, false, List, refl, sym, ap, subst, ◌∙◌}
+use Rattle.std.specs.Prelude.{OnErr, OnOk, Result, Ok, Err}
+use Rattle.disk_trait.specs.Image.{Image}
+use Rattle.store_model.specs.Between.{Between-stay}
+use Rattle.store_model.specs.Books.{kept_names}
+use Rattle.snapshot_store.specs.Committed.{HasFailedShut, SameUsed}
+use Rattle.snapshot_store.specs.State.{HoldsPoolBlocks, State, books}
+use Rattle.fault_paging.specs.Calls.{Keeps}
+use Rattle.fault_paging.specs.declared.paged.PagedMemory.{PagedMemory}
+use Rattle.kernel_cells.specs.declared.cells.Cell.{Cell}
+use Rattle.kernel_cells.specs.declared.cells.Part.{Part}
+use Rattle.kernel_cells.specs.declared.cells.Part.TheVariants as part
+use Rattle.record_laws.specs.Cells.{IsSettled, IsSoundIn, words_on}
+use Rattle.kernel_records.specs.Committing.{HasCommitted, HasNotCommitted, HasPages, HasRecord, HoldsSame, IsSpelt, LeavesCell}
+use Rattle.kernel_records.specs.Flushing.{Flushes}
+use Rattle.kernel_records.proofs.Staying.{clean_stays, held_words, part_stays}
+
+-- NOTHING IS WRITTEN
+
+module _ {B : Type 0} (tells : Type 0) (held kept : B → ℕ → Bool) (words : B → ℕ → List ℕ) where
+  keeps_itself : (m : PagedMemory) (b : B) → Keeps tells held kept words m m b b
+  keeps_itself m b = record {
+    same_kept = refl;
+    held_stay = λ n is_held out. (is_held, out);
+    no_others = λ n is_held out. (is_held, out);
+    held_words = λ t n is_held out. refl;
+    kept_words = λ t n is_kept. refl;
+    news = λ page. inl refl;
+  }
+
+  flushes_itself : (p : Part) (b : B) → Flushes tells held kept words p p b b
+  flushes_itself (part.Atlas a) b = record { part = refl; store = refl }
+  flushes_itself (part.Container a) b = (
+    a,
+    refl,
+    record {
+      same_head = refl;
+      pages = record { same_tag = refl; same_pages = refl; same_frames = refl; same_blocks = λ page none. refl; none_changed = λ page is. is };
+      outside = keeps_itself a.memory b;
+    },
+  )
+  flushes_itself (part.Locus l) b = record { part = refl; store = refl }
+
+module _ {D : Type 0} (tells : Type 0) (clock : D → ℕ) (reading : D → Image) (may_leave : D → Image → Type 0) (left_since : D → ℕ → Image → Type 0) where
+  -- pages are written, and behind them what is in use stays
+  pub leaves_cell : (c d : Cell) (old mid new : State D) → HasPages tells clock reading may_leave left_since c.part d.part old mid → HoldsPoolBlocks (books mid) → HoldsSame (books mid) (books new)
+      → (tells → SameUsed (books mid) (reading mid.disk) (reading new.disk)) → d.clock ≡ c.clock → d.left ≡ c.left → LeavesCell tells clock reading may_leave left_since c d old new
+  leaves_cell c d old mid new pages pool holds same_used same_clock same_left = record {
+    flushed = mid;
+    pages = pages;
+    pool = pool;
+    holds = holds;
+    same_used = same_used;
+    held_words = agree;
+    means = λ t s clean.
+        let m = pages.means t s clean in (
+          part_stays s (books mid).held (words_on (reading mid.disk)) (words_on (reading new.disk)) (agree t) d.part pages.table ∙ m.0,
+          clean_stays s (books mid).held (words_on (reading mid.disk)) (words_on (reading new.disk)) (agree t) d.part pages.table m.1,
+        );
+    same_clock = same_clock;
+    same_left = same_left;
+  }
+    where
+      agree : tells → (n : ℕ) → (books mid).held n ≡ true → words_on (reading new.disk) n ≡ words_on (reading mid.disk) n
+      agree t = held_words (books mid) (reading mid.disk) (reading new.disk) (same_used t) (λ n is_held. (pool n is_held).0)
+
+  -- a store that is left as it is
+  pub not_committed : (c : Cell) (st : State D) → IsSoundIn (books st).held c.part → HoldsPoolBlocks (books st) → ((image : Image) → tells → left_since st.disk (clock st.disk) image → may_leave st.disk image)
+      → HasNotCommitted tells clock reading may_leave left_since c c st st
+  not_committed c st sound pool only_now = record {
+    leaves = leaves_cell c c st st st (record {
+      flushes = flushes_itself tells (λ (x : State D). (books x).held) (λ (x : State D). kept_names (books x)) (λ (x : State D). words_on (reading x.disk)) c.part st;
+      only = Between-stay tells clock reading may_leave left_since st.disk (books st) (books st).begun only_now;
+      table = sound;
+      means = λ t s clean. (refl, clean);
+    }) pool (record { same_held = refl; same_found = refl; same_count = refl }) (λ t n low used. refl) refl refl;
+    same_logged = refl;
+    only_part = refl;
+  }
+
+  -- a write of the record that failed
+  pub failed_commit : (c : Cell) (q : Part) (old mid new : State D) → HasPages tells clock reading may_leave left_since c.part q old mid → HoldsPoolBlocks (books mid)
+      → (tells → SameUsed (books mid) (reading mid.disk) (reading new.disk)) → HasFailedShut (books mid) (books new) → HasNotCommitted tells clock reading may_leave left_since c (record c { part = q }) old new
+  failed_commit c q old mid new pages pool same_used failed = record {
+    leaves = leaves_cell c (record c { part = q }) old mid new pages pool (record { same_held = failed.same_held; same_found = failed.same_found; same_count = failed.same_count }) same_used refl refl;
+    same_logged = failed.same_logged ∙ pages.only.same_logged;
+    only_part = refl;
+  }
+
+  -- a write of a page that failed
+  pub failed_pages : (c : Cell) (q : Part) (old mid : State D) → HasPages tells clock reading may_leave left_since c.part q old mid → HoldsPoolBlocks (books mid) → HasNotCommitted tells clock reading may_leave left_since c (record c { part = q }) old mid
+  failed_pages c q old mid pages pool = record {
+    leaves = leaves_cell c (record c { part = q }) old mid mid pages pool (record { same_held = refl; same_found = refl; same_count = refl }) (λ t n low used. refl) refl refl;
+    same_logged = pages.only.same_logged;
+    only_part = refl;
+  }
+
+  -- a record that was made; then no other is wished
+  pub made_commit : (c : Cell) (q : Part) (old mid new : State D) → HasPages tells clock reading may_leave left_since c.part q old mid → HoldsPoolBlocks (books mid)
+      → (tells → SameUsed (books mid) (reading mid.disk) (reading new.disk)) → HasRecord tells clock reading may_leave left_since (record c { part = q }) mid new → IsSpelt (record c { part = q }) → IsSettled q
+      → HasCommitted tells clock reading may_leave left_since c (record c { part = q; wish = record { by_step = false; asked = false; newest = c.clock.version } }) old new
+  unfolding leaves_cell
+  made_commit c q old mid new pages pool same_used has spelt settled =
+      let d : Cell = record c { part = q; wish = record { by_step = false; asked = false; newest = c.clock.version } } in
+      record {
+        leaves = leaves_cell c d old mid new pages pool (record { same_held = has.made.same_held; same_found = has.made.same_found; same_count = has.made.same_count }) same_used refl refl;
+        has = record { made = has.made; blob = has.blob; small = has.small };
+        spelt = record { spells = spelt.spells; components = spelt.components };
+        settled = settled;
+        recorded = record { same_clock = refl; same_left = refl; wish = refl };
+      }

@@ -1,0 +1,73 @@
+// A snapshot of a cell by its wish.
+ghost use Rattle.std.specs.Prelude.{◌≡◌, ◌↔◌, ◌⊎◌, ◌+◌, ◌≤◌, ℕ, List, true, false, Ok, Some, None, OnOk, OnErr, IsErrOf};
+ghost use Rattle.disk_trait.specs.Disk.{Only};
+ghost use Rattle.disk_trait.specs.Moments.{LeavesOnly};
+ghost use Rattle.hop_base.specs.declared.histories.Event.TheVariants.{Snap};
+ghost use Rattle.hop_model.specs.Histories.{mark};
+ghost use Rattle.hop_model.specs.State.{Supply};
+ghost use Rattle.kernel_records.specs.Committing.{CellFaults, CommitCounts, HasCommitted, HasNotCommitted, MayCommit, StoresKeptOrCell};
+ghost use Rattle.kernel_records.specs.Snapping.{is_snapped};
+ghost use Rattle.snapshot_store.specs.Putting.{are_small};
+ghost use Rattle.snapshot_store.specs.State.{books};
+ghost use Rattle.store_model.specs.Books.{AreSmall, AreTrue};
+ghost use Rattle.wish_laws.specs.Founded.{IsFoundedCell};
+
+use crate::commits::commit_cell;
+use block_code::Blob;
+use disk_trait::Disk;
+use hop_base::{Answer, Entity, Entry, Event, Touched};
+use kernel_cells::Cell;
+use manager_gate::{Gate, Policy, Supplier};
+use snapshot_store::{Store, StoreFault};
+
+/// The entry of a snapshot, which touches nothing.
+fn snap_entry(entity: Entity, version: u64) -> Entry
+    ensures { result ≡ mark Snap entity version }
+{
+    Entry {
+        event: Event::Snap,
+        actor: entity,
+        touched: Touched::none(),
+        version,
+        answer: Answer::Quiet,
+    }
+}
+
+/// Commits a record of the entity where one is wished and fewer than 4 kept records are its own, and gives the entry of that snapshot.
+/// Else nothing is changed. What was in `blob` is lost.
+///
+/// Faults and costs are those of `commit_cell`.
+pub fn snap_cell<D: Disk, S: Supplier, P: Policy>(
+    cell: &mut Cell,
+    store: &mut Store<D>,
+    blob: &mut Blob,
+    gate: &Gate<S, P>,
+) -> Result<Option<Entry>, StoreFault>
+    requires keeps { P.keeps gate.now.policy }
+    requires founded { IsFoundedCell cell.old }
+    requires may { (s : Supply) → (words : ℕ → List ℕ) → is_snapped (P.wish gate.now.policy) s words cell.old (books store.old) ≡ true → MayCommit (books store.old) cell.old }
+    requires true_books { D.tells → AreTrue D.reading D.may_leave (books store.old) store.old.disk }
+
+    ensures none { (s : Supply) → (words : ℕ → List ℕ) → is_snapped (P.wish gate.now.policy) s words cell.old (books store.old) ≡ false
+        → (result ≡ Ok None) × (cell.new ≡ cell.old) × (store.new ≡ store.old) }
+    ensures made { (s : Supply) → (words : ℕ → List ℕ) → is_snapped (P.wish gate.now.policy) s words cell.old (books store.old) ≡ true
+        → OnOk result ((result ≡ Ok (Some (mark Snap cell.old.clock.entity cell.old.clock.version))) × HasCommitted D.tells D.clock D.reading D.may_leave D.left_since cell.old cell.new store.old store.new) }
+    ensures unmade { OnErr result (HasNotCommitted D.tells D.clock D.reading D.may_leave D.left_since cell.old cell.new store.old store.new) }
+    ensures true_books { D.tells → OnOk result (AreTrue D.reading D.may_leave (books store.new) store.new.disk) }
+    ensures stable { D.tells → (s : Supply) → (words : ℕ → List ℕ) → is_snapped (P.wish gate.now.policy) s words cell.old (books store.old) ≡ true
+        → OnOk result (Only (D.reading store.new.disk) (D.may_leave store.new.disk)) }
+    ensures any_moment { D.tells → (s : Supply) → (words : ℕ → List ℕ) → is_snapped (P.wish gate.now.policy) s words cell.old (books store.old) ≡ true
+        → (books store.old).shut ≡ false → AreSmall (books store.old) → are_small cell.old.clock.version cell.old.clock.stamp.0 ≡ true
+        → LeavesOnly D.clock D.left_since store.old.disk store.new.disk (StoresKeptOrCell D.tells D.clock D.reading D.may_leave D.left_since cell.old cell.new store.old) }
+    ensures faults { (s : Supply) → (words : ℕ → List ℕ)
+        → CellFaults D.faults (is_snapped (P.wish gate.now.policy) s words cell.old (books store.old) ≡ true) result cell.old cell.new store.old store.new }
+    ensures counts { CommitCounts D.clock D.faults store.old store.new }
+{
+    let entity = cell.clock.entity;
+    let version = cell.clock.version;
+    if !cell.is_wished(gate) || store.kept_count(entity) >= 4 {
+        return Ok(None);
+    }
+    commit_cell(cell, store, blob)?;
+    Ok(Some(snap_entry(entity, version)))
+}
