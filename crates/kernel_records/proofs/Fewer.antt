@@ -1,23 +1,18 @@
 -- How many records are kept.
-use Rattle.std.proofs.Common.{◌≡◌, ◌⊎◌, inl, inr, ℕ, zero, suc, ◌+◌, ◌<◌, ◌≤◌, Bool, true, false, ◌==◌, cond, nat_le, nat_lt, if◌then◌else◌, List, [], ◌∷◌, ◌++◌, length, map, filter, get_or, refl, sym, ap, subst, ◌∙◌, arith, eqb-true, eq-eqb}
-use Rattle.std.specs.Prelude.{All, AllPairs, Any, count_by, slice_index}
-use Rattle.std.specs.List.{AllByRecursion}
-use Rattle.std.proofs.lemmas.Bool.{cases_eq, cases_lt, leb-true, le-leb}
+use Rattle.std.proofs.Common.{◌≡◌, ◌⊎◌, inl, inr, ℕ, ◌+◌, ◌≤◌, Bool, true, false, ◌==◌, cond, List, [], ◌∷◌, ◌++◌, length, filter, refl, sym, ap, subst, ◌∙◌, arith, eq-eqb}
+use Rattle.std.specs.Prelude.{count_by}
+use Rattle.std.proofs.lemmas.Bool.{cases_eq, leb-true, le-leb}
 use Rattle.std.proofs.lemmas.Bool.Decides.{nat_tests}
 use Rattle.std.proofs.lemmas.List.{map-append}
-use Rattle.std.proofs.lemmas.List.Elements.{All-from_recursion, filter-append, recursion_from_All}
-use Rattle.std.proofs.lemmas.List.Sums.{length-filter, sum_by-append, sum_by-cons}
+use Rattle.std.proofs.lemmas.List.Elements.{filter-append}
+use Rattle.std.proofs.lemmas.List.Sums.{sum_by-append, sum_by-cons}
 use Rattle.hop_base.specs.declared.records.Rec.{Rec}
-use Rattle.cut_laws.specs.Agreeing.{nothing}
-use Rattle.cut_laws.specs.Records.{commit_of, commits_of}
-use Rattle.hop_model.specs.Choices.{Among, Commit, IsBelow, IsClosedChoice, greatest}
 use Rattle.image_meaning.specs.Parts.{cut_of}
-use Rattle.log_reading.specs.Logs.{IsOlder}
 use Rattle.snapshot_store.specs.Committed.{HasNewRecord}
 use Rattle.snapshot_store.specs.Shelves.{is_from, records_of}
-use Rattle.store_model.specs.Books.{Books, Logged, cut_in, kept_in, logged_recs, recs_in}
+use Rattle.store_model.specs.Books.{Books, Logged, kept_in, logged_recs}
 use Rattle.kernel_records.specs.Keeping.{KeepsOneMore}
-use Rattle.kernel_records.proofs.Raising.{cut_rises, greatest_above, narrow, narrowed, narrowed_high, narrowed_low, narrows}
+use Rattle.kernel_records.proofs.Raising.{cut_rises}
 
 -- HOW MANY PASS of what a filter keeps
 

@@ -1,6 +1,5 @@
 -- What a commit leaves, from what its stages leave.
-use Rattle.std.proofs.Common.{◌≡◌, ◌⊎◌, inl, inr, ℕ, ◌<◌, Bool, true, false, List, refl, sym, ap, subst, ◌∙◌}
-use Rattle.std.specs.Prelude.{OnErr, OnOk, Result, Ok, Err}
+use Rattle.std.proofs.Common.{◌≡◌, inl, ℕ, Bool, true, false, List, refl, ◌∙◌}
 use Rattle.disk_trait.specs.Image.{Image}
 use Rattle.store_model.specs.Between.{Between-stay}
 use Rattle.store_model.specs.Books.{kept_names}

@@ -19,7 +19,7 @@ use Rattle.snapshot_store.specs.Putting.{are_small}
 use Rattle.snapshot_store.specs.State.{State, books}
 use Rattle.snapshot_store.specs.declared.faults.StoreFault.{StoreFault as Fault}
 use Rattle.snapshot_store.specs.declared.faults.StoreFault.TheVariants.{NoBlocks, ReadFault, Shut, WriteFault}
-use Rattle.store_model.specs.Books.{Books, Logged, free_in, kept_in}
+use Rattle.store_model.specs.Books.{Logged, free_in, kept_in}
 use Rattle.kernel_records.specs.Committing.{HasRecord}
 
 -- the blocks of a part's table are held

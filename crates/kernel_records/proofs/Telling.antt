@@ -1,5 +1,5 @@
 -- What a commit leaves of a cell, and what its record tells.
-use Rattle.std.proofs.Common.{◌≡◌, ℕ, Bool, List, length, refl, sym, ap, subst, ◌∙◌}
+use Rattle.std.proofs.Common.{ℕ, Bool, List, length, refl, sym, ap, subst, ◌∙◌}
 use Rattle.std.specs.Prelude.{IfSome}
 use Rattle.disk_trait.specs.Image.{Image}
 use Rattle.hop_model.specs.State.{KernelState, Supply}

@@ -1,5 +1,5 @@
 -- THE LAWS of a cell's commit.
-use Rattle.std.specs.Prelude.{◌≡◌, ℕ}
+use Rattle.std.specs.Prelude.{ℕ}
 use Rattle.disk_trait.specs.Image.{Image}
 use Rattle.hop_base.specs.declared.records.Rec.{Rec}
 use Rattle.hop_model.specs.State.{KernelState, Supply}

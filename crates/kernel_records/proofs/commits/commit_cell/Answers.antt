@@ -1,4 +1,4 @@
-use Rattle.std.proofs.Common.{false, inl, sym, ◌∙◌}
+use Rattle.std.proofs.Common.{inl, sym, ◌∙◌}
 use Rattle.disk_trait.proofs.Phases.{LeavesOnly-start, told}
 use Rattle.store_model.specs.Between.{stored_each}
 use Rattle.store_model.specs.Books.{kept_of, recs_in}

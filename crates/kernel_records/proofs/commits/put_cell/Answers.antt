@@ -1,14 +1,12 @@
-use Rattle.std.proofs.Common.{◌≡◌, ℕ, ◌+◌, ◌-◌, ◌^◌, ◌<◌, ◌≤◌, Bool, true, false, inl, inr, refl, sym, ap, subst, ◌∙◌, arith}
-use Rattle.std.specs.Prelude.{IfErr, IsErrOf, OnErr, OnOk, Result, Ok, Err}
+use Rattle.std.proofs.Common.{◌≡◌, ℕ, ◌+◌, ◌-◌, ◌^◌, ◌<◌, ◌≤◌, Bool, true, false, inl, inr, refl, sym, ◌∙◌, arith}
+use Rattle.std.specs.Prelude.{IfErr, OnOk, Result, Ok, Err}
 use Rattle.std.specs.Result.{is_err}
 use Rattle.std.proofs.lemmas.Result.{err_from_is_err_and}
 use Rattle.std.proofs.lemmas.Bool.{cases_lt}
 use Rattle.disk_trait.specs.Counts.{Rose}
 use Rattle.disk_tally.proofs.Counting.{CountsOn-then}
 use Rattle.store_model.specs.Books.{free_in, kept_names}
-use Rattle.snapshot_store.specs.Committed.{HasFailedShut}
 use Rattle.snapshot_store.specs.State.{State, books}
-use Rattle.snapshot_store.specs.declared.faults.StoreFault.{StoreFault as Fault}
 use Rattle.snapshot_store.specs.declared.faults.StoreFault.TheVariants.{WriteFault}
 use Rattle.page_store.specs.Pages.{IsWriteFault}
 use Rattle.page_store.specs.declared.faults.PageFault.{PageFault}
@@ -16,7 +14,6 @@ use Rattle.fault_paging.specs.Calls.{IsCausedBy}
 use Rattle.kernel_cells.specs.declared.cells.Cell.{Cell}
 use Rattle.cell_blobs.specs.Blobs.{blob_need, page_need}
 use Rattle.record_laws.specs.Cells.{IsSettled, words_on}
-use Rattle.kernel_records.specs.Committing.{HasNotCommitted, HasPages}
 use Rattle.kernel_records.proofs.Joining.{failed_by, may_again, moments_pages, moments_then, small_on}
 use Rattle.kernel_records.proofs.Leaving.{failed_commit, failed_pages, made_commit}
 use Rattle.kernel_records.proofs.Spelling.{same_need}
