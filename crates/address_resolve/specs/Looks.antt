@@ -79,7 +79,7 @@ done_by l c address (Reads d) = own (finish (set_reg l d (c.words address)) Ok) 
 done_by l c address (Writes v) = with_other l Ok (ContainerCell (with_word c address v))
 
 -- WHATEVER THE STORE TELLS
--- Of any words, with one of the container's own put in, the look makes this locus and this answer, and these words of the container.
+-- For any words there are words, the same past the container's pages, of which the look makes this locus, this answer and these words.
 
 pub record LooksSomehow (l m : LocusState) (h : Head) (answer : Answer) : Type 0 where
   pub before : (ℕ → ℕ) → ℕ → ℕ

@@ -87,7 +87,8 @@ pages_in (part.Atlas a) = 0
 pages_in (part.Container b) = pages_of b.head
 pages_in (part.Locus l) = 0
 
--- Of any words, with one of its own put in, the container p is left as q with these words by the look that makes the locus l this m.
+-- For any words there are words, the same past the pages of the container p, with which the look makes the locus l this m, and leaves
+-- the container as q with these words.
 pub record MakesSomehow (l m p q : Part) (answer : Answer) : Type 0 where
   pub before : (ℕ → ℕ) → ℕ → ℕ
   pub after : (ℕ → ℕ) → ℕ → ℕ
