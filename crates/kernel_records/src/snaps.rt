@@ -20,6 +20,9 @@ use kernel_cells::Cell;
 use manager_gate::{Gate, Policy, Supplier};
 use snapshot_store::{Store, StoreFault};
 
+// An entity with so many kept records has no further snapshot made.
+const FULL: u16 = 4;
+
 /// The entry of a snapshot, which touches nothing.
 fn snap_entry(entity: Entity, version: u64) -> Entry
     ensures { result ≡ mark Snap entity version }
@@ -65,7 +68,7 @@ pub fn snap_cell<D: Disk, S: Supplier, P: Policy>(
 {
     let entity = cell.clock.entity;
     let version = cell.clock.version;
-    if !cell.is_wished(gate) || store.kept_count(entity) >= 4 {
+    if !cell.is_wished(gate) || store.kept_count(entity) >= FULL {
         return Ok(None);
     }
     commit_cell(cell, store, blob)?;

@@ -8,7 +8,7 @@ use Rattle.cell_blobs.specs.Blobs.{is_recorded}
 use Rattle.kernel_records.specs.Snapping.{is_snapped}
 use Rattle.kernel_records.proofs.Faulting.{handed_on, is_changed, is_few, is_wished, snapped}
 use Rattle.kernel_records.proofs.snaps.snap_cell.Goals as goal
-use Rattle.kernel_records.proofs.snaps.snap_cell.Goals.{then-not-is_wished-via-then-not-is_wished, then-not-is_wished-via-else-not-is_wished+then-kept_count-ge4}
+use Rattle.kernel_records.proofs.snaps.snap_cell.Goals.{then-not-is_wished-via-then-not-is_wished, then-not-is_wished-via-else-not-is_wished+then-kept_count-ge-FULL}
 
 -- what the supplier says and what blocks hold is beside the point
 no_supply : Supply
@@ -22,9 +22,9 @@ returns-then-not-is_wished-clause-made g c = λ s words is.
     elim c.then-not-is_wished.branch [
       | then-not-is_wished-via-then-not-is_wished w ↦
           absurd (false≢true (sym w.if-not-is_wished.true ∙ (c.is_wished.ensures.open s words ∙ is_wished (g.P.Policy.wish c.args.gate.now.policy) s words c.args.cell.now (books c.args.store.now) is)))
-      | then-not-is_wished-via-else-not-is_wished+then-kept_count-ge4 w ↦
+      | then-not-is_wished-via-else-not-is_wished+then-kept_count-ge-FULL w ↦
           let few = is_few (g.P.Policy.wish c.args.gate.now.policy) s words c.args.cell.now (books c.args.store.now) is in
-          let many = w.if-kept_count-ge4.true in
+          let many = w.if-kept_count-ge-FULL.true in
           let count = w.kept_count.ensures in
           absurd (omega (arith, few, many, count))
     ]
@@ -32,7 +32,7 @@ returns-then-not-is_wished-clause-made g c = λ s words is.
 pub commit_cell-requires-clause-may : goal.commit_cell-requires-clause-may
 commit_cell-requires-clause-may g c = λ changed.
     c.requires.may no_supply no_words (snapped (g.P.Policy.wish c.args.gate.now.policy) no_supply no_words c.args.cell.now (books c.args.store.now) (sym (c.is_wished.ensures.open no_supply no_words) ∙ c.if-not-is_wished.false)
-    (let few = c.if-kept_count-ge4.false in let count = c.kept_count.ensures in omega (arith, few, count)))
+    (let few = c.if-kept_count-ge-FULL.false in let count = c.kept_count.ensures in omega (arith, few, count)))
 
 pub returns-in_err-commit_cell-clause-faults : goal.returns-in_err-commit_cell-clause-faults
 returns-in_err-commit_cell-clause-faults g c = λ s words.
@@ -44,7 +44,7 @@ returns-in_err-commit_cell-clause-faults g c = λ s words.
     let handed : p.0 ≡ c.in_err-commit_cell.field-0.0 = p.2 in
     let was : c.commit_cell.result ≡ Err c.in_err-commit_cell.field-0.0 = c.in_err-commit_cell.was in
     let wished = sym (c.is_wished.ensures.open s words) ∙ c.if-not-is_wished.false in
-    let is = snapped policy s words cell (books st) wished (let few = c.if-kept_count-ge4.false in let count = c.kept_count.ensures in omega (arith, few, count)) in
+    let is = snapped policy s words cell (books st) wished (let few = c.if-kept_count-ge-FULL.false in let count = c.kept_count.ensures in omega (arith, few, count)) in
     handed_on g.D.Disk.faults (is_recorded cell ≡ false) (is_snapped policy s words cell (books st) ≡ true) c.commit_cell.result c.from_residual.result cell c.commit_cell.new.cell st c.commit_cell.new.store
     (λ changed. is) (λ one. is_changed policy s words cell (books st) c.requires.founded wished)
     (λ f same. (let e : c.in_err-commit_cell.field-0.0 ≡ f = cc (was, same) in gives ∙ ap Err (handed ∙ e)))
@@ -63,7 +63,7 @@ returns-clause-faults g c = λ s words.
     let st = c.args.store.now in
     let was : c.commit_cell.result ≡ Ok c.in_ok-commit_cell.field-0 = c.in_ok-commit_cell.was in
     let wished = sym (c.is_wished.ensures.open s words) ∙ c.if-not-is_wished.false in
-    let is = snapped policy s words cell (books st) wished (let few = c.if-kept_count-ge4.false in let count = c.kept_count.ensures in omega (arith, few, count)) in
+    let is = snapped policy s words cell (books st) wished (let few = c.if-kept_count-ge-FULL.false in let count = c.kept_count.ensures in omega (arith, few, count)) in
     handed_on g.D.Disk.faults (is_recorded cell ≡ false) (is_snapped policy s words cell (books st) ≡ true) c.commit_cell.result (Ok (Some c.snap_entry.result)) cell c.commit_cell.new.cell st c.commit_cell.new.store
     (λ changed. is) (λ one. is_changed policy s words cell (books st) c.requires.founded wished)
     (λ f same. absurd (cc (was, same)))
