@@ -1,0 +1,94 @@
+// Snapshots of a cell, one behind the other.
+ghost use Rattle.std.specs.Prelude.{◌≡◌, ℕ, List, true, false, IfSome, None};
+ghost use Rattle.hop_model.specs.State.{Supply};
+ghost use Rattle.kernel_records.specs.Committing.{MayCommit};
+ghost use Rattle.kernel_records.specs.Snapping.{is_snapped};
+ghost use Rattle.record_checks.specs.Fit.{IsFit};
+ghost use Rattle.snapshot_store.specs.State.{books};
+ghost use Rattle.store_model.specs.Books.{AreTrue};
+ghost use Rattle.wish_laws.specs.Founded.{IsFoundedCell};
+
+use block_code::Blob;
+use disk_trait::Disk;
+use event_clocks::Clock;
+use hop_base::{Entity, Entry};
+use kernel_cells::{Cell, Part, Wish};
+use kernel_records::snap_cell;
+use locus_machine::Locus;
+use manager_gate::{CountedWords, EveryVersions, Gate, Policy, Supplier};
+use snapshot_store::Store;
+use std::alloc::Global;
+use vector_stamps::Stamp;
+
+/// What two tries of a snapshot made.
+#[derive(Clone, Copy, Debug, PartialEq, Eq)]
+pub struct Snaps {
+    pub first: Option<Entry>,
+    pub second: Option<Entry>,
+}
+
+/// Tries a snapshot of a cell twice, and tells what was made, or nothing where the store failed. The second is never made.
+pub fn snap_both<D: Disk, S: Supplier, P: Policy>(
+    cell: &mut Cell,
+    store: &mut Store<D>,
+    blob: &mut Blob,
+    gate: &Gate<S, P>,
+) -> Option<Snaps>
+    requires keeps { P.keeps gate.now.policy }
+    requires founded { IsFoundedCell cell.old }
+    requires may { (s : Supply) → (words : ℕ → List ℕ) → is_snapped (P.wish gate.now.policy) s words cell.old (books store.old) ≡ true → MayCommit (books store.old) cell.old }
+    requires true_books { D.tells → AreTrue D.reading D.may_leave (books store.old) store.old.disk }
+    ensures { IfSome result (λ snaps. snaps.second ≡ None) }
+{
+    let first = match snap_cell(cell, store, blob, gate) {
+        Ok(first) => first,
+        Err(_) => return None,
+    };
+    match snap_cell(cell, store, blob, gate) {
+        Ok(second) => Some(Snaps { first, second }),
+        Err(_) => None,
+    }
+}
+
+/// The first locus at version 3, hosted by the first container: a step wrote it since its record at version 1.
+fn stepped_locus(every: u32) -> Cell
+    ensures { IsFit result }
+{
+    let entity = Entity::of(41);
+    let mut stamp = [0; 64];
+    stamp[1] = 3;
+    stamp[41] = 3;
+    Cell {
+        clock: Clock {
+            entity,
+            version: 3,
+            stamp: Stamp(stamp),
+        },
+        part: Part::Locus(Some(Locus::new(Entity::of(1), 2, every, &[]))),
+        wish: Wish {
+            by_step: true,
+            asked: false,
+            newest: 1,
+        },
+        left: 1,
+    }
+}
+
+/// Tries a snapshot of a locus with this `every` twice, in an image that has no record. It wishes one from so many versions on, and is at
+/// 2 since its newest.
+pub fn snap_new<D: Disk + Drop>(alloc: Global, disk: D, every: u32) -> Option<Snaps> {
+    let mut store = match Store::open(alloc, disk) {
+        Ok(store) => store,
+        Err(_) => return None,
+    };
+    if !store.recs().is_empty() {
+        return None;
+    }
+    let mut blob = match Blob::new(alloc) {
+        Ok(blob) => blob,
+        Err(_) => return None,
+    };
+    let mut cell = stepped_locus(every);
+    let gate = Gate::new(CountedWords, EveryVersions);
+    snap_both(&mut cell, &mut store, &mut blob, &gate)
+}
