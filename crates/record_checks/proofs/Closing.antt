@@ -1,5 +1,5 @@
 -- A snapshot closes the wish.
-use Rattle.std.proofs.Common.{◌≡◌, ℕ, ◌-◌, ◌<◌, ◌≤◌, Bool, true, false, ◌&&◌, ◌||◌, List, refl, sym, ap, subst, ◌∙◌, arith}
+use Rattle.std.proofs.Common.{◌≡◌, ℕ, ◌-◌, Bool, true, false, ◌&&◌, ◌||◌, List, refl, sym, ap, subst, ◌∙◌, arith}
 use Rattle.std.proofs.lemmas.Bool.{false≢true}
 use Rattle.hop_model.specs.Histories.{Policy, every_of}
 use Rattle.hop_model.specs.State.{Supply}
@@ -7,7 +7,6 @@ use Rattle.kernel_cells.specs.declared.cells.Cell.{Cell}
 use Rattle.kernel_cells.specs.declared.cells.Wish.{Wish}
 use Rattle.kernel_cells.specs.Cells.{part_of}
 use Rattle.wish_laws.specs.Founded.{IsFoundedCell, IsRecordedNow}
-use Rattle.store_model.specs.Books.{Books}
 use Rattle.snapshot_store.specs.State.{State, books}
 use Rattle.kernel_records.specs.Snapping.{has_room, is_snapped}
 

@@ -1,5 +1,5 @@
 -- A locus as it is born, but for its place, and a store without records.
-use Rattle.std.proofs.Common.{◌≡◌, ℕ, zero, suc, replicate, ◌<◌, ◌≤◌, ◌^◌, List, [], ◌∷◌, length, Option, Some, None, refl, sym, ap, subst, ◌∙◌, arith}
+use Rattle.std.proofs.Common.{◌≡◌, ℕ, zero, suc, replicate, ◌<◌, List, [], ◌∷◌, length, Some, None, refl, ap, arith}
 use Rattle.std.specs.Prelude.{All, slice_get}
 use Rattle.std.proofs.lemmas.List.Sums.{count_by-le-length, length-filter}
 use Rattle.hop_base.specs.declared.capabilities.Cap.{Cap}

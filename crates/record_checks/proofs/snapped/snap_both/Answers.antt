@@ -1,6 +1,5 @@
-use Rattle.std.proofs.Common.{◌≡◌, ℕ, true, false, List, [], Some, None, Ok}
+use Rattle.std.proofs.Common.{ℕ, List, []}
 use Rattle.hop_model.specs.State.{Supply}
-use Rattle.snapshot_store.specs.State.{books}
 use Rattle.record_checks.proofs.Closing.{founded_again, never_again}
 use Rattle.std.proofs.lemmas.Bool.{false≢true}
 use Rattle.std.proofs.Common.{sym, ◌∙◌}

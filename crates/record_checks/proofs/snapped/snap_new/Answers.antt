@@ -1,6 +1,4 @@
-use Rattle.std.proofs.Common.{◌≡◌, ℕ, ◌<◌, ◌≤◌, ◌^◌, List, [], refl, sym, ap, subst, ◌∙◌, eqb-true, length, arith}
-use Rattle.std.specs.Prelude.{All}
-use Rattle.hop_base.specs.declared.records.Rec.{Rec}
+use Rattle.std.proofs.Common.{◌≡◌, [], sym, ap, ◌∙◌, eqb-true, length, arith}
 use Rattle.snapshot_store.specs.Opening.{is_some_rec}
 use Rattle.snapshot_store.specs.State.{books}
 use Rattle.store_model.specs.Books.{recs_in}

@@ -1,6 +1,5 @@
-use Rattle.std.proofs.Common.{◌≡◌, ℕ, ◌<◌, ◌≤◌, List, refl, sym, ap, subst, ◌∙◌, arith}
+use Rattle.std.proofs.Common.{refl, sym, ap, subst, arith}
 use Rattle.hop_base.specs.Kinds.{kind_of}
-use Rattle.hop_base.specs.declared.entities.Kind.TheVariants.{Locus as LocusKind}
 use Rattle.hop_model.specs.State.{LocusState}
 use Rattle.blob_grammar.specs.Forms.{IsNumber}
 use Rattle.blob_grammar.specs.Shapes.{IsLocusOver}
