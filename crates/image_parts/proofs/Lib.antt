@@ -1,0 +1,5 @@
+pub mod Placing
+pub mod Reading
+pub mod Slots
+pub mod Unfit
+pub mod Verdicts

@@ -1,0 +1,30 @@
+-- Where the chosen record of an entity stands in a log, and where its blob is bad.
+use Rattle.std.specs.Prelude.{◌≡◌, ◌⊎◌, ℕ, ◌<◌, List, Some, slice_get}
+use Rattle.disk_trait.specs.Image.{Image}
+use Rattle.hop_base.specs.declared.records.Rec.{Rec}
+use Rattle.blob_loading.specs.Loading.{IsBadRecord}
+use Rattle.image_blocks.specs.Checks.{Bad}
+use Rattle.image_blocks.specs.Layout.{body_at}
+use Rattle.image_blocks.specs.declared.areas.Area.{Area}
+use Rattle.image_meaning.specs.Foreign.{IsBadRest, IsBadSpelling, IsBodyBlock}
+use Rattle.image_meaning.specs.Parts.{chosen_by}
+
+-- the first slot that has the record that a choice takes of an entity
+pub record IsChosenSlot (cut : ℕ → ℕ) (recs : List Rec) (x slot : ℕ) : Type 0 where
+  pub rec : Rec
+  pub there : slice_get recs slot ≡ Some rec
+  pub first : (earlier : ℕ) → earlier < slot → slice_get recs earlier ≡ Some rec → ⊥
+  pub is_chosen : chosen_by cut recs x ≡ Some rec
+
+-- the blob of the record in this slot is bad, in an image with this area
+pub record IsBadSlot (image : Image) (recs : List Rec) (area : Area) (slot : ℕ) (bad : Bad) : Type 0 where
+  pub rec : Rec
+  pub there : slice_get recs slot ≡ Some rec
+  pub fault : IsBadRecord image rec (body_at area slot) bad
+
+-- the blob of the entity's chosen record is bad
+pub record IsBadEntity (image : Image) (recs : List Rec) (area : Area) (x : ℕ) (bad : Bad) : Type 0 where
+  pub rec : Rec
+  pub body : ℕ
+  pub at : IsBodyBlock area recs x rec body
+  pub fault : IsBadSpelling x image rec body bad ⊎ IsBadRest x image rec bad
