@@ -19,7 +19,7 @@ use Rattle.fault_paging.specs.Calls.{IsCausedBy}
 use Rattle.kernel_cells.specs.declared.cells.Cell.{Cell}
 use Rattle.kernel_cells.specs.declared.cells.Wish.{Wish}
 use Rattle.cell_blobs.specs.Blobs.{bytes_of, spelt_in}
-use Rattle.record_laws.specs.Cells.{IsSoundIn, table_of}
+use Rattle.record_laws.specs.Cells.{IsSettled, IsSoundIn, table_of}
 use Rattle.kernel_records.specs.Committing.{HasPages, IsSpelt, MayCommit, StoresKeptOrCell}
 use Rattle.kernel_records.specs.Flushing.{Flushes}
 use Rattle.kernel_records.proofs.Spelling.{spellable_again}
@@ -77,11 +77,11 @@ module _ {D : Type 0} (tells : Type 0) (clock : D → ℕ) (reading : D → Imag
   moments_pages only right small working = leaves_more clock left_since Kept Left old.disk mid.disk (λ image h. inl h) (only.moments told right small working)
 
   -- and so does one of the commit behind them, or that and the record
-  pub moments_then : (new : D) → HasPages tells clock reading may_leave left_since c.part d.part old mid → IsSpelt d
+  pub moments_then : (new : D) → HasPages tells clock reading may_leave left_since c.part d.part old mid → IsSpelt d → IsSettled d.part
       → AreTrue reading may_leave (books old) old.disk → AreSmall (books old) → (books old).shut ≡ false
       → LeavesOnly clock left_since mid.disk new (StoresKeptOrMore (reading mid.disk) (books mid) d.clock.entity d.clock.version d.clock.stamp.0 (bytes_of (spelt_in d.part)) (table_of d.part))
       → LeavesOnly clock left_since old.disk new Left
-  moments_then new pages spelt right small working second =
+  moments_then new pages spelt settled right small working second =
       LeavesOnly-join clock left_since Left old.disk mid.disk new (moments_pages pages.only right small working)
       (leaves_more clock left_since _ Left mid.disk new each second)
     where
@@ -90,11 +90,11 @@ module _ {D : Type 0} (tells : Type 0) (clock : D → ℕ) (reading : D → Imag
 
       each : (image : Image) → StoresKeptOrMore (reading mid.disk) (books mid) d.clock.entity d.clock.version d.clock.stamp.0 (bytes_of (spelt_in d.part)) (table_of d.part) image → Left image
       each image (inl h) = inl (subst (λ (P : Image → Type 0). P image) same h)
-      each image (inr h) = inr (record { flushed = mid; pages = pages; more = h; spelt = spelt })
+      each image (inr h) = inr (record { flushed = mid; pages = pages; more = h; spelt = spelt; settled = settled })
 
 -- what a stop leaves hangs on the cell's part and clock alone
 pub stores_wished : {D : Type 0} (tells : Type 0) (clock : D → ℕ) (reading : D → Image) (may_leave : D → Image → Type 0) (left_since : D → ℕ → Image → Type 0) (c d : Cell) (w : Wish) (old : State D) (image : Image)
     → StoresKeptOrCell tells clock reading may_leave left_since c d old image → StoresKeptOrCell tells clock reading may_leave left_since c (record d { wish = w }) old image
 stores_wished tells clock reading may_leave left_since c d w old image (inl h) = inl h
 stores_wished tells clock reading may_leave left_since c d w old image (inr h) =
-    inr (record { flushed = h.flushed; pages = h.pages; more = h.more; spelt = record { spells = h.spelt.spells; components = h.spelt.components } })
+    inr (record { flushed = h.flushed; pages = h.pages; more = h.more; spelt = record { spells = h.spelt.spells; components = h.spelt.components }; settled = h.settled })

@@ -103,6 +103,7 @@ module _ {D : Type 0} (tells : Type 0) (clock : D → ℕ) (reading : D → Imag
     pub pages : HasPages c.part d.part old flushed
     pub more : StoresMoreInFreeBlocks (reading flushed.disk) (books flushed) d.clock.entity d.clock.version d.clock.stamp.0 (bytes_of (spelt_in d.part)) (table_of d.part) image
     pub spelt : IsSpelt d
+    pub settled : IsSettled d.part
 
   abbrev pub StoresKeptOrCell : Cell → Cell → State D → Image → Type 0
   StoresKeptOrCell c d old image = Stores (books old).count (kept_of (reading old.disk) (books old)) image ⊎ StoresCell c d old image

@@ -127,6 +127,7 @@ module _ {D : Type 0} (st st2 : State D) (mid last : Ledger) (many : ℕ) (block
       same_held = same_held put.ledger.only;
       same_found = same_found put.ledger.only;
       same_count = same_end put.ledger.only;
+      working = put.shut;
       free = free;
       epoch = epoch;
     }

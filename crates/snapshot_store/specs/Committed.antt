@@ -31,6 +31,7 @@ pub record HasNewRecord (entity version length : ℕ) (stamp table : List ℕ) (
   pub same_held : new.held ≡ old.held
   pub same_found : new.found ≡ old.found
   pub same_count : new.count ≡ old.count
+  pub working : new.shut ≡ false
   pub free : IsInFreeBlocks old rec
   pub epoch : (old.place.epoch ≤ new.place.epoch) × (new.place.epoch ≤ old.place.epoch + 1)
 

@@ -99,7 +99,7 @@ returns-in_err-record_cell-clause-any_moment g c = λ t small own.
     let f = c.flush_part-flushed.ensures in
     let d : Cell = record c.args.cell.now { part = c.flush_part-flushed.new.part } in
     moments_then g.D.Disk.tells g.D.Disk.clock g.D.Disk.reading g.D.Disk.may_leave g.D.Disk.left_since c.args.cell.now d c.args.store.now c.flush_part-flushed.new.store t c.record_cell.new.store.disk
-    (record { flushes = f.flushes; only = f.between; table = f.table; means = f.means }) c.record_cell.ensures.spelt (c.requires.true_books t) small c.requires.working
+    (record { flushes = f.flushes; only = f.between; table = f.table; means = f.means }) c.record_cell.ensures.spelt (worked c.flush_part-flushed.result (sym c.is_err.ensures.value ∙ c.if-is_err.false) f.settled) (c.requires.true_books t) small c.requires.working
     (c.record_cell.ensures.any_moment t (small_on (books c.args.store.now) (books c.flush_part-flushed.new.store) f.between.same_small f.between.same_place small) own)
 
 pub returns-in_err-record_cell-clause-counts : goal.returns-in_err-record_cell-clause-counts
@@ -126,7 +126,7 @@ returns-clause-any_moment g c = λ t small own.
     let f = c.flush_part-flushed.ensures in
     let d : Cell = record c.args.cell.now { part = c.flush_part-flushed.new.part; wish = record { by_step = false; asked = false; newest = c.args.cell.now.clock.version } } in
     moments_then g.D.Disk.tells g.D.Disk.clock g.D.Disk.reading g.D.Disk.may_leave g.D.Disk.left_since c.args.cell.now d c.args.store.now c.flush_part-flushed.new.store t c.record_cell.new.store.disk
-    (record { flushes = f.flushes; only = f.between; table = f.table; means = f.means }) (record { spells = c.record_cell.ensures.spelt.spells; components = c.record_cell.ensures.spelt.components }) (c.requires.true_books t) small c.requires.working
+    (record { flushes = f.flushes; only = f.between; table = f.table; means = f.means }) (record { spells = c.record_cell.ensures.spelt.spells; components = c.record_cell.ensures.spelt.components }) (worked c.flush_part-flushed.result (sym c.is_err.ensures.value ∙ c.if-is_err.false) f.settled) (c.requires.true_books t) small c.requires.working
     (c.record_cell.ensures.any_moment t (small_on (books c.args.store.now) (books c.flush_part-flushed.new.store) f.between.same_small f.between.same_place small) own)
 
 pub returns-clause-counts : goal.returns-clause-counts
