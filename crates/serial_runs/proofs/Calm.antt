@@ -136,7 +136,7 @@ module _ (s : Supply) (policy : Policy) (script : Script) where
       let k = step_is s l r.state made.0 (ap (option_map entry_in) is) in
       (ap (λ (e : Entry). e.event) k.entry, ap (λ (e : Entry). e.actor) k.entry)
 
-  step_may : (r : Run) (l : ℕ) (made : Entry × KernelState) → IsCalm policy r → births_owed script r ≡ false → r.steps l < script.steps → step s l r.state ≡ Some made → May s policy script r made.0
+  pub step_may : (r : Run) (l : ℕ) (made : Entry × KernelState) → IsCalm policy r → births_owed script r ≡ false → r.steps l < script.steps → step s l r.state ≡ Some made → May s policy script r made.0
   step_may r l made calm born few is =
       let k = step_entry r l made is in (
         calm.tried,
