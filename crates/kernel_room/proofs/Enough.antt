@@ -1,5 +1,5 @@
 -- A kernel that is at rest has the blocks that its records may need.
-use Rattle.std.proofs.Common.{◌≡◌, ℕ, ◌+◌, ◌*◌, ◌≤◌, false, List, length, None, is_some, inl, inr, sym, ap, ◌∙◌, arith}
+use Rattle.std.proofs.Common.{◌≡◌, ℕ, ◌+◌, ◌*◌, ◌≤◌, ◌==◌, false, count_by, List, length, None, is_some, inl, inr, sym, ap, ◌∙◌, arith}
 use Rattle.std.proofs.lemmas.Bool.{false≢true}
 use Rattle.hop_base.specs.declared.histories.Entry.{Entry}
 use Rattle.disk_trait.specs.Image.{Image}
@@ -10,12 +10,12 @@ use Rattle.image_blocks.specs.Logs.{AreFitting}
 use Rattle.run_laws.proofs.Few.{Few, few_after}
 use Rattle.sound_runs.proofs.Standing.{legal_below}
 use Rattle.sound_states.proofs.Empty.{none_beyond}
-use Rattle.store_model.specs.Books.{free_in, kept_in, recs_in}
+use Rattle.store_model.specs.Books.{Logged, free_in, kept_in, recs_in}
 use Rattle.kernel_model.specs.Beginnings.{Beginning, BeginsRight, IsLegal, completed, run_of, state_after}
 use Rattle.kernel_model.specs.Live.{HoldsCommits, KernelView}
 use Rattle.kernel_room.specs.Room.{AreTablesWithin, all_born, all_pages, enough_blocks, kept_blocks, named_in, pages_in, working_blocks}
 use Rattle.kernel_room.proofs.Counting.{sum_le}
-use Rattle.kernel_room.proofs.Kept.{all_rooms, kept_count, kept_room}
+use Rattle.kernel_room.proofs.Kept.{all_rooms, kept_as_many, kept_count, kept_room}
 use Rattle.kernel_room.proofs.Used.{free_bound}
 
 few_run : (b : Beginning) (es : List Entry) → BeginsRight b → IsLegal b es → Few (run_of b es)
@@ -35,6 +35,9 @@ module _ {D : Type 0} (b : Beginning) (reading : D → Image) (may_leave : D →
 
   pub few_kept : length (kept_in k.books) ≤ 320
   few_kept = kept_count b k.history right legal k.books.count (reading disk) k.books fit h.records
+
+  pub each_kept : (x : ℕ) → count_by (λ (l : Logged). l.rec.entity == x) (kept_in k.books) ≡ commits_above (completed b k.history) (run_of b k.history).cut x
+  each_kept x = kept_as_many b k.history right legal k.books.count (reading disk) k.books fit h.records x
 
   pub kept_bound : (n : ℕ) → ((x : ℕ) → commits_above (completed b k.history) (run_of b k.history).cut x ≤ n) → kept_blocks k.books ≤ n * (all_pages (state_after b k.history) + 8 * all_born (state_after b k.history))
   kept_bound n few =

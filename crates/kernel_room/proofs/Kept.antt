@@ -106,20 +106,21 @@ kept_list : (image : Image) (ls : List Logged) → recs_of (map (kept_for image)
 kept_list image [] = refl
 kept_list image (l ∷ ls) = ap (λ (rs : List Rec). l.rec ∷ rs) (kept_list image ls)
 
-above_one : (q : ℕ → ℕ) (x : ℕ) (c : Commit) (t : Bool) → is_from q c ≡ t → (k m : ℕ) → k ≤ m → cond t (cond (c.entity == x) 1 0 + k) k ≤ cond (c.entity == x && nat_le (q x) c.version) 1 0 + m
-above_one q x c false e k m le = omega (arith, le)
-above_one q x c true e k m le = by_key (c.entity == x) refl
+above_one : (q : ℕ → ℕ) (x : ℕ) (c : Commit) (t : Bool) → is_from q c ≡ t → (k m : ℕ) → k ≡ m → cond t (cond (c.entity == x) 1 0 + k) k ≡ cond (c.entity == x && nat_le (q x) c.version) 1 0 + m
+above_one q x c t e k m same = by_key (c.entity == x) refl t e
   where
-    by_key : (p : Bool) → (c.entity == x) ≡ p → cond p 1 0 + k ≤ cond (p && nat_le (q x) c.version) 1 0 + m
-    by_key false is = omega (arith, le)
-    by_key true is =
-        let here : nat_le (q x) c.version ≡ true = subst (λ y. nat_le (q y) c.version ≡ true) (eqb-true c.entity x is) e in
-        let one : cond {A = ℕ} (nat_le (q x) c.version) 1 0 ≡ 1 = ap (λ p. cond {A = ℕ} p 1 0) here in
-        omega (arith, one, le)
+    here : (p : Bool) (t : Bool) → (c.entity == x) ≡ true → is_from q c ≡ t → nat_le (q x) c.version ≡ t
+    here p t is e = subst (λ y. nat_le (q y) c.version ≡ t) (eqb-true c.entity x is) e
+
+    by_key : (p : Bool) → (c.entity == x) ≡ p → (t : Bool) → is_from q c ≡ t → cond t (cond p 1 0 + k) k ≡ cond (p && nat_le (q x) c.version) 1 0 + m
+    by_key false is true e = omega (arith, same)
+    by_key false is false e = omega (arith, same)
+    by_key true is true e = (let one : cond {A = ℕ} (nat_le (q x) c.version) 1 0 ≡ 1 = ap (λ p. cond {A = ℕ} p 1 0) (here true true is e) in omega (arith, one, same))
+    by_key true is false e = (let zero_is : cond {A = ℕ} (nat_le (q x) c.version) 1 0 ≡ 0 = ap (λ p. cond {A = ℕ} p 1 0) (here true false is e) in omega (arith, zero_is, same))
 
 -- those of an entity at or above a choice
-count_from : (q : ℕ → ℕ) (x : ℕ) (cs : List Commit) → count_by (λ (c : Commit). c.entity == x) (from_cut q cs) ≤ commits_above cs q x
-count_from q x [] = omega arith
+count_from : (q : ℕ → ℕ) (x : ℕ) (cs : List Commit) → count_by (λ (c : Commit). c.entity == x) (from_cut q cs) ≡ commits_above cs q x
+count_from q x [] = refl
 count_from q x (c ∷ cs) =
     let rest = count_from q x cs in
     let more = count_more (λ (d : Commit). d.entity == x && nat_le (q x) d.version) c cs in
@@ -189,9 +190,9 @@ module _ (b : Beginning) (es : List Entry) (right : BeginsRight b) (legal : IsLe
       let own : ds ≡ from_cut (cut_in bk) ds = kept_commits ∙ same_kept in
       ap commits_of (sym (kept_list image (kept_in bk))) ∙ (own ∙ (ap (λ (q : ℕ → ℕ). from_cut q ds) same_cut ∙ (sym a.agree.same ∙ ap (λ (q : ℕ → ℕ). from_cut q (completed b es)) (sym run_cut))))
 
-  -- of each entity there are no more kept records than commits at or above the cut
-  pub kept_few : (x : ℕ) → count_by (λ (l : Logged). l.rec.entity == x) (kept_in bk) ≤ commits_above (completed b es) (run_of b es).cut x
-  kept_few x =
+  -- of each entity there are as many kept records as commits at or above the cut
+  pub kept_as_many : (x : ℕ) → count_by (λ (l : Logged). l.rec.entity == x) (kept_in bk) ≡ commits_above (completed b es) (run_of b es).cut x
+  kept_as_many x =
       let keys = count_key x (kept_in bk) in
       let same = ap (λ (cs : List Commit). count_by (λ (c : Commit). c.entity == x) cs) kept_is in
       let from = count_from (run_of b es).cut x (completed b es) in
@@ -224,7 +225,7 @@ module _ (b : Beginning) (es : List Entry) (right : BeginsRight b) (legal : IsLe
       sum_bound blocks_of (λ (l : Logged). l.rec.entity) room_now 64 n (kept_in bk)
       (within_all (kept_in bk) kept_small a.each
       (each_filter (λ (l : Logged). length (blob_blocks l.rec) ≤ 8) _ bk.logged (each_logged (λ (r : Rec). length (blob_blocks r) ≤ 8) bk.logged (all_blocks (recs_in bk) (fitting_blocks count (recs_in bk) fit)))))
-      (λ x. (let at = kept_few x in let most = few x in omega (arith, at, most)))
+      (λ x. (let at = kept_as_many x in let most = few x in omega (arith, at, most)))
 
 -- ALL ROOMS
 

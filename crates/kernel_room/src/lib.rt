@@ -2,7 +2,7 @@
 //! nothing: the contract of each is a law.
 #![tactic(auto)]
 
-ghost use Rattle.std.specs.Prelude.{[], ◌∷◌, ◌++◌, ◌≡◌, ◌≤◌, ◌+◌, ◌*◌, ◌⊎◌, ℕ, Contains, List, None, false, length};
+ghost use Rattle.std.specs.Prelude.{◌==◌, count_by, [], ◌∷◌, ◌++◌, ◌≡◌, ◌≤◌, ◌+◌, ◌*◌, ◌⊎◌, ℕ, Contains, List, None, false, length};
 ghost use Rattle.hop_base.specs.declared.histories.Entry.{Entry};
 ghost use Rattle.hop_model.specs.Histories.{commits_above};
 ghost use Rattle.image_blocks.specs.Layout.{pool_at};
@@ -33,13 +33,17 @@ pub fn owners_law()
         → AreFitting count (recs_in old) → AreFitting count (recs_in new) → PutsRecord old new tables l → AreOwned new tables }
 {}
 
-/// A store that holds the commits of a legal run keeps at most 320 records (`records`). Where n of each entity are at or above the cut
+/// A store that holds the commits of a legal run keeps at most 320 records (`records`), of each entity as many as it has commits at or
+/// above the cut (`each`). Where n of each entity are at or above the cut
 /// at most, the pool has no more blocks than are free, than n times those of all containers' pages and eight for each born entity,
 /// and than the pages again (`free`). So with as many blocks as are enough one record of each entity with all its pages finds its blocks
 /// free (`enough`), unless a Stable was cut short, which it is not where none is owed (`calm`).
 pub fn room_law<D: Disk>()
     ensures records { (b : Beginning) (k : KernelView) (disk : D) → BeginsRight b → IsLegal b k.history
         → HoldsCommits b D.reading D.may_leave k disk → length (kept_in k.books) ≤ 320 }
+    ensures each { (b : Beginning) (k : KernelView) (disk : D) (x : ℕ) → BeginsRight b → IsLegal b k.history
+        → HoldsCommits b D.reading D.may_leave k disk
+        → count_by (λ (l : Logged). l.rec.entity == x) (kept_in k.books) ≡ commits_above (completed b k.history) (run_of b k.history).cut x }
     ensures free { (b : Beginning) (k : KernelView) (disk : D) (n : ℕ) → BeginsRight b → IsLegal b k.history
         → HoldsCommits b D.reading D.may_leave k disk → AreTablesWithin (state_after b k.history) k.tables
         → ((x : ℕ) → commits_above (completed b k.history) (run_of b k.history).cut x ≤ n)

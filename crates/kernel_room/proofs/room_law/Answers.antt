@@ -1,8 +1,11 @@
-use Rattle.kernel_room.proofs.Enough.{calm_whole, few_kept, room_bound, room_enough}
+use Rattle.kernel_room.proofs.Enough.{calm_whole, each_kept, few_kept, room_bound, room_enough}
 use Rattle.kernel_room.proofs.room_law.Goals as goal
 
 pub returns-clause-records : goal.returns-clause-records
 returns-clause-records g c b k disk right legal h = few_kept b g.D.Disk.reading g.D.Disk.may_leave k disk right legal h
+
+pub returns-clause-each : goal.returns-clause-each
+returns-clause-each g c b k disk x right legal h = each_kept b g.D.Disk.reading g.D.Disk.may_leave k disk right legal h x
 
 pub returns-clause-free : goal.returns-clause-free
 returns-clause-free g c b k disk n right legal h tabled few = room_bound b g.D.Disk.reading g.D.Disk.may_leave k disk right legal h tabled n few
