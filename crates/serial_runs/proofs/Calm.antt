@@ -16,7 +16,7 @@ use Rattle.run_laws.proofs.Wishes.{due_stays, run_append}
 use Rattle.run_laws.proofs.Writing.{step_is}
 use Rattle.sound_runs.proofs.Naming.{owed_over}
 use Rattle.sound_runs.proofs.Standing.{IsStanding, standing_over}
-use Rattle.serial_runs.specs.Serial.{IsCalm, kept_behind, look, looks, step_and_kept, wished_snaps, written_in}
+use Rattle.serial_runs.specs.Serial.{IsBehind, IsCalm, kept_behind, look, looks, step_and_kept, wished_snaps, written_in}
 
 -- one of the list
 abbrev has : List ℕ → ℕ → Bool
@@ -68,13 +68,6 @@ module _ (s : Supply) (policy : Policy) (script : Script) where
   pub leaves_nothing : (r : Run) → IsCalm policy r → Leaves r []
   leaves_nothing r calm = record { legal = tt; calm = calm }
 
-  -- behind a step: a wish may be due for these alone
-  record IsBehind (r : Run) (xs : List ℕ) : Type 0 where
-    short : r.short ≡ false
-    tried : r.tried ≡ None
-    noted : (x : ℕ) → is_full r x ≡ true → r.was_full x ≡ true
-    due : (x : ℕ) → has xs x ≡ false → is_due policy r x ≡ false
-
   -- SNAPS
 
   abbrev next : Run → ℕ → Run
@@ -85,7 +78,7 @@ module _ (s : Supply) (policy : Policy) (script : Script) where
       subst (λ b. (((if b then false else r.by_step x) && policy (every_of (r.state x).cell) (version_of r x - (if b then version_of r x else r.newest x)) || (if b then false else r.asked x)) && not (r.was_full x || is_full (after_snap r x) x)) ≡ false)
       (sym (eq-eqb x x refl)) refl
 
-  snap_next : (r : Run) (x : ℕ) (xs : List ℕ) → r.owed ≡ None → IsBehind r (x ∷ xs) → May s policy script r (mark Snap x (version_of r x)) → IsBehind (next r x) xs
+  pub snap_next : (r : Run) (x : ℕ) (xs : List ℕ) → r.owed ≡ None → IsBehind policy r (x ∷ xs) → May s policy script r (mark Snap x (version_of r x)) → IsBehind policy (next r x) xs
   snap_next r x xs owed k m = record {
     short = ap is_some owed;
     tried = k.tried;
@@ -98,7 +91,7 @@ module _ (s : Supply) (policy : Policy) (script : Script) where
       at_or_other y none false e = due_stays s policy script r (mark Snap x (version_of r x)) y m refl (k.due y (ap (λ b. b || has xs y) e ∙ none))
 
   -- no Snap of this one: it has no wish, or is full
-  without : (r : Run) (x : ℕ) (xs : List ℕ) → IsBehind r (x ∷ xs) → (has_wish policy r x && not (is_full r x)) ≡ false → IsBehind r xs
+  pub without : (r : Run) (x : ℕ) (xs : List ℕ) → IsBehind policy r (x ∷ xs) → (has_wish policy r x && not (is_full r x)) ≡ false → IsBehind policy r xs
   without r x xs k none = record { short = k.short; tried = k.tried; noted = k.noted; due = λ y other. at_or_other y other (x == y) refl }
     where
       at_or_other : (y : ℕ) → has xs y ≡ false → (b : Bool) → (x == y) ≡ b → is_due policy r y ≡ false
@@ -108,11 +101,11 @@ module _ (s : Supply) (policy : Policy) (script : Script) where
   abbrev Then : Run → List ℕ → List Entry → Type 0
   Then r xs es = Leaves r (es ++ wished_snaps s policy script (run_after s script r es) xs)
 
-  snaps_leave : (xs : List ℕ) (r : Run) → r.owed ≡ None → IsBehind r xs → Leaves r (wished_snaps s policy script r xs)
+  snaps_leave : (xs : List ℕ) (r : Run) → r.owed ≡ None → IsBehind policy r xs → Leaves r (wished_snaps s policy script r xs)
   snaps_leave [] r owed k = record { legal = tt; calm = record { owed = owed; short = k.short; tried = k.tried; due = λ x. k.due x refl } }
   snaps_leave (x ∷ xs) r owed k = by_test (has_wish policy r x && not (is_full r x)) refl (λ q o b. snaps_leave xs q o b)
     where
-      by_test : (b : Bool) → (has_wish policy r x && not (is_full r x)) ≡ b → ((q : Run) → q.owed ≡ None → IsBehind q xs → Leaves q (wished_snaps s policy script q xs))
+      by_test : (b : Bool) → (has_wish policy r x && not (is_full r x)) ≡ b → ((q : Run) → q.owed ≡ None → IsBehind policy q xs → Leaves q (wished_snaps s policy script q xs))
           → Leaves r (wished_snaps s policy script r (x ∷ xs))
       by_test true e rest =
           let both = and_parts (has_wish policy r x) (not (is_full r x)) e in
@@ -149,7 +142,7 @@ module _ (s : Supply) (policy : Policy) (script : Script) where
         ),
       )
 
-  step_behind : (r : Run) (e : Entry) → IsCalm policy r → e.event ≡ Step → May s policy script r e → IsBehind (goes_on s script r e) (written_in e.touched)
+  pub step_behind : (r : Run) (e : Entry) → IsCalm policy r → e.event ≡ Step → May s policy script r e → IsBehind policy (goes_on s script r e) (written_in e.touched)
   step_behind r e calm is m = record {
     short = subst (λ (ev : Event). (went_on s script r e ev).short ≡ false) (sym is) calm.short;
     tried = subst (λ (ev : Event). (went_on s script r e ev).tried ≡ None) (sym is) calm.tried;
@@ -157,7 +150,7 @@ module _ (s : Supply) (policy : Policy) (script : Script) where
     due = λ x none. due_stays s policy script r e x m (written_has e.touched x ∙ none) (calm.due x);
   }
 
-  kept_leave : (r : Run) (xs : List ℕ) → IsBehind r xs → (o : Option ℕ) → r.owed ≡ o → Leaves r (kept_behind s policy script r xs o)
+  kept_leave : (r : Run) (xs : List ℕ) → IsBehind policy r xs → (o : Option ℕ) → r.owed ≡ o → Leaves r (kept_behind s policy script r xs o)
   kept_leave r xs k None owed = snaps_leave xs r owed k
   kept_leave r xs k (Some actor) owed = record {
     legal = ((k.tried, (owed, k.short, refl)), tt);

@@ -1,6 +1,7 @@
 -- The history of a run on one thread: births, a Stable, the picks of the order, and then rounds over all loci; behind each Step the
 -- Stable that it owes, or the Snaps that are wished for.
-use Rattle.std.specs.Prelude.{◌≡◌, ℕ, zero, suc, ◌&&◌, not, if◌then◌else◌, false, List, [], ◌∷◌, ◌++◌, Option, Some, None}
+use Rattle.std.specs.Prelude.{◌≡◌, ℕ, zero, suc, ◌&&◌, ◌==◌, not, if◌then◌else◌, true, false, List, [], ◌∷◌, ◌++◌, Option, Some, None}
+use Rattle.std.specs.List.{list_any}
 use Rattle.hop_base.specs.declared.histories.Entry.{Entry}
 use Rattle.hop_base.specs.declared.histories.Event.TheVariants.{Snap, Stable, Tried}
 use Rattle.hop_base.specs.declared.histories.Touch.{Touch}
@@ -92,3 +93,10 @@ pub record IsCalm (policy : Policy) (r : Run) : Type 0 where
   pub short : r.short ≡ false
   pub tried : r.tried ≡ None
   pub due : (x : ℕ) → is_due policy r x ≡ false
+
+-- behind a Step, among the Snaps of what it wrote: a wish may be due for these alone
+pub record IsBehind (policy : Policy) (r : Run) (xs : List ℕ) : Type 0 where
+  pub short : r.short ≡ false
+  pub tried : r.tried ≡ None
+  pub noted : (x : ℕ) → is_full r x ≡ true → r.was_full x ≡ true
+  pub due : (x : ℕ) → list_any (λ y. y == x) xs ≡ false → is_due policy r x ≡ false

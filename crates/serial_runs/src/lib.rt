@@ -2,16 +2,17 @@
 //! stopped. The functions do nothing: the contract of each is a law.
 #![tactic(auto)]
 
-ghost use Rattle.std.specs.Prelude.{◌≡◌, ◌≤◌, ◌*◌, ◌++◌, ℕ, List};
+ghost use Rattle.std.specs.Prelude.{◌≡◌, ◌≤◌, ◌<◌, ◌*◌, ◌++◌, ◌∷◌, [], ◌&&◌, not, false, ℕ, List, None, Some};
 ghost use Rattle.hop_base.specs.declared.histories.Entry.{Entry};
-ghost use Rattle.hop_model.specs.Histories.{IsLegalRun, Policy, run_after, start_run};
+ghost use Rattle.hop_base.specs.declared.histories.Event.TheVariants.{Snap, Stable};
+ghost use Rattle.hop_model.specs.Histories.{IsLegalRun, May, Policy, Run, births_owed, goes_on, has_wish, is_full, mark, run_after, start_run, version_of};
 ghost use Rattle.hop_model.specs.Scripts.{Script};
 ghost use Rattle.hop_model.specs.Soundness.{IsSound};
 ghost use Rattle.hop_model.specs.State.{KernelState, Supply};
-ghost use Rattle.hop_model.specs.Steps.{atlas_in};
+ghost use Rattle.hop_model.specs.Steps.{atlas_in, step};
 ghost use Rattle.script_form.specs.Rules.{IsScript};
 ghost use Rattle.fitting_births.specs.Fitting.{Fits};
-ghost use Rattle.serial_runs.specs.Serial.{IsCalm, IsStopped, IsWhole, serial_history};
+ghost use Rattle.serial_runs.specs.Serial.{IsBehind, IsCalm, IsStopped, IsWhole, serial_history, written_in};
 
 /// From a sound state the serial history of an allowed script that fits, with any number of rounds, is a legal run, behind which nothing
 /// is owed and no wish is due.
@@ -45,4 +46,21 @@ pub fn stopped_run_law()
     ensures { (s : Supply) (policy : Policy) (script : Script) (w : KernelState) (es : List Entry)
         → IsScript script → Fits (atlas_in (w 0).cell) script → IsSound (λ x. (w x).cell)
         → IsStopped s policy script w es → IsLegalRun s policy w script es }
+{}
+
+/// Behind a step of a run at rest a wish may be due for what the step wrote alone. Of each of these, one after another, a Snap closes the
+/// wish, and none is due where it isn't open or the entity is full; and a Stable that is owed closes all. So the run is at rest again.
+pub fn behind_law()
+    ensures step { (s : Supply) (policy : Policy) (script : Script) (r : Run) (me : ℕ) (e : Entry) (v : KernelState)
+        → IsCalm policy r → births_owed script r ≡ false → r.steps me < script.steps → step s me r.state ≡ Some (e, v)
+        → May s policy script r e × IsBehind policy (goes_on s script r e) (written_in e.touched) }
+    ensures snap { (s : Supply) (policy : Policy) (script : Script) (r : Run) (x : ℕ) (xs : List ℕ)
+        → r.owed ≡ None → IsBehind policy r (x ∷ xs) → May s policy script r (mark Snap x (version_of r x))
+        → IsBehind policy (goes_on s script r (mark Snap x (version_of r x))) xs }
+    ensures without { (policy : Policy) (r : Run) (x : ℕ) (xs : List ℕ)
+        → IsBehind policy r (x ∷ xs) → (has_wish policy r x && not (is_full r x)) ≡ false → IsBehind policy r xs }
+    ensures stable { (s : Supply) (policy : Policy) (script : Script) (r : Run) (actor : ℕ) (xs : List ℕ)
+        → IsBehind policy r xs → r.owed ≡ Some actor
+        → May s policy script r (mark Stable actor 0) × IsCalm policy (goes_on s script r (mark Stable actor 0)) }
+    ensures calm { (policy : Policy) (r : Run) → r.owed ≡ None → IsBehind policy r [] → IsCalm policy r }
 {}
