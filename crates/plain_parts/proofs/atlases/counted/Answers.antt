@@ -1,0 +1,25 @@
+use Rattle.std.proofs.Common.{◌≡◌, ◌+◌, ◌*◌, ◌/◌, ◌%◌, ◌<◌, ◌≤◌, ℕ, List, Vec, Global, sym, ap, subst, ◌∙◌, arith}
+use Rattle.atlas_dir.specs.Directory.{edges_of}
+use Rattle.history_model.specs.declared.plain.Edge.{Edge}
+use Rattle.hop_base.specs.Edges.{Edges}
+use Rattle.plain_parts.proofs.Counting.{AreCountedTo, all_counted, counted_more, counted_none}
+use Rattle.plain_parts.proofs.atlases.counted.Goals as goal
+use Rattle.plain_parts.proofs.atlases.counted.Goals.{then-count-gt0+in_ok-push, else-count-gt0}
+
+pub loop-pair-preserved : goal.loop-pair-preserved
+loop-pair-preserved c =
+    let f : Edges = edges_of c.args.atlas.now in
+    let es : List Edge = c.loop-pair.edges.items in
+    let n : ℕ = c.loop-pair.pair in
+    let pair : 41 * (n / 41) + n % 41 ≡ n = omega arith in
+    let to : n % 41 < 41 = omega arith in
+    let told : c.count-count.result ≡ f (n / 41) (n % 41) = c.count-count.ensures.count ∙ (ap (λ x. f x c.of-in-loop-pair.result) c.of.ensures ∙ ap (f (n / 41)) c.of-in-loop-pair.ensures) in
+    elim c.if-count-gt0.branch [
+      | then-count-gt0+in_ok-push w ↦ subst (λ (l : List Edge). AreCountedTo f l (n + 1)) (sym (ap (λ (v : Vec Edge Global). v.items) w.edges-is ∙ w.in_ok-push.ensures.items))
+          (counted_more f es n (n / 41) (n % 41) c.loop-pair.invariant c.count-count.ensures.inside pair to c.count-count.result told)
+      | else-count-gt0 w ↦ subst (λ (l : List Edge). AreCountedTo f l (n + 1)) (sym (ap (λ (v : Vec Edge Global). v.items) w.edges-is))
+          (counted_none f es n (n / 41) (n % 41) c.loop-pair.invariant c.count-count.ensures.inside pair to (sym told ∙ (let none : c.count-count.result ≤ 0 = w.if-count-gt0.false in omega (arith, none))))
+    ]
+
+pub returns : goal.returns
+returns c = all_counted (edges_of c.args.atlas.now) c.loop-pair.edges.items c.loop-pair.pair (let a = c.loop-pair-test.false in let b = c.loop-pair.auto.pair-end in omega (arith, a, b)) c.loop-pair.invariant

@@ -1,0 +1,65 @@
+//! The atlas.
+ghost use Rattle.std.specs.Prelude.{◌≡◌, ◌≤◌, ◌+◌, IfOk, map, string_bytes};
+ghost use Rattle.atlas_dir.specs.Directory.{edges_of as counts_of};
+ghost use Rattle.history_model.specs.Plains.{atlas_of, edges_of};
+ghost use Rattle.kernel_calls.specs.Calls.{atlas_state};
+ghost use Rattle.plain_parts.specs.Names.{AreNames};
+
+use atlas_dir::Atlas;
+use history_model::{Edge, PlainAtlas};
+use hop_base::{Entity, Kind};
+use std::alloc::{AllocError, Global};
+
+/// The number of the first container, and of the first locus.
+const FIRST_CONTAINER: u8 = 1;
+
+const FIRST_LOCUS: u8 = 41;
+
+/// A container's number is below it.
+const SIDE: u16 = 41;
+
+// The names of so many entities, from a number on.
+fn names_from(alloc: Global, atlas: &Atlas, first: u8, many: u8) -> Result<Vec<String>, AllocError>
+    requires { first + many ≤ 64 }
+    ensures { IfOk result (λ names. AreNames atlas.now first many (map string_bytes names.items)) }
+{
+    let mut names = Vec::new(alloc);
+    for place in 0..many {
+        let name = match atlas.name(Entity::of(first + place)) {
+            Some(name) => String::from_str(alloc, name.as_str())?,
+            None => String::new(alloc),
+        };
+        names.push(name)?;
+    }
+    Ok(names)
+}
+
+// The counts that aren't 0, ascending by both numbers.
+fn counted(alloc: Global, atlas: &Atlas) -> Result<Vec<Edge>, AllocError>
+    ensures { IfOk result (λ edges. edges_of edges.items ≡ counts_of atlas.now) }
+{
+    let mut edges = Vec::new(alloc);
+    for pair in 0..SIDE * SIDE {
+        let from = (pair / SIDE) as u8;
+        let to = (pair % SIDE) as u8;
+        let count = atlas.count(Entity::of(from), Entity::of(to));
+        if count > 0 {
+            edges.push(Edge { from, to, count })?;
+        }
+    }
+    Ok(edges)
+}
+
+/// The same atlas in ordinary lists. It takes memory for them, and looks at the count of each pair of containers.
+pub fn plain_atlas(alloc: Global, atlas: &Atlas) -> Result<PlainAtlas, AllocError>
+    ensures { IfOk result (λ plain. atlas_of plain ≡ atlas_state atlas.now) }
+{
+    let containers = names_from(alloc, atlas, FIRST_CONTAINER, atlas.named(Kind::Container))?;
+    let loci = names_from(alloc, atlas, FIRST_LOCUS, atlas.named(Kind::Locus))?;
+    let edges = counted(alloc, atlas)?;
+    Ok(PlainAtlas {
+        containers,
+        loci,
+        edges,
+    })
+}
