@@ -1,22 +1,26 @@
 -- One more touch of an event.
-use Rattle.std.proofs.Common.{◌≡◌, ℕ, ◌+◌, ◌<◌, Bool, true, false, ◌&&◌, ◌||◌, ◌==◌, if◌then◌else◌, List, [], ◌∷◌, length, max, take, drop, get_or, sym, ap, ◌∙◌, subst, arith, add-one}
+use Rattle.std.proofs.Common.{◌≡◌, ℕ, ◌+◌, ◌<◌, ◌≤◌, nat_lt, replicate, Bool, true, false, ◌&&◌, ◌||◌, ◌==◌, if◌then◌else◌, List, ◌∷◌, length, max, take, drop, get_or, sym, ap, ◌∙◌, subst, arith, add-one, refl}
 use Rattle.std.proofs.Math.Seq.{drop-cons}
+use Rattle.std.proofs.lemmas.Bool.Decides.{nat_tests}
+use Rattle.std.proofs.lemmas.List.{get_or-replicate, get_or_past, length-replicate}
 use Rattle.std.proofs.lemmas.List.Folds.{list_any_more}
 use Rattle.hop_base.specs.declared.histories.Touch.{Touch}
-use Rattle.trace_parts.specs.Clocks.{joined_from}
+use Rattle.vector_stamps.specs.Stamps.{component}
+use Rattle.vector_stamps.specs.declared.Stamp.{Stamp}
+use Rattle.trace_parts.specs.Clocks.{joined_in, no_stamp}
 use Rattle.trace_parts.specs.Flags.{wrote_in}
 
 -- what is left joins as before
-pub joined_more : (clocks : ℕ → ℕ → ℕ) (start : ℕ → ℕ) (ts : List Touch) (k y s new all : ℕ) (t : Touch) → k < length ts → t ≡ get_or ts k t
+pub joined_more : (clocks : ℕ → ℕ → ℕ) (ts : List Touch) (k y s new all : ℕ) (t : Touch) → k < length ts → t ≡ get_or ts k t
     → new ≡ max (max s (clocks t.entity y)) (if t.entity == y then t.version else 0)
-    → max s (joined_from clocks start (drop k ts) y) ≡ all → max new (joined_from clocks start (drop (k + 1) ts) y) ≡ all
-joined_more clocks start ts k y s new all t h is e whole =
+    → max s (joined_in clocks (drop k ts) y) ≡ all → max new (joined_in clocks (drop (k + 1) ts) y) ≡ all
+joined_more clocks ts k y s new all t h is e whole =
     let front : drop k ts ≡ get_or ts k t ∷ drop (k + 1) ts = rw add-one (drop-cons ts k t h) in
-    let rest = joined_from clocks start (drop (k + 1) ts) y in
+    let rest = joined_in clocks (drop (k + 1) ts) y in
     let at = if t.entity == y then t.version else 0 in
-    let one : joined_from clocks start (drop k ts) y ≡ max (max (clocks t.entity y) at) rest =
-    ap (λ (us : List Touch). joined_from clocks start us y) front ∙ ap (λ (u : Touch). max (max (clocks u.entity y) (if u.entity == y then u.version else 0)) rest) (sym is) in
-    by_numbers s new (clocks t.entity y) at rest (joined_from clocks start (drop k ts) y) all e one whole
+    let one : joined_in clocks (drop k ts) y ≡ max (max (clocks t.entity y) at) rest =
+    ap (λ (us : List Touch). joined_in clocks us y) front ∙ ap (λ (u : Touch). max (max (clocks u.entity y) (if u.entity == y then u.version else 0)) rest) (sym is) in
+    by_numbers s new (clocks t.entity y) at rest (joined_in clocks (drop k ts) y) all e one whole
   where
     by_numbers : (s new a b rest old all : ℕ) → new ≡ max (max s a) b → old ≡ max (max a b) rest → max s old ≡ all → max new rest ≡ all
     by_numbers s new a b rest old all e f g = omega arith
@@ -50,7 +54,16 @@ read_more ts k x t old s o h is kept q =
     subst (λ b. old ≡ (if b then s else o)) (sym (wrote_more ts k x t h is))
     (subst (λ w. old ≡ (if wrote_in (take k ts) x || ((t.entity == x) && w) then s else o)) (sym kept) (more_no (wrote_in (take k ts) x) (t.entity == x) old s o q))
 
--- nothing joins to less than the start
-pub joined_above : (clocks : ℕ → ℕ → ℕ) (start : ℕ → ℕ) (ts : List Touch) (y : ℕ) → max (start y) (joined_from clocks start ts y) ≡ joined_from clocks start ts y
-joined_above clocks start [] y = omega arith
-joined_above clocks start (t ∷ ts) y = (let h = joined_above clocks start ts y in omega (arith, h))
+-- a list of one stamp that tells nothing tells nothing
+pub nothing_told : (s : Stamp) (x y : ℕ) → component s y ≡ 0 → component (get_or (replicate 64 s) x no_stamp) y ≡ 0
+nothing_told s x y none = by_place (nat_lt x 64) refl
+  where
+    inside : nat_lt x 64 ≡ true → x < 64
+    inside is = grind (arith, nat_tests)
+
+    outside : nat_lt x 64 ≡ false → 64 ≤ x
+    outside is = grind (arith, nat_tests)
+
+    by_place : (b : Bool) → nat_lt x 64 ≡ b → component (get_or (replicate 64 s) x no_stamp) y ≡ 0
+    by_place true is = ap (λ (t : Stamp). component t y) (get_or-replicate 64 x s no_stamp (inside is)) ∙ none
+    by_place false is = ap (λ (t : Stamp). component t y) (get_or_past (replicate 64 s) x no_stamp (subst (λ n. n ≤ x) (sym (length-replicate 64 s)) (outside is)))

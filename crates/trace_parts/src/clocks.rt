@@ -6,12 +6,9 @@ use hop_base::{Touch, Touched};
 use std::alloc::{AllocError, Global};
 use vector_stamps::Stamp;
 
-/// The vector clock of each entity, no component of which is below the version of its entity at the start. What stands at or
-/// below those versions is in every cut, so nothing is lost.
+/// The vector clock of each entity.
 #[derive(Drop)]
 pub struct Clocks {
-    /// The versions at the start.
-    pub start: Stamp,
     /// One for each of the 64 entities.
     pub stamps: Vec<Stamp>,
     ghost all: { length stamps.items ≡ 64 },
@@ -26,16 +23,16 @@ fn join(stamp: &mut Stamp, clock: &Stamp, touch: &Touch)
 }
 
 impl Clocks {
-    ghost use Rattle.trace_parts.specs.Clocks.{clock_at, joined_from};
+    ghost use Rattle.trace_parts.specs.Clocks.{clock_at, joined_in};
     ghost use Rattle.trace_parts.specs.Flags.{wrote_in};
 
-    /// The clocks at the start.
-    pub fn new(alloc: Global, start: Stamp) -> Result<Clocks, AllocError>
-        ensures start { IfOk result (λ clocks. clocks.start ≡ start) }
-        ensures clocks { IfOk result (λ clocks. (x y : ℕ) → clock_at clocks x y ≡ component start y) }
+    /// Clocks that tell nothing.
+    pub fn new(alloc: Global) -> Result<Clocks, AllocError>
+        ensures { IfOk result (λ clocks. (x y : ℕ) → clock_at clocks x y ≡ 0) }
     {
-        let stamps = Vec::from_array(alloc, [start; 64])?;
-        Ok(Clocks { start, stamps })
+        let stamp = Stamp::new();
+        let stamps = Vec::from_array(alloc, [stamp; 64])?;
+        Ok(Clocks { stamps })
     }
 
     /// The clock of the entity with this number.
@@ -48,9 +45,9 @@ impl Clocks {
 
     /// The clock of what an event with these touches writes.
     fn joined(&self, touched: &[Touch]) -> Stamp
-        ensures { (y : ℕ) → component result y ≡ joined_from (clock_at self.now) (component self.now.start) touched.now y }
+        ensures { (y : ℕ) → component result y ≡ joined_in (clock_at self.now) touched.now y }
     {
-        let mut stamp = self.start;
+        let mut stamp = Stamp::new();
         for touch in touched {
             let other = self.at(touch.entity.number() as usize);
             join(&mut stamp, &other, touch);
@@ -61,8 +58,7 @@ impl Clocks {
     /// Gives the entity with this number a clock.
     fn put(&mut self, x: usize, stamp: &Stamp)
         requires { x < 64 }
-        ensures start { self.new.start ≡ self.old.start }
-        ensures clocks { (z y : ℕ) → z < 64 → clock_at self.new z y ≡ (if x == z then component stamp.now y else clock_at self.old z y) }
+        ensures { (z y : ℕ) → z < 64 → clock_at self.new z y ≡ (if x == z then component stamp.now y else clock_at self.old z y) }
     {
         self.stamps[x] = *stamp;
     }
@@ -70,9 +66,8 @@ impl Clocks {
     /// Takes in an event: each written entity gets the clock that joins those of all touched ones. What it costs doesn't grow
     /// with the history.
     pub fn take_in(&mut self, touched: Touched)
-        ensures start { self.new.start ≡ self.old.start }
-        ensures clocks { (x y : ℕ) → x < 64 → clock_at self.new x y
-            ≡ (if wrote_in touched x then joined_from (clock_at self.old) (component self.old.start) touched y else clock_at self.old x y) }
+        ensures { (x y : ℕ) → x < 64 → clock_at self.new x y
+            ≡ (if wrote_in touched x then joined_in (clock_at self.old) touched y else clock_at self.old x y) }
     {
         let touches = touched.as_slice();
         let stamp = self.joined(touches);

@@ -12,17 +12,11 @@ loop-touch-preserved c =
     let k = c.loop-touch.touch-index in
     let t = c.touch-item.result in
     elim c.if-touch.branch [
-      | then-touch w ↦ record {
-        clocks = λ x y low.
-            written_more ts k x t (clock_at c.if-touch.self x y) (clock_at c.loop-touch.self x y) (component c.joined-stamp.result y) (clock_at c.args.self.now x y) c.loop-touch-test.true c.touch-item.is w.if-touch.true
-            (ap (λ (q : Clocks). clock_at q x y) w.self-is ∙ w.put.ensures.clocks x y low ∙ ap (λ n. if n == x then component c.joined-stamp.result y else clock_at c.loop-touch.self x y) w.number.ensures.number)
-            (c.loop-touch.invariant.clocks x y low);
-        start = ap (λ (q : Clocks). q.start) w.self-is ∙ w.put.ensures.start ∙ c.loop-touch.invariant.start;
-      }
-      | else-touch w ↦ record {
-        clocks = λ x y low.
-            ap (λ (q : Clocks). clock_at q x y) w.self-is
-            ∙ read_more ts k x t (clock_at c.loop-touch.self x y) (component c.joined-stamp.result y) (clock_at c.args.self.now x y) c.loop-touch-test.true c.touch-item.is w.if-touch.false (c.loop-touch.invariant.clocks x y low);
-        start = ap (λ (q : Clocks). q.start) w.self-is ∙ c.loop-touch.invariant.start;
-      }
+      | then-touch w ↦ λ x y low.
+          written_more ts k x t (clock_at c.if-touch.self x y) (clock_at c.loop-touch.self x y) (component c.joined-stamp.result y) (clock_at c.args.self.now x y) c.loop-touch-test.true c.touch-item.is w.if-touch.true
+          (ap (λ (q : Clocks). clock_at q x y) w.self-is ∙ w.put.ensures x y low ∙ ap (λ n. if n == x then component c.joined-stamp.result y else clock_at c.loop-touch.self x y) w.number.ensures.number)
+          (c.loop-touch.invariant x y low)
+      | else-touch w ↦ λ x y low.
+          ap (λ (q : Clocks). clock_at q x y) w.self-is
+          ∙ read_more ts k x t (clock_at c.loop-touch.self x y) (component c.joined-stamp.result y) (clock_at c.args.self.now x y) c.loop-touch-test.true c.touch-item.is w.if-touch.false (c.loop-touch.invariant x y low)
     ]

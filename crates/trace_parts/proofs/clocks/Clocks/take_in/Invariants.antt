@@ -6,7 +6,4 @@ use Rattle.trace_parts.specs.Flags.{wrote_in}
 use Rattle.trace_parts.proofs.clocks.Clocks.take_in.Given as goal
 
 abbrev pub invariant-loop-touch : goal.invariant-loop-touch
-invariant-loop-touch l = record {
-  clocks : (x y : ℕ) → x < 64 → clock_at l.self x y ≡ (if wrote_in (take l.touch-index l.touches) x then component l.stamp y else clock_at l.fn.self x y);
-  start : l.self.start ≡ l.fn.self.start;
-}
+invariant-loop-touch l = (x y : ℕ) → x < 64 → clock_at l.self x y ≡ (if wrote_in (take l.touch-index l.touches) x then component l.stamp y else clock_at l.fn.self x y)
