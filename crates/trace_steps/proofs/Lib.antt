@@ -1,0 +1,4 @@
+pub mod Cutting
+pub mod Clocking
+pub mod Wishing
+pub mod Recording

@@ -1,0 +1,25 @@
+-- Records of entities as they are.
+use Rattle.std.specs.Prelude.{◌≡◌, ℕ, Bool, List, [], ◌∷◌, filter, nat_lt, slice_index}
+use Rattle.hop_base.specs.Edges.{upto}
+use Rattle.hop_base.specs.declared.records.Rec.{Rec}
+
+-- the record is of this entity, at this version and with this clock
+pub record IsRecordAt (versions : ℕ → ℕ) (clocks : ℕ → ℕ → ℕ) (x : ℕ) (rec : Rec) : Type 0 where
+  pub entity : rec.entity ≡ x
+  pub version : rec.version ≡ versions x
+  pub stamp : (y : ℕ) → slice_index rec.stamp y ≡ clocks x y
+
+-- the records are of these entities, in order
+abbrev pub AreRecordsAt : (ℕ → ℕ) → (ℕ → ℕ → ℕ) → List ℕ → List Rec → Type 0
+AreRecordsAt versions clocks [] [] = Unit {0}
+AreRecordsAt versions clocks [] (rec ∷ recs) = ⊥
+AreRecordsAt versions clocks (x ∷ xs) [] = ⊥
+AreRecordsAt versions clocks (x ∷ xs) (rec ∷ recs) = IsRecordAt versions clocks x rec × AreRecordsAt versions clocks xs recs
+
+-- the entity's version is above that of its newest commit
+abbrev pub is_changed : List ℕ → List ℕ → ℕ → Bool
+is_changed newest versions x = nat_lt (slice_index newest x) (slice_index versions x)
+
+-- the entities that have changed, ascending
+abbrev pub all_changed : List ℕ → List ℕ → List ℕ
+all_changed newest versions = filter (is_changed newest versions) (upto 64)
