@@ -1,6 +1,6 @@
 -- A cut is raised as commits follow: what is kept stays what is at or above it.
-use Rattle.std.proofs.Common.{◌≡◌, ℕ, ◌+◌, ◌<◌, ◌≤◌, Bool, true, false, ◌&&◌, ◌==◌, cond, if◌then◌else◌, nat_le, List, [], ◌∷◌, ◌++◌, length, map, filter, count_by, refl, sym, ap, subst, ◌∙◌, arith, eqb-true}
-use Rattle.std.specs.List.{All, AllPairs}
+use Rattle.std.proofs.Common.{◌≡◌, ℕ, ◌+◌, ◌<◌, ◌≤◌, Bool, true, false, ◌&&◌, ◌==◌, cond, if◌then◌else◌, nat_le, List, [], ◌∷◌, ◌++◌, length, filter, count_by, refl, sym, ap, subst, ◌∙◌, arith, eqb-true}
+use Rattle.std.specs.List.{All}
 use Rattle.std.proofs.lemmas.List.{length-map, map-append}
 use Rattle.std.proofs.lemmas.List.Elements.{All-cons, All-nil}
 use Rattle.std.proofs.lemmas.List.Kept.{AllPairs-cons}

@@ -1,13 +1,12 @@
 -- Records of entities are the commits of a run.
-use Rattle.std.proofs.Common.{◌≡◌, ℕ, ◌<◌, ◌++◌, List, [], ◌∷◌, length, refl, sym, ap, ◌∙◌, slice_index}
+use Rattle.std.proofs.Common.{◌≡◌, ℕ, ◌<◌, List, sym, ◌∙◌, slice_index}
 use Rattle.hop_base.specs.declared.records.Rec.{Rec}
-use Rattle.hop_model.specs.Choices.{Commit}
-use Rattle.hop_model.specs.Histories.{Run, commit_of, commits_of, version_of}
-use Rattle.cut_laws.specs.Records.{commit_of as rec_commit, commits_of as rec_commits}
+use Rattle.hop_model.specs.Histories.{Run, commit_of, version_of}
+use Rattle.cut_laws.specs.Records.{commit_of as rec_commit}
 use Rattle.trace_parts.specs.Clocks.{clock_at}
 use Rattle.trace_parts.specs.declared.clocks.Clocks.{Clocks}
 use Rattle.trace_steps.specs.Keeping.{HasClocks}
-use Rattle.trace_steps.specs.Recording.{AreRecordsAt, IsRecordAt}
+use Rattle.trace_steps.specs.Recording.{IsRecordAt}
 
 pub record_same : (r : Run) (versions : List ℕ) (clocks : Clocks) (x : ℕ) (rec : Rec) → x < 64 → ((x : ℕ) → version_of r x ≡ slice_index versions x) → HasClocks r clocks → IsRecordAt (slice_index versions) (clock_at clocks) x rec → rec_commit rec ≡ commit_of r x
 record_same r versions clocks x rec low same has is = λ i. record {

@@ -1,5 +1,5 @@
 -- What wishes rest on goes on with each kind of entry.
-use Rattle.std.proofs.Common.{◌≡◌, ℕ, ◌<◌, Bool, true, false, not, ◌&&◌, ◌||◌, ◌==◌, if◌then◌else◌, nat_le, List, Option, Some, None, slice_index, refl, sym, ap, ◌∙◌}
+use Rattle.std.proofs.Common.{◌≡◌, ℕ, ◌<◌, Bool, true, false, not, ◌&&◌, ◌||◌, ◌==◌, if◌then◌else◌, List, Option, Some, None, slice_index, sym, ap, ◌∙◌}
 use Rattle.hop_base.specs.declared.histories.Entry.{Entry}
 use Rattle.hop_model.specs.Histories.{Run, after_birth, after_snap, after_stable, after_step, asked_by, is_full, noting, owing_births, version_of, with_asked, writes}
 use Rattle.hop_model.specs.Scripts.{Script}

@@ -1,5 +1,5 @@
 -- Records of entities as they are.
-use Rattle.std.specs.Prelude.{◌≡◌, ℕ, Bool, List, [], ◌∷◌, filter, nat_lt, slice_index}
+use Rattle.std.specs.Prelude.{◌≡◌, ℕ, Bool, List, [], ◌∷◌, Option, filter, find, nat_lt, slice_index}
 use Rattle.hop_base.specs.Edges.{upto}
 use Rattle.hop_base.specs.declared.records.Rec.{Rec}
 
@@ -23,3 +23,7 @@ is_changed newest versions x = nat_lt (slice_index newest x) (slice_index versio
 -- the entities that have changed, ascending
 abbrev pub all_changed : List ℕ → List ℕ → List ℕ
 all_changed newest versions = filter (is_changed newest versions) (upto 64)
+
+-- the first of them
+unfoldable pub first_changed : List ℕ → List ℕ → Option ℕ
+first_changed newest versions = find (is_changed newest versions) (upto 64)

@@ -1,6 +1,12 @@
-//! A checker of histories: the commits that each entry makes, and the laws by which a run goes on.
+//! A checker of histories, entry by entry: which may follow, by plain states, versions, clocks, wishes and the cut.
 #![tactic(auto)]
 
+mod checker;
 mod commits;
+mod queries;
+mod snaps;
 
+pub use checker::Checker;
 pub use commits::{commit_one, record_of};
+pub use queries::{every_at, has_wish, may_commit};
+pub use snaps::{snap, try_record};

@@ -1,0 +1,85 @@
+-- Where a checker stands: behind a legal run, with all that the rules look at.
+use Rattle.std.specs.Prelude.{◌≡◌, ℕ, ◌<◌, ◌≤◌, ◌^◌, true, List, [], ◌∷◌, ◌++◌, is_some, slice_index}
+use Rattle.hop_base.specs.declared.histories.Entry.{Entry}
+use Rattle.hop_base.specs.declared.histories.Event.{Event}
+use Rattle.history_model.specs.Born.{AreEdges, AreOfOneKind}
+use Rattle.history_model.specs.Events.{Has}
+use Rattle.history_model.specs.Plains.{atlas_of, cells_of}
+use Rattle.hop_model.specs.Histories.{IsLegalRun, May, MayCommit, Policy, Run, births_owed, run_after, start_run}
+use Rattle.hop_model.specs.Scripts.{Script}
+use Rattle.hop_model.specs.Soundness.{IsSound}
+use Rattle.hop_model.specs.State.{KernelState, Supply}
+use Rattle.hop_model.specs.Vectors.{StampsBelow}
+use Rattle.run_laws.specs.Versions.{OnlyBelow64}
+use Rattle.script_form.specs.Rules.{IsScript}
+use Rattle.sound_runs.specs.Kinds.{NamesNoLocus}
+use Rattle.trace_steps.specs.Keeping.{HasClocks, HasCuts, HasWishes}
+use Rattle.trace_steps.specs.declared.checker.Checker.{Checker}
+
+-- a legal run of an allowed script, from a sound state whose versions can rise
+pub record IsRunFrom (s : Supply) (policy : Policy) (script : Script) (w : KernelState) (es : List Entry) : Type 0 where
+  pub rules : IsScript script
+  pub kinds : NamesNoLocus script w
+  pub sound : IsSound (λ x. (w x).cell)
+  pub below : StampsBelow w
+  pub narrow : OnlyBelow64 (λ x. (w x).version)
+  pub low : (x : ℕ) → (w x).version ≤ 2 ^ 62
+  pub legal : IsLegalRun s policy w script es
+
+-- what the rules look at beside the state
+pub record HasMarks (script : Script) (r : Run) (c : Checker) : Type 0 where
+  pub began : r.began ≡ c.began
+  pub owed : r.owed ≡ c.owed
+  pub short : r.short ≡ c.short
+  pub made : (x : ℕ) → x < 64 → r.steps x ≡ slice_index c.made x
+  pub births : births_owed script r ≡ c.births_left
+  pub tried : is_some r.tried ≡ c.tried
+
+-- all that they look at
+pub record Keeps (s : Supply) (script : Script) (r : Run) (c : Checker) : Type 0 where
+  pub has : Has r.state (cells_of s c.state) c.versions
+  pub sound : IsSound (cells_of s c.state)
+  pub edges : AreEdges c.state.atlas.edges.items
+  pub clocks : HasClocks r c.clocks
+  pub wishes : HasWishes r c.wishes
+  pub cuts : HasCuts r c.cuts
+  pub marks : HasMarks script r c
+  pub kinds : r.began ≡ true → AreOfOneKind (atlas_of c.state.atlas) script
+
+-- what the rules look at after these entries, from this state
+abbrev pub run_of : Supply → Script → KernelState → List Entry → Run
+run_of s script w es = run_after s script (start_run w) es
+
+-- THE CHECKER STANDS behind these entries, from this state
+pub record Stands (s : Supply) (policy : Policy) (script : Script) (w : KernelState) (c : Checker) (es : List Entry) : Type 0 where
+  pub run : IsRunFrom s policy script w es
+  pub keeps : Keeps s script (run_of s script w es) c
+
+-- somewhere
+abbrev pub IsStanding : Supply → Policy → Script → Checker → Type 0
+IsStanding s policy script c = (w : KernelState) × (es : List Entry) × Stands s policy script w c es
+
+-- THE ENTRY MAY FOLLOW, with this event and actor, and the checker stands behind it
+pub record Follows (s : Supply) (policy : Policy) (script : Script) (w : KernelState) (es : List Entry) (event : Event) (actor : ℕ) (e : Entry) (new : Checker) : Type 0 where
+  pub made : e.event ≡ event
+  pub by : e.actor ≡ actor
+  pub may : May s policy script (run_of s script w es) e
+  pub stands : Stands s policy script w new (es ++ e ∷ [])
+
+-- wherever it stood
+abbrev pub GoesOn : Supply → Policy → Script → Checker → Event → ℕ → Entry → Checker → Type 0
+GoesOn s policy script old event actor e new = (w : KernelState) (es : List Entry) → Stands s policy script w old es → Follows s policy script w es event actor e new
+
+-- no entry with this event and actor may follow
+abbrev pub Refuses : Supply → Policy → Script → Checker → Event → ℕ → Type 0
+Refuses s policy script old event actor =
+    (w : KernelState) (es : List Entry) → Stands s policy script w old es → (e : Entry) → e.event ≡ event → e.actor ≡ actor → May s policy script (run_of s script w es) e → ⊥
+
+-- a commit of the entity may be next where the checker stands
+pub record CanCommit (policy : Policy) (c : Checker) (x : ℕ) : Type 0 where
+  pub supply : Supply
+  pub script : Script
+  pub start : KernelState
+  pub entries : List Entry
+  pub stands : Stands supply policy script start c entries
+  pub may : MayCommit policy (run_of supply script start entries) x
