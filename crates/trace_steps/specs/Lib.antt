@@ -1,3 +1,4 @@
 pub mod Keeping
 pub mod Recording
 pub mod Standing
+pub mod Asking

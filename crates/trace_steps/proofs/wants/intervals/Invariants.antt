@@ -1,0 +1,8 @@
+use Rattle.std.proofs.Common.{◌≡◌, ℕ, ◌<◌, slice_index}
+use Rattle.hop_model.specs.Histories.{every_of}
+use Rattle.hop_model.specs.State.{Supply}
+use Rattle.history_model.specs.Plains.{cells_of}
+use Rattle.trace_steps.proofs.wants.intervals.Given as goal
+
+abbrev pub invariant-loop-x : goal.invariant-loop-x
+invariant-loop-x l = (s : Supply) (k : ℕ) → k < l.x → every_of (cells_of s l.state k) ≡ slice_index l.every-items k
