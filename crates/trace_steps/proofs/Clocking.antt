@@ -21,7 +21,7 @@ use Rattle.trace_parts.specs.declared.clocks.Clocks.{Clocks}
 use Rattle.trace_steps.specs.Keeping.{HasClocks}
 
 -- a touched number is one of those below 64
-touch_low : (t : Touch) (ts : List Touch) → ((x : ℕ) → 64 ≤ x → touch_at (t ∷ ts) x ≡ None) → t.entity < 64
+pub touch_low : (t : Touch) (ts : List Touch) → ((x : ℕ) → 64 ≤ x → touch_at (t ∷ ts) x ≡ None) → t.entity < 64
 touch_low t ts low =
     let here : touch_at (t ∷ ts) t.entity ≡ Some t = ap (λ b. if b then Some t else touch_at ts t.entity) (eq-eqb t.entity t.entity refl) in
     below (λ h. apart (sym (low t.entity h) ∙ here))
@@ -32,7 +32,7 @@ touch_low t ts low =
     below : (64 ≤ t.entity → ⊥) → t.entity < 64
     below h = grind arith
 
-rest_low : (t : Touch) (ts : List Touch) → ((x : ℕ) → 64 ≤ x → touch_at (t ∷ ts) x ≡ None) → (x : ℕ) → 64 ≤ x → touch_at ts x ≡ None
+pub rest_low : (t : Touch) (ts : List Touch) → ((x : ℕ) → 64 ≤ x → touch_at (t ∷ ts) x ≡ None) → (x : ℕ) → 64 ≤ x → touch_at ts x ≡ None
 rest_low t ts low x h =
     elim (t.entity == x) as (λ b. (if b then Some t else touch_at ts x) ≡ None → touch_at ts x ≡ None) [
       | true ↦ λ e. absurd (apart e)

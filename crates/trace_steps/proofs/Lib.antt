@@ -6,3 +6,4 @@ pub mod Running
 pub mod Finding
 pub mod Wanting
 pub mod Marking
+pub mod Stepping

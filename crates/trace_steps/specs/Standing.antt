@@ -1,5 +1,5 @@
 -- Where a checker stands: behind a legal run, with all that the rules look at.
-use Rattle.std.specs.Prelude.{◌≡◌, ℕ, ◌<◌, ◌≤◌, ◌^◌, true, List, [], ◌∷◌, ◌++◌, is_some, slice_index}
+use Rattle.std.specs.Prelude.{◌≡◌, ℕ, ◌<◌, ◌≤◌, ◌^◌, true, false, None, List, [], ◌∷◌, ◌++◌, is_some, slice_index}
 use Rattle.hop_base.specs.declared.histories.Entry.{Entry}
 use Rattle.hop_base.specs.declared.histories.Event.{Event}
 use Rattle.history_model.specs.Born.{AreEdges, AreOfOneKind}
@@ -83,3 +83,15 @@ pub record CanCommit (policy : Policy) (c : Checker) (x : ℕ) : Type 0 where
   pub entries : List Entry
   pub stands : Stands supply policy script start c entries
   pub may : MayCommit policy (run_of supply script start entries) x
+
+-- a step of the locus may be next, if it is running and no wish forbids it
+pub record CanStep (c : Checker) (steps l : ℕ) : Type 0 where
+  pub born : c.births_left ≡ false
+  pub owed : c.owed ≡ None
+  pub locus : 41 ≤ l
+  pub made : slice_index c.made l < steps
+
+-- the answers of a supplier and a policy
+pub record Managers : Type 0 where
+  pub word : Supply
+  pub wish : Policy

@@ -5,10 +5,12 @@ mod checker;
 mod commits;
 mod queries;
 mod snaps;
+mod steps;
 mod wants;
 
 pub use checker::Checker;
 pub use commits::{commit_one, record_of};
 pub use queries::{every_at, has_wish, may_commit};
 pub use snaps::{snap, try_record};
+pub use steps::step;
 pub use wants::{asked_at, intervals, is_any_due, owed_at, where_ok};
