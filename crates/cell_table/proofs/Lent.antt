@@ -1,0 +1,50 @@
+-- Tables some of whose cells are lent.
+use Rattle.std.proofs.Common.{◌≡◌, ◌≢◌, ◌⊎◌, inl, inr, ℕ, Bool, true, false, ◌==◌, if◌then◌else◌, List, [], ◌∷◌, length, slice_get, Option, Some, None, refl, sym, ap, ◌∙◌, subst, arith, eqb-true, eq-eqb}
+use Rattle.kernel_cells.specs.declared.cells.Cell.{Cell}
+use Rattle.cell_table.specs.Lending.{ForPairs, IsApart, IsSameNumber, Lends, StandIn}
+
+-- the cell at this number is one of those lent
+pub record IsLent (R : Cell → Cell → Type 0) (cs cs' : List Cell) (x : ℕ) : Type 0 where
+  pub before : Cell
+  pub after : Cell
+  pub was : slice_get cs x ≡ Some before
+  pub is : slice_get cs' x ≡ Some after
+  pub at_before : before.clock.entity ≡ x
+  pub at_after : after.clock.entity ≡ x
+  pub holds : R before after
+
+-- or it stays
+pub record IsLeft (cs cs' old : List Cell) (x : ℕ) : Type 0 where
+  pub same : slice_get cs' x ≡ slice_get cs x
+  pub apart : IsApart x old
+
+differs : false ≡ true → ⊥
+differs e = cc
+
+module _ (R : Cell → Cell → Type 0) (cs cs' : List Cell) (x : ℕ) where
+  by_cells : (old new : List Cell) → ForPairs R old new → ForPairs IsSameNumber old new → StandIn cs old → StandIn cs' new → IsLent R cs cs' x ⊎ IsApart x old
+  by_cells [] [] holds numbers stood stand = inr tt
+  by_cells (c ∷ old) (d ∷ new) holds numbers stood stand =
+      elim (x == c.clock.entity) as (λ b. (x == c.clock.entity) ≡ b → IsLent R cs cs' x ⊎ IsApart x (c ∷ old)) [
+        | true ↦ λ is. (let here = eqb-true x c.clock.entity is in inl (record {
+          before = c;
+          after = d;
+          was = ap (slice_get cs) here ∙ stood.0;
+          is = ap (slice_get cs') (here ∙ sym numbers.0) ∙ stand.0;
+          at_before = sym here;
+          at_after = numbers.0 ∙ sym here;
+          holds = holds.0;
+        }))
+        | false ↦ λ is. elim (by_cells old new holds.1 numbers.1 stood.1 stand.1) as (λ _. IsLent R cs cs' x ⊎ IsApart x (c ∷ old)) [
+          | inl lent ↦ inl lent
+          | inr apart ↦ inr ((λ e. absurd (differs (sym is ∙ eq-eqb x c.clock.entity e))), apart)
+        ]
+      ] refl
+  by_cells [] (d ∷ new) holds numbers stood stand = absurd holds
+  by_cells (c ∷ old) [] holds numbers stood stand = absurd holds
+
+  pub spot : (old new : List Cell) → Lends cs cs' old new → ForPairs R old new → IsLent R cs cs' x ⊎ IsLeft cs cs' old x
+  spot old new lends holds = elim (by_cells old new holds lends.numbers lends.stood lends.stand) as (λ _. IsLent R cs cs' x ⊎ IsLeft cs cs' old x) [
+    | inl lent ↦ inl lent
+    | inr apart ↦ inr (record { same = lends.others x apart; apart = apart })
+  ]

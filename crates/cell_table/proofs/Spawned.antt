@@ -1,0 +1,51 @@
+-- The locus that a step spawns is born.
+use Rattle.std.proofs.Common.{◌≡◌, ℕ, ◌+◌, ◌<◌, false, true, ◌==◌, nat_lt, List, [], ◌∷◌, length, Option, Some, None, option_map, refl, sym, ap, ◌∙◌, subst, arith, lt-ltb}
+use Rattle.std.proofs.lemmas.Bool.Decides.{nat_tests}
+use Rattle.hop_base.specs.declared.histories.Entry.{Entry}
+use Rattle.hop_base.specs.declared.histories.Event.TheVariants.{Step}
+use Rattle.hop_base.specs.declared.instructions.Condition.TheVariants.{Running}
+use Rattle.hop_model.specs.Acts.{Act, wanted}
+use Rattle.hop_model.specs.Changes.{Access, carried_by, changed, insert_access, ordered}
+use Rattle.hop_model.specs.Outcomes.{Outcome, outcome}
+use Rattle.hop_model.specs.State.{AtlasState, Cell, EntityState, KernelState, LocusState, NotBorn, AtlasCell, LocusCell, Supply}
+use Rattle.hop_model.specs.Steps.{accesses_of, step, with_atlas_access, with_newborn_access, with_other_access}
+use Rattle.kernel_calls.specs.Calls.{WantsBirth, is_spawn}
+use Rattle.event_clocks.specs.Clocks.{writing}
+use Rattle.event_clocks.proofs.Changing.{access_third, written_at}
+use Rattle.kernel_cells.proofs.Stepping.{step_by}
+use Rattle.birth_steps.proofs.BirthSteps.{Touches, in_state, spawn_touches}
+use Rattle.birth_steps.proofs.Newborns.{bears_locus}
+
+some_state : (v u : KernelState) → Some v ≡ Some u → v ≡ u
+some_state v u e = cc
+
+accesses_bearing : (me x : ℕ) (act : Act) (o : Outcome) (k : Cell) → Touches act → o.newborn ≡ Some (x, k)
+    → ordered (accesses_of me act o) ≡ insert_access (writing 0 (AtlasCell o.atlas)) (insert_access (writing x k) (writing me (LocusCell o.locus) ∷ []))
+accesses_bearing me x act o k h born =
+    (λ i. ordered (with_atlas_access (h.atlas i) o.atlas (with_other_access (h.other i) o.other (with_newborn_access (born i) (writing me (LocusCell o.locus) ∷ [])))))
+
+high_accesses : (me x : ℕ) (i k j : Cell) → 0 < me → me < x → insert_access (writing 0 i) (insert_access (writing x k) (writing me j ∷ [])) ≡ writing 0 i ∷ writing me j ∷ writing x k ∷ []
+high_accesses me x i k j some lt =
+    let no : nat_lt x me ≡ false = grind (arith, nat_tests) in
+    let far : (x == me) ≡ false = grind (arith, nat_tests) in
+    rw (no, far) (rw (lt-ltb 0 me some) refl)
+
+pub spawned : (s : Supply) (me : ℕ) (w v : KernelState) (e : Entry) (l : LocusState) (a : AtlasState) → step s me w ≡ Some (e, v) → (w me).cell ≡ LocusCell l → l.condition ≡ Running → WantsBirth is_spawn l
+    → (w 0).cell ≡ AtlasCell a → length a.loci < 23 → 0 < me → me < length a.loci + 41 → (v (length a.loci + 41)).cell ≡ NotBorn → ⊥
+spawned s me w v e l a is cell runs wants there few some lt none =
+    let x = length a.loci + 41 in
+    let o = outcome s l (wanted me l) a NotBorn in
+    let bears = bears_locus s me l a NotBorn wants few in
+    let touches = spawn_touches me l wants in
+    let i = AtlasCell o.atlas in
+    let j = LocusCell o.locus in
+    let k = LocusCell bears.0 in
+    let accesses : List Access = writing 0 i ∷ writing me j ∷ writing x k ∷ [] in
+    let steps : step s me w ≡ Some (carried_by w Step me accesses o.answer) =
+    step_by s w me l (wanted me l) o accesses cell runs refl (in_state s w l (wanted me l) a touches there)
+    (accesses_bearing me x (wanted me l) o k touches bears.1 ∙ high_accesses me x i k j some lt) in
+    let same : v ≡ changed w accesses = some_state v (changed w accesses) (ap (λ (o : Option (Entry × KernelState)). option_map (λ (r : Entry × KernelState). r.1) o) (sym is ∙ steps)) in
+    clash bears.0 (sym (ap (λ (e : EntityState). e.cell) (written_at w accesses x (writing x k) k (access_third (writing 0 i) (writing me j) (writing x k) [] some lt) refl)) ∙ ap (λ (u : KernelState). (u x).cell) (sym same) ∙ none)
+  where
+    clash : (m : LocusState) → LocusCell m ≡ NotBorn → ⊥
+    clash m e = cc

@@ -1,0 +1,56 @@
+// Steps of a locus over the table that touch it alone, or it and one other entity without a look.
+ghost use Rattle.std.specs.Prelude.{◌<◌};
+ghost use Rattle.step_plans.specs.declared.plans.Plan.TheVariants as plan;
+ghost use Rattle.cell_table.specs.Steps.{IsInOrder, IsPlannedAt, StepsQuietly};
+ghost use Rattle.cell_table.specs.Tables.{AreFewWrites};
+
+use hop_base::{Entity, Entry, Instr};
+use kernel_cells::Cell;
+use step_cells::{advance_alone, advance_beside};
+
+/// A step that touches the locus alone.
+pub(crate) fn go_alone(cells: &mut [Cell], me: Entity) -> Entry
+    requires order { IsInOrder cells.old }
+    requires planned { IsPlannedAt cells.old me plan.Alone }
+    requires few { AreFewWrites cells.old }
+    ensures { StepsQuietly me cells.old cells.new result }
+{
+    advance_alone(&mut cells[me.number() as usize])
+}
+
+/// A step beside an entity with a lower number.
+fn go_beside_lower(cells: &mut [Cell], me: Entity, other: Entity, instr: Instr) -> Entry
+    requires order { IsInOrder cells.old }
+    requires planned { IsPlannedAt cells.old me (plan.Beside other instr) }
+    requires few { AreFewWrites cells.old }
+    requires lower { other < me }
+    ensures { StepsQuietly me cells.old cells.new result }
+{
+    let (front, back) = cells.split_at_mut(me.number() as usize);
+    advance_beside(&mut back[0], &mut front[other.number() as usize], instr)
+}
+
+/// A step beside an entity with a higher number.
+fn go_beside_higher(cells: &mut [Cell], me: Entity, other: Entity, instr: Instr) -> Entry
+    requires order { IsInOrder cells.old }
+    requires planned { IsPlannedAt cells.old me (plan.Beside other instr) }
+    requires few { AreFewWrites cells.old }
+    requires higher { me < other }
+    ensures { StepsQuietly me cells.old cells.new result }
+{
+    let (front, back) = cells.split_at_mut(other.number() as usize);
+    advance_beside(&mut front[me.number() as usize], &mut back[0], instr)
+}
+
+/// A step beside another entity, which is neither a look nor a mapping.
+pub(crate) fn go_beside(cells: &mut [Cell], me: Entity, other: Entity, instr: Instr) -> Entry
+    requires order { IsInOrder cells.old }
+    requires planned { IsPlannedAt cells.old me (plan.Beside other instr) }
+    requires few { AreFewWrites cells.old }
+    ensures { StepsQuietly me cells.old cells.new result }
+{
+    if other.number() < me.number() {
+        return go_beside_lower(cells, me, other, instr);
+    }
+    go_beside_higher(cells, me, other, instr)
+}

@@ -1,0 +1,44 @@
+// The step of a locus over the table that looks at a container.
+ghost use Rattle.std.specs.Prelude.{◌≡◌, IfErr, IfOk, OnErr, OnOk};
+ghost use Rattle.fault_paging.specs.Calls.{IsCausedBy};
+ghost use Rattle.step_plans.specs.declared.plans.Plan.TheVariants as plan;
+ghost use Rattle.cell_table.specs.Steps.{EntersStep, GoesOn, IsPlannedAt, StaysAtFault};
+ghost use Rattle.cell_table.specs.Tables.{AreClean, AreFewWrites, IsOrderly};
+
+use fault_paging::PageFault;
+use hop_base::{Entity, Entry};
+use kernel_cells::Cell;
+use manager_gate::{Gate, Policy, Supplier};
+use page_store::PageStore;
+use step_cells::advance_looking;
+
+/// A step that makes one look of a load or a store at a container.
+pub(crate) fn go_look<B: PageStore, S: Supplier, P: Policy>(
+    cells: &mut [Cell],
+    me: Entity,
+    other: Entity,
+    store: &mut B,
+    gate: &Gate<S, P>,
+) -> Result<Entry, PageFault>
+    requires keeps { S.keeps gate.now.supply }
+    requires orderly { IsOrderly (B.held store.old) cells.old }
+    requires planned { IsPlannedAt cells.old me (plan.Look other) }
+    requires few { AreFewWrites cells.old }
+    requires clean { B.tells → AreClean (S.word gate.now.supply) (B.words store.old) cells.old }
+    ensures step { B.tells → IfOk result (GoesOn (S.word gate.now.supply) (B.words store.old) (B.words store.new) me cells.old cells.new) }
+    ensures orderly { IsOrderly (B.held store.new) cells.new }
+    ensures enters { IfOk result (EntersStep me cells.old cells.new) }
+    ensures faulted { OnErr result (StaysAtFault B.tells (S.word gate.now.supply) (B.words store.old) (B.words store.new) cells.old cells.new) }
+    ensures kept { B.kept_names store.new ≡ B.kept_names store.old }
+    ensures cause { IfErr result (IsCausedBy (B.free store.old) (B.faults store.old) (B.faults store.new) (B.is_shut store.old) (B.is_shut store.new)) }
+    ensures same_shut { OnOk result (B.is_shut store.new ≡ B.is_shut store.old) }
+    ensures between { B.Pages store.old store.new }
+{
+    let (front, back) = cells.split_at_mut(me.number() as usize);
+    advance_looking(
+        &mut back[0],
+        &mut front[other.number() as usize],
+        store,
+        gate,
+    )
+}

@@ -1,0 +1,108 @@
+// The step of a locus over the table.
+ghost use Rattle.std.specs.Prelude.{◌≡◌, ◌↔◌, ℕ, List, None, Some, IfErr, IfOk, IsErrOf, OnErr, OnOk, slice_get};
+ghost use Rattle.hop_model.specs.State.{Supply};
+ghost use Rattle.page_store.specs.declared.faults.PageFault.{PageFault as AFault};
+ghost use Rattle.fault_paging.specs.Calls.{IsCausedBy};
+ghost use Rattle.step_plans.specs.Plans.{idle_of};
+ghost use Rattle.step_plans.specs.declared.idle.Idle.{Idle as AnIdle};
+ghost use Rattle.cell_table.specs.Steps.{EntersStep, GoesOn, IsInOrder, IsPlannedAt, StaysAtFault};
+ghost use Rattle.cell_table.specs.Tables.{left_of, state_in, AreClean, AreFewWrites, IsOrderly};
+
+use crate::bearings::{go_making, go_mapping, go_spawning};
+use crate::besides::{go_alone, go_beside};
+use crate::looks::go_look;
+use fault_paging::PageFault;
+use hop_base::{Entity, Entry};
+use kernel_cells::Cell;
+use manager_gate::{Gate, Policy, Supplier};
+use page_store::PageStore;
+use step_plans::{Idle, Plan, next_plan};
+
+/// Why a locus made no step.
+#[derive(Clone, Copy, PartialEq, Eq, Debug)]
+pub enum StepFault {
+    /// It can't step.
+    Idle(Idle),
+    /// The look of a load or a store met a fault of paging.
+    Paging(PageFault),
+}
+
+/// What the next step of the locus touches, or why it makes none.
+fn plan_at(cells: &[Cell], me: Entity) -> Result<Plan, Idle>
+    requires order { IsInOrder cells.now }
+    ensures idle { (s : Supply) → (words : ℕ → List ℕ) → IfErr result (λ why. idle_of (left_of (slice_get cells.now me)) (state_in s words cells.now me).cell ≡ Some why) }
+    ensures goes { (s : Supply) → (words : ℕ → List ℕ) → IfOk result (λ _. idle_of (left_of (slice_get cells.now me)) (state_in s words cells.now me).cell ≡ None) }
+    ensures plans { IfOk result (IsPlannedAt cells.now me) }
+{
+    next_plan(&cells[me.number() as usize])
+}
+
+/// The step of this plan.
+fn go<B: PageStore, S: Supplier, P: Policy>(
+    cells: &mut [Cell],
+    me: Entity,
+    next: Plan,
+    store: &mut B,
+    gate: &Gate<S, P>,
+) -> Result<Entry, PageFault>
+    requires keeps { S.keeps gate.now.supply }
+    requires orderly { IsOrderly (B.held store.old) cells.old }
+    requires planned { IsPlannedAt cells.old me next }
+    requires few { AreFewWrites cells.old }
+    requires clean { B.tells → AreClean (S.word gate.now.supply) (B.words store.old) cells.old }
+    ensures step { B.tells → IfOk result (GoesOn (S.word gate.now.supply) (B.words store.old) (B.words store.new) me cells.old cells.new) }
+    ensures orderly { IsOrderly (B.held store.new) cells.new }
+    ensures enters { IfOk result (EntersStep me cells.old cells.new) }
+    ensures faulted { OnErr result (StaysAtFault B.tells (S.word gate.now.supply) (B.words store.old) (B.words store.new) cells.old cells.new) }
+    ensures kept { B.kept_names store.new ≡ B.kept_names store.old }
+    ensures cause { IfErr result (IsCausedBy (B.free store.old) (B.faults store.old) (B.faults store.new) (B.is_shut store.old) (B.is_shut store.new)) }
+    ensures same_shut { OnOk result (B.is_shut store.new ≡ B.is_shut store.old) }
+    ensures between { B.Pages store.old store.new }
+{
+    match next {
+        Plan::Alone => Ok(go_alone(cells, me)),
+        Plan::Beside(other, instr) => Ok(go_beside(cells, me, other, instr)),
+        Plan::Look(other) => go_look(cells, me, other, store, gate),
+        Plan::Mapping(other, instr) => Ok(go_mapping(cells, me, other, instr)),
+        Plan::Make => Ok(go_making(cells, me)),
+        Plan::Spawn => Ok(go_spawning(cells, me)),
+    }
+}
+
+/// One step of the locus with this number, over the cells that it touches: the locus, and at most the atlas and one other.
+///
+/// `Idle` comes exactly where the locus can't step: it isn't born or no locus, it is halted or stopped, or it has no step left, in this
+/// order; then nothing is changed. `Paging` comes of a load or a store alone, and changes nothing in the model, so that the same step
+/// can be tried again. It takes no memory, and looks at no other cell.
+pub fn advance<B: PageStore, S: Supplier, P: Policy>(
+    cells: &mut [Cell],
+    me: Entity,
+    store: &mut B,
+    gate: &Gate<S, P>,
+) -> Result<Entry, StepFault>
+    requires keeps { S.keeps gate.now.supply }
+    requires orderly { IsOrderly (B.held store.old) cells.old }
+    requires few { AreFewWrites cells.old }
+    requires clean { B.tells → AreClean (S.word gate.now.supply) (B.words store.old) cells.old }
+    ensures idle { (s : Supply) → (words : ℕ → List ℕ) → (why : AnIdle)
+        → IsErrOf result (StepFault.Idle why) ↔ (idle_of (left_of (slice_get cells.old me)) (state_in s words cells.old me).cell ≡ Some why) }
+    ensures still { (why : AnIdle) → IsErrOf result (StepFault.Idle why) → (cells.new ≡ cells.old) × (store.new ≡ store.old) }
+    ensures step { B.tells → IfOk result (GoesOn (S.word gate.now.supply) (B.words store.old) (B.words store.new) me cells.old cells.new) }
+    ensures orderly { IsOrderly (B.held store.new) cells.new }
+    ensures enters { IfOk result (EntersStep me cells.old cells.new) }
+    ensures faulted { (f : AFault) → IsErrOf result (StepFault.Paging f)
+        → StaysAtFault B.tells (S.word gate.now.supply) (B.words store.old) (B.words store.new) cells.old cells.new }
+    ensures kept { B.kept_names store.new ≡ B.kept_names store.old }
+    ensures cause { (f : AFault) → IsErrOf result (StepFault.Paging f)
+        → IsCausedBy (B.free store.old) (B.faults store.old) (B.faults store.new) (B.is_shut store.old) (B.is_shut store.new) f }
+    ensures same_shut { OnOk result (B.is_shut store.new ≡ B.is_shut store.old) }
+    ensures between { B.Pages store.old store.new }
+{
+    match plan_at(cells, me) {
+        Err(why) => Err(StepFault::Idle(why)),
+        Ok(next) => match go(cells, me, next, store, gate) {
+            Ok(entry) => Ok(entry),
+            Err(fault) => Err(StepFault::Paging(fault)),
+        },
+    }
+}
