@@ -7,3 +7,4 @@ pub mod Finding
 pub mod Wanting
 pub mod Marking
 pub mod Stepping
+pub mod Stabling

@@ -1,5 +1,5 @@
 -- Records of entities as they are.
-use Rattle.std.specs.Prelude.{◌≡◌, ℕ, Bool, List, [], ◌∷◌, Option, filter, find, nat_lt, slice_index}
+use Rattle.std.specs.Prelude.{◌≡◌, ℕ, Bool, List, [], ◌∷◌, ◌++◌, Option, filter, find, nat_lt, slice_index}
 use Rattle.hop_base.specs.Edges.{upto}
 use Rattle.hop_base.specs.declared.records.Rec.{Rec}
 
@@ -27,3 +27,9 @@ all_changed newest versions = filter (is_changed newest versions) (upto 64)
 -- the first of them
 unfoldable pub first_changed : List ℕ → List ℕ → Option ℕ
 first_changed newest versions = find (is_changed newest versions) (upto 64)
+
+-- the list goes on with the records of the entities below n that have changed
+pub record Appends (newest versions : List ℕ) (clocks : ℕ → ℕ → ℕ) (n : ℕ) (old new : List Rec) : Type 0 where
+  pub news : List Rec
+  pub records : AreRecordsAt (slice_index versions) clocks (filter (is_changed newest versions) (upto n)) news
+  pub list : new ≡ old ++ news

@@ -1,5 +1,5 @@
 -- Where a checker stands: behind a legal run, with all that the rules look at.
-use Rattle.std.specs.Prelude.{◌≡◌, ℕ, ◌<◌, ◌≤◌, ◌^◌, true, false, None, List, [], ◌∷◌, ◌++◌, is_some, slice_index}
+use Rattle.std.specs.Prelude.{◌≡◌, ℕ, ◌<◌, ◌≤◌, ◌^◌, true, false, None, Some, List, [], ◌∷◌, ◌++◌, is_some, slice_index}
 use Rattle.hop_base.specs.declared.histories.Entry.{Entry}
 use Rattle.hop_base.specs.declared.histories.Event.{Event}
 use Rattle.history_model.specs.Born.{AreEdges, AreOfOneKind}
@@ -95,3 +95,13 @@ pub record CanStep (c : Checker) (steps l : ℕ) : Type 0 where
 pub record Managers : Type 0 where
   pub word : Supply
   pub wish : Policy
+
+-- a Stable of the actor is owed where the checker stands, and was not cut short
+pub record OwesStable (policy : Policy) (c : Checker) (actor : ℕ) : Type 0 where
+  pub supply : Supply
+  pub script : Script
+  pub start : KernelState
+  pub entries : List Entry
+  pub stands : Stands supply policy script start c entries
+  pub owed : c.owed ≡ Some actor
+  pub whole : c.short ≡ false

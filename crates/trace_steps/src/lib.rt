@@ -5,6 +5,7 @@ mod checker;
 mod commits;
 mod queries;
 mod snaps;
+mod stables;
 mod steps;
 mod wants;
 
@@ -12,5 +13,6 @@ pub use checker::Checker;
 pub use commits::{commit_one, record_of};
 pub use queries::{every_at, has_wish, may_commit};
 pub use snaps::{snap, try_record};
+pub use stables::stable;
 pub use steps::step;
 pub use wants::{asked_at, intervals, is_any_due, owed_at, where_ok};

@@ -14,7 +14,7 @@ use hop_base::{Answer, Entity, Entry, Event, Touched};
 use std::alloc::AllocError;
 
 /// An entry that touches nothing.
-fn mark(event: Event, actor: Entity, version: u64) -> Entry
+pub(crate) fn mark(event: Event, actor: Entity, version: u64) -> Entry
     ensures { result ≡ model_mark event actor version }
 {
     Entry {
