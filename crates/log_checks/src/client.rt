@@ -7,6 +7,7 @@ ghost use Rattle.log_turn.specs.Standing.{Stands, epoch_of, has_failed, place_of
 ghost use Rattle.log_checks.specs.Uses.{IsOneOf};
 
 use commit_log::LogFault;
+use disk_tally::Tally;
 use disk_trait::{Disk, DiskFault};
 use hop_base::Rec;
 use image_blocks::{Area, body_of, closed_gate, gate_of, header_block, header_of, open_gate};
@@ -25,7 +26,7 @@ pub fn begin_log<D: Disk>(disk: &mut D) -> Result<Areas, DiskFault>
     disk.write(body_of(Area::A, 0) + 1, &closed_gate())?;
     disk.write(gate_of(Area::A), &open_gate())?;
     disk.sync()?;
-    Ok(Areas::new(Area::A, 1, 0))
+    Ok(Areas::new(Area::A, 1, 0, Tally(0)))
 }
 
 /// Appends a record, and then makes the kept records the whole log. A stop at any moment leaves the log as it was, the log

@@ -2,6 +2,7 @@ use crate::client::{append_and_turn, begin_log};
 use crate::images::{append, empty_image, log_at, log_of, open_b, record, records, turn};
 use crate::quiet_disk::QuietDisk;
 use commit_log::LogFault;
+use disk_tally::Tally;
 use disk_trait::{Disk, MemoryDisk, Torn};
 use hop_base::Rec;
 use image_blocks::{Area, POOL_AT, superblock};
@@ -46,7 +47,7 @@ fn last_slot_fails(
     all: &[Rec],
 ) -> Result<(), Fail> {
     for failing in 1..=4 {
-        let mut areas = Areas::new(Area::A, 1, 639);
+        let mut areas = Areas::new(Area::A, 1, 639, Tally(0));
         let fault = Err(LogFault::WriteFault);
         assert_eq!(rt; append(&mut areas, disk, &record(640))?, fault);
         is_shut(rt, &mut areas, disk)?;
@@ -63,7 +64,7 @@ fn a_full_log_is_turned_and_turned_back(rt: HostRuntime) -> Result<(), Fail> {
     let alloc = rt.alloc();
     // Five calls made the image, and each record takes five, but the last has no gate behind it.
     let mut disk = empty_image(alloc, 5000, &[3201, 3203, 3206, 3210])?;
-    let mut areas = Areas::new(Area::A, 1, 0);
+    let mut areas = Areas::new(Area::A, 1, 0, Tally(0));
     let all = records(alloc, 1, 640)?;
     append_all(&rt, &mut areas, &mut disk, &records(alloc, 1, 639)?)?;
     last_slot_fails(&rt, alloc, &mut disk, &all)?;
@@ -103,7 +104,7 @@ fn a_call_of_an_append_that_fails_shuts_the_log(rt: HostRuntime) -> Result<(), F
     // An image is five calls, and each append five; the record's gate is the fourth.
     for failing in 11..=15 {
         let mut disk = empty_image(alloc, 40, &[failing])?;
-        let mut areas = Areas::new(Area::A, 1, 0);
+        let mut areas = Areas::new(Area::A, 1, 0, Tally(0));
         append_all(&rt, &mut areas, &mut disk, &records(alloc, 1, 1)?)?;
         assert_eq!(rt;
             append(&mut areas, &mut disk, &record(2))?,
@@ -130,7 +131,7 @@ fn turn_fails(
     alloc: Global,
     is_old: bool,
 ) -> Result<(), Fail> {
-    let mut areas = Areas::new(Area::A, 1, 0);
+    let mut areas = Areas::new(Area::A, 1, 0, Tally(0));
     let two = records(alloc, 1, 2)?;
     append_all(rt, &mut areas, disk, &two)?;
     let kept = [record(2)];
@@ -195,7 +196,7 @@ fn a_stop_at_any_moment_leaves_the_old_log_or_the_new_one(rt: HostRuntime) -> Re
         if was_open {
             open_b(&mut disk)?;
         }
-        let mut areas = Areas::new(Area::A, 1, 0);
+        let mut areas = Areas::new(Area::A, 1, 0, Tally(0));
         append_all(&rt, &mut areas, &mut disk, &two)?;
         let start = disk.memory.moments();
         append_all(&rt, &mut areas, &mut disk, &records(alloc, 3, 3)?)?;

@@ -32,19 +32,20 @@ impl Areas {
     ghost use Rattle.commit_log.specs.Answers.{AppendAnswers};
     ghost use Rattle.commit_log.specs.Standing.{HasGates};
 
-    /// The areas, of which this one is active, with this epoch up to 2^62 and so many slots used, up to 640.
-    pub fn new(active: Area, epoch: u64, used: u16) -> Areas
+    /// The areas, of which this one is active, with this epoch up to 2^62 and so many slots used, up to 640. Writes and syncs are counted
+    /// behind those of the tally.
+    pub fn new(active: Area, epoch: u64, used: u16, tally: Tally) -> Areas
         requires few { used ≤ slot_count }
         requires epoch { epoch ≤ last_number }
         ensures area { area_of result ≡ active }
         ensures used { used_of result ≡ used }
         ensures epoch { epoch_of result ≡ epoch }
         ensures working { has_failed result ≡ false }
-        ensures none_begun { begun_of result ≡ 0 }
+        ensures begun { begun_of result ≡ tally.0 }
     {
         Areas {
             log: Log::new(active, used),
-            tally: Tally(0),
+            tally,
             epoch,
         }
     }
@@ -71,7 +72,7 @@ impl Areas {
         self.log.used()
     }
 
-    /// How many writes and syncs this value has begun, failed ones included. It stands still at 2^64 - 1.
+    /// How many writes and syncs were begun, those of the tally at the start and failed ones included. It stands still at 2^64 - 1.
     pub fn begun(&self) -> u64
         ensures { result ≡ begun_of self.now }
     {

@@ -1,3 +1,4 @@
+pub mod Causes
 mod Wanted
 mod Holding
 mod Shelving

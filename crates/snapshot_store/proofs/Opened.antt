@@ -1,6 +1,6 @@
 -- A store as it is opened: what its memory is, and where its log stands.
-use Rattle.std.proofs.Common.{◌≡◌, ℕ, zero, suc, ◌+◌, ◌<◌, ◌≤◌, Bool, true, false, if◌then◌else◌, nat_lt, List, [], ◌∷◌, ◌++◌, filter, length, map, replicate, Some, None, refl, sym, ap, subst, ◌∙◌, arith, append_assoc}
-use Rattle.std.specs.Prelude.{slice_get, slice_index, slice_index_or}
+use Rattle.std.proofs.Common.{◌≡◌, ℕ, zero, suc, ◌+◌, ◌<◌, ◌≤◌, Bool, true, false, if◌then◌else◌, nat_lt, List, [], ◌∷◌, ◌++◌, filter, length, map, replicate, Some, None, refl, sym, ap, subst, ◌∙◌, arith, append_assoc, lit<}
+use Rattle.std.specs.Prelude.{Err, IfErr, IsErrAnd, IsErrOf, Ok, Result, slice_get, slice_index, slice_index_or}
 use Rattle.std.specs.List.{AllByRecursion, AllPairs}
 use Rattle.std.proofs.lemmas.Bool.{false≢true, lt-ltb}
 use Rattle.std.proofs.lemmas.Bool.Decides.{nat_tests}
@@ -8,15 +8,15 @@ use Rattle.std.proofs.lemmas.List.{get_or_past, length-map, length-replicate, ma
 use Rattle.cut_finder.specs.Records.{IsAscending}
 use Rattle.cut_laws.specs.Agreeing.{nothing}
 use Rattle.cut_laws.specs.Records.{AgreeInRecs, commits_of}
+use Rattle.disk_trait.specs.Counts.{Rose}
 use Rattle.disk_trait.specs.Disk.{Elapses, LeavesNoMore, Only, Ticks}
 use Rattle.disk_trait.specs.Image.{Image, IsImage, block_at}
 use Rattle.disk_trait.proofs.Phases.{LeavesOnly-start, LeavesOnly-sync, Moments}
-use Rattle.disk_trait.proofs.Ticks.{Ticks-one}
 use Rattle.hop_base.specs.declared.records.Cut.{Cut}
 use Rattle.hop_base.specs.declared.records.Rec.{Rec}
 use Rattle.hop_model.proofs.Lowering.{greatest_is}
 use Rattle.hop_model.specs.Choices.{IsGreatest, IsNarrow, greatest}
-use Rattle.image_blocks.specs.Checks.{active_area, active_by, count_in}
+use Rattle.image_blocks.specs.Checks.{Bad as BadPlace, active_area, active_by, count_in, records_fault}
 use Rattle.image_blocks.specs.Layout.{epoch_in, gate_at, header_at, is_open, last_number, most_blocks, pool_at, slot_count}
 use Rattle.image_blocks.specs.Logs.{AreFitting, HasFront, HasLog, HasRecords, IsActive, Place}
 use Rattle.image_blocks.specs.declared.areas.Area.{Area}
@@ -24,15 +24,21 @@ use Rattle.image_blocks.specs.declared.areas.Area.TheVariants.{A, B}
 use Rattle.image_blocks.proofs.Opening.{log_back_law}
 use Rattle.log_reading.specs.Logs.{AreInRange, IsOlder}
 use Rattle.log_reading.specs.Reads.{ReadsOnly}
+use Rattle.log_reading.specs.declared.faults.ReadingFault.{ReadingFault}
+use Rattle.log_reading.specs.declared.faults.ReadingFault.TheVariants.{Disk as OfDisk, Foreign as OfForeign, Memory as OfMemory}
+use Rattle.log_reading.specs.declared.log.ImageLog.{ImageLog}
 use Rattle.image_meaning.specs.Stores.{IsHeld, Kept, recs_of}
 use Rattle.log_turn.specs.Standing.{SameAreas, area_of, begun_of, epoch_of, has_failed, place_of, used_of}
 use Rattle.log_turn.specs.declared.areas.Areas.{Areas}
 use Rattle.page_shadow.specs.Ledger.{Ledger, is_held}
 use Rattle.store_model.specs.Books.{AreApartFrom, AreTrue, Books, IsBeforePool, Logged, kept_of, logged_recs, recs_in}
 use Rattle.snapshot_store.specs.Keeping.{AreKept, AreListed}
+use Rattle.snapshot_store.specs.OpenFaults.{HasOpenCause, why}
 use Rattle.snapshot_store.specs.Opening.{HasStableLog, IsFresh, SyncsOnly, fresh_ledger, is_some_rec, unread}
 use Rattle.snapshot_store.specs.Shelves.{is_from}
 use Rattle.snapshot_store.specs.State.{IsWhole, books, state_of}
+use Rattle.snapshot_store.specs.declared.opening.OpenWhy.{OpenWhy}
+use Rattle.snapshot_store.proofs.Causes.{Rose-before}
 
 -- the records are those that were put on the shelf
 pub recs_back : (recs : List Rec) → logged_recs (map unread recs) ≡ recs
@@ -142,29 +148,40 @@ log_stands recs blocks image area epoch count whole has is_area is_epoch is_coun
     subst (λ (n : ℕ). Stands n (record { active = area; epoch = epoch }) recs image) (sym is_count)
     (subst (λ (q : Place). Stands (count_in image) q recs image) same (record { front = back.1; log = back.2; fit = back.3 }))
 
--- A SYNC AFTER READS
+-- A SYNC, AND READS BEHIND IT
 
-pub syncs : {D : Type 0} (tells : Type 0) (block_count : D → ℕ) (reading : D → Image) (may_leave : D → Image → Type 0) (left_since : D → ℕ → Image → Type 0) (clock faults : D → ℕ) (old mid new : D)
-    → (tells → Moments clock may_leave left_since) → ReadsOnly tells block_count reading may_leave left_since clock faults old mid
-    → block_count new ≡ block_count mid → Ticks (clock mid) (clock new) → faults mid ≤ faults new → (tells → reading new ≡ reading mid) → (tells → LeavesNoMore may_leave mid new) → (tells → Elapses clock may_leave left_since mid new)
-    → SyncsOnly tells block_count reading may_leave left_since clock faults old new
-syncs tells block_count reading may_leave left_since clock faults old mid new laws reads count ticks later same stop time = record {
-  same_count = count ∙ reads.same_count;
-  one = (let ended = Ticks-one (clock mid) (clock new) ticks in let still = reads.same_clock in omega (arith, ended, still));
-  later = (let first = reads.later in omega (arith, first, later));
-  same_reading = λ t. same t ∙ reads.same_reading t;
-  moments = λ t. LeavesOnly-sync (laws t) (LeavesOnly-sync (laws t) (LeavesOnly-start (laws t) old (may_leave old) (λ c may. may)) (reads.stop t) (reads.time t)) (stop t) (time t);
-}
+module _ {D : Type 0} (tells : Type 0) (block_count : D → ℕ) (reading : D → Image) (may_leave : D → Image → Type 0) (left_since : D → ℕ → Image → Type 0) (clock faults : D → ℕ) (laws : tells → Moments clock may_leave left_since) where
+  pub synced : (old new : D) → block_count new ≡ block_count old → Ticks (clock old) (clock new) → faults old ≤ faults new → (tells → reading new ≡ reading old) → (tells → LeavesNoMore may_leave old new) → (tells → Elapses clock may_leave left_since old new)
+      → SyncsOnly tells block_count reading may_leave left_since clock faults old new
+  synced old new count ticks later same stop time = record {
+    same_count = count;
+    one = ticks;
+    later = later;
+    same_reading = same;
+    moments = λ t. LeavesOnly-sync (laws t) (LeavesOnly-start (laws t) old (may_leave old) (λ c may. may)) (stop t) (time t);
+  }
 
-pub reads_only : {D : Type 0} (tells : Type 0) (block_count : D → ℕ) (reading : D → Image) (may_leave : D → Image → Type 0) (left_since : D → ℕ → Image → Type 0) (clock faults : D → ℕ) (old new : D)
-    → (tells → Moments clock may_leave left_since) → ReadsOnly tells block_count reading may_leave left_since clock faults old new → SyncsOnly tells block_count reading may_leave left_since clock faults old new
-reads_only tells block_count reading may_leave left_since clock faults old new laws reads = record {
-  same_count = reads.same_count;
-  one = (let still = reads.same_clock in omega (arith, still));
-  later = reads.later;
-  same_reading = reads.same_reading;
-  moments = λ t. LeavesOnly-sync (laws t) (LeavesOnly-start (laws t) old (may_leave old) (λ c may. may)) (reads.stop t) (reads.time t);
-}
+  pub read_behind : (old mid new : D) → SyncsOnly tells block_count reading may_leave left_since clock faults old mid → ReadsOnly tells block_count reading may_leave left_since clock faults mid new
+      → SyncsOnly tells block_count reading may_leave left_since clock faults old new
+  read_behind old mid new syncs reads = record {
+    same_count = reads.same_count ∙ syncs.same_count;
+    one = subst (λ (n : ℕ). Ticks (clock old) n) (sym reads.same_clock) syncs.one;
+    later = (let first = syncs.later in let second = reads.later in omega (arith, first, second));
+    same_reading = λ t. reads.same_reading t ∙ syncs.same_reading t;
+    moments = λ t. LeavesOnly-sync (laws t) (syncs.moments t) (reads.stop t) (reads.time t);
+  }
+
+pub why_not : {T : Type 0} (r : Result T OpenWhy) (P : OpenWhy → Type 0) (w : OpenWhy) → IsErrAnd r (λ e. e ≡ w) → P w → IfErr r P
+why_not (Ok x) P w is h = absurd is
+why_not (Err e) P w is h = subst P (sym is) h
+
+-- why the log could not be read, behind the sync
+pub read_cause : (tells : Type 0) (a b : Image) (before mid now : ℕ) (fault : ReadingFault) → (tells → b ≡ a) → before ≤ mid → mid ≤ now
+    → (tells → (bad : BadPlace) → IsErrOf {T = ImageLog} {E = ReadingFault} (Err fault) (OfForeign bad) → records_fault b ≡ Some bad) → (IsErrOf {T = ImageLog} {E = ReadingFault} (Err fault) OfDisk → Rose mid now)
+    → HasOpenCause tells a before now (why fault)
+read_cause tells a b before mid now (OfForeign bad) same one two foreign read = λ t. subst (λ (i : Image). records_fault i ≡ Some bad) (same t) (foreign t bad refl)
+read_cause tells a b before mid now OfDisk same one two foreign read = Rose-before before mid now one two (read refl)
+read_cause tells a b before mid now OfMemory same one two foreign read = tt
 
 -- THE CLAUSES of what was found, for a log that was read
 
@@ -227,9 +244,9 @@ pub place_is : (areas : Areas) (area : Area) (epoch : ℕ) → area_of areas ≡
 place_is areas area epoch one two = ap (λ (a : Area). record { active = a; epoch = areas.epoch }) one ∙ ap (λ (n : ℕ). record { active = area; epoch = n }) two
 
 -- one sync was counted
-pub one_begun : (old new : Areas) (epoch : ℕ) → begun_of old ≡ 0 → Ticks (begun_of old) (begun_of new) → epoch_of new ≡ epoch → epoch ≤ last_number → (begun_of new ≡ 1) × (epoch_of new ≤ last_number)
-one_begun old new epoch none ticks same low =
-    (let one : begun_of new ≡ begun_of old + 1 = ticks.one_more (omega (arith, none)) in omega (arith, one, none), omega (arith, same, low))
+pub one_begun : (areas : Areas) (begun epoch : ℕ) → begun_of areas ≡ begun → Ticks 0 begun → epoch_of areas ≡ epoch → epoch ≤ last_number → (begun_of areas ≡ 1) × (epoch_of areas ≤ last_number)
+one_begun areas begun epoch is ticks same low =
+    (let one : begun ≡ 0 + 1 = ticks.one_more (lit< tt) in omega (arith, one, is), omega (arith, same, low))
 
 -- THE STORE IS FRESH
 pub fresh_store : {D : Type 0} (disk : D) (areas : Areas) (log kept : List Logged) (cut : Cut) (ledger : Ledger) → ledger ≡ fresh_ledger ledger.end (logged_recs log) → begun_of areas ≡ 1 → IsFresh (state_of disk areas log kept cut ledger true false 0)

@@ -1,6 +1,6 @@
 -- What opening an image leaves of the disk, and what is known of a store behind it.
 use Rattle.std.specs.Prelude.{◌≡◌, ℕ, ◌+◌, ◌≤◌, Bool, false, true, List, [], ◌∷◌, replicate, slice_index}
-use Rattle.disk_trait.specs.Disk.{Only}
+use Rattle.disk_trait.specs.Disk.{Only, Ticks}
 use Rattle.disk_trait.specs.Image.{Image}
 use Rattle.disk_trait.specs.Moments.{LeavesOnly}
 use Rattle.hop_base.specs.declared.records.Rec.{Rec}
@@ -23,10 +23,10 @@ unread r = record { rec = r; table = replicate 256 0 }
 abbrev pub fresh_ledger : ℕ → List Rec → Ledger
 fresh_ledger blocks recs = record { first = pool_at; end = blocks; held = replicate blocks false; names = replicate blocks 0; all_named = is_some_rec recs }
 
--- one sync was begun at most: what is read is as before, and a stop at any moment leaves nothing new
+-- one sync was begun, and no write: what is read is as before, and a stop at any moment leaves nothing new
 pub record SyncsOnly {D : Type 0} (tells : Type 0) (block_count : D → ℕ) (reading : D → Image) (may_leave : D → Image → Type 0) (left_since : D → ℕ → Image → Type 0) (clock faults : D → ℕ) (old new : D) : Type 0 where
   pub same_count : block_count new ≡ block_count old
-  pub one : clock new ≤ clock old + 1
+  pub one : Ticks (clock old) (clock new)
   pub later : faults old ≤ faults new
   pub same_reading : tells → reading new ≡ reading old
   pub moments : tells → LeavesOnly clock left_since old new (may_leave old)

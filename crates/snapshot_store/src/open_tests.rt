@@ -68,12 +68,15 @@ fn a_record_that_was_found_is_read(rt: HostRuntime) -> Result<(), Fail> {
 }
 
 #[test]
-fn a_sync_that_fails_hands_the_disk_back(rt: HostRuntime) -> Result<(), Fail> {
-    // Of an image without records seven blocks are read, and the eleventh call is the sync.
-    let fault = match Store::open(rt.alloc(), image(rt.alloc(), &[11])?) {
-        Ok(_) => return Err(DiskFault.into()),
-        Err(fault) => fault,
-    };
-    assert!(rt; fault.why == OpenWhy::WriteFault);
+fn a_call_that_fails_hands_the_disk_back(rt: HostRuntime) -> Result<(), Fail> {
+    // Three writes make the image. The fourth call is the sync, and the next one reads.
+    for (failing, why) in [(4, OpenWhy::WriteFault), (5, OpenWhy::ReadFault)] {
+        let fault = match Store::open(rt.alloc(), image(rt.alloc(), &[failing])?) {
+            Ok(_) => return Err(DiskFault.into()),
+            Err(fault) => fault,
+        };
+        assert!(rt; fault.why == why);
+        assert_eq!(rt; fault.disk.moments(), 4);
+    }
     Ok(())
 }

@@ -13,6 +13,7 @@ ghost use Rattle.store_model.specs.Books.{AreTrue, logged_recs, recs_in};
 use crate::shelf::Shelf;
 use crate::store::Store;
 use cut_finder::greatest;
+use disk_tally::Tally;
 use disk_trait::{Disk, DiskFault};
 use hop_base::{Cut, Rec};
 use image_blocks::{Bad, POOL_AT};
@@ -130,7 +131,7 @@ fn on_shelves(alloc: Global, recs: &[Rec], blocks: u32) -> Result<Shelved, Alloc
     })
 }
 
-// The areas and the memory of a store, from the log of an image.
+// The areas and the memory of a store, from the log of an image that is synced first.
 pub(crate) fn found<D: Disk>(alloc: Global, disk: &mut D) -> Result<(Areas, Shelved), OpenWhy>
     ensures records { D.tells → IfOk result (λ f. HasRecords (logged_recs f.1.log) (D.reading disk.old)) }
     ensures whole { IfOk result (λ f. IsWhole D.block_count (state_of disk.new f.0 f.1.log f.1.kept f.1.cut f.1.blocks true false 0)) }
@@ -142,15 +143,16 @@ pub(crate) fn found<D: Disk>(alloc: Global, disk: &mut D) -> Result<(Areas, Shel
     ensures cause { IfErr result (HasOpenCause D.tells (D.reading disk.old) (D.faults disk.old) (D.faults disk.new)) }
     ensures syncs { SyncsOnly D.tells D.block_count D.reading D.may_leave D.left_since D.clock D.faults disk.old disk.new }
 {
+    let mut tally = Tally(0);
+    tally.sync(disk)?;
     let log = read_log(alloc, disk)?;
-    let mut areas = Areas::new(log.area, log.epoch, log.recs.len() as u16);
-    areas.sync(disk)?;
+    let areas = Areas::new(log.area, log.epoch, log.recs.len() as u16, tally);
     let shelved = on_shelves(alloc, &log.recs, log.blocks)?;
     Ok((areas, shelved))
 }
 
 impl<D: Disk> Store<D> {
-    /// Opens the image that a disk holds: its log is read by the checks of superblock, areas and bodies, and the disk is synced.
+    /// Opens the image that a disk holds: the disk is synced, and then the log is read by the checks of superblock, areas and bodies.
     /// Blobs aren't read; where the log has records each block counts as named until they are, and none is free. It begins one sync
     /// and no write, reads 1,286 blocks at most, and takes some 3 megabytes and 5 bytes for each block of the image.
     ///
