@@ -52,7 +52,7 @@ own_held held (part.Atlas d) q own some = absurd (some refl)
 own_held held (part.Locus l) q own some = absurd (some refl)
 
 -- a block is in a list or isn't
-seek : (t : List ℕ) (n : ℕ) → n ≢ 0 → ((p : ℕ) × (slice_index t p ≡ n)) ⊎ ((p : ℕ) → slice_index t p ≡ n → ⊥)
+pub seek : (t : List ℕ) (n : ℕ) → n ≢ 0 → ((p : ℕ) × (slice_index t p ≡ n)) ⊎ ((p : ℕ) → slice_index t p ≡ n → ⊥)
 seek [] n some = inr (λ p e. some (sym e))
 seek (m ∷ t) n some = elim (m == n) as (λ b. (m == n) ≡ b → ((p : ℕ) × (slice_index (m ∷ t) p ≡ n)) ⊎ ((p : ℕ) → slice_index (m ∷ t) p ≡ n → ⊥)) [
   | true ↦ λ is. inl (0, eqb-true m n is)

@@ -1,0 +1,33 @@
+-- What a commit of one cell left, by its laws.
+use Rattle.std.proofs.Common.{◌≡◌, ℕ, Bool, ◌||◌, List, [], ◌∷◌, sym, ap, subst, arith}
+use Rattle.std.proofs.lemmas.Bool.{false≢true}
+use Rattle.disk_trait.specs.Image.{Image}
+use Rattle.event_clocks.specs.declared.Clock.{Clock}
+use Rattle.snapshot_store.specs.State.{State, books}
+use Rattle.kernel_cells.specs.declared.cells.Cell.{Cell}
+use Rattle.kernel_cells.specs.declared.cells.Wish.{Wish}
+use Rattle.cell_table.specs.Lending.{Lends}
+use Rattle.cell_table.specs.Tables.{IsOrderly}
+use Rattle.wish_laws.specs.Founded.{IsFounded, IsFoundedCell, IsRecordedNow}
+use Rattle.record_laws.specs.Cells.{words_on}
+use Rattle.kernel_records.specs.Committing.{HasPages, LeavesCell}
+use Rattle.kernel_views.proofs.Ordering.{orderly_again}
+
+-- a cell that was recorded, and one whose commit failed, rest their wishes on changes
+pub recorded_founded : (c d : Cell) → IsRecordedNow c d → IsFoundedCell d
+recorded_founded c d r = subst (λ (w : Wish). IsFounded w.newest d.clock.version (w.by_step || w.asked)) (sym r.wish) (record {
+  past = (let same = ap (λ (k : Clock). k.version) r.same_clock in omega (arith, same));
+  changed = λ noted. absurd (false≢true noted);
+})
+
+module _ {D : Type 0} (tells : Type 0) (clock faults : D → ℕ) (reading : D → Image) (may_leave : D → Image → Type 0) (left_since : D → ℕ → Image → Type 0) where
+  -- behind the pages the cells are in order
+  pub pages_order : (cs cs' : List Cell) (c d : Cell) (old fl : State D) → d.clock ≡ c.clock → Lends cs cs' (c ∷ []) (d ∷ []) → IsFoundedCell d
+      → HasPages tells clock reading may_leave left_since c.part d.part old fl → IsOrderly (books old).held cs → IsOrderly (books fl).held cs'
+  pages_order cs cs' c d old fl same lends founded pages ord =
+      orderly_again tells reading (λ (st : State D). words_on (reading st.disk)) old fl cs cs' c d same lends founded pages.flushes pages.table ord
+
+  pub order : (cs cs' : List Cell) (c d : Cell) (old new : State D) → IsOrderly (books old).held cs → Lends cs cs' (c ∷ []) (d ∷ [])
+      → IsFoundedCell d → LeavesCell tells clock reading may_leave left_since c d old new → IsOrderly (books new).held cs'
+  order cs cs' c d old new ord lends founded l =
+      subst (λ (held : ℕ → Bool). IsOrderly held cs') (sym l.holds.same_held) (pages_order cs cs' c d old l.flushed l.same_clock lends founded l.pages ord)

@@ -1,0 +1,15 @@
+pub mod Following
+pub mod Words
+pub mod Others
+pub mod Keeping
+pub mod Flushing
+pub mod Legal
+pub mod Ordering
+pub mod Leaving
+pub mod Storing
+pub mod Snapping
+pub mod Trying
+pub mod Behind
+pub mod Stepping
+pub mod Stopping
+pub mod Fullness

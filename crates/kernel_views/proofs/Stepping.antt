@@ -1,0 +1,105 @@
+-- A step over the cells takes a kernel on.
+use Rattle.std.proofs.Common.{◌≡◌, ℕ, ◌+◌, ◌<◌, cond, List, [], ◌∷◌, ◌++◌, count_by, Some, None, refl, sym, ap, subst, ◌∙◌, arith}
+use Rattle.disk_trait.specs.Image.{Image}
+use Rattle.hop_base.specs.declared.histories.Entry.{Entry}
+use Rattle.hop_base.specs.declared.histories.Event.{Event}
+use Rattle.hop_base.specs.declared.histories.Event.TheVariants.{Step}
+use Rattle.hop_model.specs.Histories.{May, Run, goes_on, start_run}
+use Rattle.hop_model.specs.Steps.{step}
+use Rattle.run_cuts.specs.Marks.{is_completing, is_step, is_step_event}
+use Rattle.serial_runs.specs.Serial.{IsCalm as IsQuiet}
+use Rattle.serial_runs.proofs.Calm.{step_entry, step_may}
+use Rattle.snapshot_store.specs.State.{State, books}
+use Rattle.kernel_cells.specs.declared.cells.Cell.{Cell}
+use Rattle.kernel_cells.specs.Wishes.{HasWish}
+use Rattle.cell_table.specs.Tables.{AreClean, state_in, tables_in}
+use Rattle.record_laws.specs.Cells.{words_on}
+use Rattle.store_model.specs.Owning.{AreOwned}
+use Rattle.kernel_model.specs.Beginnings.{Beginning, IsLegal, run_of}
+use Rattle.kernel_model.specs.Live.{HoldsCommits, IsCalm}
+use Rattle.kernel_laws.specs.Going.{MadeEvent}
+use Rattle.kernel_room.proofs.Enough.{calm_whole}
+use Rattle.wish_laws.proofs.Going.{state_left}
+use Rattle.kernel_views.specs.Events.{StepsOver}
+use Rattle.kernel_views.specs.Snaps.{Stands}
+use Rattle.kernel_views.specs.Views.{FollowsRun, view_in}
+use Rattle.kernel_views.proofs.Flushing.{owned_again}
+use Rattle.kernel_views.proofs.Following.{cells_follow, follows}
+use Rattle.kernel_views.proofs.Keeping.{blob_high}
+use Rattle.kernel_views.proofs.Legal.{legal_then, run_next}
+
+module _ {D : Type 0} (tells : Type 0) (clock faults : D → ℕ) (reading : D → Image) (may_leave : D → Image → Type 0) (left_since : D → ℕ → Image → Type 0)
+    (b : Beginning) (me : ℕ) (cs cs' : List Cell) (old new : State D) (es : List Entry) (marks : List ℕ) (e : Entry) (told : tells)
+    (st : Stands tells clock faults reading may_leave left_since b cs old es marks) (calm : IsCalm b es)
+    (k : StepsOver tells clock faults reading may_leave left_since b me cs cs' old new e) where
+  abbrev words0 : ℕ → List ℕ
+  words0 = words_on (reading old.disk)
+
+  abbrev words2 : ℕ → List ℕ
+  words2 = words_on (reading new.disk)
+
+  abbrev r : Run
+  r = run_of b es
+
+  f : FollowsRun b words0 cs es
+  f = cells_follow b es (reading old.disk) cs st.orderly.numbers (books old) marks None st.runs.follows
+
+  made : step b.supply me r.state ≡ Some (e, state_in b.supply words2 cs')
+  made = ap (step b.supply me) (sym f.state) ∙ k.goes.step
+
+  is : (e.event ≡ Step) × (e.actor ≡ me)
+  is = step_entry b.supply b.policy b.script r me (e, state_in b.supply words2 cs') made
+
+  quiet : IsQuiet b.policy r
+  quiet = record { owed = calm.nothing_owed; short = calm_whole b es st.runs.begins st.runs.legal calm.nothing_owed; tried = calm.not_tried; due = calm.nothing_due }
+
+  few_steps : r.steps me < b.script.steps
+  few_steps = (
+      let h = (f.wishes me k.locus k.at).left in
+      let same = ap r.steps (st.orderly.numbers.each me k.locus k.at) in
+      let some = k.left in
+      omega (arith, h, same, some))
+
+  may : May b.supply b.policy b.script r e
+  may = step_may b.supply b.policy b.script r me (e, state_in b.supply words2 cs') quiet calm.births_made few_steps made
+
+  legal' : IsLegal b (es ++ e ∷ [])
+  legal' = legal_then b (start_run b.state) es e st.runs.legal may
+
+  next : run_of b (es ++ e ∷ []) ≡ goes_on b.supply b.script r e
+  next = run_next b es e
+
+  follow' : FollowsRun b words2 cs' (es ++ e ∷ [])
+  follow' = record {
+    state = sym (ap (λ (q : Run). q.state) next ∙ state_left b.supply b.script r me e (state_in b.supply words2 cs') made);
+    wishes = λ y a at. subst (λ (q : Run). HasWish b.script.steps q a) (sym next) (k.goes.wishes b.script.steps b.script r (sym f.state) f.wishes y a at);
+  }
+
+  hold : HoldsCommits b reading may_leave (view_in b.supply b.script.steps (reading old.disk) cs (books old) es marks None) old.disk
+  hold = st.runs.stored told refl
+
+  owned' : AreOwned (books new) (tables_in cs')
+  owned' = owned_again cs cs' (books old) (books new) k.news k.pages.same_logged k.pages.same_count hold.owned k.orderly
+      (blob_high (books old) (reading old.disk) (hold.books.stored hold.small hold.working).pool)
+
+  pub made_event : MadeEvent b tells clock reading may_leave left_since (view_in b.supply b.script.steps (reading old.disk) cs (books old) es marks None)
+      (view_in b.supply b.script.steps (reading new.disk) cs' (books new) (es ++ e ∷ []) marks None) old.disk new.disk e
+  made_event = record {
+    was_going = refl;
+    going = refl;
+    history = refl;
+    marks = refl;
+    event = ap is_completing is.0;
+    right = record { legal = legal'; follows = follows b (es ++ e ∷ []) (reading new.disk) cs' k.orderly.numbers legal' follow' (books new) marks None };
+    pages = (k.before, k.after, k.pages);
+    working = k.working;
+    owned = owned';
+    few = (
+        let few = k.pages.few in
+        let one = k.one_write in
+        let step_is : count_by is_step (e ∷ []) ≡ 1 = ap (λ (ev : Event). 0 + cond {A = ℕ} (is_step_event ev) 1 0) is.0 in
+        omega (arith, few, one, step_is));
+  }
+
+  pub clean_on : AreClean b.supply words2 cs'
+  clean_on = k.goes.clean st.clean

@@ -1,0 +1,58 @@
+//! A running kernel as its cells and its store make it, and how a step over the cells and a commit of one of them take it on. The
+//! functions do nothing: the contract of each is a law.
+#![tactic(auto)]
+
+ghost use Rattle.std.specs.Prelude.{◌≡◌, ℕ, List, Option};
+ghost use Rattle.disk_trait.specs.Image.{Image};
+ghost use Rattle.hop_base.specs.declared.histories.Entry.{Entry as AnEntry};
+ghost use Rattle.kernel_cells.specs.declared.cells.Cell.{Cell as ACell};
+ghost use Rattle.cell_table.specs.Tables.{AreNumbered};
+ghost use Rattle.record_laws.specs.Cells.{words_on};
+ghost use Rattle.store_model.specs.Books.{Books};
+ghost use Rattle.kernel_model.specs.Beginnings.{Beginning, BeginsRight, IsLegal};
+ghost use Rattle.kernel_model.specs.Live.{Follows, Stopped};
+ghost use Rattle.kernel_views.specs.Events.{EventLaw, StopLaw};
+ghost use Rattle.kernel_views.specs.Snaps.{FullLaw, OrderLaw, SnapLaw, TriedLaw};
+ghost use Rattle.kernel_views.specs.Views.{FollowsRun, view_in};
+
+use disk_trait::Disk;
+
+/// The kernel follows its history exactly where its cells are what the run makes.
+pub fn follows_law()
+    ensures follows { (b : Beginning) (es : List AnEntry) (image : Image) (cs : List ACell) (bk : Books) (marks : List ℕ) (stop : Option Stopped)
+        → BeginsRight b → IsLegal b es → AreNumbered cs → FollowsRun b (words_on image) cs es
+        → Follows b (view_in b.supply b.script.steps image cs bk es marks stop) }
+    ensures cells { (b : Beginning) (es : List AnEntry) (image : Image) (cs : List ACell) (bk : Books) (marks : List ℕ) (stop : Option Stopped)
+        → AreNumbered cs → Follows b (view_in b.supply b.script.steps image cs bk es marks stop)
+        → FollowsRun b (words_on image) cs es }
+{}
+
+/// A kernel at rest goes on by a step of a locus over its cells, for which only pages were read and written.
+pub fn stepping_law<D: Disk>()
+    ensures { EventLaw D.tells D.clock D.faults D.reading D.may_leave D.left_since }
+{}
+
+/// A kernel goes on by a commit of one of its cells, with its Snap, where a commit of the entity may be next.
+pub fn snap_law<D: Disk>()
+    ensures { SnapLaw D.tells D.clock D.faults D.reading D.may_leave D.left_since }
+{}
+
+/// Where such a commit failed the kernel stops, with its Tried: the record may be found or not.
+pub fn tried_law<D: Disk>()
+    ensures { TriedLaw D.tells D.clock D.faults D.reading D.may_leave D.left_since }
+{}
+
+/// Behind a commit of a cell, made or failed, the cells are in order, whatever the disk tells.
+pub fn order_law<D: Disk>()
+    ensures { OrderLaw D.tells D.clock D.faults D.reading D.may_leave D.left_since }
+{}
+
+/// A kernel that stops between its entries keeps its history and its marks, and its cells are what they were.
+pub fn stop_law<D: Disk>()
+    ensures { StopLaw D.tells D.clock D.faults D.reading D.may_leave D.left_since }
+{}
+
+/// The store of a kernel that stands has room for a record of an entity exactly where the entity isn't full.
+pub fn full_law<D: Disk>()
+    ensures { FullLaw D.tells D.clock D.faults D.reading D.may_leave D.left_since }
+{}
