@@ -89,7 +89,7 @@ all_count : {X : Type 0} (xs : List X) → count_by (λ (x : X). true) xs ≡ le
 all_count [] = refl
 all_count (x ∷ xs) = let a = counts_cons (λ y. true) x xs in let b = all_count xs in omega (arith, a, b)
 
-abbrev own : Bool → ℕ
+abbrev pub own : Bool → ℕ
 own b = cond b 1 0
 
 by_turn : (x y : ℕ) → own (x == y) ≡ own (y == x)

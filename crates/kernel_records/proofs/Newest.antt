@@ -1,8 +1,9 @@
 -- The newest records of a log, and what is kept where these rest on one another.
-use Rattle.std.proofs.Common.{◌≡◌, ◌⊎◌, inl, inr, ℕ, zero, suc, ◌+◌, ◌<◌, ◌≤◌, Bool, true, false, ◌==◌, cond, List, [], ◌∷◌, ◌++◌, length, filter, get_or, refl, sym, ap, subst, ◌∙◌, arith, eqb-true, eq-eqb}
+use Rattle.std.proofs.Common.{◌≡◌, ◌⊎◌, inl, inr, ℕ, zero, suc, ◌+◌, ◌*◌, ◌<◌, ◌≤◌, Bool, true, false, ◌==◌, cond, List, [], ◌∷◌, ◌++◌, length, filter, get_or, refl, sym, ap, subst, ◌∙◌, arith, eqb-true, eq-eqb, nat_lt}
 use Rattle.std.specs.Prelude.{All, AllPairs, Any, count_by, slice_index, if◌then◌else◌}
 use Rattle.std.specs.List.{AllByRecursion}
-use Rattle.std.proofs.lemmas.Bool.{cases_eq, cases_lt, leb-true, le-leb}
+use Rattle.std.proofs.Math.Nat.{suc-mul}
+use Rattle.std.proofs.lemmas.Bool.{cases_eq, cases_lt, leb-true, le-leb, lt-ltb}
 use Rattle.std.proofs.lemmas.Bool.Decides.{nat_tests}
 use Rattle.std.proofs.lemmas.List.{get_or_append_left, length_push, map-append}
 use Rattle.std.proofs.lemmas.List.Elements.{All-filter, All-from_recursion, All-push, All-weaker, recursion_from_All}
@@ -19,7 +20,7 @@ use Rattle.snapshot_store.specs.Committed.{HasNewRecord}
 use Rattle.snapshot_store.specs.Shelves.{is_from, records_of}
 use Rattle.store_model.specs.Books.{Books, Logged, cut_in, kept_in, logged_recs, recs_in}
 use Rattle.kernel_records.specs.Keeping.{HasNewest, KeepsNewest}
-use Rattle.kernel_records.proofs.Fewer.{counts_cons}
+use Rattle.kernel_records.proofs.Fewer.{counts_cons, own}
 use Rattle.kernel_records.proofs.Raising.{greatest_above, greatest_closed, narrowed, narrowed_high, narrowed_low, narrows}
 
 -- LISTS
@@ -81,6 +82,7 @@ module _ (n : ℕ → ℕ) (stamps : ℕ → List ℕ) where
       | inr some ↦ inr (kept_any (is_rec_from cut) (λ (r : Rec). (r.entity ≡ x) × (r.version ≡ n x) × (r.stamp ≡ stamps x)) (passes x) recs some)
     ];
     ascending = AllPairs-filter IsOlder (is_rec_from cut) recs h.ascending;
+    numbers = All-filter (is_rec_from cut) (λ (r : Rec). r.entity < 64) recs h.numbers;
   }
     where
       passes : (x : ℕ) (r : Rec) → (r.entity ≡ x) × (r.version ≡ n x) × (r.stamp ≡ stamps x) → is_rec_from cut r ≡ true
@@ -89,8 +91,8 @@ module _ (n : ℕ → ℕ) (stamps : ℕ → List ℕ) where
   abbrev Is : Rec → ℕ → Rec → Type 0
   Is k x r = (r.entity ≡ x) × (r.version ≡ put n k.entity k.version x) × (r.stamp ≡ put stamps k.entity k.stamp x)
 
-  newest_push : (recs : List Rec) (k : Rec) → HasNewest n stamps recs → n k.entity < k.version → HasNewest (put n k.entity k.version) (put stamps k.entity k.stamp) (recs ++ k ∷ [])
-  newest_push recs k h newer = record {
+  newest_push : (recs : List Rec) (k : Rec) → HasNewest n stamps recs → n k.entity < k.version → k.entity < 64 → HasNewest (put n k.entity k.version) (put stamps k.entity k.stamp) (recs ++ k ∷ [])
+  newest_push recs k h newer low = record {
     most = All-push (λ (r : Rec). r.version ≤ put n k.entity k.version r.entity) recs k
         (All-weaker (λ (r : Rec). r.version ≤ n r.entity) (λ (r : Rec). r.version ≤ put n k.entity k.version r.entity) rises recs h.most)
         (let same = put_same n k.entity k.version k.entity refl in omega (arith, same));
@@ -104,6 +106,7 @@ module _ (n : ℕ → ℕ) (stamps : ℕ → List ℕ) where
     ascending = all_pairs_push IsOlder recs k h.ascending (λ i d short same.
         let le : (get_or recs i d).version ≤ n k.entity = subst (λ (y : ℕ). (get_or recs i d).version ≤ n y) same (h.most i d short) in
         omega (arith, le, newer));
+    numbers = All-push (λ (r : Rec). r.entity < 64) recs k h.numbers low;
   }
     where
       rises : (r : Rec) → r.version ≤ n r.entity → r.version ≤ put n k.entity k.version r.entity
@@ -119,8 +122,8 @@ module _ (n : ℕ → ℕ) (stamps : ℕ → List ℕ) where
       before x apart (i, r, short, at, is) = (i, r, longer i short, get_or_append_left recs (k ∷ []) r i short ∙ at, (is.0, is.1 ∙ sym (put_other n k.entity k.version x apart), is.2 ∙ sym (put_other stamps k.entity k.stamp x apart)))
 
 pub newest_goes_on : (n : ℕ → ℕ) (stamps : ℕ → List ℕ) (entity version length : ℕ) (stamp table : List ℕ) (old new : Books) → HasNewest n stamps (recs_in old)
-    → HasNewRecord entity version length stamp table old new → n entity < version → HasNewest (put n entity version) (put stamps entity stamp) (recs_in new)
-newest_goes_on n stamps entity version len stamp table old new h made newer =
+    → HasNewRecord entity version length stamp table old new → n entity < version → entity < 64 → HasNewest (put n entity version) (put stamps entity stamp) (recs_in new)
+newest_goes_on n stamps entity version len stamp table old new h made newer low =
     subst (λ (s : List ℕ). HasNewest (put n entity version) (put stamps entity s) (recs_in new)) made.stamp_is
     (subst (λ (v : ℕ). HasNewest (put n entity v) (put stamps entity made.rec.stamp) (recs_in new)) made.version_is
     (subst (λ (e : ℕ). HasNewest (put n e made.rec.version) (put stamps e made.rec.stamp) (recs_in new)) made.entity_is (by_log made.log)))
@@ -131,12 +134,15 @@ newest_goes_on n stamps entity version len stamp table old new h made newer =
     over : n made.rec.entity < made.rec.version
     over = let e : n made.rec.entity ≡ n entity = ap n made.entity_is in let v = made.version_is in omega (arith, e, v, newer)
 
+    number : made.rec.entity < 64
+    number = let e = made.entity_is in omega (arith, e, low)
+
     kept : HasNewest n stamps (logged_recs (kept_in old))
     kept = subst (HasNewest n stamps) (sym (recs_kept (cut_in old) old.logged)) (newest_stay n stamps (recs_in old) (cut_in old) (cut_low n stamps (recs_in old) h.most) h)
 
     behind : (ls : List Logged) → new.logged ≡ ls ++ l ∷ [] → HasNewest n stamps (logged_recs ls) → HasNewest (put n made.rec.entity made.rec.version) (put stamps made.rec.entity made.rec.stamp) (recs_in new)
     behind ls is so_far = subst (HasNewest (put n made.rec.entity made.rec.version) (put stamps made.rec.entity made.rec.stamp))
-        (sym (ap logged_recs is ∙ map-append (λ (k : Logged). k.rec) ls (l ∷ []))) (newest_push n stamps (logged_recs ls) made.rec so_far over)
+        (sym (ap logged_recs is ∙ map-append (λ (k : Logged). k.rec) ls (l ∷ []))) (newest_push n stamps (logged_recs ls) made.rec so_far over number)
 
     by_log : (new.logged ≡ old.logged ++ l ∷ []) ⊎ (new.logged ≡ kept_in old ++ l ∷ []) → HasNewest (put n made.rec.entity made.rec.version) (put stamps made.rec.entity made.rec.stamp) (recs_in new)
     by_log (inl is) = behind old.logged is h
@@ -239,3 +245,65 @@ keeps_newest n stamps b h rests =
       versions = All-from_recursion (λ (l : Logged). l.rec.version ≡ n l.rec.entity) (kept_in b) (newest_kept n (cut_in b) low b.logged most);
       each = λ y. one_each n (cut_in b) low y b.logged most h.ascending;
     }
+
+-- HOW MANY ARE KEPT, entity by entity
+
+abbrev below : ℕ → List Logged → ℕ
+below n ls = count_by (λ (l : Logged). nat_lt l.rec.entity n) ls
+
+more_below : (n : ℕ) (ls : List Logged) → below (suc n) ls ≡ below n ls + records_of n ls
+more_below n [] = refl
+more_below n (l ∷ ls) =
+    let here = counts_cons (λ (k : Logged). nat_lt k.rec.entity (suc n)) l ls in
+    let under = counts_cons (λ (k : Logged). nat_lt k.rec.entity n) l ls in
+    let at = counts_cons (λ (k : Logged). k.rec.entity == n) l ls in
+    let one = split l.rec.entity in
+    let rest = more_below n ls in
+    omega (arith, here, under, at, one, rest)
+  where
+    split : (e : ℕ) → cond (nat_lt e (suc n)) 1 0 ≡ (cond (nat_lt e n) 1 0) + cond (e == n) 1 0
+    split e = elim (cases_lt e n) as (λ _. cond (nat_lt e (suc n)) 1 0 ≡ (cond (nat_lt e n) 1 0) + cond (e == n) 1 0) [
+      | inl low ↦ grind (arith, nat_tests)
+      | inr high ↦ grind (arith, nat_tests)
+    ]
+
+few_below : (most : ℕ) (ls : List Logged) → ((y : ℕ) → records_of y ls ≤ most) → (n : ℕ) → below n ls ≤ n * most
+few_below most ls few zero = let n = none ls in omega (arith, n)
+  where
+    none_less : (e : ℕ) → nat_lt e 0 ≡ false
+    none_less e = grind (arith, nat_tests)
+
+    none : (ks : List Logged) → below zero ks ≤ 0
+    none [] = omega arith
+    none (k ∷ ks) =
+        let here = counts_cons (λ (l : Logged). nat_lt l.rec.entity 0) k ks in
+        let out : own (nat_lt k.rec.entity 0) ≡ 0 = ap own (none_less k.rec.entity) in
+        let rest = none ks in
+        omega (arith, here, out, rest)
+few_below most ls few (suc n) =
+    let more = more_below n ls in
+    let rest = few_below most ls few n in
+    let one = few n in
+    let times = suc-mul n most in
+    omega (arith, more, rest, one, times)
+
+all_below : (ls : List Logged) → AllByRecursion (λ (l : Logged). l.rec.entity < 64) ls → below 64 ls ≡ length ls
+all_below [] low = refl
+all_below (l ∷ ls) low =
+    let here = counts_cons (λ (k : Logged). nat_lt k.rec.entity 64) l ls in
+    let test : nat_lt l.rec.entity 64 ≡ true = lt-ltb l.rec.entity 64 low.0 in
+    let one : own (nat_lt l.rec.entity 64) ≡ 1 = ap own test in
+    let rest = all_below ls low.1 in
+    omega (arith, here, one, rest)
+
+pub few_kept : (n : ℕ → ℕ) (stamps : ℕ → List ℕ) (most : ℕ) (b : Books) → HasNewest n stamps (recs_in b) → ((y : ℕ) → records_of y (kept_in b) ≤ most) → length (kept_in b) ≤ 64 * most
+few_kept n stamps most b h few =
+    let low = recursion_from_All (λ (l : Logged). l.rec.entity < 64) (kept_in b) (All-filter (is_from (cut_in b)) (λ (l : Logged). l.rec.entity < 64) b.logged
+    (All-from_recursion (λ (l : Logged). l.rec.entity < 64) b.logged (each b.logged (recursion_from_All (λ (r : Rec). r.entity < 64) (recs_in b) h.numbers)))) in
+    let all = all_below (kept_in b) low in
+    let bound = few_below most (kept_in b) few 64 in
+    omega (arith, all, bound)
+  where
+    each : (ls : List Logged) → AllByRecursion (λ (r : Rec). r.entity < 64) (logged_recs ls) → AllByRecursion (λ (l : Logged). l.rec.entity < 64) ls
+    each [] low = tt
+    each (l ∷ ls) low = (low.0, each ls low.1)

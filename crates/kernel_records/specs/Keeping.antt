@@ -1,5 +1,5 @@
 -- LAWS of how many records are kept, whatever the disk tells.
-use Rattle.std.specs.Prelude.{◌≡◌, ◌⊎◌, ℕ, ◌+◌, ◌<◌, ◌≤◌, ◌==◌, if◌then◌else◌, All, AllPairs, Any, List, length, slice_index}
+use Rattle.std.specs.Prelude.{◌≡◌, ◌⊎◌, ℕ, ◌+◌, ◌*◌, ◌<◌, ◌≤◌, ◌==◌, if◌then◌else◌, All, AllPairs, Any, List, length, slice_index}
 use Rattle.hop_base.specs.declared.records.Rec.{Rec}
 use Rattle.hop_model.specs.Words.{put}
 use Rattle.log_reading.specs.Logs.{IsOlder}
@@ -16,16 +16,17 @@ abbrev pub KeptMoreLaw : Type 0
 KeptMoreLaw = (entity version length : ℕ) (stamp table : List ℕ) (old new : Books) → HasNewRecord entity version length stamp table old new → KeepsOneMore entity old new
 
 -- THE NEWEST RECORDS of a log: no record of an entity is above n, which is 0 or the version of one that has the stamp of its entity; and the
--- versions of an entity ascend
+-- versions of an entity ascend; entities have numbers below 64
 pub record HasNewest (n : ℕ → ℕ) (stamps : ℕ → List ℕ) (recs : List Rec) : Type 0 where
   pub most : All (λ (r : Rec). r.version ≤ n r.entity) recs
   pub newest : (x : ℕ) → (n x ≡ 0) ⊎ Any (λ (r : Rec). (r.entity ≡ x) × (r.version ≡ n x) × (r.stamp ≡ stamps x)) recs
   pub ascending : AllPairs IsOlder recs
+  pub numbers : All (λ (r : Rec). r.entity < 64) recs
 
 -- they stay, or a newer one takes the place of its entity's
 abbrev pub NewestLaw : Type 0
 NewestLaw = (n : ℕ → ℕ) (stamps : ℕ → List ℕ) (entity version length : ℕ) (stamp table : List ℕ) (old new : Books) → HasNewest n stamps (recs_in old)
-    → HasNewRecord entity version length stamp table old new → n entity < version → HasNewest (put n entity version) (put stamps entity stamp) (recs_in new)
+    → HasNewRecord entity version length stamp table old new → n entity < version → entity < 64 → HasNewest (put n entity version) (put stamps entity stamp) (recs_in new)
 
 -- each entity has one kept record at most, the newest
 pub record KeepsNewest (n : ℕ → ℕ) (b : Books) : Type 0 where
@@ -35,3 +36,7 @@ pub record KeepsNewest (n : ℕ → ℕ) (b : Books) : Type 0 where
 -- as is so where the newest records rest on newest ones alone
 abbrev pub SettledStoreLaw : Type 0
 SettledStoreLaw = (n : ℕ → ℕ) (stamps : ℕ → List ℕ) (b : Books) → HasNewest n stamps (recs_in b) → ((x y : ℕ) → 0 < n x → slice_index (stamps x) y ≤ n y) → KeepsNewest n b
+
+-- and where no entity has more kept records than this, they are 64 times as many at most
+abbrev pub FewKeptLaw : Type 0
+FewKeptLaw = (n : ℕ → ℕ) (stamps : ℕ → List ℕ) (most : ℕ) (b : Books) → HasNewest n stamps (recs_in b) → ((y : ℕ) → records_of y (kept_in b) ≤ most) → length (kept_in b) ≤ 64 * most

@@ -1,5 +1,5 @@
 // What a commit of a cell tells, and how many records are kept. The functions do nothing: the contract of each is the law.
-ghost use Rattle.kernel_records.specs.Keeping.{KeptMoreLaw, NewestLaw, SettledStoreLaw};
+ghost use Rattle.kernel_records.specs.Keeping.{FewKeptLaw, KeptMoreLaw, NewestLaw, SettledStoreLaw};
 ghost use Rattle.kernel_records.specs.Told.{LeftCellLaw, ToldCommitLaw};
 
 use disk_trait::Disk;
@@ -27,4 +27,9 @@ pub fn newest_law()
 /// Where newest records rest on newest ones alone, each entity has one kept record at most.
 pub fn settled_store_law()
     ensures { SettledStoreLaw }
+{}
+
+/// Where no entity has more kept records than some number, all kept records are 64 times as many at most.
+pub fn few_kept_law()
+    ensures { FewKeptLaw }
 {}

@@ -9,5 +9,7 @@ mod snaps;
 
 pub use commits::commit_cell;
 pub use flushing::flush_part;
-pub use laws::{kept_more_law, left_cell_law, newest_law, settled_store_law, told_commit_law};
+pub use laws::{
+    few_kept_law, kept_more_law, left_cell_law, newest_law, settled_store_law, told_commit_law,
+};
 pub use snaps::snap_cell;
