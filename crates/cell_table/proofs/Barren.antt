@@ -1,5 +1,5 @@
 -- The cells of a birth for which no number is free.
-use Rattle.std.proofs.Common.{◌≡◌, ◌⊎◌, inl, inr, ℕ, ◌<◌, ◌≤◌, ◌^◌, Bool, List, length, slice_get, Some, refl, sym, ap, ◌∙◌, subst, arith}
+use Rattle.std.proofs.Common.{◌≡◌, ◌⊎◌, inl, inr, ℕ, ◌<◌, ◌≤◌, ◌^◌, Bool, List, length, slice_get, Some, arith}
 use Rattle.atlas_dir.specs.Directory.{Directory}
 use Rattle.locus_machine.specs.Loci.{locus_of}
 use Rattle.locus_machine.specs.declared.loci.Locus.{Locus}

@@ -1,5 +1,5 @@
 -- The entry of a step over the table.
-use Rattle.std.proofs.Common.{◌≡◌, ◌≢◌, ◌⊎◌, inl, inr, ℕ, ◌+◌, ◌≤◌, Bool, true, false, ◌==◌, if◌then◌else◌, List, slice_get, Option, Some, refl, sym, ap, ◌∙◌, subst, arith, eqb-true, eq-eqb}
+use Rattle.std.proofs.Common.{◌≡◌, ◌⊎◌, inl, inr, ℕ, ◌+◌, true, false, ◌==◌, if◌then◌else◌, List, slice_get, Option, Some, refl, sym, ap, ◌∙◌, arith, eqb-true, eq-eqb}
 use Rattle.hop_base.specs.declared.histories.Entry.{Entry}
 use Rattle.hop_model.specs.Histories.{writes}
 use Rattle.hop_model.specs.State.{KernelState, LocusState, Supply}

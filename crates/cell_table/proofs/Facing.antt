@@ -1,26 +1,22 @@
 -- What a table in order says of the cells that a step touches.
-use Rattle.std.proofs.Common.{◌≡◌, ◌≢◌, ℕ, ◌+◌, ◌<◌, ◌≤◌, ◌^◌, Bool, List, [], length, slice_get, IsSome, Option, Some, None, refl, sym, ap, ◌∙◌, subst, arith}
+use Rattle.std.proofs.Common.{◌≡◌, ◌≢◌, ℕ, ◌<◌, ◌^◌, Bool, List, [], slice_get, IsSome, Option, Some, None, sym, ap, ◌∙◌, subst}
 use Rattle.hop_base.specs.declared.instructions.Instr.{Instr}
-use Rattle.hop_base.specs.declared.instructions.Condition.TheVariants.{Running}
-use Rattle.hop_model.specs.Acts.{wanted}
-use Rattle.hop_model.specs.Soundness.{AreSound, IsSound}
-use Rattle.hop_model.specs.State.{AtlasState, Cell as ModelCell, ContainerState, KernelState, LocusState, NotBorn, AtlasCell, ContainerCell, LocusCell, Supply}
-use Rattle.atlas_dir.specs.Directory.{Directory}
+use Rattle.hop_model.specs.Soundness.{AreSound}
+use Rattle.hop_model.specs.State.{AtlasState, Cell as ModelCell, NotBorn, LocusCell, Supply}
 use Rattle.wanted_act.specs.Views.{IsReadyLocus}
 use Rattle.wanted_act.proofs.Ready.{ready}
-use Rattle.locus_machine.specs.Loci.{IsAlone, locus_of}
+use Rattle.locus_machine.specs.Loci.{locus_of}
 use Rattle.locus_machine.specs.declared.loci.Head.{Head}
 use Rattle.locus_machine.specs.declared.loci.Locus.{Locus}
 use Rattle.kernel_cells.specs.declared.cells.Cell.{Cell}
 use Rattle.kernel_cells.specs.declared.cells.Part.{Part}
 use Rattle.kernel_cells.specs.declared.cells.Part.TheVariants as part
-use Rattle.kernel_cells.specs.Cells.{IsRunning, container_cell, part_of}
+use Rattle.kernel_cells.specs.Cells.{container_cell, part_of}
 use Rattle.beside_steps.specs.Besides.{FitsBeside}
 use Rattle.plan_laws.proofs.SoundPlans.{fits_here, locus_here}
 use Rattle.step_plans.specs.Plans.{IsPlanned}
 use Rattle.step_plans.specs.declared.plans.Plan.{Plan}
 use Rattle.step_plans.specs.declared.plans.Plan.TheVariants as plan
-use Rattle.sound_states.specs.States.{IsSoundState}
 use Rattle.cell_table.specs.Steps.{IsPlannedAt}
 use Rattle.cell_table.specs.Tables.{AreFewWrites, HasKind, IsOrderly, entity_in, state_in}
 

@@ -1,20 +1,20 @@
 -- What a table in order says of the cells that a step touches with the atlas.
-use Rattle.std.proofs.Common.{◌≡◌, ◌≢◌, ℕ, ◌+◌, ◌<◌, ◌≤◌, ◌^◌, ◌⊎◌, inl, inr, Bool, List, [], length, slice_get, IsSome, Option, Some, None, refl, sym, ap, ◌∙◌, subst, arith}
+use Rattle.std.proofs.Common.{◌≡◌, ℕ, ◌+◌, ◌<◌, ◌≤◌, ◌^◌, Bool, List, length, slice_get, IsSome, Some, refl, sym, ap, ◌∙◌, subst, arith}
 use Rattle.hop_base.specs.declared.instructions.Instr.{Instr}
 use Rattle.hop_model.specs.Soundness.{AreSound}
-use Rattle.hop_model.specs.State.{AtlasState, Cell as ModelCell, NotBorn, AtlasCell, ContainerCell, LocusCell}
+use Rattle.hop_model.specs.State.{AtlasState, NotBorn, AtlasCell}
 use Rattle.atlas_dir.specs.Directory.{Directory}
-use Rattle.kernel_calls.specs.Calls.{WantsBirth, atlas_state, is_make, is_spawn}
+use Rattle.kernel_calls.specs.Calls.{atlas_state}
 use Rattle.locus_machine.specs.Loci.{locus_of}
 use Rattle.locus_machine.specs.declared.loci.Head.{Head}
 use Rattle.locus_machine.specs.declared.loci.Locus.{Locus}
 use Rattle.kernel_cells.specs.declared.cells.Cell.{Cell}
 use Rattle.kernel_cells.specs.declared.cells.Part.{Part}
 use Rattle.kernel_cells.specs.declared.cells.Part.TheVariants as part
-use Rattle.kernel_cells.specs.Cells.{IsRunning, part_of}
+use Rattle.kernel_cells.specs.Cells.{part_of}
 use Rattle.beside_steps.specs.Besides.{memory_of}
-use Rattle.birth_steps.specs.Bearing.{IsUnbornContainer, NoNumberFree}
-use Rattle.map_steps.specs.Mapping.{IsDirectoryPart, IsHeadPart, MayMap, WantsMapping}
+use Rattle.birth_steps.specs.Bearing.{IsUnbornContainer}
+use Rattle.map_steps.specs.Mapping.{IsDirectoryPart, IsHeadPart, MayMap}
 use Rattle.plan_laws.proofs.SoundMaps.{map_here}
 use Rattle.plan_laws.proofs.SoundParts.{directory_part, unborn_part}
 use Rattle.plan_laws.proofs.SoundPlans.{around_container, around_locus}
@@ -23,7 +23,7 @@ use Rattle.step_plans.specs.declared.plans.Plan.{Plan}
 use Rattle.step_plans.specs.declared.plans.Plan.TheVariants as plan
 use Rattle.cell_table.specs.Steps.{HasDirectory, IsPlannedAt}
 use Rattle.cell_table.specs.Tables.{AreFewWrites, HasKind, IsOrderly}
-use Rattle.cell_table.proofs.Facing.{are_sound, atlas, cells, high_at, locus_at, no_supply, no_words, part_here, plan_of, some_cell}
+use Rattle.cell_table.proofs.Facing.{are_sound, atlas, cells, locus_at, no_supply, no_words, part_here, plan_of, some_cell}
 
 same_locus : (l m : Locus) → part.Locus (Some l) ≡ part.Locus (Some m) → l ≡ m
 same_locus l m e = cc

@@ -1,10 +1,8 @@
 -- What a table in order says of the container at which a step looks.
-use Rattle.std.proofs.Common.{◌≡◌, ℕ, ◌<◌, ◌≤◌, ◌^◌, Bool, List, slice_get, Some, refl, sym, ap, ◌∙◌, subst, arith}
+use Rattle.std.proofs.Common.{◌≡◌, ℕ, ◌<◌, ◌^◌, Bool, List, slice_get, Some, sym, ap, ◌∙◌, subst, arith}
 use Rattle.hop_model.specs.State.{Supply}
 use Rattle.locus_machine.specs.Loci.{locus_of}
-use Rattle.fault_paging.specs.Words.{AreCleanTrue}
 use Rattle.kernel_cells.specs.declared.cells.Cell.{Cell}
-use Rattle.kernel_cells.specs.declared.cells.Part.TheVariants as part
 use Rattle.beside_steps.specs.Besides.{memory_of}
 use Rattle.cell_laws.specs.Memories.{HasOwnMemory}
 use Rattle.look_steps.specs.Looking.{MayLook}

@@ -1,20 +1,20 @@
 -- A step over lent cells is one over the table.
-use Rattle.std.proofs.Common.{◌≡◌, ◌≢◌, ◌⊎◌, inl, inr, ℕ, false, List, [], ◌∷◌, slice_get, Option, Some, None, refl, sym, ap, ◌∙◌, subst}
+use Rattle.std.proofs.Common.{◌≡◌, inl, inr, ℕ, List, slice_get, Option, Some, None, refl, sym, ap, ◌∙◌, subst}
 use Rattle.hop_base.specs.declared.histories.Entry.{Entry}
 use Rattle.hop_model.specs.Histories.{Run, after_step, goes_on, locus_in, writes}
 use Rattle.hop_model.specs.LocalEvents.{touch_at}
 use Rattle.hop_model.specs.Scripts.{Script}
-use Rattle.hop_model.specs.State.{Supply, KernelState}
+use Rattle.hop_model.specs.State.{Supply}
 use Rattle.hop_model.specs.Steps.{step}
 use Rattle.kernel_cells.specs.declared.cells.Cell.{Cell}
 use Rattle.kernel_cells.specs.Cells.{HasCell, part_of}
 use Rattle.kernel_cells.specs.Wishes.{HasWish}
 use Rattle.wish_laws.proofs.Going.{unwritten_wish, wish_left}
-use Rattle.step_cells.specs.Advances.{HasCells, HasWishes, StepsCells}
+use Rattle.step_cells.specs.Advances.{HasCells, StepsCells}
 use Rattle.cell_table.specs.Tables.{AreNumbered, HasTableWishes, entity_by, entity_in, state_in}
-use Rattle.cell_table.specs.Lending.{ForPairs, IsApart, IsSameNumber, Lends}
+use Rattle.cell_table.specs.Lending.{ForPairs, IsApart, Lends}
 use Rattle.cell_table.proofs.Having.{each_has, each_wishes, is_entity, raised_cells, state_has_all, wishes_all}
-use Rattle.cell_table.proofs.Lent.{IsLeft, IsLent, spot}
+use Rattle.cell_table.proofs.Lent.{spot}
 use Rattle.cell_table.proofs.Untouched.{raised, untouched, untouched_stays, untouched_unwritten}
 
 some_same : {A : Type 0} (x y : A) → Some x ≡ Some y → x ≡ y

@@ -1,9 +1,9 @@
 -- Cells that the state of a table has.
-use Rattle.std.proofs.Common.{◌≡◌, ◌≢◌, ℕ, List, [], ◌∷◌, slice_get, Option, Some, None, refl, sym, ap, ◌∙◌, subst}
+use Rattle.std.proofs.Common.{◌≡◌, ◌≢◌, ℕ, List, [], ◌∷◌, slice_get, Some, sym, ap, ◌∙◌}
 use Rattle.hop_model.specs.Histories.{Run}
 use Rattle.hop_model.specs.State.{Supply, EntityState, KernelState}
 use Rattle.kernel_cells.specs.declared.cells.Cell.{Cell}
-use Rattle.kernel_cells.specs.Cells.{HasCell, part_of}
+use Rattle.kernel_cells.specs.Cells.{HasCell}
 use Rattle.kernel_cells.specs.Wishes.{HasWish}
 use Rattle.step_cells.specs.Advances.{HasCells, HasWishes}
 use Rattle.cell_table.specs.Tables.{HasTableWishes, entity_by, entity_in, state_in}

@@ -1,5 +1,5 @@
 -- Tables some of whose cells are lent.
-use Rattle.std.proofs.Common.{◌≡◌, ◌≢◌, ◌⊎◌, inl, inr, ℕ, Bool, true, false, ◌==◌, if◌then◌else◌, List, [], ◌∷◌, length, slice_get, Option, Some, None, refl, sym, ap, ◌∙◌, subst, arith, eqb-true, eq-eqb}
+use Rattle.std.proofs.Common.{◌≡◌, ◌⊎◌, inl, inr, ℕ, true, false, ◌==◌, List, [], ◌∷◌, slice_get, Some, refl, sym, ap, ◌∙◌, eqb-true, eq-eqb}
 use Rattle.kernel_cells.specs.declared.cells.Cell.{Cell}
 use Rattle.cell_table.specs.Lending.{ForPairs, IsApart, IsSameNumber, Lends, StandIn}
 

@@ -1,17 +1,15 @@
 -- What a look over lent cells leaves of the table.
-use Rattle.std.proofs.Common.{◌≡◌, ℕ, ◌<◌, Bool, List, [], ◌∷◌, slice_get, Result, Ok, Err, IfOk, OnErr, Some, refl, sym, ap, ◌∙◌, subst}
+use Rattle.std.proofs.Common.{◌≡◌, ℕ, Bool, List, [], ◌∷◌, Result, Ok, Err, IfOk, OnErr}
 use Rattle.hop_base.specs.declared.histories.Entry.{Entry}
-use Rattle.hop_model.specs.State.{NotBorn, LocusCell, Supply}
+use Rattle.hop_model.specs.State.{Supply}
 use Rattle.page_store.specs.declared.faults.PageFault.{PageFault}
-use Rattle.locus_machine.specs.Loci.{locus_of}
 use Rattle.kernel_cells.specs.declared.cells.Cell.{Cell}
-use Rattle.kernel_cells.specs.Cells.{HasCell, part_of}
+use Rattle.kernel_cells.specs.Cells.{part_of}
 use Rattle.look_steps.specs.Looking.{LeavesMemory}
 use Rattle.step_cells.specs.Advances.{AdvancesSomehow, StepsCells}
-use Rattle.step_plans.specs.declared.plans.Plan.TheVariants as plan
 use Rattle.cell_table.specs.Lending.{Lends}
-use Rattle.cell_table.specs.Steps.{EntersStep, GoesOn, IsPlannedAt, StaysAtFault}
-use Rattle.cell_table.specs.Tables.{AreClean, HasKind, IsOrderly}
+use Rattle.cell_table.specs.Steps.{EntersStep, GoesOn, StaysAtFault}
+use Rattle.cell_table.specs.Tables.{IsOrderly}
 use Rattle.cell_table.proofs.Blocks.{ChangesTwo, LooksAt}
 use Rattle.cell_table.proofs.Looked.{entered_look, fault_kind, left_kind, orderly_fault, orderly_look, same_fields}
 use Rattle.cell_table.proofs.Told.{clean_told, goes_told, state_told}

@@ -1,9 +1,8 @@
 -- A look at a container keeps the table in order, whatever the store tells.
-use Rattle.std.proofs.Common.{◌≡◌, ◌≢◌, ◌⊎◌, inl, inr, ℕ, ◌+◌, ◌*◌, ◌/◌, ◌%◌, ◌<◌, ◌≤◌, Bool, true, false, ◌==◌, ◌||◌, if◌then◌else◌, List, [], ◌∷◌, slice_get, Option, Some, None, refl, sym, ap, ◌∙◌, subst, arith, eq-eqb, ne_eqb}
+use Rattle.std.proofs.Common.{◌≡◌, ◌≢◌, inl, inr, ℕ, ◌*◌, ◌/◌, ◌%◌, ◌≤◌, Bool, true, false, ◌==◌, ◌||◌, if◌then◌else◌, List, slice_get, Option, Some, None, refl, sym, ap, ◌∙◌, subst, arith, eq-eqb, ne_eqb}
 use Rattle.hop_base.specs.declared.histories.Entry.{Entry}
-use Rattle.hop_model.specs.Histories.{Run, after_step, locus_in, writes}
+use Rattle.hop_model.specs.Histories.{Run, after_step, locus_in}
 use Rattle.hop_model.specs.LocalEvents.{touch_at}
-use Rattle.hop_model.specs.Outcomes.{supplied}
 use Rattle.hop_model.specs.State.{Cell as ModelCell, ContainerCell, ContainerState, EntityState, KernelState, LocusCell, NotBorn, Supply}
 use Rattle.hop_model.specs.Steps.{step}
 use Rattle.event_clocks.specs.Clocks.{HasClock}
@@ -11,7 +10,6 @@ use Rattle.vector_stamps.specs.Stamps.{component}
 use Rattle.locus_machine.specs.declared.loci.Head.{Head}
 use Rattle.locus_machine.specs.declared.loci.Locus.{Locus}
 use Rattle.locus_machine.specs.Loci.{container_with, locus_of}
-use Rattle.fault_paging.specs.declared.paged.PagedMemory.{PagedMemory}
 use Rattle.fault_paging.specs.Words.{IsSoundTable, word_in, words_of}
 use Rattle.kernel_cells.specs.declared.cells.Cell.{Cell}
 use Rattle.kernel_cells.specs.declared.cells.Part.{Part}

@@ -1,21 +1,18 @@
 -- One or two cells that were lent for a quiet step.
-use Rattle.std.proofs.Common.{◌≡◌, ◌≢◌, ◌⊎◌, inl, inr, ℕ, ◌<◌, ◌≤◌, Bool, List, [], ◌∷◌, length, slice_get, slice_set, Option, Some, None, refl, sym, ap, ◌∙◌, subst, arith}
+use Rattle.std.proofs.Common.{◌≡◌, inl, ℕ, ◌<◌, ◌≤◌, Bool, List, [], ◌∷◌, slice_get, slice_set, Some, sym, ap, ◌∙◌, subst, arith}
 use Rattle.std.proofs.lemmas.Option.{slice_get_within}
 use Rattle.hop_base.specs.declared.histories.Entry.{Entry}
 use Rattle.hop_base.specs.declared.instructions.Instr.{Instr}
-use Rattle.hop_model.specs.State.{NotBorn, KernelState, LocusState, LocusCell, Cell as ModelCell, Supply}
-use Rattle.hop_model.specs.Steps.{step}
+use Rattle.hop_model.specs.State.{NotBorn, LocusState, LocusCell, Cell as ModelCell, Supply}
 use Rattle.kernel_cells.specs.declared.cells.Cell.{Cell}
-use Rattle.kernel_cells.specs.Cells.{part_of}
 use Rattle.beside_steps.specs.Besides.{FitsBeside, KeepsMemory}
 use Rattle.locus_machine.specs.Loci.{locus_of}
 use Rattle.step_plans.specs.declared.plans.Plan.TheVariants as plan
 use Rattle.step_cells.specs.Advances.{StepsCells}
-use Rattle.cell_table.specs.Lending.{ForPairs, IsSameNumber, Lends}
+use Rattle.cell_table.specs.Lending.{Lends}
 use Rattle.cell_table.specs.Steps.{IsPlannedAt, StepsQuietly}
 use Rattle.cell_table.specs.Tables.{AreNumbered, HasKind, IsOrderly, state_in}
 use Rattle.cell_table.proofs.Facing.{cells, fits_born, high_at, locus_at, no_supply, no_words, plan_of}
-use Rattle.cell_table.proofs.Going.{table_steps}
 use Rattle.cell_table.proofs.PartKinds.{born_kind, high_keeps, stays_born}
 use Rattle.cell_table.proofs.Places.{HasSetTwo}
 use Rattle.cell_table.proofs.Quiet.{GoesQuietly, goes_on, sound_after, steps_quietly}

@@ -1,12 +1,11 @@
 -- What kind of part an entity has, by its number.
-use Rattle.std.proofs.Common.{◌≡◌, ◌≢◌, ◌⊎◌, inl, inr, ℕ, ◌+◌, ◌<◌, ◌≤◌, Bool, true, false, ◌&&◌, ◌==◌, nat_lt, nat_le, IsTrue, List, length, Option, Some, None, option_map, refl, sym, ap, ◌∙◌, subst, arith}
+use Rattle.std.proofs.Common.{◌≡◌, ℕ, ◌+◌, ◌<◌, ◌≤◌, Bool, true, false, ◌&&◌, ◌==◌, nat_lt, nat_le, List, length, Option, Some, None, refl, sym, ap, ◌∙◌, subst, arith}
 use Rattle.std.proofs.lemmas.Bool.Decides.{nat_tests}
 use Rattle.hop_base.specs.declared.histories.Entry.{Entry}
 use Rattle.hop_model.specs.LocalEvents.{touch_at}
-use Rattle.hop_model.specs.Soundness.{AreSound, is_born_container, is_born_locus}
-use Rattle.hop_model.specs.State.{AtlasState, Cell, KernelState, NotBorn, AtlasCell, ContainerCell, LocusCell, Supply}
+use Rattle.hop_model.specs.Soundness.{AreSound}
+use Rattle.hop_model.specs.State.{AtlasState, Cell, KernelState, NotBorn, AtlasCell, Supply}
 use Rattle.hop_model.specs.Steps.{step}
-use Rattle.hop_base.specs.declared.histories.Touch.{Touch}
 use Rattle.hop_model.proofs.Locality.{step_local}
 use Rattle.locus_machine.specs.declared.loci.Head.{Head}
 use Rattle.kernel_cells.specs.declared.cells.Part.{Part}

@@ -1,5 +1,5 @@
 -- What a plan of one cell says of the table.
-use Rattle.std.proofs.Common.{◌≡◌, ℕ, List, slice_get, Option, Some, None, Result, Ok, Err, IfErr, IfOk, sym, ap, ◌∙◌}
+use Rattle.std.proofs.Common.{◌≡◌, ℕ, List, slice_get, Some, None, Result, Ok, Err, IfErr, IfOk, ap, ◌∙◌}
 use Rattle.hop_model.specs.State.{Supply}
 use Rattle.kernel_cells.specs.declared.cells.Cell.{Cell}
 use Rattle.kernel_cells.specs.Cells.{part_of}

@@ -1,8 +1,8 @@
 -- A step that leaves all blocks as they are keeps the table in order.
-use Rattle.std.proofs.Common.{◌≡◌, ◌≢◌, ◌⊎◌, inl, inr, ℕ, zero, suc, ◌+◌, ◌<◌, ◌≤◌, Bool, true, false, List, [], ◌∷◌, slice_get, slice_index, Option, Some, None, option_map, refl, sym, ap, ◌∙◌, subst, arith}
+use Rattle.std.proofs.Common.{◌≡◌, ◌≢◌, ◌⊎◌, inl, inr, ℕ, zero, suc, Bool, true, false, List, [], slice_get, slice_index, Option, Some, None, option_map, refl, sym, ap, ◌∙◌, subst, arith}
 use Rattle.hop_base.specs.declared.histories.Entry.{Entry}
 use Rattle.hop_model.specs.Histories.{after_step, locus_in}
-use Rattle.hop_model.specs.State.{Supply, KernelState, NotBorn}
+use Rattle.hop_model.specs.State.{Supply, KernelState}
 use Rattle.hop_model.specs.Steps.{step}
 use Rattle.locus_machine.specs.declared.loci.Head.{Head}
 use Rattle.fault_paging.specs.declared.paged.PagedMemory.{PagedMemory}
@@ -10,25 +10,24 @@ use Rattle.fault_paging.specs.Words.{AreCleanTrue, IsSoundTable}
 use Rattle.kernel_cells.specs.declared.cells.Cell.{Cell}
 use Rattle.kernel_cells.specs.declared.cells.Part.{Part}
 use Rattle.kernel_cells.specs.declared.cells.Part.TheVariants as part
-use Rattle.kernel_cells.specs.Cells.{HasCell, part_of}
 use Rattle.kernel_cells.specs.Wishes.{HasWish}
-use Rattle.beside_steps.specs.Besides.{KeepsMemory, head_of, memory_of}
+use Rattle.beside_steps.specs.Besides.{KeepsMemory, memory_of}
 use Rattle.birth_steps.specs.Bearing.{IsNewContainer, IsUnbornContainer}
 use Rattle.cell_laws.specs.Memories.{HasOwnMemory, IsOwn}
 use Rattle.wish_laws.specs.Founded.{IsFoundedCell}
 use Rattle.sound_states.specs.States.{IsSoundState}
 use Rattle.sound_states.proofs.States.{step_state}
 use Rattle.step_cells.specs.Advances.{StepsCells}
-use Rattle.cell_table.specs.Lending.{ForPairs, IsApart, IsSameNumber, Lends}
-use Rattle.cell_table.specs.Steps.{EntersStep, GoesOn, StepsQuietly}
+use Rattle.cell_table.specs.Lending.{ForPairs, IsSameNumber, Lends}
+use Rattle.cell_table.specs.Steps.{EntersStep, StepsQuietly}
 use Rattle.cell_table.specs.Tables.{AreClean, AreNumbered, HasKind, IsOrderly, blocks_by, entity_in, memory_at, state_in, tables_in}
 use Rattle.cell_table.proofs.Founding.{founded_after, most_left, noted_after, run_here, run_wishes}
 use Rattle.cell_table.proofs.Entered.{StaysOrNotes, entered_by}
 use Rattle.cell_table.proofs.Untouched.{untouched_unwritten}
 use Rattle.touch_laws.specs.Touching.{IsNoted}
 use Rattle.cell_table.proofs.Going.{apart_untouched, table_steps, table_wishes}
-use Rattle.cell_table.proofs.Having.{each_has, each_wishes, state_has, state_has_all, wishes_all}
-use Rattle.cell_table.proofs.Lent.{IsLeft, IsLent, spot}
+use Rattle.cell_table.proofs.Having.{each_wishes, state_has, state_has_all, wishes_all}
+use Rattle.cell_table.proofs.Lent.{spot}
 
 some_cell : (c d : Cell) → Some c ≡ Some d → c ≡ d
 some_cell c d e = cc

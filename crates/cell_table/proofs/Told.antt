@@ -1,8 +1,8 @@
 -- The words of other containers after a look at one of them.
-use Rattle.std.proofs.Common.{◌≡◌, ◌≢◌, ◌⊎◌, inl, inr, ℕ, ◌/◌, ◌%◌, ◌<◌, ◌≤◌, Bool, true, false, ◌==◌, if◌then◌else◌, List, [], ◌∷◌, slice_get, slice_index, Option, Some, None, refl, sym, ap, ◌∙◌, subst, arith, ne_eqb, eq-eqb, eqb-true}
+use Rattle.std.proofs.Common.{◌≡◌, ◌≢◌, inl, inr, ℕ, ◌/◌, ◌%◌, Bool, true, ◌==◌, if◌then◌else◌, List, [], ◌∷◌, slice_get, slice_index, Option, Some, None, refl, sym, ap, ◌∙◌, subst, eq-eqb}
 use Rattle.hop_base.specs.declared.histories.Entry.{Entry}
-use Rattle.hop_model.specs.State.{ContainerCell, EntityState, Supply}
-use Rattle.frame_table.specs.FrameTable.{IsResident, Resident, changed_at, page_at}
+use Rattle.hop_model.specs.State.{ContainerCell, Supply}
+use Rattle.frame_table.specs.FrameTable.{page_at}
 use Rattle.locus_machine.specs.declared.loci.Head.{Head}
 use Rattle.locus_machine.specs.Loci.{container_with}
 use Rattle.fault_paging.specs.declared.paged.PagedMemory.{PagedMemory}
@@ -15,7 +15,7 @@ use Rattle.kernel_cells.specs.Cells.{container_cell, part_of}
 use Rattle.beside_steps.specs.Besides.{memory_of}
 use Rattle.step_cells.specs.Advances.{StepsCells}
 use Rattle.cell_table.specs.Lending.{Lends}
-use Rattle.cell_table.specs.Steps.{GoesOn, StaysAtFault}
+use Rattle.cell_table.specs.Steps.{GoesOn}
 use Rattle.cell_table.specs.Tables.{AreClean, HasKind, IsOrderly, blocks_by, entity_by, entity_in, memory_at, state_in, tables_in}
 use Rattle.cell_table.proofs.Blocks.{ChangesTwo, LooksAt, held_at, kind_none, outside, same_or}
 use Rattle.cell_table.proofs.Going.{table_steps, table_wishes}

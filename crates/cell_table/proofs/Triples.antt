@@ -1,7 +1,7 @@
 -- The cells that were lent for a quiet step with the atlas.
-use Rattle.std.proofs.Common.{◌≡◌, ◌≢◌, ◌⊎◌, inl, inr, ℕ, ◌+◌, ◌<◌, ◌≤◌, Bool, List, [], ◌∷◌, length, slice_get, Option, Some, None, refl, sym, ap, ◌∙◌, subst, arith}
+use Rattle.std.proofs.Common.{◌≡◌, ◌≢◌, inl, inr, ℕ, ◌+◌, ◌<◌, ◌≤◌, Bool, List, [], ◌∷◌, length, slice_get, Some, sym, ap, ◌∙◌, subst, arith}
 use Rattle.hop_base.specs.declared.histories.Entry.{Entry}
-use Rattle.hop_model.specs.State.{NotBorn, Supply}
+use Rattle.hop_model.specs.State.{Supply}
 use Rattle.atlas_dir.specs.Directory.{Directory}
 use Rattle.kernel_calls.specs.Calls.{atlas_state}
 use Rattle.locus_machine.specs.Loci.{locus_of}
@@ -10,11 +10,10 @@ use Rattle.birth_steps.specs.Bearing.{IsNewContainer, IsUnbornContainer}
 use Rattle.step_cells.specs.Advances.{StepsCells}
 use Rattle.step_plans.specs.declared.plans.Plan.{Plan}
 use Rattle.step_plans.specs.declared.plans.Plan.TheVariants as plan
-use Rattle.kernel_cells.specs.declared.cells.Part.TheVariants as part
 use Rattle.cell_table.specs.Lending.{Lends}
 use Rattle.cell_table.specs.Steps.{HasDirectory, IsPlannedAt, StepsQuietly}
 use Rattle.cell_table.specs.Tables.{HasKind, IsOrderly, entity_in, state_in}
-use Rattle.cell_table.proofs.Facing.{are_sound, cells, high_at, locus_at, no_supply, no_words, plan_of}
+use Rattle.cell_table.proofs.Facing.{cells, high_at, locus_at, no_supply, no_words, plan_of}
 use Rattle.cell_table.proofs.FacingAtlas.{atlas_born, directory_sound, spawning_above}
 use Rattle.cell_table.proofs.Pairs.{apart_goes, locus_born}
 use Rattle.cell_table.proofs.PartKinds.{born_kind, high_keeps}

@@ -1,5 +1,5 @@
 -- What a step doesn't touch: where it gives one entry in states that differ in an entity's version.
-use Rattle.std.proofs.Common.{◌≡◌, ◌≢◌, ℕ, ◌+◌, Bool, true, false, ◌==◌, if◌then◌else◌, List, [], ◌∷◌, Option, Some, None, refl, sym, ap, ◌∙◌, arith, eq-eqb, ne_eqb}
+use Rattle.std.proofs.Common.{◌≡◌, ◌≢◌, ℕ, ◌+◌, true, false, ◌==◌, if◌then◌else◌, Some, None, refl, ap, arith, eq-eqb, ne_eqb}
 use Rattle.hop_base.specs.declared.histories.Entry.{Entry}
 use Rattle.hop_base.specs.declared.histories.Touch.{Touch}
 use Rattle.hop_model.specs.Histories.{writes}

@@ -1,8 +1,7 @@
 -- Soundness says nothing of words within a container's pages.
-use Rattle.std.proofs.Common.{◌≡◌, ◌≢◌, ℕ, ◌+◌, ◌*◌, ◌/◌, ◌%◌, ◌<◌, ◌≤◌, ◌↔◌, ◌⊎◌, inl, inr, Bool, true, false, ◌==◌, IsTrue, List, Option, Some, None, count_by, refl, sym, ap, ◌∙◌, subst, arith, eqb-true, eq-eqb}
-use Rattle.hop_model.specs.Outcomes.{supplied}
-use Rattle.hop_model.specs.Soundness.{AreSound, IsSound, IsSoundContainer, is_born_container, regions_onto}
-use Rattle.hop_model.specs.State.{AtlasState, Cell, ContainerState, EntityState, KernelState, LocusState, NotBorn, AtlasCell, ContainerCell, LocusCell, Supply}
+use Rattle.std.proofs.Common.{◌≡◌, ℕ, ◌≤◌, refl, sym, ap, ◌∙◌, subst}
+use Rattle.hop_model.specs.Soundness.{AreSound, IsSoundContainer, regions_onto}
+use Rattle.hop_model.specs.State.{AtlasState, Cell, ContainerState, KernelState, LocusState, NotBorn, AtlasCell, ContainerCell, LocusCell, Supply}
 use Rattle.sound_states.specs.States.{IsSoundState, IsSupplied}
 
 -- the cell with no words

@@ -1,5 +1,5 @@
 -- The cells of the kernel: a list of 64, each at its entity's number.
-use Rattle.std.specs.Prelude.{◌≡◌, ◌≢◌, ℕ, ◌+◌, ◌<◌, ◌≤◌, ◌^◌, Bool, true, List, [], length, slice_get, slice_index, Option, Some, None}
+use Rattle.std.specs.Prelude.{◌≡◌, ◌≢◌, ℕ, ◌<◌, ◌≤◌, ◌^◌, Bool, true, List, [], length, slice_get, slice_index, Option, Some, None}
 use Rattle.hop_model.specs.Histories.{Run}
 use Rattle.hop_model.specs.State.{EntityState, KernelState, Supply, empty_state}
 use Rattle.vector_stamps.specs.Stamps.{component}

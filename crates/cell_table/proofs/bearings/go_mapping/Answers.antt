@@ -1,11 +1,11 @@
-use Rattle.std.proofs.Common.{◌≡◌, [], ◌∷◌, ◌++◌, ◌<◌, slice_get, slice_set, get_or, length, Some, inl, inr, sym, ap, ◌∙◌, subst, arith}
+use Rattle.std.proofs.Common.{◌≡◌, [], ◌∷◌, ◌++◌, slice_get, slice_set, get_or, Some, sym, ap, ◌∙◌, arith}
 use Rattle.std.proofs.lemmas.Option.{slice_get-get_or}
 use Rattle.step_plans.specs.declared.plans.Plan.TheVariants as plan
 use Rattle.cell_table.proofs.Facing.{cells}
-use Rattle.cell_table.proofs.FacingAtlas.{directory_is, faces_mapping, making_below, mapping_between, newborn_unborn, spawning_above}
+use Rattle.cell_table.proofs.FacingAtlas.{faces_mapping, mapping_between}
 use Rattle.cell_table.proofs.Pairs.{kept_goes}
-use Rattle.cell_table.proofs.Places.{read_back, read_first, read_front, read_middle, set_three, set_two, write_three, write_two}
-use Rattle.cell_table.proofs.Triples.{StandAt, lends_three, made_goes, spawned_goes, three_quiet, two_quiet}
+use Rattle.cell_table.proofs.Places.{read_back, read_first, read_middle, set_three, write_three}
+use Rattle.cell_table.proofs.Triples.{StandAt, lends_three, three_quiet}
 use Rattle.cell_table.proofs.bearings.go_mapping.Goals as goal
 
 pub split_at_mut-first-requires : goal.split_at_mut-first-requires

@@ -1,6 +1,6 @@
 use Rattle.std.proofs.Common.{◌≡◌, ◌++◌, slice_get, slice_set, get_or, Some, sym, ap, ◌∙◌, arith}
-use Rattle.cell_table.proofs.Facing.{FacesOther, faces_other}
-use Rattle.cell_table.proofs.Pairs.{beside_quiet, lends_high, lends_low}
+use Rattle.cell_table.proofs.Facing.{faces_other}
+use Rattle.cell_table.proofs.Pairs.{beside_quiet, lends_low}
 use Rattle.cell_table.proofs.Places.{read_back, read_front, set_two, write_two}
 use Rattle.cell_table.proofs.besides.go_beside_higher.Goals as goal
 

@@ -1,11 +1,9 @@
-use Rattle.std.proofs.Common.{◌≡◌, ◌++◌, ◌<◌, slice_get, slice_set, get_or, Some, sym, ap, ◌∙◌, arith}
-use Rattle.look_steps.specs.Looking.{LeavesMemory}
+use Rattle.std.proofs.Common.{◌≡◌, ◌++◌, slice_get, slice_set, get_or, Some, sym, ap, ◌∙◌, arith}
 use Rattle.step_plans.specs.declared.plans.Plan.TheVariants as plan
-use Rattle.cell_table.specs.Steps.{IsPlannedAt}
 use Rattle.cell_table.proofs.Blocks.{ChangesTwo}
 use Rattle.cell_table.proofs.Facing.{high_at, plan_of}
 use Rattle.cell_table.proofs.FacingLook.{faces_look, look_below}
-use Rattle.cell_table.proofs.LookDone.{LookLeaves, look_leaves}
+use Rattle.cell_table.proofs.LookDone.{look_leaves}
 use Rattle.cell_table.proofs.Pairs.{lends_high}
 use Rattle.cell_table.proofs.Places.{read_back, read_front, set_two, write_two}
 use Rattle.cell_table.proofs.looks.go_look.Goals as goal
