@@ -12,7 +12,7 @@ use Rattle.kernel_cells.specs.declared.cells.Part.TheVariants as part
 use Rattle.beside_steps.specs.Besides.{memory_of}
 use Rattle.cell_laws.specs.Memories.{HasOwnMemory}
 use Rattle.cell_table.specs.Tables.{AreNumbered, HasKind, IsOrderly, blocks_by, memory_at, tables_in}
-use Rattle.cell_table.proofs.Facing.{some_cell}
+use Rattle.cell_table.proofs.Having.{some_cell}
 
 -- the part is the container that it was, whose blocks may be others
 pub record LooksAt (held held' : ℕ → Bool) (b b' : Cell) : Type 0 where

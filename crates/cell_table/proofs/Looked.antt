@@ -29,7 +29,7 @@ use Rattle.cell_table.specs.Steps.{EntersStep}
 use Rattle.cell_table.specs.Tables.{HasKind, IsOrderly, entity_by, entity_in, state_in}
 use Rattle.cell_table.proofs.Blocks.{ChangesTwo, KeepsOrder, LooksAt, keeps_order, same_or}
 use Rattle.cell_table.proofs.Entered.{StaysOrNotes, entered_by}
-use Rattle.cell_table.proofs.Facing.{no_supply, no_words, some_cell}
+use Rattle.cell_table.proofs.Having.{no_supply, no_words, some_cell}
 use Rattle.cell_table.proofs.Founding.{founded_after, most_left, noted_after, run_here, run_wishes}
 use Rattle.cell_table.proofs.Having.{has_cell, is_entity}
 use Rattle.cell_table.proofs.PartKinds.{born_kind, stays_born}

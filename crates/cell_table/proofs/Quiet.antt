@@ -1,5 +1,5 @@
 -- A step that leaves all blocks as they are keeps the table in order.
-use Rattle.std.proofs.Common.{◌≡◌, ◌≢◌, ◌⊎◌, inl, inr, ℕ, zero, suc, Bool, true, false, List, [], slice_get, slice_index, Option, Some, None, option_map, refl, sym, ap, ◌∙◌, subst, arith}
+use Rattle.std.proofs.Common.{◌≡◌, ◌≢◌, inl, inr, ℕ, zero, suc, Bool, true, false, List, [], slice_get, slice_index, Option, Some, None, option_map, refl, sym, ap, ◌∙◌, subst, arith}
 use Rattle.hop_base.specs.declared.histories.Entry.{Entry}
 use Rattle.hop_model.specs.Histories.{after_step, locus_in}
 use Rattle.hop_model.specs.State.{Supply, KernelState}
@@ -12,13 +12,14 @@ use Rattle.kernel_cells.specs.declared.cells.Part.{Part}
 use Rattle.kernel_cells.specs.declared.cells.Part.TheVariants as part
 use Rattle.kernel_cells.specs.Wishes.{HasWish}
 use Rattle.beside_steps.specs.Besides.{KeepsMemory, memory_of}
-use Rattle.birth_steps.specs.Bearing.{IsNewContainer, IsUnbornContainer}
+use Rattle.birth_steps.specs.Bearing.{IsNewContainer}
 use Rattle.cell_laws.specs.Memories.{HasOwnMemory, IsOwn}
 use Rattle.wish_laws.specs.Founded.{IsFoundedCell}
 use Rattle.sound_states.specs.States.{IsSoundState}
 use Rattle.sound_states.proofs.States.{step_state}
 use Rattle.step_cells.specs.Advances.{StepsCells}
 use Rattle.cell_table.specs.Lending.{ForPairs, IsSameNumber, Lends}
+use Rattle.cell_table.specs.Quiet.{GoesQuietly}
 use Rattle.cell_table.specs.Steps.{EntersStep, StepsQuietly}
 use Rattle.cell_table.specs.Tables.{AreClean, AreNumbered, HasKind, IsOrderly, blocks_by, entity_in, memory_at, state_in, tables_in}
 use Rattle.cell_table.proofs.Founding.{founded_after, most_left, noted_after, run_here, run_wishes}
@@ -34,11 +35,6 @@ some_cell c d e = cc
 
 some_memory : (m k : PagedMemory) → Some m ≡ Some k → m ≡ k
 some_memory m k e = cc
-
--- WHAT BECOMES OF A PART'S MEMORY: it is kept, or begins with the container
-pub record GoesQuietly (c d : Cell) : Type 0 where
-  pub kind : HasKind d.clock.entity d.part
-  pub memory : KeepsMemory c.part d.part ⊎ (IsUnbornContainer c.part × IsNewContainer d.part)
 
 tags : Option Head → Option ℕ
 tags o = option_map (λ (h : Head). h.tag) o

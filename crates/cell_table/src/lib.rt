@@ -1,12 +1,20 @@
-//! The cells of the kernel: a table of 64, each at its entity's number, and the step of a locus over it.
+//! The cells of the kernel: a table of 64, each at its entity's number, and what is true of it whatever a page store tells.
 //!
-//! The table is a slice, so that a caller can lend a cell of it beside other things. It keeps an order (`IsOrderly`) whatever the page store
-//! tells; where the store tells its content, the step is the abstract kernel's.
+//! The table is a slice, so that a caller can lend a cell of it beside other things. The function does nothing: its contract is the law.
 #![tactic(auto)]
 
-mod bearings;
-mod besides;
-mod looks;
-mod stepping;
+ghost use Rattle.std.specs.Prelude.{ℕ, List};
+ghost use Rattle.hop_base.specs.declared.histories.Entry.{Entry};
+ghost use Rattle.hop_model.specs.State.{Supply};
+ghost use Rattle.kernel_cells.specs.declared.cells.Cell.{Cell as ACell};
+ghost use Rattle.step_cells.specs.Advances.{StepsCells};
+ghost use Rattle.cell_table.specs.Lending.{ForPairs, Lends};
+ghost use Rattle.cell_table.specs.Quiet.{GoesQuietly};
+ghost use Rattle.cell_table.specs.Steps.{StepsQuietly};
+ghost use Rattle.cell_table.specs.Tables.{AreNumbered};
 
-pub use stepping::{StepFault, advance};
+/// A step over cells that are lent from a table, which leaves all blocks as they are, is the step over the table, which it leaves in order.
+pub fn lent_step_law()
+    ensures { (me : ℕ) (cs cs' old new : List ACell) (e : Entry) → ((s : Supply) (words : ℕ → List ℕ) → StepsCells s words words me old new e)
+        → Lends cs cs' old new → AreNumbered cs → ForPairs GoesQuietly old new → StepsQuietly me cs cs' e }
+{}

@@ -1,0 +1,9 @@
+pub mod Places
+pub mod Planning
+pub mod Facing
+pub mod FacingAtlas
+pub mod FacingLook
+pub mod Spawned
+pub mod Barren
+pub mod Pairs
+pub mod Triples

@@ -1,0 +1,10 @@
+//! The step of a locus over the table of cells. It keeps the table in order (`IsOrderly` of `cell_table`) whatever the page store tells; where
+//! the store tells its content, it is the abstract kernel's step.
+#![tactic(auto)]
+
+mod bearings;
+mod besides;
+mod looks;
+mod stepping;
+
+pub use stepping::{StepFault, advance};
