@@ -1,0 +1,5 @@
+pub mod Clashing
+pub mod Reasons
+pub mod ByKind
+pub mod Ahead
+pub mod Staying

@@ -1,0 +1,9 @@
+use Rattle.std.proofs.Common.{◌≡◌, None, map, take}
+use Rattle.hop_model.specs.Scripts.{next_container_name}
+use Rattle.script_form.specs.Scripts.{container_of}
+use Rattle.kernel_calls.specs.Calls.{atlas_state}
+use Rattle.script_against.proofs.tables.next_container.Given as goal
+
+-- the names before this table's are in the atlas
+abbrev pub invariant-loop-i : goal.invariant-loop-i
+invariant-loop-i l = next_container_name (atlas_state l.atlas) (take l.i (map container_of l.tables)) ≡ None
