@@ -6,3 +6,10 @@ mod own;
 
 pub use kept_pages::keep_but_one;
 pub use own::{OwnStore, Unmade};
+
+#[cfg(test)]
+mod drawn_tests;
+#[cfg(test)]
+mod test_stores;
+#[cfg(test)]
+mod tests;
