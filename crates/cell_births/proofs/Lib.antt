@@ -1,0 +1,4 @@
+pub mod TableLists
+pub mod Linking
+pub mod Bearing
+pub mod Readiness

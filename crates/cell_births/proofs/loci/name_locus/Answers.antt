@@ -1,0 +1,10 @@
+use Rattle.std.proofs.Common.{◌≡◌, List, ℕ, Bor, None, subst, ◌∙◌}
+use Rattle.std.proofs.lemmas.Option.{same_Some}
+use Rattle.atlas_dir.specs.Directory.{IsName, entity_named}
+use Rattle.directory_laws.proofs.NameLaws.{given_names_same, numbers_same}
+use Rattle.cell_births.proofs.loci.name_locus.Goals as goal
+
+pub birth-requires-clause-name : goal.birth-requires-clause-name
+birth-requires-clause-name c x is =
+    subst (λ (t : Bor (List ℕ)). IsName t.now × (entity_named c.args.atlas.now t.now ≡ None)) (same_Some c.args.name x is)
+    ((given_names_same c.args.name.now).1 c.requires.given, numbers_same c.args.atlas.now c.args.name.now ∙ c.requires.fresh)

@@ -1,0 +1,11 @@
+use Rattle.std.proofs.Common.{Some, unwrap_or, if◌then◌else◌, ap, ◌∙◌}
+use Rattle.hop_model.specs.Scripts.{number_of}
+use Rattle.kernel_calls.specs.Calls.{atlas_state}
+use Rattle.directory_laws.proofs.NameLaws.{numbers_same}
+use Rattle.cell_births.proofs.names.known_number.Goals as goal
+
+pub returns : goal.returns
+returns c =
+    let a = atlas_state c.args.atlas.now in
+    let name = c.args.name.now in
+    c.unwrap_or.ensures ∙ ap (λ o. unwrap_or o 0) (c.find.ensures ∙ numbers_same c.args.atlas.now name ∙ ap (λ b. if b then Some c.args.newborn else number_of a name) c.if-is_same.ensures)

@@ -1,0 +1,13 @@
+//! The births of a script's containers and loci, over the cells of the atlas, the newborn and a locus's host. No birth takes
+//! memory: the cell of a container has its memory from the start.
+#![tactic(auto)]
+
+mod births;
+mod containers;
+mod laws;
+mod loci;
+mod names;
+mod tables;
+
+pub use births::{bear_container, bear_locus};
+pub use laws::{next_births_are_named, next_births_may_be_made};
