@@ -1,7 +1,7 @@
 //! One look of a load or a store that a locus wants: at a word of a container, or at a region that shows another's.
 #![tactic(auto)]
 
-ghost use Rattle.std.specs.Prelude.{◌≡◌, ◌/◌, ℕ, false, true, IfErr, IfOk, IsOk, OnErr, OnOk};
+ghost use Rattle.std.specs.Prelude.{◌≡◌, ◌≤◌, ◌+◌, ◌/◌, ℕ, false, true, IfErr, IfOk, IsOk, OnErr, OnOk};
 ghost use Rattle.hop_model.specs.Acts.{wanted};
 ghost use Rattle.hop_model.specs.Outcomes.{outcome};
 ghost use Rattle.hop_model.specs.Refusals.{instr_at};
@@ -65,6 +65,7 @@ pub fn look<B: PageStore, S: Supplier, P: Policy>(
     ensures room { comes_to_word head.now (address_of (locus_of locus.old)) ≡ true → MakesRoom (B.kept_names store.old) (B.free store.old) (B.is_shut store.old) memory.old memory.new (address_of (locus_of locus.old) / PAGE_WORDS) result }
     ensures marks { comes_to_word head.now (address_of (locus_of locus.old)) ≡ true → MarksOne (is_store (instr_at (locus_of locus.old))) memory.old memory.new (address_of (locus_of locus.old) / PAGE_WORDS) result }
     ensures counts { comes_to_word head.now (address_of (locus_of locus.old)) ≡ true → Counts B.is_shut B.faults B.written B.read_calls memory.old memory.new (address_of (locus_of locus.old) / PAGE_WORDS) store.old store.new }
+    ensures one_write { B.written store.new ≤ B.written store.old + 1 }
     ensures cause { IfErr result (IsCausedBy (B.free store.old) (B.faults store.old) (B.faults store.new) (B.is_shut store.old) (B.is_shut store.new)) }
     ensures same_shut { OnOk result (B.is_shut store.new ≡ B.is_shut store.old) }
     ensures between { B.Pages store.old store.new }

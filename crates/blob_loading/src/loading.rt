@@ -3,7 +3,7 @@ ghost use Rattle.std.specs.Prelude.{◌≡◌, ◌≤◌, ◌<◌, All, IfOk, If
 ghost use Rattle.disk_trait.specs.Disk.{HasCause};
 ghost use Rattle.disk_trait.specs.Image.{Image};
 ghost use Rattle.image_blocks.specs.Bodies.{blob_blocks, blob_room, blocks_for};
-ghost use Rattle.image_meaning.specs.Parts.{IsSpelt};
+ghost use Rattle.image_meaning.specs.Parts.{IsFormed, IsSpelt};
 ghost use Rattle.log_reading.specs.Reads.{ReadsOnly};
 ghost use Rattle.part_checks.specs.Chosen.{part_of};
 ghost use Rattle.blob_loading.specs.Loading.{IsBadRecord};
@@ -32,6 +32,7 @@ fn told(rec: &Rec, body: u32, room: &[u8]) -> Result<ChosenPart, Bad>
     requires some { 1 ≤ rec.now.length }
     requires within { rec.now.length ≤ length room.now }
     requires few { length room.now ≤ MOST_BLOB_BYTES }
+    ensures formed { IfOk result (λ part. IsFormed rec.now.entity (part_of part)) }
     ensures spelt { (image : Image) → room.now ≡ blob_room image rec.now → IfOk result (λ part. IsSpelt image rec.now.entity rec.now (part_of part)) }
     ensures foreign { (image : Image) → room.now ≡ blob_room image rec.now → IfErr result (IsBadRecord image rec.now body) }
 {
@@ -60,6 +61,7 @@ pub fn load<D: Disk>(
     requires some { 1 ≤ rec.now.length }
     requires few { rec.now.length ≤ MOST_BLOB_BYTES }
     requires there { All (λ b. b < D.block_count disk.old) (blob_blocks rec.now) }
+    ensures formed { IfOk result (λ r. IfOk r (λ part. IsFormed rec.now.entity (part_of part))) }
     ensures spelt { D.tells → IfOk result (λ r. IfOk r (λ part. IsSpelt (D.reading disk.old) rec.now.entity rec.now (part_of part))) }
     ensures foreign { D.tells → IfOk result (λ r. IfErr r (IsBadRecord (D.reading disk.old) rec.now body)) }
     ensures cause { HasCause (D.faults disk.old) (D.faults disk.new) result }

@@ -11,7 +11,7 @@ use Rattle.kernel_cells.specs.declared.cells.Part.{Part}
 use Rattle.kernel_cells.specs.declared.cells.Part.TheVariants as part
 use Rattle.beside_steps.specs.Besides.{memory_of}
 use Rattle.cell_laws.specs.Memories.{HasOwnMemory}
-use Rattle.cell_table.specs.Tables.{AreNumbered, HasKind, IsOrderly, blocks_by, memory_at, tables_in}
+use Rattle.cell_table.specs.Tables.{AreNumbered, HasKind, HasNews, IsOrderly, blocks_by, memory_at, tables_in}
 use Rattle.cell_table.proofs.Having.{some_cell}
 
 -- the part is the container that it was, whose blocks may be others
@@ -94,6 +94,18 @@ module _ (held held' : ℕ → Bool) (cs cs' : List Cell) (me y : ℕ) (a b a' b
         ap (tables_in cs') here ∙ after ∙ sym before ∙ ap (tables_in cs) (sym here))
     | inr other ↦ ap (λ o. blocks_by (memory_at o)) (two.others x other apart)
   ]
+
+  -- the pages of the one container may have new blocks
+  pub news_after : (kept : ℕ → Bool) → ((page : ℕ) → (slice_index looks.after.table page ≡ slice_index looks.before.table page) ⊎ (kept (slice_index looks.after.table page) ≡ false))
+      → HasNews kept (tables_in cs) (tables_in cs')
+  news_after kept news x page = elim (same_or x y) as (λ _. IsNews (tables_in cs' x) (tables_in cs x)) [
+    | inl here ↦ subst (λ z. IsNews (tables_in cs' z) (tables_in cs z)) (sym here)
+        (subst (λ t. IsNews t (tables_in cs y)) (sym table_after) (subst (λ t. IsNews looks.after.table t) (sym table_before) (news page)))
+    | inr apart ↦ inl (ap (λ t. slice_index t page) (table_same x apart))
+  ]
+    where
+      IsNews : List ℕ → List ℕ → Type 0
+      IsNews t' t = (slice_index t' page ≡ slice_index t page) ⊎ (kept (slice_index t' page) ≡ false)
 
   pub held_at : (x p : ℕ) → slice_index (tables_in cs x) p ≢ 0 → held (slice_index (tables_in cs x) p) ≡ true
   held_at x p = by (slice_get cs x) refl

@@ -7,7 +7,7 @@ use Rattle.hop_model.specs.Steps.{step}
 use Rattle.kernel_cells.specs.declared.cells.Cell.{Cell}
 use Rattle.touch_laws.specs.Touching.{IsNoted}
 use Rattle.touch_laws.proofs.Noted.{names}
-use Rattle.cell_table.specs.Steps.{EntersStep}
+use Rattle.cell_table.specs.Steps.{ChangesThree, EntersStep}
 use Rattle.cell_table.proofs.PartKinds.{version_rises}
 
 -- a cell stays, of an entity that isn't written, or takes in the step
@@ -19,8 +19,8 @@ no_yes e = cc
 
 pub entered_by : (s : Supply) (me : ℕ) (w v : KernelState) (cs cs' : List Cell) (e : Entry) (l : Option LocusState) → step s me w ≡ Some (e, v)
     → ((x : ℕ) (c : Cell) → slice_get cs x ≡ Some c → (w x).version ≡ c.clock.version) → ((x : ℕ) (d : Cell) → slice_get cs' x ≡ Some d → (v x).version ≡ d.clock.version)
-    → ((x : ℕ) (c d : Cell) → slice_get cs x ≡ Some c → slice_get cs' x ≡ Some d → StaysOrNotes e l x c d) → EntersStep me cs cs' e
-entered_by s me w v cs cs' e l is before after notes = record {
+    → ((x : ℕ) (c d : Cell) → slice_get cs x ≡ Some c → slice_get cs' x ≡ Some d → StaysOrNotes e l x c d) → ChangesThree cs cs' → EntersStep me cs cs' e
+entered_by s me w v cs cs' e l is before after notes three = record {
   event = (names s me w v e is).1;
   actor = (names s me w v e is).0;
   versions = λ x c d at to. (
@@ -28,9 +28,15 @@ entered_by s me w v cs cs' e l is before after notes = record {
       let old = before x c at in
       let new = after x d to in
       (omega (arith, rises.0, old, new), omega (arith, rises.1, old, new)));
+  newest = λ x c d at to. newest x c d (notes x c d at to);
   left = λ x c d at to. left x c d (notes x c d at to);
+  three = three;
 }
   where
+    newest : (x : ℕ) (c d : Cell) → StaysOrNotes e l x c d → d.wish.newest ≡ c.wish.newest
+    newest x c d (inl stays) = ap (λ (k : Cell). k.wish.newest) stays.0
+    newest x c d (inr note) = note.1.newest
+
     left : (x : ℕ) (c d : Cell) → StaysOrNotes e l x c d → d.left + (if x == me then 1 else 0) ≡ c.left
     left x c d (inl stays) = elim (x == me) as (λ b. (x == me) ≡ b → d.left + (if b then 1 else 0) ≡ c.left) [
       | true ↦ λ here. absurd (no_yes (sym stays.1 ∙ ap (writes e) (eqb-true x me here) ∙ (names s me w v e is).2))

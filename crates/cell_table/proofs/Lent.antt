@@ -1,7 +1,9 @@
 -- Tables some of whose cells are lent.
-use Rattle.std.proofs.Common.{◌≡◌, ◌⊎◌, inl, inr, ℕ, true, false, ◌==◌, List, [], ◌∷◌, slice_get, Some, refl, sym, ap, ◌∙◌, eqb-true, eq-eqb}
+use Rattle.std.proofs.Common.{◌≡◌, ◌⊎◌, inl, inr, ℕ, ◌≤◌, Bool, true, false, ◌==◌, ◌||◌, List, [], ◌∷◌, length, slice_get, Some, refl, sym, ap, ◌∙◌, eqb-true, eq-eqb, arith}
+use Rattle.std.specs.List.{list_any}
 use Rattle.kernel_cells.specs.declared.cells.Cell.{Cell}
 use Rattle.cell_table.specs.Lending.{ForPairs, IsApart, IsSameNumber, Lends, StandIn}
+use Rattle.cell_table.specs.Steps.{ChangesThree}
 
 -- the cell at this number is one of those lent
 pub record IsLent (R : Cell → Cell → Type 0) (cs cs' : List Cell) (x : ℕ) : Type 0 where
@@ -48,3 +50,31 @@ module _ (R : Cell → Cell → Type 0) (cs cs' : List Cell) (x : ℕ) where
     | inl lent ↦ inl lent
     | inr apart ↦ inr (record { same = lends.others x apart; apart = apart })
   ]
+
+-- at most three cells that are lent are all that changes
+numbers_of : List Cell → List ℕ
+numbers_of [] = []
+numbers_of (c ∷ cs) = c.clock.entity ∷ numbers_of cs
+
+as_many : (old : List Cell) → length (numbers_of old) ≡ length old
+unfolding numbers_of
+as_many [] = refl
+as_many (c ∷ old) = let rest = as_many old in omega (arith, rest)
+
+neither : (a b : Bool) → (a || b) ≡ false → (a ≡ false) × (b ≡ false)
+neither true b is = absurd (cc is)
+neither false b is = (refl, is)
+
+apart_by : (x : ℕ) (old : List Cell) → list_any (λ y. y == x) (numbers_of old) ≡ false → IsApart x old
+unfolding numbers_of
+apart_by x [] none = tt
+apart_by x (c ∷ old) none =
+    let both = neither (c.clock.entity == x) (list_any (λ y. y == x) (numbers_of old)) none in
+    ((λ e. absurd (differs (sym both.0 ∙ eq-eqb c.clock.entity x (sym e)))), apart_by x old both.1)
+
+pub lent_three : (cs cs' old new : List Cell) → Lends cs cs' old new → length old ≤ 3 → ChangesThree cs cs'
+lent_three cs cs' old new lends few = record {
+  changed = numbers_of old;
+  few = (let same = as_many old in omega (arith, same, few));
+  others = λ x none. lends.others x (apart_by x old none);
+}

@@ -5,6 +5,7 @@ pub mod Going
 pub mod PartKinds
 pub mod Founding
 pub mod Entered
+pub mod Kept
 pub mod Quiet
 pub mod WordsApart
 pub mod Blocks

@@ -1,5 +1,5 @@
 -- A look at a container keeps the table in order, whatever the store tells.
-use Rattle.std.proofs.Common.{◌≡◌, ◌≢◌, inl, inr, ℕ, ◌*◌, ◌/◌, ◌%◌, ◌≤◌, Bool, true, false, ◌==◌, ◌||◌, if◌then◌else◌, List, slice_get, Option, Some, None, refl, sym, ap, ◌∙◌, subst, arith, eq-eqb, ne_eqb}
+use Rattle.std.proofs.Common.{◌≡◌, ◌≢◌, inl, inr, ℕ, ◌*◌, ◌/◌, ◌%◌, ◌≤◌, Bool, true, false, ◌==◌, ◌||◌, if◌then◌else◌, List, [], ◌∷◌, slice_get, Option, Some, None, refl, sym, ap, ◌∙◌, subst, arith, eq-eqb, ne_eqb}
 use Rattle.hop_base.specs.declared.histories.Entry.{Entry}
 use Rattle.hop_model.specs.Histories.{Run, after_step, locus_in}
 use Rattle.hop_model.specs.LocalEvents.{touch_at}
@@ -25,7 +25,7 @@ use Rattle.wish_laws.specs.Founded.{IsFounded, IsFoundedCell}
 use Rattle.sound_states.specs.States.{IsSoundState, IsSupplied}
 use Rattle.sound_states.proofs.States.{step_state}
 use Rattle.touch_laws.specs.Touching.{IsNoted}
-use Rattle.cell_table.specs.Steps.{EntersStep}
+use Rattle.cell_table.specs.Steps.{ChangesThree, EntersStep}
 use Rattle.cell_table.specs.Tables.{HasKind, IsOrderly, entity_by, entity_in, state_in}
 use Rattle.cell_table.proofs.Blocks.{ChangesTwo, KeepsOrder, LooksAt, keeps_order, same_or}
 use Rattle.cell_table.proofs.Entered.{StaysOrNotes, entered_by}
@@ -38,6 +38,15 @@ use Rattle.cell_table.proofs.WordsApart.{blank, sound_by_blank}
 
 clash : (l : Locus) → LocusCell (locus_of l) ≡ NotBorn → ⊥
 clash l e = cc
+
+not_first : (a b : Bool) → (a || b) ≡ false → a ≡ true → ⊥
+not_first true b none is = cc
+not_first false b none is = cc
+
+not_second : (a b : Bool) → (a || (b || false)) ≡ false → b ≡ true → ⊥
+not_second true b none is = cc
+not_second false true none is = cc
+not_second false false none is = cc
 
 same_container : (c d : ContainerState) → ContainerCell c ≡ ContainerCell d → c ≡ d
 same_container c d e = cc
@@ -274,8 +283,21 @@ module _ (held held' : ℕ → Bool) (cs cs' : List Cell) (me y : ℕ) (a b a' b
 
     pub entered_look : EntersStep me cs cs' e
     unfolding w u entity_looked
-    entered_look = entered_by no_supply me w u cs cs' e (locus_in (w me).cell) (stepped e advances no_supply no_words) before_at after_at notes
+    entered_look = entered_by no_supply me w u cs cs' e (locus_in (w me).cell) (stepped e advances no_supply no_words) before_at after_at notes three
       where
+        first : (x : ℕ) → ((me == x) || ((y == x) || false)) ≡ false → x ≡ me → ⊥
+        first x none e = not_first (me == x) ((y == x) || false) none (eq-eqb me x (sym e))
+
+        second : (x : ℕ) → ((me == x) || ((y == x) || false)) ≡ false → x ≡ y → ⊥
+        second x none e = not_second (me == x) (y == x) none (eq-eqb y x (sym e))
+
+        three : ChangesThree cs cs'
+        three = record {
+          changed = me ∷ y ∷ [];
+          few = omega arith;
+          others = λ x none. two.others x (λ e. absurd (first x none e)) (λ e. absurd (second x none e));
+        }
+
         before_at : (x : ℕ) (c : Cell) → slice_get cs x ≡ Some c → (w x).version ≡ c.clock.version
         before_at x c was = elim (same_or x y) as (λ _. (w x).version ≡ c.clock.version) [
           | inl here ↦ ap (λ z. (w z).version) here ∙ ap (λ (k : EntityState). k.version) (looked_here e advances no_supply no_words) ∙ ap (λ (k : Cell). k.clock.version) (some_cell b c (sym (ap (slice_get cs) here ∙ two.was_b) ∙ was))

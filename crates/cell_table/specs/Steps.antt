@@ -1,5 +1,6 @@
 -- The step of a locus over the table.
-use Rattle.std.specs.Prelude.{◌≡◌, ℕ, ◌+◌, ◌≤◌, Bool, ◌==◌, if◌then◌else◌, List, slice_get, Some}
+use Rattle.std.specs.Prelude.{◌≡◌, ℕ, ◌+◌, ◌≤◌, Bool, false, ◌==◌, if◌then◌else◌, List, length, slice_get, slice_index, Some}
+use Rattle.std.specs.List.{list_any}
 use Rattle.hop_base.specs.declared.histories.Entry.{Entry}
 use Rattle.hop_base.specs.declared.histories.Event.TheVariants.{Step as StepEvent}
 use Rattle.hop_model.specs.Histories.{Run, goes_on}
@@ -11,7 +12,7 @@ use Rattle.kernel_cells.specs.declared.cells.Cell.{Cell}
 use Rattle.kernel_cells.specs.declared.cells.Part.TheVariants as Part
 use Rattle.step_plans.specs.Plans.{IsPlanned}
 use Rattle.step_plans.specs.declared.plans.Plan.{Plan}
-use Rattle.cell_table.specs.Tables.{AreClean, HasTableWishes, IsOrderly, state_in}
+use Rattle.cell_table.specs.Tables.{AreClean, HasTableWishes, IsOrderly, state_in, tables_in}
 
 -- THE STEP of the locus in the state that the cells are gives this entry and the state that they are left as; each run that is in this
 -- state with the cells' wishes goes on to one with their wishes as they are left; and pages stay clean.
@@ -20,17 +21,27 @@ pub record GoesOn (s : Supply) (words words' : ℕ → List ℕ) (me : ℕ) (cs 
   pub wishes : (steps : ℕ) (script : Script) (r : Run) → r.state ≡ state_in s words cs → HasTableWishes steps r cs → HasTableWishes steps (goes_on s script r e) cs'
   pub clean : AreClean s words cs → AreClean s words' cs'
 
--- THE ENTRY is a step's of the locus. Versions rise by one at most, the locus has one step less left, and other loci as many as before.
+-- at most three cells are changed
+pub record ChangesThree (cs cs' : List Cell) : Type 0 where
+  pub changed : List ℕ
+  pub few : length changed ≤ 3
+  pub others : (x : ℕ) → list_any (λ y. y == x) changed ≡ false → slice_get cs' x ≡ slice_get cs x
+
+-- THE ENTRY is a step's of the locus. Versions rise by one at most, newest records are the same, the locus has one step less left, other
+-- loci as many as before, and at most three cells are changed.
 pub record EntersStep (me : ℕ) (cs cs' : List Cell) (e : Entry) : Type 0 where
   pub event : e.event ≡ StepEvent
   pub actor : e.actor ≡ me
   pub versions : (x : ℕ) (c d : Cell) → slice_get cs x ≡ Some c → slice_get cs' x ≡ Some d → (c.clock.version ≤ d.clock.version) × (d.clock.version ≤ c.clock.version + 1)
+  pub newest : (x : ℕ) (c d : Cell) → slice_get cs x ≡ Some c → slice_get cs' x ≡ Some d → d.wish.newest ≡ c.wish.newest
   pub left : (x : ℕ) (c d : Cell) → slice_get cs x ≡ Some c → slice_get cs' x ≡ Some d → d.left + (if x == me then 1 else 0) ≡ c.left
+  pub three : ChangesThree cs cs'
 
 -- A STEP THAT LEAVES ALL BLOCKS as they are, over a table in order, which it leaves in order
 pub record StepsQuietly (me : ℕ) (cs cs' : List Cell) (e : Entry) : Type 0 where
   pub goes : (s : Supply) (words : ℕ → List ℕ) → GoesOn s words words me cs cs' e
   pub orderly : (held : ℕ → Bool) → IsOrderly held cs → IsOrderly held cs'
+  pub blocks : (held : ℕ → Bool) → IsOrderly held cs → (x page : ℕ) → slice_index (tables_in cs' x) page ≡ slice_index (tables_in cs x) page
   pub enters : EntersStep me cs cs' e
 
 -- the cell at the number is a locus's that runs, has a step left, and wants an act of this kind

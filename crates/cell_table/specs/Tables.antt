@@ -1,5 +1,5 @@
 -- The cells of the kernel: a list of 64, each at its entity's number.
-use Rattle.std.specs.Prelude.{◌≡◌, ◌≢◌, ℕ, ◌<◌, ◌≤◌, ◌^◌, Bool, true, List, [], length, slice_get, slice_index, Option, Some, None}
+use Rattle.std.specs.Prelude.{◌≡◌, ◌≢◌, ◌⊎◌, ℕ, ◌<◌, ◌≤◌, ◌^◌, Bool, true, false, List, [], length, slice_get, slice_index, Option, Some, None}
 use Rattle.hop_model.specs.Histories.{Run}
 use Rattle.hop_model.specs.State.{EntityState, KernelState, Supply, empty_state}
 use Rattle.vector_stamps.specs.Stamps.{component}
@@ -44,6 +44,10 @@ blocks_by None = []
 -- THE PAGE TABLES, by number
 abbrev pub tables_in : List Cell → ℕ → List ℕ
 tables_in cs = λ x. blocks_by (memory_at (slice_get cs x))
+
+-- a page of the tables has the block that it had, or one that no kept record names
+abbrev pub HasNews : (ℕ → Bool) → (ℕ → List ℕ) → (ℕ → List ℕ) → Type 0
+HasNews kept tables tables' = (x page : ℕ) → (slice_index (tables' x) page ≡ slice_index (tables x) page) ⊎ (kept (slice_index (tables' x) page) ≡ false)
 
 -- the run has the wish and the steps left of each cell
 abbrev pub HasTableWishes : ℕ → Run → List Cell → Type 0

@@ -3,7 +3,7 @@
 //! The table is a slice, so that a caller can lend a cell of it beside other things. The function does nothing: its contract is the law.
 #![tactic(auto)]
 
-ghost use Rattle.std.specs.Prelude.{ℕ, List};
+ghost use Rattle.std.specs.Prelude.{◌≤◌, ℕ, List, length};
 ghost use Rattle.hop_base.specs.declared.histories.Entry.{Entry};
 ghost use Rattle.hop_model.specs.State.{Supply};
 ghost use Rattle.kernel_cells.specs.declared.cells.Cell.{Cell as ACell};
@@ -13,8 +13,8 @@ ghost use Rattle.cell_table.specs.Quiet.{GoesQuietly};
 ghost use Rattle.cell_table.specs.Steps.{StepsQuietly};
 ghost use Rattle.cell_table.specs.Tables.{AreNumbered};
 
-/// A step over cells that are lent from a table, which leaves all blocks as they are, is the step over the table, which it leaves in order.
+/// A step over at most three cells that are lent from a table, which leaves all blocks as they are, is the step over the table, which it leaves in order.
 pub fn lent_step_law()
     ensures { (me : ℕ) (cs cs' old new : List ACell) (e : Entry) → ((s : Supply) (words : ℕ → List ℕ) → StepsCells s words words me old new e)
-        → Lends cs cs' old new → AreNumbered cs → ForPairs GoesQuietly old new → StepsQuietly me cs cs' e }
+        → Lends cs cs' old new → length old ≤ 3 → AreNumbered cs → ForPairs GoesQuietly old new → StepsQuietly me cs cs' e }
 {}

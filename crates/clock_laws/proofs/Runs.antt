@@ -8,7 +8,7 @@ use Rattle.hop_base.specs.declared.histories.Event.TheVariants.{Birth, Step, Sna
 use Rattle.hop_model.specs.Births.{next_birth_change}
 use Rattle.hop_model.specs.Changes.{Change, acts}
 use Rattle.hop_model.specs.Choices.{Commit, greatest}
-use Rattle.hop_model.specs.Histories.{Policy, Run, IsLegalFrom, IsLegalRun, IsMade, May, MayCommit, after_birth, after_snap, after_stable, after_step, asked_by, births_owed, by_event, chosen_commits, commit_of, commits_above, commits_of, event_of, every_of, goes_on, has_changed, has_wish, is_due, is_full, locus_in, mark, may, next_changed, noting, owed_by, owing_births, start_run, version_of, went_on, with_asked, writes}
+use Rattle.hop_model.specs.Histories.{Policy, Run, IsLegalFrom, IsLegalRun, IsMade, May, MayCommit, after_birth, after_snap, after_stable, after_step, asked_by, births_owed, by_event, chosen_commits, commit_of, commits_above, commits_of, event_of, every_of, goes_on, has_changed, has_wish, is_due, is_full, locus_in, mark, may, next_changed, noting, owed_by, owing_births, run_after, start_run, version_of, went_on, with_asked, writes}
 use Rattle.hop_model.specs.Parts.{after_entry, is_event, next_of}
 use Rattle.hop_model.specs.Scripts.{Script, next_name}
 use Rattle.hop_model.specs.State.{KernelState, Supply}
@@ -263,7 +263,7 @@ module _ (start : ℕ → ℕ) (r q : Run) (k : AreLikeRuns start r q) where
       (subst (λ o. AreLikeAfter m.0.1 (next_of act q.state o)) (sym there.1) (there.2, there.3 start k.stamps))
 
 module _ (s : Supply) (policy : Policy) (script : Script) (start : ℕ → ℕ) where
-  next_same_run : (r q : Run) (e : Entry) → AreLikeRuns start r q → May s policy script r e → AreLikeRuns start (goes_on s script r e) (goes_on s script q e)
+  pub next_same_run : (r q : Run) (e : Entry) → AreLikeRuns start r q → May s policy script r e → AreLikeRuns start (goes_on s script r e) (goes_on s script q e)
   next_same_run r q e k m =
       elim e.event as (λ ev. e.event ≡ ev → may s policy script r e ev → AreLikeRuns start (went_on s script r e ev) (went_on s script q e ev)) [
         | Birth ↦ λ is m. (
@@ -289,18 +289,24 @@ module _ (s : Supply) (policy : Policy) (script : Script) (start : ℕ → ℕ) 
   legal_over (e ∷ es) r q k legal =
       (may_same start r q k s policy script e legal.0, legal_over es (goes_on s script r e) (goes_on s script q e) (next_same_run r q e k legal.0) legal.1)
 
+  -- behind a legal history the two are alike still
+  pub runs_over : (es : List Entry) (r q : Run) → AreLikeRuns start r q → IsLegalFrom s policy script r es → AreLikeRuns start (run_after s script r es) (run_after s script q es)
+  runs_over [] r q k legal = k
+  runs_over (e ∷ es) r q k legal = runs_over es (goes_on s script r e) (goes_on s script q e) (next_same_run r q e k legal.0) legal.1
+
 chosen_like : (start : ℕ → ℕ) (w v : KernelState) → AreAlike w v → AreLikeStamps start w v → (xs : List ℕ) → AreLikeCommits start (chosen_commits w xs) (chosen_commits v xs)
 chosen_like start w v alike stamps [] = tt
 chosen_like start w v alike stamps (x ∷ xs) = (record { entity = refl; version = (alike x).version; stamp = stamps x }, chosen_like start w v alike stamps xs)
 
-pub legal_alike : (s : Supply) (policy : Policy) (script : Script) (w v : KernelState) (es : List Entry) → AreAlike w v → StampsBelow w → StampsBelow v → IsLegalRun s policy w script es → IsLegalRun s policy v script es
-legal_alike s policy script w v es alike low low_too legal =
+-- runs begin alike
+pub start_like : (w v : KernelState) → AreAlike w v → StampsBelow w → StampsBelow v → AreLikeRuns (λ x. (w x).version) (start_run w) (start_run v)
+start_like w v alike low low_too =
     let start : ℕ → ℕ = λ x. (w x).version in
     let stamps : AreLikeStamps start w v = λ x y. (let a = low x y in let b = low_too x y in let e = (alike y).version in omega (arith, a, b, e)) in
     let same : filter (λ x. nat_lt 0 (w x).version) (upto 64) ≡ filter (λ x. nat_lt 0 (v x).version) (upto 64) = λ i. filter (λ x. nat_lt 0 ((alike x).version i)) (upto 64) in
     let chosen : AreLikeCommits start (start_run w).commits (start_run v).commits =
     subst (λ xs. AreLikeCommits start (start_run w).commits (chosen_commits v xs)) same (chosen_like start w v alike stamps (filter (λ x. nat_lt 0 (w x).version) (upto 64))) in
-    legal_over s policy script start es (start_run w) (start_run v) (record {
+    record {
       from = refl;
       from_too = λ i x. sym (alike x).version i;
       alike = alike;
@@ -316,4 +322,7 @@ legal_alike s policy script w v es alike low low_too legal =
       commits = chosen;
       cut = λ i x. (alike x).version i;
       tried = λ e. e;
-    }) legal
+    }
+
+pub legal_alike : (s : Supply) (policy : Policy) (script : Script) (w v : KernelState) (es : List Entry) → AreAlike w v → StampsBelow w → StampsBelow v → IsLegalRun s policy w script es → IsLegalRun s policy v script es
+legal_alike s policy script w v es alike low low_too legal = legal_over s policy script (λ x. (w x).version) es (start_run w) (start_run v) (start_like w v alike low low_too) legal

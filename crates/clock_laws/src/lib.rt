@@ -5,7 +5,7 @@ ghost use Rattle.std.specs.Prelude.{◌≡◌, ◌↔◌, ℕ, List, Some};
 ghost use Rattle.hop_base.specs.declared.histories.Entry.{Entry};
 ghost use Rattle.hop_model.specs.State.{Supply, KernelState};
 ghost use Rattle.hop_model.specs.Births.{next_birth};
-ghost use Rattle.hop_model.specs.Histories.{Policy, IsLegalRun};
+ghost use Rattle.hop_model.specs.Histories.{Policy, IsLegalRun, run_after, start_run};
 ghost use Rattle.hop_model.specs.Scripts.{Script};
 ghost use Rattle.hop_model.specs.Steps.{step};
 ghost use Rattle.hop_model.specs.Vectors.{StampsBelow};
@@ -22,9 +22,13 @@ pub fn unclocked_law()
         → (q : KernelState) × (next_birth s script v ≡ Some (r.0, q)) × TouchesAlike r.1 q r.0.touched }
 {}
 
-/// Which histories are legal does not depend on the clocks of the start, as long as none is above the versions.
+/// Which histories are legal does not depend on the clocks of the start, as long as none is above the versions, nor do the cells
+/// and versions behind them.
 pub fn legal_start_law()
-    ensures { (s : Supply) (policy : Policy) (script : Script) (w v : KernelState) (es : List Entry)
+    ensures legal { (s : Supply) (policy : Policy) (script : Script) (w v : KernelState) (es : List Entry)
         → AreAlike w v → StampsBelow w → StampsBelow v
         → IsLegalRun s policy w script es ↔ IsLegalRun s policy v script es }
+    ensures behind { (s : Supply) (policy : Policy) (script : Script) (w v : KernelState) (es : List Entry)
+        → AreAlike w v → StampsBelow w → StampsBelow v → IsLegalRun s policy w script es
+        → AreAlike (run_after s script (start_run w) es).state (run_after s script (start_run v) es).state }
 {}

@@ -9,7 +9,7 @@ use Rattle.hop_base.specs.declared.histories.Event.TheVariants.{Birth}
 use Rattle.hop_model.specs.Births.{birth_named, next_birth, next_birth_change}
 use Rattle.hop_model.specs.Changes.{Change, carried}
 use Rattle.hop_model.specs.Histories.{Run, births_owed, by_event, event_of, goes_on, never, run_after, start_run}
-use Rattle.hop_model.specs.Parts.{is_event, next_of}
+use Rattle.hop_model.specs.Parts.{after_entry, is_event, next_of}
 use Rattle.hop_model.specs.Scripts.{ContainerTable, LocusTable, Script, container_named, locus_named, next_name, number_of}
 use Rattle.hop_model.specs.Serial.{all_births, birth_turn, births, made_and_owed, owed_stable}
 use Rattle.hop_model.specs.Soundness.{IsSound}
@@ -41,6 +41,16 @@ births_none s script zero r born = refl
 births_none s script (suc n) r born =
     let none : birth_turn s script r ≡ [] = ap (λ (b : Bool). if b then made_and_owed s script r (next_birth s script r.state) else []) born in
     ap (λ es. es ++ births n s script (run_after s script r es)) none ∙ births_none s script n r born
+
+-- THE NEXT BIRTH
+module _ (s : Supply) (script : Script) where
+  pub birth_event : (w : KernelState) (made : Entry × KernelState) → next_birth s script w ≡ Some made → made.0.event ≡ Birth
+  birth_event w made is = ap (λ (q : Entry × KernelState). q.0.event) (sym (some_of_map (λ (c : ℕ × Change). carried w Birth c.0 c.1) (next_birth_change s script w) made is).2)
+
+  -- its entry leaves its state
+  pub born_state : (w : KernelState) (made : Entry × KernelState) → next_birth s script w ≡ Some made → after_entry (event_of s script) w made.0 ≡ made.1
+  born_state w made is =
+      ap (λ (ev : Event). if is_event ev then next_of (event_of s script) w (by_event s script ev made.0.actor w) else w) (birth_event w made is) ∙ ap (next_of (event_of s script) w) is
 
 module _ (s : Supply) (script : Script) (rules : IsScript script) where
   -- the next birth, and what it leaves
@@ -77,22 +87,32 @@ module _ (s : Supply) (script : Script) (rules : IsScript script) where
 
   -- ALL BIRTHS
 
-  abbrev Ready : KernelState → Type 0
+  abbrev pub Ready : KernelState → Type 0
   Ready w = IsSound (λ x. (w x).cell) × Fits (atlas_in (w 0).cell) script
 
   owed_keeps : (q : Run) (o : Option ℕ) → (run_after s script q (owed_stable o)).state ≡ q.state
   owed_keeps q None = refl
   owed_keeps q (Some actor) = refl
 
-  birth_event : (w : KernelState) (made : Entry × KernelState) → next_birth s script w ≡ Some made → made.0.event ≡ Birth
-  birth_event w made is = ap (λ (q : Entry × KernelState). q.0.event) (sym (some_of_map (λ (c : ℕ × Change). carried w Birth c.0 c.1) (next_birth_change s script w) made is).2)
-
   made_state : (r : Run) (made : Entry × KernelState) → next_birth s script r.state ≡ Some made → (run_after s script r (made_and_owed s script r (Some made))).state ≡ made.1
   made_state r made is =
-      owed_keeps (goes_on s script r made.0) (goes_on s script r made.0).owed
-      ∙ (state_goes_on s never script r made.0
-      ∙ (ap (λ (ev : Event). if is_event ev then next_of (event_of s script) r.state (by_event s script ev made.0.actor r.state) else r.state) (birth_event r.state made is)
-      ∙ ap (next_of (event_of s script) r.state) is))
+      owed_keeps (goes_on s script r made.0) (goes_on s script r made.0).owed ∙ state_goes_on s never script r made.0 ∙ born_state s script r.state made is
+
+  turn_is : (r : Run) (b : Bears r.state) → births_owed script r ≡ true → birth_turn s script r ≡ made_and_owed s script r (Some b.made)
+  turn_is r b e = ap (λ (t : Bool). if t then made_and_owed s script r (next_birth s script r.state) else []) e ∙ ap (made_and_owed s script r) b.is
+
+  -- behind any number of births the state is sound, and the script still fits
+  pub births_ready : (n : ℕ) (r : Run) → Ready r.state → Ready (run_after s script r (births n s script r)).state
+  births_ready zero r ready = ready
+  births_ready (suc n) r ready = by_test (births_owed script r) refl (λ q k. births_ready n q k)
+    where
+      by_test : (b : Bool) → births_owed script r ≡ b → ((q : Run) → Ready q.state → Ready (run_after s script q (births n s script q)).state) → Ready (run_after s script r (births (suc n) s script r)).state
+      by_test false e rest = subst (λ es. Ready (run_after s script r es).state) (sym (births_none s script (suc n) r e)) ready
+      by_test true e rest =
+          let b = next_bears r.state ready.0 ready.1 e in
+          let q : Run = run_after s script r (birth_turn s script r) in
+          let state : q.state ≡ b.made.1 = ap (λ es. (run_after s script r es).state) (turn_is r b e) ∙ made_state r b.made b.is in
+          subst (λ (k : Run). Ready k.state) (sym (run_append s never script r (birth_turn s script r) (births n s script q))) (rest q (subst Ready (sym state) (b.sound, b.fits)))
 
   pub births_done : (n : ℕ) (r : Run) → Ready r.state → 64 ≤ names_in (atlas_in (r.state 0).cell) + n → births_owed script (run_after s script r (births n s script r)) ≡ false
   births_done zero r ready many = (let few = few_names r.state ready.0 in absurd (omega (arith, few, many)))
@@ -103,7 +123,7 @@ module _ (s : Supply) (script : Script) (rules : IsScript script) where
       by_test false e rest = subst (λ es. births_owed script (run_after s script r es) ≡ false) (sym (births_none s script (suc n) r e)) e
       by_test true e rest =
           let b = next_bears r.state ready.0 ready.1 e in
-          let turn : birth_turn s script r ≡ made_and_owed s script r (Some b.made) = ap (λ (t : Bool). if t then made_and_owed s script r (next_birth s script r.state) else []) e ∙ ap (made_and_owed s script r) b.is in
+          let turn = turn_is r b e in
           let q : Run = run_after s script r (birth_turn s script r) in
           let state : q.state ≡ b.made.1 = ap (λ es. (run_after s script r es).state) turn ∙ made_state r b.made b.is in
           let high : 64 ≤ names_in (atlas_in (b.made.1 0).cell) + n = (let more = b.more in omega (arith, more, many)) in

@@ -1,5 +1,6 @@
 -- An image means a sound state.
 use Rattle.std.proofs.Common.{◌≡◌, ◌≢◌, ℕ, ◌+◌, ◌≤◌, ◌<◌, ◌||◌, ◌==◌, if◌then◌else◌, Bool, true, false, List, length, nat_le, nat_lt, Option, Some, None, refl, sym, ap, subst, ◌∙◌, arith, eqb-true, eq-eqb}
+use Rattle.std.specs.Prelude.{MatchOption}
 use Rattle.std.proofs.lemmas.Bool.{false≢true, leb-true, ltb-false, ltb-true}
 use Rattle.disk_trait.specs.Image.{Image, block_at}
 use Rattle.hop_base.specs.Kinds.{kind_of}
@@ -10,10 +11,11 @@ use Rattle.hop_model.specs.Soundness.{AreSound, IsSound, IsSoundAtlas, IsSoundCo
 use Rattle.hop_model.specs.State.{Supply, AtlasState, ContainerState, LocusState, EntityState, KernelState, Cell, NotBorn, AtlasCell, ContainerCell, LocusCell, empty_state, no_atlas}
 use Rattle.blob_grammar.proofs.Joins.{container_number}
 use Rattle.blob_grammar.specs.Forms.{IsContainerForm, IsLocusForm}
+use Rattle.image_blocks.specs.Bodies.{blob_in}
 use Rattle.image_blocks.specs.Checks.{count_in}
 use Rattle.image_meaning.specs.Fits.{IsFit, IsTied, IsTiedAtlas, IsTiedContainer, IsTiedLocus, shown_by}
 use Rattle.image_meaning.specs.Meaning.{Accepted, Means, entity_of, state_of}
-use Rattle.image_meaning.specs.Parts.{AreSpelt, AtlasPart, ContainerPart, IsSpelt, LocusPart, Part, cell_of, chosen, kind_in, words_in}
+use Rattle.image_meaning.specs.Parts.{AreFormed, AreSpelt, AreTaken, AtlasPart, ContainerPart, IsFormed, LocusPart, Part, cell_of, chosen, kind_in, words_in}
 use Rattle.image_meaning.proofs.Firsts.{clash}
 use Rattle.image_meaning.proofs.Fitting.{same_part}
 use Rattle.image_meaning.proofs.Ones.{SpeltAs}
@@ -91,29 +93,31 @@ locus_part (AtlasPart a) e = cc
 locus_part (ContainerPart c table) e = cc
 locus_part (LocusPart l) e = (l, refl)
 
--- THE STATE of an accepted image
-module _ (s : Supply) (image : Image) (recs : List Rec) (parts : ℕ → Option Part) (spelt : AreSpelt image recs parts)
-    (fit : (x : ℕ) (part : Part) → parts x ≡ Some part → IsFit (count_in image) recs parts x part) where
+-- what is taken of an entity with this record
+abbrev TakenAs : Option Rec → Option Part → Type 0
+TakenAs o q = MatchOption o (q ≡ None) (λ _. (part : Part) × (q ≡ Some part))
+
+-- THE STATE of records and of parts in form that fit
+module _ (s : Supply) (bytes : ℕ → List ℕ) (count : ℕ) (recs : List Rec) (parts : ℕ → Option Part) (taken : AreTaken recs parts) (formed : AreFormed parts)
+    (fit : (x : ℕ) (part : Part) → parts x ≡ Some part → IsFit count recs parts x part) where
   abbrev state : KernelState
-  state = state_of s (block_at image) recs parts
+  state = state_of s bytes recs parts
 
   -- an entity with a part is as its part says
-  cell_by : (x : ℕ) (p : Part) (o : Option Rec) → SpeltAs image x o (parts x) → parts x ≡ Some p → ((entity_of s (block_at image) x o (parts x)).cell ≡ cell_of s (block_at image) p) × ((r : Rec) × IsSpelt image x r p)
+  cell_by : (x : ℕ) (p : Part) (o : Option Rec) → TakenAs o (parts x) → parts x ≡ Some p → (entity_of s bytes x o (parts x)).cell ≡ cell_of s bytes p
   cell_by x p None none is = clash (parts x) p none is
-  cell_by x p (Some r) (q, at, told) is =
-      let same : q ≡ p = same_part q p (sym at ∙ is) in
-      (ap (λ (o : Option Part). (entity_of s (block_at image) x (Some r) o).cell) is, (r, subst (λ (t : Part). IsSpelt image x r t) same told))
+  cell_by x p (Some r) some is = ap (λ (o : Option Part). (entity_of s bytes x (Some r) o).cell) is
 
-  here : (x : ℕ) (p : Part) → parts x ≡ Some p → ((state x).cell ≡ cell_of s (block_at image) p) × ((r : Rec) × IsSpelt image x r p)
-  here x p is = cell_by x p (chosen recs x) (spelt x) is
+  here : (x : ℕ) (p : Part) → parts x ≡ Some p → ((state x).cell ≡ cell_of s bytes p) × IsFormed x p
+  here x p is = (cell_by x p (chosen recs x) (taken x) is, formed x p is)
 
   -- an entity without one is as in the state of nothing
-  empty_by : (x : ℕ) (o : Option Rec) → SpeltAs image x o (parts x) → parts x ≡ None → entity_of s (block_at image) x o (parts x) ≡ empty_state x
+  empty_by : (x : ℕ) (o : Option Rec) → TakenAs o (parts x) → parts x ≡ None → entity_of s bytes x o (parts x) ≡ empty_state x
   empty_by x None none is = refl
-  empty_by x (Some r) (q, at, told) is = clash (parts x) q is at
+  empty_by x (Some r) (q, at) is = clash (parts x) q is at
 
   empty_here : (x : ℕ) → parts x ≡ None → state x ≡ empty_state x
-  empty_here x is = empty_by x (chosen recs x) (spelt x) is
+  empty_here x is = empty_by x (chosen recs x) (taken x) is
 
   not_born : (x : ℕ) (b : Bool) → (x == 0) ≡ b → x ≢ 0 → (if b then AtlasCell no_atlas else NotBorn) ≡ NotBorn
   not_born x true e other = absurd (other (eqb-true x 0 e))
@@ -123,7 +127,7 @@ module _ (s : Supply) (image : Image) (recs : List Rec) (parts : ℕ → Option 
   none_regions x y true = refl
   none_regions x y false = refl
 
-  shown_here : (p : Part) (y : ℕ) → regions_onto (cell_of s (block_at image) p) y ≡ shown_by (Some p) y
+  shown_here : (p : Part) (y : ℕ) → regions_onto (cell_of s bytes p) y ≡ shown_by (Some p) y
   shown_here (AtlasPart a) y = refl
   shown_here (ContainerPart c table) y = refl
   shown_here (LocusPart l) y = refl
@@ -153,10 +157,10 @@ module _ (s : Supply) (image : Image) (recs : List Rec) (parts : ℕ → Option 
     born_here x p is = subst (λ (b : AtlasState). is_born b x ≡ true) (same_atlas x p is) (fit x p is).named
 
     sound_names : IsSoundAtlas a
-    sound_names = by_spelt (here 0 (AtlasPart a) first).1
+    sound_names = by_form (here 0 (AtlasPart a) first).1
       where
-        by_spelt : (r : Rec) × IsSpelt image 0 r (AtlasPart a) → IsSoundAtlas a
-        by_spelt (r, told) = record {
+        by_form : IsFormed 0 (AtlasPart a) → IsSoundAtlas a
+        by_form told = record {
           few_containers = told.spells.form.few_containers;
           few_loci = told.spells.form.few_loci;
           containers = told.spells.form.containers;
@@ -168,27 +172,27 @@ module _ (s : Supply) (image : Image) (recs : List Rec) (parts : ℕ → Option 
     container_at : (x : ℕ) (p : Part) → parts x ≡ Some p → kind_of x ≡ kinds.Container → (c : ContainerState) × ((state x).cell ≡ ContainerCell c) × IsSoundContainer a c
     container_at x p is kind = by_part (here x p is)
       where
-        by_kind : (c : ContainerState) (table : List ℕ) → p ≡ ContainerPart c table → (r : Rec) → IsSpelt image x r p → (state x).cell ≡ cell_of s (block_at image) p
+        by_kind : (c : ContainerState) (table : List ℕ) → p ≡ ContainerPart c table → IsFormed x p → (state x).cell ≡ cell_of s bytes p
             → (d : ContainerState) × ((state x).cell ≡ ContainerCell d) × IsSoundContainer a d
-        by_kind c table e r told cell =
-            let words : ℕ → ℕ = words_in s c.tag (block_at image) table in
-            let at : IsSpelt image x r (ContainerPart c table) = subst (λ (q : Part). IsSpelt image x r q) e told in
-            (record c { words = words }, cell ∙ ap (cell_of s (block_at image)) e, sound_container a c table words at.spells.form (subst (λ (q : Part). IsTied parts a q) e (tied_here x p is)))
+        by_kind c table e told cell =
+            let words : ℕ → ℕ = words_in s c.tag bytes table in
+            let at : IsFormed x (ContainerPart c table) = subst (λ (q : Part). IsFormed x q) e told in
+            (record c { words = words }, cell ∙ ap (cell_of s bytes) e, sound_container a c table words at.spells.form (subst (λ (q : Part). IsTied parts a q) e (tied_here x p is)))
 
-        by_part : ((state x).cell ≡ cell_of s (block_at image) p) × ((r : Rec) × IsSpelt image x r p) → (d : ContainerState) × ((state x).cell ≡ ContainerCell d) × IsSoundContainer a d
-        by_part (cell, (r, told)) = (let found = container_part p (told.kind ∙ kind) in by_kind found.0 found.1 found.2 r told cell)
+        by_part : ((state x).cell ≡ cell_of s bytes p) × IsFormed x p → (d : ContainerState) × ((state x).cell ≡ ContainerCell d) × IsSoundContainer a d
+        by_part (cell, told) = (let found = container_part p (told.kind ∙ kind) in by_kind found.0 found.1 found.2 told cell)
 
     locus_at : (x : ℕ) (p : Part) → parts x ≡ Some p → kind_of x ≡ kinds.Locus → (l : LocusState) × ((state x).cell ≡ LocusCell l) × IsSoundLocus a l
     locus_at x p is kind = by_part (here x p is)
       where
-        by_kind : (l : LocusState) → p ≡ LocusPart l → (r : Rec) → IsSpelt image x r p → (state x).cell ≡ cell_of s (block_at image) p
+        by_kind : (l : LocusState) → p ≡ LocusPart l → IsFormed x p → (state x).cell ≡ cell_of s bytes p
             → (m : LocusState) × ((state x).cell ≡ LocusCell m) × IsSoundLocus a m
-        by_kind l e r told cell =
-            let at : IsSpelt image x r (LocusPart l) = subst (λ (q : Part). IsSpelt image x r q) e told in
-            (l, cell ∙ ap (cell_of s (block_at image)) e, sound_locus a l at.spells.form (subst (λ (q : Part). IsTied parts a q) e (tied_here x p is)))
+        by_kind l e told cell =
+            let at : IsFormed x (LocusPart l) = subst (λ (q : Part). IsFormed x q) e told in
+            (l, cell ∙ ap (cell_of s bytes) e, sound_locus a l at.spells.form (subst (λ (q : Part). IsTied parts a q) e (tied_here x p is)))
 
-        by_part : ((state x).cell ≡ cell_of s (block_at image) p) × ((r : Rec) × IsSpelt image x r p) → (m : LocusState) × ((state x).cell ≡ LocusCell m) × IsSoundLocus a m
-        by_part (cell, (r, told)) = (let found = locus_part p (told.kind ∙ kind) in by_kind found.0 found.1 r told cell)
+        by_part : ((state x).cell ≡ cell_of s bytes p) × IsFormed x p → (m : LocusState) × ((state x).cell ≡ LocusCell m) × IsSoundLocus a m
+        by_part (cell, told) = (let found = locus_part p (told.kind ∙ kind) in by_kind found.0 found.1 told cell)
 
     or_middle : (z c l : Bool) → c ≡ true → (z || c || l) ≡ true
     or_middle true c l h = refl
@@ -263,20 +267,41 @@ nothing_sound = record {
     no_regions y false = refl
 
 -- THE LAW
-module _ (s : Supply) (image : Image) (a : Accepted image) where
-  by_atlas : (o : Option Part) → a.parts 0 ≡ o → IsSound (λ x. (state_of s (block_at image) a.recs a.parts x).cell)
-  by_atlas None none = (no_atlas, subst (λ (v : KernelState). AreSound no_atlas (λ x. (v x).cell)) (λ i x. sym (nowhere x (a.parts x) refl) i) nothing_sound)
+module _ (s : Supply) (bytes : ℕ → List ℕ) (count : ℕ) (recs : List Rec) (parts : ℕ → Option Part) (taken : AreTaken recs parts) (formed : AreFormed parts)
+    (fit : (x : ℕ) (part : Part) → parts x ≡ Some part → IsFit count recs parts x part) where
+  by_atlas : (o : Option Part) → parts 0 ≡ o → IsSound (λ x. (state_of s bytes recs parts x).cell)
+  by_atlas None none = (no_atlas, subst (λ (v : KernelState). AreSound no_atlas (λ x. (v x).cell)) (λ i x. sym (nowhere x (parts x) refl) i) nothing_sound)
     where
-      nowhere : (x : ℕ) (o : Option Part) → a.parts x ≡ o → state_of s (block_at image) a.recs a.parts x ≡ empty_state x
-      nowhere x None is = empty_here s image a.recs a.parts a.spelt a.fit x is
-      nowhere x (Some p) is = clash (a.parts 0) (AtlasPart (a.fit x p is).atlas) none (a.fit x p is).chosen_atlas
-  by_atlas (Some p) is = by_kind p is (here s image a.recs a.parts a.spelt a.fit 0 p is).1
+      nowhere : (x : ℕ) (o : Option Part) → parts x ≡ o → state_of s bytes recs parts x ≡ empty_state x
+      nowhere x None is = empty_here s bytes count recs parts taken formed fit x is
+      nowhere x (Some p) is = clash (parts 0) (AtlasPart (fit x p is).atlas) none (fit x p is).chosen_atlas
+  by_atlas (Some p) is = by_kind p is (formed 0 p is)
     where
-      by_kind : (p : Part) → a.parts 0 ≡ Some p → (r : Rec) × IsSpelt image 0 r p → IsSound (λ x. (state_of s (block_at image) a.recs a.parts x).cell)
-      by_kind (AtlasPart b) is told = (b, sound_here s image a.recs a.parts a.spelt a.fit b is)
-      by_kind (ContainerPart c table) is (r, told) = absurd (let kind = told.kind in cc)
-      by_kind (LocusPart l) is (r, told) = absurd (let kind = told.kind in cc)
+      by_kind : (p : Part) → parts 0 ≡ Some p → IsFormed 0 p → IsSound (λ x. (state_of s bytes recs parts x).cell)
+      by_kind (AtlasPart b) is told = (b, sound_here s bytes count recs parts taken formed fit b is)
+      by_kind (ContainerPart c table) is told = absurd (let kind = told.kind in cc)
+      by_kind (LocusPart l) is told = absurd (let kind = told.kind in cc)
+
+  pub sound_parts : IsSound (λ x. (state_of s bytes recs parts x).cell)
+  sound_parts = by_atlas (parts 0) refl
+
+-- what is spelt is taken, and in form
+pub spelt_taken : (image : Image) (recs : List Rec) (parts : ℕ → Option Part) → AreSpelt image recs parts → AreTaken recs parts
+spelt_taken image recs parts spelt x = taken_by (chosen recs x) (parts x) (spelt x)
+  where
+    taken_by : (o : Option Rec) (q : Option Part) → SpeltAs image x o q → TakenAs o q
+    taken_by None q none = none
+    taken_by (Some r) q (p, at, told) = (p, at)
+
+pub spelt_formed : (image : Image) (recs : List Rec) (parts : ℕ → Option Part) → AreSpelt image recs parts → AreFormed parts
+spelt_formed image recs parts spelt x p is = formed_by (chosen recs x) (spelt x)
+  where
+    formed_by : (o : Option Rec) → SpeltAs image x o (parts x) → IsFormed x p
+    formed_by None none = clash (parts x) p none is
+    formed_by (Some r) (q, at, told) = subst (IsFormed x) (same_part q p (sym at ∙ is)) (record { kind = told.kind; blob = blob_in image r; spells = told.spells })
 
 pub sound_meaning : (s : Supply) (image : Image) (v : KernelState) → Means s image v → IsSound (λ x. (v x).cell)
 sound_meaning s image v m =
-    subst (λ (w : KernelState). IsSound (λ x. (w x).cell)) (sym m.is) (by_atlas s image m.accepted (m.accepted.parts 0) refl)
+    let a : Accepted image = m.accepted in
+    subst (λ (w : KernelState). IsSound (λ x. (w x).cell)) (sym m.is)
+    (sound_parts s (block_at image) (count_in image) a.recs a.parts (spelt_taken image a.recs a.parts a.spelt) (spelt_formed image a.recs a.parts a.spelt) a.fit)

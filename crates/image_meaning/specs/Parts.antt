@@ -79,3 +79,18 @@ pub record IsSpelt (image : Image) (x : ℕ) (r : Rec) (part : Part) : Type 0 wh
 -- for each entity with a chosen record what its blob spells, and for no other anything
 abbrev pub AreSpelt : Image → List Rec → (ℕ → Option Part) → Type 0
 AreSpelt image recs parts = (x : ℕ) → MatchOption (chosen recs x) (parts x ≡ None) (λ r. (part : Part) × (parts x ≡ Some part) × IsSpelt image x r part)
+
+-- WITHOUT AN IMAGE
+
+-- a part is taken exactly of each entity of which a record is chosen
+abbrev pub AreTaken : List Rec → (ℕ → Option Part) → Type 0
+AreTaken recs parts = (x : ℕ) → MatchOption (chosen recs x) (parts x ≡ None) (λ _. (part : Part) × (parts x ≡ Some part))
+
+-- the part is of this number's kind, and has a spelling
+pub record IsFormed (x : ℕ) (part : Part) : Type 0 where
+  pub kind : IsOf x part
+  pub blob : List ℕ
+  pub spells : Spells part blob
+
+abbrev pub AreFormed : (ℕ → Option Part) → Type 0
+AreFormed parts = (x : ℕ) (part : Part) → parts x ≡ Some part → IsFormed x part

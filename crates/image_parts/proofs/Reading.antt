@@ -13,7 +13,7 @@ use Rattle.image_blocks.specs.Layout.{body_at}
 use Rattle.image_blocks.specs.Logs.{IsInRange}
 use Rattle.image_blocks.specs.declared.areas.Area.{Area}
 use Rattle.image_meaning.specs.Foreign.{IsBadBlob, IsBadRest, IsBadSpelling, IsBodyBlock}
-use Rattle.image_meaning.specs.Parts.{AreSpelt, IsSpelt, Part, chosen, chosen_by, cut_of}
+use Rattle.image_meaning.specs.Parts.{AreFormed, AreSpelt, IsFormed, IsSpelt, Part, chosen, chosen_by, cut_of}
 use Rattle.image_meaning.proofs.Finding.{slot_of}
 use Rattle.image_meaning.proofs.Firsts.{clash}
 use Rattle.log_reading.specs.Logs.{AreInRange}
@@ -87,6 +87,12 @@ none_far count recs x range far = by (chosen recs x) refl
 abbrev pub IsSpeltEntity : Image → ℕ → Option ChosenEntity → Type 0
 IsSpeltEntity image x o = IfSome o (λ e. IsSpelt image x e.rec (part_of e.part))
 
+abbrev pub IsFormedEntity : ℕ → Option ChosenEntity → Type 0
+IsFormedEntity x o = IfSome o (λ e. IsFormed x (part_of e.part))
+
+abbrev pub FormedTo : List (Option ChosenEntity) → ℕ → Type 0
+FormedTo es n = (x : ℕ) → x < n → IsFormedEntity x (entity_at es x)
+
 abbrev pub ChosenTo : List Rec → List (Option ChosenEntity) → ℕ → Type 0
 ChosenTo recs es n = (x : ℕ) → x < n → chosen recs x ≡ records_of es x
 
@@ -130,6 +136,18 @@ spelt_past image es x past = subst (IsSpeltEntity image x) (sym (none_past es x 
 pub all_spelt : (image : Image) (recs : List Rec) (es : List (Option ChosenEntity)) → AreChosen recs es → length es ≡ 64 → SpeltTo image es 64 → AreSpelt image recs (parts_of es)
 all_spelt image recs es chose long to x = spelt_one image x (chosen recs x) (entity_at es x) (chose x)
     (⊎_elim (λ (less : x < 64). to x less) (λ (far : 64 ≤ x). spelt_past image es x (omega (arith, far, long))) (cases_lt x 64))
+
+-- what is in form of what is chosen of an entity
+formed_one : (x : ℕ) (o : Option ChosenEntity) (p : Part) → part_in o ≡ Some p → IsFormedEntity x o → IsFormed x p
+formed_one x None p is formed = clash None p refl is
+formed_one x (Some e) p is formed = subst (IsFormed x) (same (part_of e.part) p is) formed
+  where
+    same : (q r : Part) → Some q ≡ Some r → q ≡ r
+    same q r is = cc
+
+pub all_formed : (es : List (Option ChosenEntity)) → length es ≡ 64 → FormedTo es 64 → AreFormed (parts_of es)
+all_formed es long to x p is = formed_one x (entity_at es x) p is
+    (⊎_elim (λ (less : x < 64). to x less) (λ (far : 64 ≤ x). subst (IsFormedEntity x) (sym (none_past es x (omega (arith, far, long)))) tt) (cases_lt x 64))
 
 -- the part of a chosen record that is read
 part_read : (image : Image) (x : ℕ) (r : Rec) (o : Option ChosenEntity) → Some r ≡ record_in o → IsSpeltEntity image x o → (part : Part) × IsSpelt image x r part

@@ -3,17 +3,19 @@ use Rattle.std.specs.Prelude.{◌≡◌, ℕ, List, Option, length, slice_index}
 use Rattle.disk_trait.specs.Image.{Image}
 use Rattle.hop_base.specs.declared.records.Rec.{Rec}
 use Rattle.image_meaning.specs.Meaning.{Accepted}
-use Rattle.image_meaning.specs.Parts.{Part, cut_of}
+use Rattle.image_meaning.specs.Parts.{AreFormed, Part, cut_of}
 use Rattle.log_reading.specs.declared.log.ImageLog.{ImageLog}
 use Rattle.part_checks.specs.Chosen.{parts_of}
 use Rattle.part_checks.specs.Fits.{AreChosen, AreFit}
 use Rattle.image_parts.specs.declared.parts.ImageParts.{ImageParts}
 
--- THE PARTS OF A LOG: the cut is the greatest closed choice, what it takes stands at the place of its entity, and all fit
+-- THE PARTS OF A LOG: the cut is the greatest closed choice, what it takes stands at the place of its entity, has a
+-- spelling whether or not the disk tells, and all fit
 pub record ArePartsOf (log : ImageLog) (parts : ImageParts) : Type 0 where
   pub cut : slice_index parts.cut.0 ≡ cut_of log.recs.items
   pub places : length parts.entities.items ≡ 64
   pub chosen : AreChosen log.recs.items parts.entities.items
+  pub formed : AreFormed (parts_of parts.entities.items)
   pub fit : AreFit log.blocks log.recs.items (parts_of parts.entities.items)
 
 -- THE IMAGE IS ACCEPTED with these records and parts

@@ -3,7 +3,7 @@ ghost use Rattle.std.specs.Prelude.{◌≡◌, ◌<◌, IfOk, IfSome, IsErrOf, l
 ghost use Rattle.disk_trait.specs.Counts.{Rose};
 ghost use Rattle.image_blocks.specs.Checks.{Bad as BadPlace};
 ghost use Rattle.image_meaning.specs.Foreign.{IsBadBlob};
-ghost use Rattle.image_meaning.specs.Parts.{AreSpelt, IsSpelt, chosen, cut_of};
+ghost use Rattle.image_meaning.specs.Parts.{AreFormed, AreSpelt, IsFormed, IsSpelt, chosen, cut_of};
 ghost use Rattle.log_reading.specs.Logs.{IsKnown};
 ghost use Rattle.log_reading.specs.Reads.{ReadsOnly};
 ghost use Rattle.part_checks.specs.Chosen.{part_of, parts_of, record_in};
@@ -30,6 +30,7 @@ fn read_slot<D: Disk>(
     requires known { IsKnown (D.block_count disk.old) log.now }
     requires there { slot < length log.now.recs.items }
     ensures record { IfOk result (λ e. slice_get log.now.recs.items slot ≡ Some e.rec) }
+    ensures formed { IfOk result (λ e. IsFormed e.rec.entity (part_of e.part)) }
     ensures spelt { D.tells → IfOk result (λ e. IsSpelt (D.reading disk.old) e.rec.entity e.rec (part_of e.part)) }
     ensures foreign { D.tells → (bad : BadPlace) → IsErrOf result (ReadingFault.Foreign bad)
         → IsBadSlot (D.reading disk.old) log.now.recs.items log.now.area slot bad }
@@ -54,6 +55,7 @@ fn read_entity<D: Disk>(
     requires known { IsKnown (D.block_count disk.old) log.now }
     requires cut { slice_index cut.now.0 ≡ cut_of log.now.recs.items }
     ensures chosen { IfOk result (λ o. chosen log.now.recs.items x ≡ record_in o) }
+    ensures formed { IfOk result (λ o. IfSome o (λ e. IsFormed x (part_of e.part))) }
     ensures spelt { D.tells → IfOk result (λ o. IfSome o (λ e. IsSpelt (D.reading disk.old) x e.rec (part_of e.part))) }
     ensures foreign { D.tells → (bad : BadPlace) → IsErrOf result (ReadingFault.Foreign bad)
         → IsBadEntity (D.reading disk.old) log.now.recs.items log.now.area x bad }
@@ -78,6 +80,7 @@ pub(crate) fn read_entities<D: Disk>(
     requires cut { slice_index cut.now.0 ≡ cut_of log.now.recs.items }
     ensures places { IfOk result (λ es. length es.items ≡ MOST_ENTITIES) }
     ensures chosen { IfOk result (λ es. AreChosen log.now.recs.items es.items) }
+    ensures formed { IfOk result (λ es. AreFormed (parts_of es.items)) }
     ensures spelt { D.tells → IfOk result (λ es. AreSpelt (D.reading disk.old) log.now.recs.items (parts_of es.items)) }
     ensures foreign { D.tells → (bad : BadPlace) → IsErrOf result (ReadingFault.Foreign bad)
         → IsBadBlob (D.reading disk.old) log.now.recs.items log.now.area bad }

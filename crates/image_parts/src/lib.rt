@@ -10,7 +10,7 @@ mod parts;
 mod tables;
 
 pub use parts::{ImageParts, read_parts};
-pub use tables::page_tables;
+pub use tables::{page_tables, table_for};
 
 #[cfg(test)]
 mod tests;

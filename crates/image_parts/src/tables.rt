@@ -38,8 +38,8 @@ fn table_of(part: &ChosenPart) -> ShadowTable
     }
 }
 
-// The table of an entity, of which nothing may be chosen.
-fn table_for(entity: &Option<ChosenEntity>) -> ShadowTable
+/// The page table of one entity, of which nothing may be chosen: the block of each of the chosen container's pages, and 0 elsewhere.
+pub fn table_for(entity: &Option<ChosenEntity>) -> ShadowTable
     ensures { IsTableOf (blocks_in (part_in entity.now)) result.0 }
 {
     match entity {

@@ -14,12 +14,11 @@ use Rattle.kernel_cells.specs.declared.cells.Cell.{Cell}
 use Rattle.kernel_cells.specs.declared.cells.Part.{Part}
 use Rattle.kernel_cells.specs.declared.cells.Part.TheVariants as part
 use Rattle.beside_steps.specs.Besides.{memory_of}
-use Rattle.cell_table.specs.Tables.{IsOrderly, blocks_by, memory_at, tables_in}
+use Rattle.cell_table.specs.Tables.{HasNews, IsOrderly, blocks_by, memory_at, tables_in}
 use Rattle.cell_table.specs.Lending.{Lends}
 use Rattle.kernel_model.proofs.Apart.{page_names}
 use Rattle.kernel_model.proofs.Naming.{place_in}
 use Rattle.kernel_records.specs.Flushing.{Flushes}
-use Rattle.kernel_views.specs.Events.{HasNews}
 use Rattle.kernel_views.proofs.Keeping.{blob_named, kept_named}
 use Rattle.kernel_views.proofs.Others.{held_at}
 
@@ -94,7 +93,7 @@ module _ (held : ℕ → Bool) (cs : List Cell) (ord : IsOrderly held cs) where
 -- so it is where the part of one cell has such pages, and no other cell is another
 pub one_news : (cs cs' : List Cell) (c d : Cell) → d.clock.entity ≡ c.clock.entity → slice_get cs c.clock.entity ≡ Some c → Lends cs cs' (c ∷ []) (d ∷ []) → (old : Books)
     → ((page : ℕ) → (slice_index (blocks_by (memory_of d.part)) page ≡ slice_index (blocks_by (memory_of c.part)) page) ⊎ (kept_names old (slice_index (blocks_by (memory_of d.part)) page) ≡ false))
-    → HasNews old (tables_in cs) (tables_in cs')
+    → HasNews (kept_names old) (tables_in cs) (tables_in cs')
 one_news cs cs' c d same at lends old news y q = elim (spot cs cs' c d same lends y) as (λ _. (slice_index (tables_in cs' y) q ≡ slice_index (tables_in cs y) q) ⊎ (kept_names old (slice_index (tables_in cs' y) q) ≡ false)) [
   | inl k ↦
       (let here : slice_index (tables_in cs' y) q ≡ slice_index (blocks_by (memory_of d.part)) q = ap (λ (z : Option Cell). slice_index (blocks_by (memory_at z)) q) k.1 in
@@ -106,7 +105,7 @@ one_news cs cs' c d same at lends old news y q = elim (spot cs cs' c d same lend
   | inr k ↦ inl (ap (λ (z : Option Cell). slice_index (blocks_by (memory_at z)) q) k.1)
 ]
 
-module _ (cs cs' : List Cell) (old flushed : Books) (news : HasNews old (tables_in cs) (tables_in cs')) (same_logged : flushed.logged ≡ old.logged) (same_count : flushed.count ≡ old.count)
+module _ (cs cs' : List Cell) (old flushed : Books) (news : HasNews (kept_names old) (tables_in cs) (tables_in cs')) (same_logged : flushed.logged ≡ old.logged) (same_count : flushed.count ≡ old.count)
     (o : AreOwned old (tables_in cs)) (ord : IsOrderly flushed.held cs') where
   same_kept : kept_in flushed ≡ kept_in old
   same_kept = ap (λ (ls : List Logged). kept_in (record old { logged = ls })) same_logged

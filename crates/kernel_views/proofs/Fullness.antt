@@ -3,13 +3,13 @@ use Rattle.std.proofs.Common.{◌≡◌, ℕ, Bool, true, false, not, nat_lt, na
 use Rattle.std.proofs.lemmas.Bool.Decides.{nat_tests}
 use Rattle.disk_trait.specs.Image.{Image}
 use Rattle.hop_base.specs.declared.histories.Entry.{Entry}
-use Rattle.hop_model.specs.Histories.{commits_above, is_full}
+use Rattle.hop_model.specs.Histories.{is_full}
 use Rattle.snapshot_store.specs.Shelves.{records_of}
 use Rattle.snapshot_store.specs.State.{State, books}
 use Rattle.store_model.specs.Books.{kept_in}
 use Rattle.kernel_cells.specs.declared.cells.Cell.{Cell}
 use Rattle.kernel_records.specs.Snapping.{has_room}
-use Rattle.kernel_model.specs.Beginnings.{Beginning, completed, run_of}
+use Rattle.kernel_model.specs.Beginnings.{Beginning, run_of}
 use Rattle.kernel_room.proofs.Enough.{each_kept}
 use Rattle.kernel_views.specs.Snaps.{Stands}
 use Rattle.kernel_views.specs.Views.{view_of}

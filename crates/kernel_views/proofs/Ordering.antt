@@ -1,17 +1,15 @@
 -- The cells stay in order as the pages of one of them are written.
-use Rattle.std.proofs.Common.{◌≡◌, ◌≢◌, ◌⊎◌, inl, inr, ℕ, zero, suc, ◌/◌, ◌%◌, Bool, true, false, ◌||◌, ◌==◌, if◌then◌else◌, List, [], ◌∷◌, slice_get, slice_index, Option, Some, None, refl, sym, ap, subst, ◌∙◌, arith, eqb-true, eq-eqb}
-use Rattle.std.specs.List.{list_any}
-use Rattle.std.proofs.lemmas.Bool.{cases_eq, false≢true}
+use Rattle.std.proofs.Common.{◌≡◌, ◌≢◌, ◌⊎◌, inl, inr, ℕ, Bool, true, false, ◌==◌, if◌then◌else◌, List, [], ◌∷◌, slice_get, slice_index, Option, Some, None, refl, sym, ap, subst, ◌∙◌}
+use Rattle.std.proofs.lemmas.Bool.{cases_eq}
 use Rattle.disk_trait.specs.Image.{Image}
 use Rattle.hop_model.specs.State.{AtlasCell, ContainerCell, ContainerState, NotBorn, Supply, empty_state, no_atlas}
 use Rattle.event_clocks.specs.declared.Clock.{Clock}
 use Rattle.vector_stamps.specs.Stamps.{component}
 use Rattle.locus_machine.specs.declared.loci.Head.{Head}
-use Rattle.locus_machine.specs.Loci.{container_with}
 use Rattle.snapshot_store.specs.State.{State, books}
 use Rattle.store_model.specs.Books.{kept_names}
 use Rattle.fault_paging.specs.declared.paged.PagedMemory.{PagedMemory}
-use Rattle.fault_paging.specs.Words.{block_at, words_of}
+use Rattle.fault_paging.specs.Words.{block_at}
 use Rattle.fault_paging.specs.Calls.{IsOfTable}
 use Rattle.kernel_cells.specs.declared.cells.Cell.{Cell}
 use Rattle.kernel_cells.specs.declared.cells.Part.{Part}
@@ -23,7 +21,7 @@ use Rattle.cell_laws.specs.Memories.{HasOwnMemory, IsOwn}
 use Rattle.wish_laws.specs.Founded.{IsFoundedCell}
 use Rattle.sound_states.specs.States.{IsSoundState, IsSupplied}
 use Rattle.cell_table.specs.Lending.{Lends}
-use Rattle.cell_table.specs.Tables.{AreNumbered, HasKind, IsOrderly, blocks_by, entity_by, entity_in, memory_at, state_in, tables_in}
+use Rattle.cell_table.specs.Tables.{AreNumbered, HasKind, IsOrderly, blocks_by, entity_in, memory_at, state_in, tables_in}
 use Rattle.record_laws.specs.Cells.{IsSoundIn}
 use Rattle.kernel_records.specs.Flushing.{Flushes}
 use Rattle.cell_table.proofs.Blocks.{seek}

@@ -1,14 +1,14 @@
 -- A step over the cells takes a kernel on.
-use Rattle.std.specs.Prelude.{◌≡◌, ◌⊎◌, ℕ, ◌+◌, ◌<◌, ◌≤◌, false, List, [], ◌∷◌, ◌++◌, None, Some, slice_get, slice_index}
+use Rattle.std.specs.Prelude.{◌≡◌, ℕ, ◌+◌, ◌<◌, ◌≤◌, false, List, [], ◌∷◌, ◌++◌, None, Some, slice_get}
 use Rattle.disk_trait.specs.Image.{Image}
 use Rattle.hop_base.specs.declared.histories.Entry.{Entry}
 use Rattle.hop_model.specs.Histories.{Run}
 use Rattle.store_model.specs.Between.{OnlyPages}
-use Rattle.store_model.specs.Books.{Books, kept_names}
+use Rattle.store_model.specs.Books.{kept_names}
 use Rattle.snapshot_store.specs.State.{State, books}
 use Rattle.kernel_cells.specs.declared.cells.Cell.{Cell}
 use Rattle.cell_table.specs.Steps.{GoesOn}
-use Rattle.cell_table.specs.Tables.{AreClean, AreNumbered, HasTableWishes, IsOrderly, state_in, tables_in}
+use Rattle.cell_table.specs.Tables.{AreClean, AreNumbered, HasNews, HasTableWishes, IsOrderly, state_in, tables_in}
 use Rattle.record_laws.specs.Cells.{words_on}
 use Rattle.kernel_model.specs.Beginnings.{Beginning}
 use Rattle.kernel_model.specs.Live.{IsCalm, Stopped}
@@ -16,16 +16,12 @@ use Rattle.kernel_laws.specs.Going.{MadeEvent, StoppedBetween}
 use Rattle.kernel_views.specs.Snaps.{Stands}
 use Rattle.kernel_views.specs.Views.{view_of}
 
--- a page of the tables has the block that it had, or one that no kept record names
-abbrev pub HasNews : Books → (ℕ → List ℕ) → (ℕ → List ℕ) → Type 0
-HasNews old tables tables' = (x page : ℕ) → (slice_index (tables' x) page ≡ slice_index (tables x) page) ⊎ (kept_names old (slice_index (tables' x) page) ≡ false)
-
 module _ {D : Type 0} (tells : Type 0) (clock faults : D → ℕ) (reading : D → Image) (may_leave : D → Image → Type 0) (left_since : D → ℕ → Image → Type 0) where
   -- A LOCUS MADE A STEP over the cells, for which only pages were read and written, at most one of them written
   pub record StepsOver (b : Beginning) (me : ℕ) (cs cs' : List Cell) (old new : State D) (e : Entry) : Type 0 where
     pub goes : GoesOn b.supply (words_on (reading old.disk)) (words_on (reading new.disk)) me cs cs' e
     pub orderly : IsOrderly (books new).held cs'
-    pub news : HasNews (books old) (tables_in cs) (tables_in cs')
+    pub news : HasNews (kept_names (books old)) (tables_in cs) (tables_in cs')
     pub before : ℕ
     pub after : ℕ
     pub pages : OnlyPages tells clock reading may_leave left_since old.disk new.disk (books old) (books new) before after

@@ -1,5 +1,5 @@
 // The step of a locus that looks at a container.
-ghost use Rattle.std.specs.Prelude.{◌≡◌, ◌<◌, ◌^◌, ℕ, List, [], ◌∷◌, Option, is_some, IfErr, IfOk, OnErr, OnOk};
+ghost use Rattle.std.specs.Prelude.{◌≡◌, ◌≤◌, ◌+◌, ◌<◌, ◌^◌, ℕ, List, [], ◌∷◌, Option, is_some, IfErr, IfOk, OnErr, OnOk};
 ghost use Rattle.hop_base.specs.declared.histories.Event.TheVariants.{Step as StepEvent};
 ghost use Rattle.hop_model.specs.State.{Cell as ModelCell, KernelState};
 ghost use Rattle.locus_machine.specs.Loci.{locus_of};
@@ -67,6 +67,7 @@ pub fn step_look<B: PageStore, S: Supplier, P: Policy>(
     ensures memory { LeavesMemory (S.word gate.now.supply) B.tells B.held B.kept_names B.words other.old.part other.new.part store.old store.new }
     ensures cause { IfErr result (IsCausedBy (B.free store.old) (B.faults store.old) (B.faults store.new) (B.is_shut store.old) (B.is_shut store.new)) }
     ensures same_shut { OnOk result (B.is_shut store.new ≡ B.is_shut store.old) }
+    ensures one_write { B.written store.new ≤ B.written store.old + 1 }
     ensures between { B.Pages store.old store.new }
     ensures actor { IfOk result (λ e. e.actor ≡ locus.old.clock.entity) }
     ensures rest { (locus.new.wish ≡ locus.old.wish) × (locus.new.left ≡ locus.old.left) × (other.new.wish ≡ other.old.wish) × (other.new.left ≡ other.old.left) }

@@ -40,6 +40,7 @@ fn look_at_storage<B: PageStore, S: Supplier, P: Policy>(
     ensures memory { LeavesMemory (S.word gate.now.supply) B.tells B.held B.kept_names B.words (Part.Container storage.old) (Part.Container storage.new) store.old store.new }
     ensures cause { IfErr result (IsCausedBy (B.free store.old) (B.faults store.old) (B.faults store.new) (B.is_shut store.old) (B.is_shut store.new)) }
     ensures same_shut { OnOk result (B.is_shut store.new ≡ B.is_shut store.old) }
+    ensures one_write { B.written store.new ≤ B.written store.old + 1 }
     ensures between { B.Pages store.old store.new }
 {
     match &storage.head {
@@ -68,6 +69,7 @@ fn look_at_part<B: PageStore, S: Supplier, P: Policy>(
     ensures memory { LeavesMemory (S.word gate.now.supply) B.tells B.held B.kept_names B.words other.old other.new store.old store.new }
     ensures cause { IfErr result (IsCausedBy (B.free store.old) (B.faults store.old) (B.faults store.new) (B.is_shut store.old) (B.is_shut store.new)) }
     ensures same_shut { OnOk result (B.is_shut store.new ≡ B.is_shut store.old) }
+    ensures one_write { B.written store.new ≤ B.written store.old + 1 }
     ensures between { B.Pages store.old store.new }
 {
     match other {
@@ -96,6 +98,7 @@ pub(crate) fn look_in_parts<B: PageStore, S: Supplier, P: Policy>(
     ensures memory { LeavesMemory (S.word gate.now.supply) B.tells B.held B.kept_names B.words other.old other.new store.old store.new }
     ensures cause { IfErr result (IsCausedBy (B.free store.old) (B.faults store.old) (B.faults store.new) (B.is_shut store.old) (B.is_shut store.new)) }
     ensures same_shut { OnOk result (B.is_shut store.new ≡ B.is_shut store.old) }
+    ensures one_write { B.written store.new ≤ B.written store.old + 1 }
     ensures between { B.Pages store.old store.new }
 {
     match part {

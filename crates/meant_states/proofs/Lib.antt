@@ -1,1 +1,1 @@
-mod Meant
+pub mod Meant

@@ -1,18 +1,33 @@
 //! The state that an image means is one that a legal run may begin from. The functions do nothing: the contract of each is a law.
 #![tactic(auto)]
 
+ghost use Rattle.std.specs.Prelude.{ℕ, List, Option};
 ghost use Rattle.cut_laws.specs.Agreeing.{nothing};
 ghost use Rattle.cut_laws.specs.Records.{commits_of};
 ghost use Rattle.disk_trait.specs.Image.{Image};
+ghost use Rattle.hop_base.specs.declared.records.Rec.{Rec};
 ghost use Rattle.hop_model.specs.Choices.{IsGreatest};
 ghost use Rattle.hop_model.specs.State.{KernelState, Supply};
-ghost use Rattle.image_meaning.specs.Meaning.{Means};
+ghost use Rattle.image_blocks.specs.Checks.{count_in};
+ghost use Rattle.image_meaning.specs.Meaning.{Accepted, Means, state_of};
+ghost use Rattle.image_meaning.specs.Parts.{Part};
+ghost use Rattle.meant_states.specs.Restoring.{MakeUpState};
 ghost use Rattle.meant_states.specs.Versions.{AreCutVersions};
 ghost use Rattle.sound_states.specs.States.{IsSoundState};
 
 /// What an image means is a sound state: its cells, its versions, its clocks, and the words past a container's pages.
 pub fn meant_state_law()
     ensures { (s : Supply) (image : Image) (v : KernelState) → Means s image v → IsSoundState s v }
+{}
+
+/// The same without an image: records and parts that make up a state make a sound one, with the versions of the greatest closed choice,
+/// whatever bytes the blocks of pages hold.
+pub fn restored_state_law()
+    ensures sound { (s : Supply) (bytes : ℕ → List ℕ) (count : ℕ) (recs : List Rec) (parts : ℕ → Option Part) → MakeUpState count recs parts
+        → IsSoundState s (state_of s bytes recs parts) }
+    ensures versions { (s : Supply) (bytes : ℕ → List ℕ) (count : ℕ) (recs : List Rec) (parts : ℕ → Option Part) → MakeUpState count recs parts
+        → AreCutVersions recs (state_of s bytes recs parts) }
+    ensures accepted { (image : Image) (a : Accepted image) → MakeUpState (count_in image) a.recs a.parts }
 {}
 
 /// Each entity has the version that the greatest closed choice over the image's records takes, which is the computed one; 0 for none.

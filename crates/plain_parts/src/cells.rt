@@ -39,7 +39,8 @@ pub fn plain_head(
     head: &Head,
     words: BTreeMap<u64, u64>,
 ) -> Result<PlainContainer, AllocError>
-    ensures { IfOk result (λ plain. (s : Supply) → container_of s plain ≡ container_with (words_with s head.now.tag words) head.now) }
+    ensures container { IfOk result (λ plain. (s : Supply) → container_of s plain ≡ container_with (words_with s head.now.tag words) head.now) }
+    ensures words { IfOk result (λ plain. plain.words ≡ words) }
 {
     let code = head.code.as_slice().to_vec(alloc)?;
     let regions = head.regions.as_slice().to_vec(alloc)?;

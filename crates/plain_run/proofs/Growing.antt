@@ -17,7 +17,7 @@ use Rattle.hop_model.specs.Words.{or_else}
 use Rattle.hop_model.proofs.Faithful.{free_container_is, free_locus_is}
 use Rattle.hop_model.proofs.Writes.{cell_with, changed_cell}
 use Rattle.script_form.specs.Rules.{AreContainerTables, AreLocusTables, IsScript, container_names, is_among, locus_names}
-use Rattle.history_model.specs.Born.{IsUndefined}
+use Rattle.history_model.specs.Born.{AreOfOneKind, IsUndefined}
 use Rattle.history_model.specs.Events.{state_with}
 use Rattle.sound_runs.proofs.Tables.{container_named_born}
 use Rattle.sound_runs.proofs.TableEdges.{model_containers, model_loci}
@@ -344,31 +344,38 @@ other_way x y other = by_test (text_eq y x) refl
     by_test false e = e
     by_test true e = true_false (text_eq x y) (ap (text_eq x) (text_same y x e) ∙ same_text x) other
 
+-- a name that is born leaves the others their kinds
+pub kinds_after : (a b : AtlasState) (script : Script) (name : Text) → IsScript script → AreOfOneKind a script → Grew a b script name → AreOfOneKind b script
+kinds_after a b script name rules kinds (ByContainer next containers loci) = record {
+  containers = all_containers_by (λ (t : ContainerTable). locus_named a t.name ≡ None) (λ (t : ContainerTable). locus_named b t.name ≡ None) script.containers (λ t among h. ap (λ (ts : List Text). place_of t.name ts 41) loci ∙ h) kinds.containers;
+  loci = all_loci_by (λ (t : LocusTable). container_named a t.name ≡ None) (λ (t : LocusTable). container_named b t.name ≡ None) script.loci
+      (λ t among h.
+      ap (λ (ts : List Text). place_of t.name ts 1) containers
+      ∙ place_other t.name name a.containers 1 (other_way name t.name (apart_texts (container_names script.containers) (locus_names script.loci) name t.name rules.different next.among among)) h) kinds.loci;
+}
+kinds_after a b script name rules kinds (ByLocus next containers loci) = record {
+  containers = all_containers_by (λ (t : ContainerTable). locus_named a t.name ≡ None) (λ (t : ContainerTable). locus_named b t.name ≡ None) script.containers
+      (λ t among h.
+      ap (λ (ts : List Text). place_of t.name ts 41) loci ∙ place_other t.name name a.loci 41 (apart_texts (container_names script.containers) (locus_names script.loci) t.name name rules.different among next.among) h) kinds.containers;
+  loci = all_loci_by (λ (t : LocusTable). container_named a t.name ≡ None) (λ (t : LocusTable). container_named b t.name ≡ None) script.loci (λ t among h. ap (λ (ts : List Text). place_of t.name ts 1) containers ∙ h) kinds.loci;
+}
+
 pub fits_after : (a b : AtlasState) (script : Script) (name : Text) → IsScript script → Fits a script → number_of a name ≡ None → Grew a b script name → Fits b script
 fits_after a b script name rules fits none (ByContainer next containers loci) =
-    let known = λ (x : Text). still_known a b script name x (ByContainer next containers loci) in
-    let now = now_known a b script name (ByContainer next containers loci) in
+    let grew : Grew a b script name = ByContainer next containers loci in
+    let known = λ (x : Text). still_known a b script name x grew in
+    let now = now_known a b script name grew in
     record {
-      kinds = record {
-        containers = all_containers_by (λ (t : ContainerTable). locus_named a t.name ≡ None) (λ (t : ContainerTable). locus_named b t.name ≡ None) script.containers (λ t among h. ap (λ (ts : List Text). place_of t.name ts 41) loci ∙ h) fits.kinds.containers;
-        loci = all_loci_by (λ (t : LocusTable). container_named a t.name ≡ None) (λ (t : LocusTable). container_named b t.name ≡ None) script.loci
-            (λ t among h.
-            ap (λ (ts : List Text). place_of t.name ts 1) containers
-            ∙ place_other t.name name a.containers 1 (other_way name t.name (apart_texts (container_names script.containers) (locus_names script.loci) name t.name rules.different next.among among)) h) fits.kinds.loci;
-      };
+      kinds = kinds_after a b script name rules fits.kinds grew;
       containers = (let f = fits.containers in let l = ap length containers in let m = length-append a.containers (name ∷ []) in let k = one_container_fewer a b script.containers name known none now next.among in omega (arith, f, l, m, k));
       loci = (let f = fits.loci in let l = ap length loci in let k = fewer_loci a b script.loci known in omega (arith, f, l, k));
     }
 fits_after a b script name rules fits none (ByLocus next containers loci) =
-    let known = λ (x : Text). still_known a b script name x (ByLocus next containers loci) in
-    let now = now_known a b script name (ByLocus next containers loci) in
+    let grew : Grew a b script name = ByLocus next containers loci in
+    let known = λ (x : Text). still_known a b script name x grew in
+    let now = now_known a b script name grew in
     record {
-      kinds = record {
-        containers = all_containers_by (λ (t : ContainerTable). locus_named a t.name ≡ None) (λ (t : ContainerTable). locus_named b t.name ≡ None) script.containers
-            (λ t among h.
-            ap (λ (ts : List Text). place_of t.name ts 41) loci ∙ place_other t.name name a.loci 41 (apart_texts (container_names script.containers) (locus_names script.loci) t.name name rules.different among next.among) h) fits.kinds.containers;
-        loci = all_loci_by (λ (t : LocusTable). container_named a t.name ≡ None) (λ (t : LocusTable). container_named b t.name ≡ None) script.loci (λ t among h. ap (λ (ts : List Text). place_of t.name ts 1) containers ∙ h) fits.kinds.loci;
-      };
+      kinds = kinds_after a b script name rules fits.kinds grew;
       containers = (let f = fits.containers in let l = ap length containers in let k = fewer_containers a b script.containers known in omega (arith, f, l, k));
       loci = (let f = fits.loci in let l = ap length loci in let m = length-append a.loci (name ∷ []) in let k = one_locus_fewer a b script.loci name known none now next.among in omega (arith, f, l, m, k));
     }

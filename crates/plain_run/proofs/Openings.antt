@@ -115,11 +115,11 @@ abbrev pub owed_then : Option Text → Option ℕ
 owed_then None = Some 0
 owed_then (Some name) = None
 
-next_is_birth : (s : Supply) (script : Script) (name : Text) (w : KernelState) → next_name (atlas_in (w 0).cell) script ≡ Some name → next_birth s script w ≡ birth s script name w
+pub next_is_birth : (s : Supply) (script : Script) (name : Text) (w : KernelState) → next_name (atlas_in (w 0).cell) script ≡ Some name → next_birth s script w ≡ birth s script name w
 unfolding next_birth_change birth_change
 next_is_birth s script name w is = rw is refl
 
-birth_event : (s : Supply) (script : Script) (name : Text) (w v : KernelState) (e : Entry) → birth s script name w ≡ Some (e, v) → e.event ≡ Birth
+pub birth_event : (s : Supply) (script : Script) (name : Text) (w v : KernelState) (e : Entry) → birth s script name w ≡ Some (e, v) → e.event ≡ Birth
 birth_event s script name w v e h =
     let m = acts_made Birth (birth_change s script name) w (e, v) h in
     ap (λ (r : Entry × KernelState). r.0.event) (sym m.2)
@@ -133,7 +133,7 @@ birth_rise s script name w v e x h =
 abbrev pub borne : Script → Run → Entry → KernelState → Run
 borne script r e v = noting (owing_births script (after_birth r e v))
 
-goes_on_birth : (s : Supply) (script : Script) (r : Run) (e : Entry) (v : KernelState) → e.event ≡ Birth → next_birth s script r.state ≡ Some (e, v) → goes_on s script r e ≡ borne script r e v
+pub goes_on_birth : (s : Supply) (script : Script) (r : Run) (e : Entry) (v : KernelState) → e.event ≡ Birth → next_birth s script r.state ≡ Some (e, v) → goes_on s script r e ≡ borne script r e v
 goes_on_birth s script r e v ev made =
     let after : after_entry (event_of s script) r.state e ≡ v =
     ap (λ (k : Event). if is_event k then next_of (event_of s script) r.state (by_event s script k e.actor r.state) else r.state) ev

@@ -9,5 +9,6 @@ mod plays;
 mod serial;
 
 pub use fitting::against;
+pub use names::next_name;
 pub use plays::{Played, finish, play, replay};
 pub use serial::SerialRun;

@@ -12,13 +12,14 @@ use Rattle.hop_model.specs.State.{Supply, Text, AtlasState, ContainerState, Locu
 use Rattle.hop_model.specs.Steps.{atlas_in}
 use Rattle.hop_model.specs.Words.{cap_at}
 use Rattle.instr_set.specs.Spelling.{rights}
-use Rattle.plain_show.specs.Lines.{condition_word, line_end, name_in, named, optional, word}
+use Rattle.text_lines.specs.Lines.{line_end, name_in, word}
+use Rattle.plain_show.specs.Lines.{condition_word, named, optional}
 
 -- PARTS OF BOTH KINDS
 
 -- at which page, onto which container from which page, how many pages, and the access
 abbrev pub region_words : AtlasState → Region → Text
-region_words a r = word (decimal r.at) ++ word (name_in a r.target) ++ word (decimal r.from) ++ word (decimal r.count) ++ word (rights r.rights.0) ++ line_end
+region_words a r = word (decimal r.at) ++ word (name_in a r.target) ++ word (decimal r.from) ++ word (decimal r.count) ++ word (rights r.rights.0)
 
 abbrev pub cap_line : AtlasState → ℕ → ℕ → Option Cap → Text
 cap_line a x slot None = []
@@ -34,7 +35,7 @@ abbrev pub container_line : AtlasState → ℕ → ContainerState → Text
 container_line a x c = named a (codes "container") x ++ word (decimal c.pages) ++ word (decimal c.tag) ++ word (decimal c.every) ++ word (optional c.entry) ++ line_end
 
 abbrev pub region_line : AtlasState → ℕ → Region → Text
-region_line a x r = named a (codes "region") x ++ region_words a r
+region_line a x r = named a (codes "region") x ++ region_words a r ++ line_end
 
 -- the word at an address, if it differs from the supplier's
 abbrev pub changed_word : Supply → ContainerState → ℕ → Option ℕ
@@ -65,7 +66,7 @@ abbrev pub printed_line : AtlasState → ℕ → ℕ → Text
 printed_line a x printed = if printed == 0 then [] else named a (codes "printed") x ++ word (decimal printed) ++ line_end
 
 abbrev pub private_line : AtlasState → ℕ → Private → Text
-private_line a x p = named a (codes "private") x ++ word (name_in a p.made) ++ region_words a p.region
+private_line a x p = named a (codes "private") x ++ word (name_in a p.made) ++ region_words a p.region ++ line_end
 
 abbrev pub call_line : AtlasState → ℕ → Call → Text
 call_line a x call = named a (codes "call") x ++ word (name_in a call.container) ++ word (decimal call.place) ++ line_end

@@ -5,63 +5,69 @@ ghost use Rattle.hop_base.specs.Edges.{upto};
 ghost use Rattle.disk_trait.specs.Counts.{Rose};
 ghost use Rattle.stream_edge.specs.Streams.{Puts};
 ghost use Rattle.hop_model.specs.State.{Supply};
-ghost use Rattle.history_model.specs.Plains.{atlas_of, container_of};
+ghost use Rattle.history_model.specs.Plains.{container_of};
+ghost use Rattle.text_lines.specs.Lines.{HasShortNames};
 ghost use Rattle.plain_show.specs.Show.{changed_word, container_line, container_lines, region_line, word_line, word_line_by};
 
-use crate::lines::{put_caps, put_named, put_number, put_optional, put_region};
-use history_model::{PlainAtlas, PlainContainer};
+use crate::lines::{named_line, push_optional, push_region, put_caps};
+use history_model::PlainContainer;
 use hop_base::{Entity, PAGE_WORDS, Region};
 use stream_edge::{Sink, SinkFault};
+use text_lines::{Names, push_number_word, put_line};
 
 /// Puts the first line of a container.
-fn put_head<W: Sink>(
+fn put_head<W: Sink, N: Names>(
     sink: &mut W,
-    atlas: &PlainAtlas,
+    names: &N,
     entity: Entity,
     c: &PlainContainer,
 ) -> Result<(), SinkFault>
-    ensures bytes { (s : Supply) → Puts (W.held sink.old) (W.held sink.new) result (container_line (atlas_of atlas.now) entity (container_of s c.now)) }
+    requires short { HasShortNames (N.atlas names.now) }
+    ensures bytes { (s : Supply) → Puts (W.held sink.old) (W.held sink.new) result (container_line (N.atlas names.now) entity (container_of s c.now)) }
     ensures count { W.faults sink.old ≤ W.faults sink.new }
     ensures cause { OnErr result (Rose (W.faults sink.old) (W.faults sink.new)) }
 {
-    put_named(sink, atlas, "container", entity)?;
-    put_number(sink, c.pages as u64)?;
-    put_number(sink, c.tag)?;
-    put_number(sink, c.every as u64)?;
-    put_optional(sink, c.entry)?;
-    sink.put(b"\n")
+    let mut line = named_line(names, "container", entity);
+    push_number_word(c.pages as u64, &mut line);
+    push_number_word(c.tag, &mut line);
+    push_number_word(c.every as u64, &mut line);
+    push_optional(c.entry, &mut line);
+    put_line(sink, &mut line)
 }
 
 /// Puts the line of a region.
 #[tactic(auto, using(stream_edge::proofs::Streams::puts))]
-fn put_region_line<W: Sink>(
+fn put_region_line<W: Sink, N: Names>(
     sink: &mut W,
-    atlas: &PlainAtlas,
+    names: &N,
     entity: Entity,
     region: &Region,
 ) -> Result<(), SinkFault>
-    ensures bytes { Puts (W.held sink.old) (W.held sink.new) result (region_line (atlas_of atlas.now) entity region.now) }
+    requires short { HasShortNames (N.atlas names.now) }
+    ensures bytes { Puts (W.held sink.old) (W.held sink.new) result (region_line (N.atlas names.now) entity region.now) }
     ensures count { W.faults sink.old ≤ W.faults sink.new }
     ensures cause { OnErr result (Rose (W.faults sink.old) (W.faults sink.new)) }
 {
-    put_named(sink, atlas, "region", entity)?;
-    put_region(sink, atlas, region)
+    let mut line = named_line(names, "region", entity);
+    push_region(names, region, &mut line);
+    put_line(sink, &mut line)
 }
 
 /// Puts a line for each region.
 #[tactic(auto, using(stream_edge::proofs::Streams::puts))]
-fn put_regions<W: Sink>(
+fn put_regions<W: Sink, N: Names>(
     sink: &mut W,
-    atlas: &PlainAtlas,
+    names: &N,
     entity: Entity,
     c: &PlainContainer,
 ) -> Result<(), SinkFault>
-    ensures bytes { Puts (W.held sink.old) (W.held sink.new) result (flat_map (region_line (atlas_of atlas.now) entity) c.now.regions.items) }
+    requires short { HasShortNames (N.atlas names.now) }
+    ensures bytes { Puts (W.held sink.old) (W.held sink.new) result (flat_map (region_line (N.atlas names.now) entity) c.now.regions.items) }
     ensures count { W.faults sink.old ≤ W.faults sink.new }
     ensures cause { OnErr result (Rose (W.faults sink.old) (W.faults sink.new)) }
 {
     for region in &c.regions {
-        put_region_line(sink, atlas, entity, region)?;
+        put_region_line(sink, names, entity, region)?;
     }
     Ok(())
 }
@@ -88,47 +94,49 @@ fn changed_word<S: Fn(u64, u32, u16) -> u64>(
 }
 
 /// Puts the line of a word, if it differs from the supplier's.
-fn put_word_line<W: Sink>(
+fn put_word_line<W: Sink, N: Names>(
     sink: &mut W,
-    atlas: &PlainAtlas,
+    names: &N,
     entity: Entity,
     address: u64,
     word: Option<u64>,
 ) -> Result<(), SinkFault>
-    ensures bytes { Puts (W.held sink.old) (W.held sink.new) result (word_line_by (atlas_of atlas.now) entity address word) }
+    requires short { HasShortNames (N.atlas names.now) }
+    ensures bytes { Puts (W.held sink.old) (W.held sink.new) result (word_line_by (N.atlas names.now) entity address word) }
     ensures count { W.faults sink.old ≤ W.faults sink.new }
     ensures cause { OnErr result (Rose (W.faults sink.old) (W.faults sink.new)) }
 {
     let Some(word) = word else {
         return Ok(());
     };
-    put_named(sink, atlas, "word", entity)?;
-    put_number(sink, address)?;
-    put_number(sink, word)?;
-    sink.put(b"\n")
+    let mut line = named_line(names, "word", entity);
+    push_number_word(address, &mut line);
+    push_number_word(word, &mut line);
+    put_line(sink, &mut line)
 }
 
 /// Puts a line for each word that differs from the supplier's.
 #[tactic(auto, using(crate::proofs::Puts::pieces))]
-fn put_words<W: Sink, S: Fn(u64, u32, u16) -> u64>(
+fn put_words<W: Sink, N: Names, S: Fn(u64, u32, u16) -> u64>(
     sink: &mut W,
-    atlas: &PlainAtlas,
+    names: &N,
     entity: Entity,
     c: &PlainContainer,
     supply: &S,
 ) -> Result<(), SinkFault>
     ghost s: { Supply }
+    requires short { HasShortNames (N.atlas names.now) }
     requires callable { (t p a : ℕ) → t < 2 ^ 64 → p < 256 → a < 128 → S.pre supply.now t p a }
     requires answers { (t p a r : ℕ) → t < 2 ^ 64 → p < 256 → a < 128 → S.post supply.now t p a r → r ≡ s t p a }
     requires size { c.now.pages ≤ 256 }
-    ensures bytes { Puts (W.held sink.old) (W.held sink.new) result (flat_map (word_line s (atlas_of atlas.now) entity (container_of s c.now)) (upto (128 * c.now.pages))) }
+    ensures bytes { Puts (W.held sink.old) (W.held sink.new) result (flat_map (word_line s (N.atlas names.now) entity (container_of s c.now)) (upto (128 * c.now.pages))) }
     ensures count { W.faults sink.old ≤ W.faults sink.new }
     ensures cause { OnErr result (Rose (W.faults sink.old) (W.faults sink.new)) }
 {
     for address in 0..PAGE_WORDS * c.pages as u64 {
         put_word_line(
             sink,
-            atlas,
+            names,
             entity,
             address,
             changed_word(c, supply, address),
@@ -138,23 +146,24 @@ fn put_words<W: Sink, S: Fn(u64, u32, u16) -> u64>(
 }
 
 /// Puts the lines of a container.
-pub fn put_container<W: Sink, S: Fn(u64, u32, u16) -> u64>(
+pub fn put_container<W: Sink, N: Names, S: Fn(u64, u32, u16) -> u64>(
     sink: &mut W,
-    atlas: &PlainAtlas,
+    names: &N,
     entity: Entity,
     c: &PlainContainer,
     supply: &S,
 ) -> Result<(), SinkFault>
     ghost s: { Supply }
+    requires short { HasShortNames (N.atlas names.now) }
     requires callable { (t p a : ℕ) → t < 2 ^ 64 → p < 256 → a < 128 → S.pre supply.now t p a }
     requires answers { (t p a r : ℕ) → t < 2 ^ 64 → p < 256 → a < 128 → S.post supply.now t p a r → r ≡ s t p a }
     requires size { c.now.pages ≤ 256 }
-    ensures bytes { Puts (W.held sink.old) (W.held sink.new) result (container_lines s (atlas_of atlas.now) entity (container_of s c.now)) }
+    ensures bytes { Puts (W.held sink.old) (W.held sink.new) result (container_lines s (N.atlas names.now) entity (container_of s c.now)) }
     ensures count { W.faults sink.old ≤ W.faults sink.new }
     ensures cause { OnErr result (Rose (W.faults sink.old) (W.faults sink.new)) }
 {
-    put_head(sink, atlas, entity, c)?;
-    put_regions(sink, atlas, entity, c)?;
-    put_caps(sink, atlas, entity, &c.caps)?;
-    put_words(sink, atlas, entity, c, supply)
+    put_head(sink, names, entity, c)?;
+    put_regions(sink, names, entity, c)?;
+    put_caps(sink, names, entity, &c.caps)?;
+    put_words(sink, names, entity, c, supply)
 }

@@ -5,6 +5,7 @@
 mod containers;
 mod lines;
 mod loci;
+mod names;
 mod shows;
 
 pub use shows::write_show;

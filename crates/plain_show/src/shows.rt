@@ -7,13 +7,27 @@ ghost use Rattle.stream_edge.specs.Streams.{Puts};
 ghost use Rattle.hop_model.specs.Soundness.{IsSound};
 ghost use Rattle.hop_model.specs.State.{Supply, ContainerCell, LocusCell};
 ghost use Rattle.history_model.specs.Plains.{atlas_of, cells_of, container_of, locus_of};
+ghost use Rattle.text_lines.specs.Lines.{HasShortNames};
 ghost use Rattle.plain_show.specs.Show.{entity_lines, shown};
 
 use crate::containers::put_container;
 use crate::loci::put_locus;
+use crate::names::PlainNames;
 use history_model::{Plain, PlainContainer, PlainLocus};
 use hop_base::Entity;
 use stream_edge::{Sink, SinkFault};
+
+/// The names of a state's atlas.
+fn names_of(state: &Plain) -> PlainNames<'_>
+    ghost s: { Supply }
+    requires sound { IsSound (cells_of s state.now) }
+    ensures names { result.atlas.now ≡ state.now.atlas }
+    ensures short { HasShortNames (atlas_of result.atlas.now) }
+{
+    PlainNames {
+        atlas: &state.atlas,
+    }
+}
 
 /// The container with the name at this place.
 fn container_at(state: &Plain, place: usize) -> &PlainContainer
@@ -52,9 +66,10 @@ fn put_container_at<W: Sink, S: Fn(u64, u32, u16) -> u64>(
     ensures count { W.faults sink.old ≤ W.faults sink.new }
     ensures cause { OnErr result (Rose (W.faults sink.old) (W.faults sink.new)) }
 {
+    let names = names_of(state);
     let c = container_at(state, place);
     match Entity::new(place as u8 + 1) {
-        Some(entity) => put_container(sink, &state.atlas, entity, c, supply),
+        Some(entity) => put_container(sink, &names, entity, c, supply),
         None => unreachable!(),
     }
 }
@@ -88,9 +103,10 @@ fn put_locus_at<W: Sink>(sink: &mut W, state: &Plain, place: usize) -> Result<()
     ensures count { W.faults sink.old ≤ W.faults sink.new }
     ensures cause { OnErr result (Rose (W.faults sink.old) (W.faults sink.new)) }
 {
+    let names = names_of(state);
     let l = locus_at(state, place);
     match Entity::new(place as u8 + 41) {
-        Some(entity) => put_locus(sink, &state.atlas, entity, l),
+        Some(entity) => put_locus(sink, &names, entity, l),
         None => unreachable!(),
     }
 }
@@ -109,7 +125,8 @@ fn put_loci<W: Sink>(sink: &mut W, state: &Plain) -> Result<(), SinkFault>
     Ok(())
 }
 
-/// Puts the lines of each container, by number, and then those of each locus. After a fault a front of them was put.
+/// Puts the lines of each container, by number, and then those of each locus, each line in one call. It takes no memory, and asks
+/// the supplier about each word that is kept. After a fault a front of the text was put.
 pub fn write_show<W: Sink, S: Fn(u64, u32, u16) -> u64>(
     state: &Plain,
     supply: &S,

@@ -44,7 +44,7 @@ pub record IsContainerNumber (d : Directory) (name : Text) (k : ℕ) : Type 0 wh
   pub above : 1 ≤ k
   pub below : k < 41
 
-container_number : (d : Directory) (name : Text) (k : ℕ) → IsDirectory d → container_named (atlas_state d) name ≡ Some k → IsContainerNumber d name k
+pub container_number : (d : Directory) (name : Text) (k : ℕ) → IsDirectory d → container_named (atlas_state d) name ≡ Some k → IsContainerNumber d name k
 container_number d name k h e =
     let at = stands name d.containers 1 k e in
     let small : k < 41 = omega (arith, at.below, h.few_containers) in

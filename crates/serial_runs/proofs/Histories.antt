@@ -18,6 +18,17 @@ use Rattle.serial_runs.specs.Serial.{IsCut, IsFront, IsStopped, IsWhole, first_s
 use Rattle.serial_runs.proofs.Calm.{Leaves, leaves_join, legal_join, looks_leave}
 use Rattle.serial_runs.proofs.Openings.{opening_calm, opening_legal}
 
+-- this many numbers, from one on
+abbrev pub numbers : ℕ → ℕ → List ℕ
+numbers from zero = []
+numbers from (suc n) = from ∷ numbers (suc from) n
+
+pub rounds_append : (n m : ℕ) → rounds (n + m) ≡ rounds n ++ rounds m
+rounds_append zero m = ap rounds (let e : 0 + m ≡ m = omega arith in e)
+rounds_append (suc n) m =
+    ap rounds (let e : suc n + m ≡ suc (n + m) = omega arith in e)
+    ∙ ap (λ ls. all_loci ++ ls) (rounds_append n m) ∙ sym (append_assoc all_loci (rounds n) (rounds m))
+
 module _ (s : Supply) (policy : Policy) (script : Script) where
   -- LOOKS ONE BEHIND ANOTHER
 
@@ -30,12 +41,6 @@ module _ (s : Supply) (policy : Policy) (script : Script) where
       ap (λ es. first ++ es) (looks_append q xs ys)
       ∙ sym (append_assoc first rest (looks s policy script (run_after s script q rest) ys))
       ∙ ap (λ (k : Run). (first ++ rest) ++ looks s policy script k ys) (sym (run_append s policy script r first rest))
-
-  rounds_append : (n m : ℕ) → rounds (n + m) ≡ rounds n ++ rounds m
-  rounds_append zero m = ap rounds (let e : 0 + m ≡ m = omega arith in e)
-  rounds_append (suc n) m =
-      ap rounds (let e : suc n + m ≡ suc (n + m) = omega arith in e)
-      ∙ ap (λ ls. all_loci ++ ls) (rounds_append n m) ∙ sym (append_assoc all_loci (rounds n) (rounds m))
 
   -- more rounds go on where fewer ended
   pub longer_by : (w : KernelState) (n k : ℕ) → serial_history s policy script w (n + k) ≡ serial_history s policy script w n ++ looks s policy script (run_after s script (start_run w) (serial_history s policy script w n)) (rounds k)
@@ -72,10 +77,6 @@ module _ (s : Supply) (policy : Policy) (script : Script) where
   idle_append : (r : Run) (xs ys : List ℕ) → Idle r xs → Idle r ys → Idle r (xs ++ ys)
   idle_append r [] ys first more = more
   idle_append r (x ∷ xs) ys first more = (first.0, idle_append r xs ys first.1 more)
-
-  abbrev pub numbers : ℕ → ℕ → List ℕ
-  numbers from zero = []
-  numbers from (suc n) = from ∷ numbers (suc from) n
 
   pub idle_numbers : (r : Run) → IsAllIdle script r → (from n : ℕ) → 41 ≤ from → from + n ≤ 64 → Idle r (numbers from n)
   idle_numbers r over from zero low high = tt

@@ -12,10 +12,10 @@ use Rattle.hop_model.specs.Serial.{birth_turn, births, made_and_owed, owed_stabl
 use Rattle.hop_model.specs.State.{KernelState, Supply}
 use Rattle.run_laws.proofs.Wishes.{run_append}
 use Rattle.fitting_births.proofs.Ends.{births_none}
-use Rattle.serial_runs.specs.Serial.{IsCalm, opening}
+use Rattle.serial_runs.specs.Serial.{IsCalm, IsNew, opening}
 use Rattle.serial_runs.proofs.Calm.{legal_join}
 
-no_wish : (b c p f : Bool) → b ≡ false → c ≡ false → ((b && p || c) && f) ≡ false
+pub no_wish : (b c p f : Bool) → b ≡ false → c ≡ false → ((b && p || c) && f) ≡ false
 no_wish false false p f b_no c_no = refl
 no_wish false true p f b_no c_no = cc
 no_wish true c p f b_no c_no = cc
@@ -24,33 +24,28 @@ and_no : (b c : Bool) → c ≡ false → (b && c) ≡ false
 and_no true c e = e
 and_no false c e = refl
 
-module _ (s : Supply) (policy : Policy) (script : Script) where
-  -- no step was made, and nobody wishes for anything
-  record IsNew (r : Run) : Type 0 where
-    began : r.began ≡ true
-    short : r.short ≡ false
-    tried : r.tried ≡ None
-    by_step : (x : ℕ) → r.by_step x ≡ false
-    asked : (x : ℕ) → r.asked x ≡ false
+pub start_new : (w : KernelState) → IsNew (start_run w)
+start_new w = record { began = refl; short = refl; tried = refl; by_step = λ x. refl; asked = λ x. refl }
 
+module _ (s : Supply) (policy : Policy) (script : Script) where
   -- what the births so far leave: more may come, or none is owed
   record Opens (r : Run) (es : List Entry) : Type 0 where
     legal : IsLegalFrom s policy script r es
     after : (IsNew (run_after s script r es) × ((run_after s script r es).owed ≡ None)) ⊎ (IsCalm policy (run_after s script r es) × (births_owed script (run_after s script r es) ≡ false))
 
-  new_calm : (r : Run) → IsNew r → r.owed ≡ None → IsCalm policy r
+  pub new_calm : (r : Run) → IsNew r → r.owed ≡ None → IsCalm policy r
   new_calm r k owed = record { owed = owed; short = k.short; tried = k.tried; due = λ x. no_wish (r.by_step x) (r.asked x) _ _ (k.by_step x) (k.asked x) }
 
   abbrev entry_in : Entry × KernelState → Entry
   entry_in made = made.0
 
-  birth_event : (r : Run) (made : Entry × KernelState) → next_birth s script r.state ≡ Some made → made.0.event ≡ Birth
+  pub birth_event : (r : Run) (made : Entry × KernelState) → next_birth s script r.state ≡ Some made → made.0.event ≡ Birth
   birth_event r made is = ap (λ (q : Entry × KernelState). q.0.event) (sym (some_of_map (λ (c : ℕ × Change). carried r.state Birth c.0 c.1) (next_birth_change s script r.state) made is).2)
 
-  birth_may : (r : Run) (made : Entry × KernelState) → IsNew r → next_birth s script r.state ≡ Some made → May s policy script r made.0
+  pub birth_may : (r : Run) (made : Entry × KernelState) → IsNew r → next_birth s script r.state ≡ Some made → May s policy script r made.0
   birth_may r made k is = (k.tried, subst (λ (ev : Event). may s policy script r made.0 ev) (sym (birth_event r made is)) (k.began, ap (option_map entry_in) is))
 
-  born_next : (r : Run) (e : Entry) → e.event ≡ Birth → IsNew r → IsNew (goes_on s script r e) × ((goes_on s script r e).owed ≡ (if births_owed script (goes_on s script r e) then None else Some 0))
+  pub born_next : (r : Run) (e : Entry) → e.event ≡ Birth → IsNew r → IsNew (goes_on s script r e) × ((goes_on s script r e).owed ≡ (if births_owed script (goes_on s script r e) then None else Some 0))
   born_next r e is k = (
     record {
       began = subst (λ (ev : Event). (went_on s script r e ev).began ≡ true) (sym is) k.began;
@@ -112,7 +107,7 @@ module _ (s : Supply) (policy : Policy) (script : Script) where
           subst (λ es. Opens (run_after s script r (birth_turn s script r)) es) (sym (births_none s script n (run_after s script r (birth_turn s script r)) born)) (record { legal = tt; after = inr (calm, born) })
 
   start_opens : (w : KernelState) → Opens (start_run w) (opening s script w)
-  start_opens w = births_open 64 (start_run w) (record { began = refl; short = refl; tried = refl; by_step = λ x. refl; asked = λ x. refl }) refl
+  start_opens w = births_open 64 (start_run w) (start_new w) refl
 
   pub opening_legal : (w : KernelState) → IsLegalFrom s policy script (start_run w) (opening s script w)
   opening_legal w = (start_opens w).legal

@@ -1,6 +1,9 @@
 -- The rounds come to their end: each has a step of some locus or finds all idle, and their steps are bounded.
-use Rattle.std.proofs.Common.{◌≡◌, ℕ, zero, suc, ◌+◌, ◌-◌, ◌*◌, ◌<◌, ◌≤◌, ◌⊎◌, inl, inr, Bool, true, false, not, ◌&&◌, ◌==◌, nat_lt, if◌then◌else◌, List, [], ◌∷◌, ◌++◌, Option, Some, None, is_some, option_map, refl, sym, ap, subst, ◌∙◌, arith, eqb-true}
-use Rattle.std.proofs.lemmas.Bool.{and_parts, cases_lt, eq-eqb, ltb-true}
+use Rattle.std.proofs.Common.{◌≡◌, ℕ, zero, suc, ◌+◌, ◌-◌, ◌*◌, ◌<◌, ◌≤◌, ◌⊎◌, inl, inr, Bool, true, false, not, ◌&&◌, nat_lt, if◌then◌else◌, List, [], ◌∷◌, ◌++◌, Option, Some, None, is_some, option_map, refl, sym, ap, subst, ◌∙◌, arith}
+use Rattle.std.specs.List.{sum_by}
+use Rattle.std.proofs.lemmas.Bool.{and_parts, cases_lt, eq-eqb, ltb-true, ne_eqb}
+use Rattle.std.proofs.Math.Nat.{suc-mul}
+use Rattle.std.proofs.lemmas.List.Sums.{sum_by-cons}
 use Rattle.hop_base.specs.declared.histories.Entry.{Entry}
 use Rattle.hop_base.specs.declared.histories.Event.{Event}
 use Rattle.hop_base.specs.declared.histories.Event.TheVariants.{Snap, Step}
@@ -15,37 +18,67 @@ use Rattle.hop_model.specs.Words.{put}
 use Rattle.script_form.specs.Rules.{IsScript}
 use Rattle.run_laws.proofs.Wishes.{run_append}
 use Rattle.sound_runs.specs.Kinds.{NamesNoLocus}
-use Rattle.sound_runs.proofs.Counting.{total, total_const, total_less, total_mono}
-use Rattle.sound_runs.proofs.Lengths.{left}
 use Rattle.sound_runs.proofs.Naming.{births_over}
 use Rattle.fitting_births.proofs.Ends.{some_is}
-use Rattle.serial_runs.specs.Serial.{IsWhole, kept_behind, look, looks, opening, serial_history, step_and_kept, wished_snap, wished_snaps, written_in}
+use Rattle.serial_runs.specs.Serial.{IsWhole, kept_behind, look, looks, opening, serial_history, step_and_kept, steps_left, wished_snap, wished_snaps, written_in}
 use Rattle.serial_runs.proofs.Calm.{step_entry}
 use Rattle.serial_runs.proofs.Histories.{Idle, longer_by, looks_append, numbers, serial_leaves}
 
 -- STEPS LEFT
 
-put_more : (f : ℕ → ℕ) (l x : ℕ) → f x ≤ put f l (f l + 1) x
-put_more f l x =
-    elim (x == l) as (λ b. (x == l) ≡ b → f x ≤ (if b then f l + 1 else f x)) [
-      | true ↦ λ is. (let same : f x ≡ f l = ap f (eqb-true x l is) in omega (arith, same))
-      | false ↦ λ is. omega arith
-    ] refl
+put_here : (f : ℕ → ℕ) (l : ℕ) → put f l (f l + 1) l ≡ f l + 1
+put_here f l = ap (λ b. if b then f l + 1 else f l) (eq-eqb l l refl)
 
-put_here : (f : ℕ → ℕ) (l x : ℕ) → x ≡ l → put f l (f l + 1) x ≡ f x + 1
-put_here f l x is = ap (λ b. if b then f l + 1 else f x) (eq-eqb x l is) ∙ ap (λ y. f y + 1) (sym is)
+put_other : (f : ℕ → ℕ) (l x : ℕ) → (x ≡ l → ⊥) → put f l (f l + 1) x ≡ f x
+put_other f l x apart = ap (λ b. if b then f l + 1 else f x) (ne_eqb x l apart)
 
-less_left : (n a b : ℕ) → a ≤ b → n - b ≤ n - a
-less_left n a b h = omega (arith, h)
+module _ (n : ℕ) (f : ℕ → ℕ) (l : ℕ) where
+  abbrev before : ℕ → ℕ
+  before x = n - f x
 
-one_left : (n a b : ℕ) → a < n → b ≡ a + 1 → n - b + 1 ≤ n - a
-one_left n a b h e = omega (arith, h, e)
+  abbrev after : ℕ → ℕ
+  after x = n - put f l (f l + 1) x
 
-left_falls : (n : ℕ) (f : ℕ → ℕ) (l : ℕ) → 41 ≤ l → l < 64 → f l < n → total (λ i. n - put f l (f l + 1) (41 + i)) 23 + 1 ≤ total (λ i. n - f (41 + i)) 23
-left_falls n f l low high few =
-    let at : 41 + (l - 41) ≡ l = omega (arith, low) in
-    total_less (λ i. n - put f l (f l + 1) (41 + i)) (λ i. n - f (41 + i)) (λ i. less_left n (f (41 + i)) (put f l (f l + 1) (41 + i)) (put_more f l (41 + i))) (l - 41) 23 (omega (arith, low, high))
-    (one_left n (f (41 + (l - 41))) (put f l (f l + 1) (41 + (l - 41))) (subst (λ k. f k < n) (sym at) few) (put_here f l (41 + (l - 41)) at))
+  same_other : (x : ℕ) → (x ≡ l → ⊥) → after x ≡ before x
+  same_other x apart = ap (λ y. n - y) (put_other f l x apart)
+
+  less_here : f l < n → after l + 1 ≡ before l
+  less_here few = (let e = put_here f l in omega (arith, e, few))
+
+  sum_behind : (from k : ℕ) → l < from → sum_by after (numbers from k) ≡ sum_by before (numbers from k)
+  sum_behind from zero low = refl
+  sum_behind from (suc k) low =
+      let one = same_other from (λ is. omega (arith, is, low)) in
+      let rest = sum_behind (suc from) k (omega (arith, low)) in
+      let a = sum_by-cons after from (numbers (suc from) k) in
+      let b = sum_by-cons before from (numbers (suc from) k) in
+      omega (arith, one, rest, a, b)
+
+  -- a step of one of these numbers takes one from what they have left
+  sum_falls : (from k : ℕ) → from ≤ l → l < from + k → f l < n → sum_by after (numbers from k) + 1 ≡ sum_by before (numbers from k)
+  sum_falls from zero low high few = absurd (omega (arith, low, high))
+  sum_falls from (suc k) low high few =
+      let a = sum_by-cons after from (numbers (suc from) k) in
+      let b = sum_by-cons before from (numbers (suc from) k) in
+      elim (cases_lt from l) as (λ _. sum_by after (numbers from (suc k)) + 1 ≡ sum_by before (numbers from (suc k))) [
+        | inl above ↦
+            let one = same_other from (λ is. omega (arith, is, above)) in
+            let rest = sum_falls (suc from) k (omega (arith, above)) (omega (arith, high)) few in
+            omega (arith, one, rest, a, b)
+        | inr here ↦
+            let same : l ≡ from = omega (arith, here, low) in
+            let one = subst (λ x. after x + 1 ≡ before x) same (less_here few) in
+            let rest = sum_behind (suc from) k (omega (arith, here)) in
+            omega (arith, one, rest, a, b)
+      ]
+
+sum_most : (n : ℕ) (f : ℕ → ℕ) (from k : ℕ) → sum_by (λ x. n - f x) (numbers from k) ≤ k * n
+sum_most n f from zero = omega arith
+sum_most n f from (suc k) =
+    let a = sum_by-cons (λ x. n - f x) from (numbers (suc from) k) in
+    let rest = sum_most n f (suc from) k in
+    let e = suc-mul k n in
+    omega (arith, a, rest, e)
 
 none_below : (a b : ℕ) → a + 1 ≤ b → b ≤ 0 → ⊥
 none_below a b less few = omega (arith, less, few)
@@ -56,12 +89,12 @@ one_fewer a b m less few = omega (arith, less, few)
 both_more : (a m : ℕ) → a ≤ m → suc a ≤ suc m
 both_more a m h = omega (arith, h)
 
-abbrev AreLoci : List ℕ → Type 0
+abbrev pub AreLoci : List ℕ → Type 0
 AreLoci [] = Unit {0}
 AreLoci (l ∷ ls) = ((41 ≤ l) × (l < 64)) × AreLoci ls
 
 module _ (s : Supply) (policy : Policy) (script : Script) where
-  are_loci : (from n : ℕ) → 41 ≤ from → from + n ≤ 64 → AreLoci (numbers s policy script from n)
+  pub are_loci : (from n : ℕ) → 41 ≤ from → from + n ≤ 64 → AreLoci (numbers from n)
   are_loci from zero low high = tt
   are_loci from (suc n) low high = ((low, omega (arith, high)), are_loci (suc from) n (omega (arith, low)) (omega (arith, high)))
 
@@ -82,7 +115,7 @@ module _ (s : Supply) (policy : Policy) (script : Script) where
   kept_keeps r xs None = snaps_keep xs r
   kept_keeps r xs (Some actor) = refl
 
-  step_some : (l : ℕ) (w : KernelState) → is_some (running (w l).cell) ≡ true → (made : Entry × KernelState) × (step s l w ≡ Some made)
+  pub step_some : (l : ℕ) (w : KernelState) → is_some (running (w l).cell) ≡ true → (made : Entry × KernelState) × (step s l w ≡ Some made)
   unfolding step_change
   step_some l w can =
       let is = some_is (running (w l).cell) can in
@@ -95,10 +128,10 @@ module _ (s : Supply) (policy : Policy) (script : Script) where
       ap (λ (ev : Event). (went_on s script r made.0 ev).steps) k.0 ∙ ap (λ n. put r.steps n (r.steps n + 1)) k.1
 
   -- the locus is idle, or makes a step
-  abbrev Looked : Run → ℕ → Type 0
+  abbrev pub Looked : Run → ℕ → Type 0
   Looked r l = ((can_step script r l ≡ false) × (look s policy script r l ≡ [])) ⊎ ((r.steps l < script.steps) × ((run_after s script r (look s policy script r l)).steps ≡ put r.steps l (r.steps l + 1)))
 
-  looked : (r : Run) (l : ℕ) → Looked r l
+  pub looked : (r : Run) (l : ℕ) → Looked r l
   looked r l = by_test (can_step script r l) refl
     where
       by_test : (b : Bool) → can_step script r l ≡ b → Looked r l
@@ -114,17 +147,22 @@ module _ (s : Supply) (policy : Policy) (script : Script) where
             ap (λ es. (run_after s script r es).steps) is ∙ (kept_keeps q (written_in made.0.touched) q.owed ∙ made_steps r l made m.1),
           )
 
+  -- a step of a locus takes one from the steps that are left
+  pub look_falls : (r : Run) (l : ℕ) → 41 ≤ l → l < 64 → r.steps l < script.steps → (run_after s script r (look s policy script r l)).steps ≡ put r.steps l (r.steps l + 1)
+      → steps_left script (run_after s script r (look s policy script r l)) + 1 ≡ steps_left script r
+  look_falls r l low high few steps = subst (λ (f : ℕ → ℕ). sum_by (λ x. script.steps - f x) all_loci + 1 ≡ steps_left script r) (sym steps) (sum_falls script.steps r.steps l 41 23 low high few)
+
   -- ONE ROUND
 
   -- all of these are idle, or fewer steps are left
-  abbrev Round : Run → List ℕ → Type 0
-  Round r ls = (Idle s policy script r ls × (looks s policy script r ls ≡ [])) ⊎ (left script.steps (run_after s script r (looks s policy script r ls)) + 1 ≤ left script.steps r)
+  abbrev pub Round : Run → List ℕ → Type 0
+  Round r ls = (Idle s policy script r ls × (looks s policy script r ls ≡ [])) ⊎ (steps_left script (run_after s script r (looks s policy script r ls)) + 1 ≤ steps_left script r)
 
-  left_after : (r : Run) (ls : List ℕ) → Round r ls → left script.steps (run_after s script r (looks s policy script r ls)) ≤ left script.steps r
-  left_after r ls (inl (idle, none)) = (let e = ap (λ es. left script.steps (run_after s script r es)) none in omega (arith, e))
+  left_after : (r : Run) (ls : List ℕ) → Round r ls → steps_left script (run_after s script r (looks s policy script r ls)) ≤ steps_left script r
+  left_after r ls (inl (idle, none)) = (let e = ap (λ es. steps_left script (run_after s script r es)) none in omega (arith, e))
   left_after r ls (inr less) = omega (arith, less)
 
-  round : (ls : List ℕ) (r : Run) → AreLoci ls → Round r ls
+  pub round : (ls : List ℕ) (r : Run) → AreLoci ls → Round r ls
   round [] r at = inl (tt, refl)
   round (l ∷ ls) r at = by_look (looked r l) (λ q. round ls q at.1)
     where
@@ -136,15 +174,14 @@ module _ (s : Supply) (policy : Policy) (script : Script) where
 
           by_rest : Round r ls → Round r (l ∷ ls)
           by_rest (inl (idles, nothing)) = inl ((idle, idles), whole ∙ nothing)
-          by_rest (inr less) = inr (subst (λ es. left script.steps (run_after s script r es) + 1 ≤ left script.steps r) (sym whole) less)
+          by_rest (inr less) = inr (subst (λ es. steps_left script (run_after s script r es) + 1 ≤ steps_left script r) (sym whole) less)
       by_look (inr (few, steps)) rest =
           let first = look s policy script r l in
           let q : Run = run_after s script r first in
           let later = looks s policy script q ls in
-          let falls : left script.steps q + 1 ≤ left script.steps r =
-          subst (λ (f : ℕ → ℕ). total (λ i. script.steps - f (41 + i)) 23 + 1 ≤ left script.steps r) (sym steps) (left_falls script.steps r.steps l at.0.0 at.0.1 few) in
+          let falls = look_falls r l at.0.0 at.0.1 few steps in
           let more = left_after q ls (rest q) in
-          inr (subst (λ (k : Run). left script.steps k + 1 ≤ left script.steps r) (sym (run_append s policy script r first later)) (omega (arith, falls, more)))
+          inr (subst (λ (k : Run). steps_left script k + 1 ≤ steps_left script r) (sym (run_append s policy script r first later)) (omega (arith, falls, more)))
 
   -- ALL ROUNDS
 
@@ -152,7 +189,7 @@ module _ (s : Supply) (policy : Policy) (script : Script) where
   abbrev Ends : ℕ → Run → Type 0
   Ends m r = (k : ℕ) × (k ≤ m) × Idle s policy script (run_after s script r (looks s policy script r (rounds k))) all_loci
 
-  ends : (m : ℕ) (r : Run) → left script.steps r ≤ m → Ends m r
+  ends : (m : ℕ) (r : Run) → steps_left script r ≤ m → Ends m r
   ends zero r few = by_round (round all_loci r (are_loci 41 23 (omega arith) (omega arith)))
     where
       by_round : Round r all_loci → Ends zero r
@@ -160,7 +197,7 @@ module _ (s : Supply) (policy : Policy) (script : Script) where
       by_round (inr less) = absurd (none_below _ _ less few)
   ends (suc m) r few = by_round (round all_loci r (are_loci 41 23 (omega arith) (omega arith))) (λ q h. ends m q h)
     where
-      by_round : Round r all_loci → ((q : Run) → left script.steps q ≤ m → Ends m q) → Ends (suc m) r
+      by_round : Round r all_loci → ((q : Run) → steps_left script q ≤ m → Ends m q) → Ends (suc m) r
       by_round (inl (idle, none)) rest = (0, omega arith, idle)
       by_round (inr less) rest =
           let first = looks s policy script r all_loci in
@@ -171,18 +208,15 @@ module _ (s : Supply) (policy : Policy) (script : Script) where
           ap (run_after s script r) (looks_append s policy script r all_loci (rounds end.0)) ∙ run_append s policy script r first later in
           (suc end.0, both_more end.0 m end.1, subst (λ (k : Run). Idle s policy script k all_loci) (sym run) end.2)
 
-  at_number : (r : Run) (n from l : ℕ) → Idle s policy script r (numbers s policy script from n) → from ≤ l → l < from + n → can_step script r l ≡ false
+  pub at_number : (r : Run) (n from l : ℕ) → Idle s policy script r (numbers from n) → from ≤ l → l < from + n → can_step script r l ≡ false
   at_number r zero from l idle low high = absurd (omega (arith, low, high))
   at_number r (suc n) from l idle low high = elim (cases_lt from l) as (λ _. can_step script r l ≡ false) [
     | inl above ↦ at_number r n (suc from) l idle.1 (omega (arith, above)) (omega (arith, high))
     | inr here ↦ (let same : from ≡ l = omega (arith, here, low) in subst (λ k. can_step script r k ≡ false) same idle.0)
   ]
 
-  few_left : (r : Run) → left script.steps r ≤ 23 * script.steps
-  few_left r =
-      let most : left script.steps r ≤ total (λ _. script.steps) 23 = total_mono (λ i. script.steps - r.steps (41 + i)) (λ _. script.steps) (λ i. omega arith) 23 in
-      let all = total_const script.steps 23 in
-      omega (arith, most, all)
+  pub few_left : (r : Run) → steps_left script r ≤ 23 * script.steps
+  few_left r = sum_most script.steps r.steps 41 23
 
   pub whole_exists : (w : KernelState) → IsScript script → NamesNoLocus script w → IsSound (λ x. (w x).cell) → births_owed script (run_after s script (start_run w) (opening s script w)) ≡ false
       → (n : ℕ) × (n ≤ 23 * script.steps) × IsWhole s policy script w (serial_history s policy script w n)

@@ -1,13 +1,13 @@
 -- The history of a run on one thread: births, a Stable, the picks of the order, and then rounds over all loci; behind each Step the
 -- Stable that it owes, or the Snaps that are wished for.
-use Rattle.std.specs.Prelude.{◌≡◌, ℕ, zero, suc, ◌&&◌, ◌==◌, not, if◌then◌else◌, true, false, List, [], ◌∷◌, ◌++◌, Option, Some, None}
-use Rattle.std.specs.List.{list_any}
+use Rattle.std.specs.Prelude.{◌≡◌, ℕ, zero, suc, ◌-◌, ◌&&◌, ◌==◌, not, if◌then◌else◌, true, false, List, [], ◌∷◌, ◌++◌, Option, Some, None}
+use Rattle.std.specs.List.{list_any, sum_by}
 use Rattle.hop_base.specs.declared.histories.Entry.{Entry}
 use Rattle.hop_base.specs.declared.histories.Event.TheVariants.{Snap, Stable, Tried}
 use Rattle.hop_base.specs.declared.histories.Touch.{Touch}
 use Rattle.hop_model.specs.Histories.{Policy, Run, goes_on, has_wish, is_due, is_full, mark, next_changed, run_after, start_run, version_of}
 use Rattle.hop_model.specs.Scripts.{Script}
-use Rattle.hop_model.specs.Serial.{IsAllIdle, all_births, can_step, looks_of}
+use Rattle.hop_model.specs.Serial.{IsAllIdle, all_births, all_loci, can_step, looks_of}
 use Rattle.hop_model.specs.State.{KernelState, Supply}
 use Rattle.hop_model.specs.Steps.{step}
 
@@ -65,6 +65,10 @@ pub record IsFront (s : Supply) (policy : Policy) (script : Script) (w : KernelS
   pub rest : List Entry
   pub front : es ++ rest ≡ serial_history s policy script w rounds_made
 
+-- how many steps the loci have left
+abbrev pub steps_left : Script → Run → ℕ
+steps_left script r = sum_by (λ l. script.steps - r.steps l) all_loci
+
 -- A STOPPED HISTORY
 
 -- the Snap of this entity, and what comes later
@@ -86,6 +90,14 @@ pub data IsCut (s : Supply) (policy : Policy) (script : Script) (w : KernelState
 pub data IsStopped (s : Supply) (policy : Policy) (script : Script) (w : KernelState) (es : List Entry) : Type 0 where
   Completed : IsCut s policy script w es → IsStopped s policy script w es
   Trying : (front : List Entry) → (x version : ℕ) → IsCut s policy script w (front ++ mark Snap x version ∷ []) → es ≡ front ++ mark Tried x version ∷ [] → IsStopped s policy script w es
+
+-- no step was made, and nobody wishes for anything
+pub record IsNew (r : Run) : Type 0 where
+  pub began : r.began ≡ true
+  pub short : r.short ≡ false
+  pub tried : r.tried ≡ None
+  pub by_step : (x : ℕ) → r.by_step x ≡ false
+  pub asked : (x : ℕ) → r.asked x ≡ false
 
 -- nothing is owed or tried, and no wish is due
 pub record IsCalm (policy : Policy) (r : Run) : Type 0 where

@@ -1,5 +1,5 @@
 -- The answers of a commit, at each of its ends.
-use Rattle.std.proofs.Common.{◌≡◌, ◌≤◌, ◌⊎◌, ℕ, true, false, inl, inr, refl, sym, ap, subst, ◌∙◌, arith}
+use Rattle.std.proofs.Common.{◌≡◌, ◌≤◌, ℕ, true, false, inl, inr, refl, sym, ap, subst, ◌∙◌, arith}
 use Rattle.std.specs.Prelude.{Err, IsErrOf, OnErr, Result}
 use Rattle.std.proofs.lemmas.Bool.{false≢true}
 use Rattle.disk_trait.specs.Counts.{Rose}

@@ -12,11 +12,11 @@ mod Committable
 mod CommitAnswering
 mod Returned
 mod Course
-mod Opened
-mod Paged
+pub mod Opened
+pub mod Paged
 mod BlobReads
 mod PageCalls
-mod Chosen
+pub mod Chosen
 mod ChosenListed
-mod Keep
+pub mod Keep
 mod Turned

@@ -1,6 +1,6 @@
 -- A store as it is opened: what its memory is, and where its log stands.
-use Rattle.std.proofs.Common.{◌≡◌, ℕ, zero, suc, ◌+◌, ◌<◌, ◌≤◌, Bool, true, false, if◌then◌else◌, nat_lt, List, [], ◌∷◌, ◌++◌, filter, length, map, replicate, Some, None, refl, sym, ap, subst, ◌∙◌, arith, append_assoc, lit<}
-use Rattle.std.specs.Prelude.{Err, IfErr, IsErrAnd, IsErrOf, Ok, Result, slice_get, slice_index, slice_index_or}
+use Rattle.std.proofs.Common.{◌≡◌, ℕ, zero, suc, ◌<◌, ◌≤◌, Bool, true, false, if◌then◌else◌, nat_lt, List, [], ◌∷◌, ◌++◌, filter, length, map, replicate, Some, None, refl, sym, ap, subst, ◌∙◌, arith, append_assoc}
+use Rattle.std.specs.Prelude.{Err, IfErr, IfOk, IsErrAnd, IsErrOf, Ok, Result, slice_get, slice_index, slice_index_or}
 use Rattle.std.specs.List.{AllByRecursion, AllPairs}
 use Rattle.std.proofs.lemmas.Bool.{false≢true, lt-ltb}
 use Rattle.std.proofs.lemmas.Bool.Decides.{nat_tests}
@@ -14,29 +14,31 @@ use Rattle.disk_trait.specs.Image.{Image, IsImage, block_at}
 use Rattle.disk_trait.proofs.Phases.{LeavesOnly-start, LeavesOnly-sync, Moments}
 use Rattle.hop_base.specs.declared.records.Cut.{Cut}
 use Rattle.hop_base.specs.declared.records.Rec.{Rec}
-use Rattle.hop_model.proofs.Lowering.{greatest_is}
+use Rattle.hop_model.proofs.Lowering.{greatest_is, greatest_one}
 use Rattle.hop_model.specs.Choices.{IsGreatest, IsNarrow, greatest}
 use Rattle.image_blocks.specs.Checks.{Bad as BadPlace, active_area, active_by, count_in, records_fault}
-use Rattle.image_blocks.specs.Layout.{epoch_in, gate_at, header_at, is_open, last_number, most_blocks, pool_at, slot_count}
+use Rattle.image_blocks.specs.Layout.{epoch_in, gate_at, header_at, is_open, most_blocks, pool_at, slot_count}
 use Rattle.image_blocks.specs.Logs.{AreFitting, HasFront, HasLog, HasRecords, IsActive, Place}
 use Rattle.image_blocks.specs.declared.areas.Area.{Area}
 use Rattle.image_blocks.specs.declared.areas.Area.TheVariants.{A, B}
 use Rattle.image_blocks.proofs.Opening.{log_back_law}
-use Rattle.log_reading.specs.Logs.{AreInRange, IsOlder}
+use Rattle.log_reading.specs.Logs.{AreInRange, IsKnown, IsOlder}
 use Rattle.log_reading.specs.Reads.{ReadsOnly}
 use Rattle.log_reading.specs.declared.faults.ReadingFault.{ReadingFault}
 use Rattle.log_reading.specs.declared.faults.ReadingFault.TheVariants.{Disk as OfDisk, Foreign as OfForeign, Memory as OfMemory}
 use Rattle.log_reading.specs.declared.log.ImageLog.{ImageLog}
+use Rattle.image_meaning.specs.Parts.{cut_of}
 use Rattle.image_meaning.specs.Stores.{IsHeld, Kept, recs_of}
-use Rattle.log_turn.specs.Standing.{SameAreas, area_of, begun_of, epoch_of, has_failed, place_of, used_of}
+use Rattle.disk_tally.specs.declared.Tally.{Tally}
+use Rattle.log_turn.specs.Standing.{SameAreas, area_of, epoch_of, has_failed, place_of, used_of}
 use Rattle.log_turn.specs.declared.areas.Areas.{Areas}
-use Rattle.page_shadow.specs.Ledger.{Ledger, is_held}
+use Rattle.page_shadow.specs.Ledger.{Ledger}
 use Rattle.store_model.specs.Books.{AreApartFrom, AreTrue, Books, IsBeforePool, Logged, kept_of, logged_recs, recs_in}
 use Rattle.snapshot_store.specs.Keeping.{AreKept, AreListed}
 use Rattle.snapshot_store.specs.OpenFaults.{HasOpenCause, why}
-use Rattle.snapshot_store.specs.Opening.{HasStableLog, IsFresh, SyncsOnly, fresh_ledger, is_some_rec, unread}
+use Rattle.snapshot_store.specs.Opening.{HasStableLog, IsOver, IsSynced, SyncsOnly, fresh_ledger, is_some_rec, unread}
 use Rattle.snapshot_store.specs.Shelves.{is_from}
-use Rattle.snapshot_store.specs.State.{IsWhole, books, state_of}
+use Rattle.snapshot_store.specs.State.{IsWhole, State, books, state_of}
 use Rattle.snapshot_store.specs.declared.opening.OpenWhy.{OpenWhy}
 use Rattle.snapshot_store.proofs.Causes.{Rose-before}
 
@@ -189,26 +191,7 @@ module _ (recs : List Rec) (log : List Logged) (is : log ≡ map unread recs) wh
   pub recs_are : logged_recs log ≡ recs
   recs_are = ap logged_recs is ∙ recs_back recs
 
-  pub has_records : (image : Image) → HasRecords recs image → HasRecords (logged_recs log) image
-  has_records image has = subst (λ (rs : List Rec). HasRecords rs image) (sym recs_are) has
-
-  pub are_in_range : (ledger : Ledger) (blocks : ℕ) → ledger ≡ fresh_ledger blocks recs → AreInRange blocks recs → AreInRange ledger.end (logged_recs log)
-  are_in_range ledger blocks same range = subst (λ (rs : List Rec). AreInRange ledger.end rs) (sym recs_are) (subst (λ (l : Ledger). AreInRange l.end recs) (sym same) range)
-
-  pub are_older : AllPairs IsOlder recs → AllPairs IsOlder (logged_recs log)
-  are_older older = subst (AllPairs IsOlder) (sym recs_are) older
-
-  pub ledger_is : (ledger : Ledger) (blocks : ℕ) → ledger ≡ fresh_ledger blocks recs → ledger ≡ fresh_ledger ledger.end (logged_recs log)
-  ledger_is ledger blocks same = same ∙ (ap (λ (rs : List Rec). fresh_ledger blocks rs) (sym recs_are) ∙ ap (λ (n : ℕ). fresh_ledger n (logged_recs log)) (sym (ap (λ (l : Ledger). l.end) same)))
-
   module _ {D : Type 0} (block_count : D → ℕ) (disk : D) (areas : Areas) (kept : List Logged) (cut : Cut) (ledger : Ledger) (blocks : ℕ) (same : ledger ≡ fresh_ledger blocks recs) where
-    pub found_whole : pool_at ≤ blocks → blocks ≤ most_blocks → blocks ≤ block_count disk → length recs ≤ slot_count → AreKept log kept (slice_index cut.0) → has_failed areas ≡ false → length recs ≡ used_of areas
-        → IsWhole block_count (state_of disk areas log kept cut ledger true false 0)
-    found_whole least most within few are_kept working used =
-        subst (λ (l : Ledger). IsWhole block_count (state_of disk areas log kept cut l true false 0)) (sym same)
-        (subst (λ (ls : List Logged). IsWhole block_count (state_of disk areas ls kept cut (fresh_ledger blocks recs) true false 0)) (sym is)
-        (fresh_whole block_count disk areas recs kept cut blocks least most within few (subst (λ (ls : List Logged). AreKept ls kept (slice_index cut.0)) is are_kept) working used))
-
     pub found_stands : (reading : D → Image) (may_leave : D → Image → Type 0) (place : Place) → place_of areas ≡ place → Stands blocks place recs (reading disk) → Only (reading disk) (may_leave disk)
         → HasStableLog reading may_leave (books (state_of disk areas log kept cut ledger true false 0)) disk
     found_stands reading may_leave place at stands stable =
@@ -243,23 +226,6 @@ empty_true reading may_leave b disk s none =
 pub place_is : (areas : Areas) (area : Area) (epoch : ℕ) → area_of areas ≡ area → epoch_of areas ≡ epoch → place_of areas ≡ record { active = area; epoch = epoch }
 place_is areas area epoch one two = ap (λ (a : Area). record { active = a; epoch = areas.epoch }) one ∙ ap (λ (n : ℕ). record { active = area; epoch = n }) two
 
--- one sync was counted
-pub one_begun : (areas : Areas) (begun epoch : ℕ) → begun_of areas ≡ begun → Ticks 0 begun → epoch_of areas ≡ epoch → epoch ≤ last_number → (begun_of areas ≡ 1) × (epoch_of areas ≤ last_number)
-one_begun areas begun epoch is ticks same low =
-    (let one : begun ≡ 0 + 1 = ticks.one_more (lit< tt) in omega (arith, one, is), omega (arith, same, low))
-
--- THE STORE IS FRESH
-pub fresh_store : {D : Type 0} (disk : D) (areas : Areas) (log kept : List Logged) (cut : Cut) (ledger : Ledger) → ledger ≡ fresh_ledger ledger.end (logged_recs log) → begun_of areas ≡ 1 → IsFresh (state_of disk areas log kept cut ledger true false 0)
-fresh_store disk areas log kept cut ledger same one = record {
-  found = ap (λ (l : Ledger). l.all_named) same;
-  none_held = λ n. ap (λ (l : Ledger). is_held l n) same ∙ none_held ledger.end n;
-  unnamed = λ n. ap (λ (l : Ledger). slice_index l.names n) same ∙ none_named ledger.end n;
-  small = refl;
-  working = refl;
-  one = one;
-  none_read = refl;
-}
-
 pub none_logged : (ls : List Logged) → logged_recs ls ≡ [] → ls ≡ []
 none_logged [] none = refl
 none_logged (l ∷ ls) none = absurd (let clash : l.rec ∷ logged_recs ls ≡ [] = none in cc clash)
@@ -273,3 +239,43 @@ log_read tells block_count reading may_leave left_since clock faults b shut old 
   fit = s.fit;
   stable = λ c may. s.stable c (reads.stop t c may) ∙ sym (reads.same_reading t);
 }
+
+-- A STORE OVER A LOG THAT WAS READ
+
+-- the log that was read stands alone on the disk
+pub synced_stands : {D : Type 0} (tells : Type 0) (block_count : D → ℕ) (reading : D → Image) (may_leave : D → Image → Type 0) (disk : D) (tally : Tally) (log : ImageLog) → IsSynced tells block_count reading may_leave disk tally log
+    → (areas : Areas) (shelf kept : List Logged) (cut : Cut) (ledger : Ledger) → area_of areas ≡ log.area → epoch_of areas ≡ log.epoch → shelf ≡ map unread log.recs.items → ledger ≡ fresh_ledger log.blocks log.recs.items
+    → tells → IsImage (block_count disk) (reading disk) → HasStableLog reading may_leave (books (state_of disk areas shelf kept cut ledger true false 0)) disk
+synced_stands tells block_count reading may_leave disk tally log is areas shelf kept cut ledger area epoch shelf_is ledger_is told whole =
+    let has = is.has_log told in
+    let place : Place = record { active = log.area; epoch = log.epoch } in
+    found_stands log.recs.items shelf shelf_is block_count disk areas kept cut ledger log.blocks ledger_is reading may_leave place (place_is areas log.area log.epoch area epoch)
+    (log_stands log.recs.items (block_count disk) (reading disk) log.area log.epoch log.blocks whole has.has has.area has.epoch has.blocks)
+    (is.stable told)
+
+-- its books are those of the log
+pub over_log : {D : Type 0} (count : ℕ) (disk : D) (log : ImageLog) → IsKnown count log → (areas : Areas) (shelf kept : List Logged) (cut : Cut) (ledger : Ledger) → area_of areas ≡ log.area → epoch_of areas ≡ log.epoch
+    → shelf ≡ map unread log.recs.items → ledger ≡ fresh_ledger log.blocks log.recs.items → AreKept shelf kept (slice_index cut.0) → IsOver log (state_of disk areas shelf kept cut ledger true false 0)
+over_log count disk log known areas shelf kept cut ledger area epoch shelf_is ledger_is are_kept =
+    let recs = recs_are log.recs.items shelf shelf_is in
+    record {
+      recs = recs;
+      count = ap (λ (l : Ledger). l.end) ledger_is;
+      place = place_is areas log.area log.epoch area epoch;
+      first = ap (λ (l : Ledger). l.first) ledger_is;
+      cut = greatest_one nothing (commits_of log.recs.items) (slice_index cut.0) (cut_of log.recs.items)
+          (subst (λ (rs : List Rec). IsGreatest nothing (commits_of rs) (slice_index cut.0)) recs are_kept.greatest)
+          (greatest_is nothing (commits_of log.recs.items) (narrow_in_range log.blocks log.recs.items known.in_range));
+    }
+
+-- so its records are the image's, and in range
+pub over_records : {D : Type 0} {E : Type 0} (tells : Type 0) (block_count : D → ℕ) (reading : D → Image) (may_leave : D → Image → Type 0) (disk : D) (tally : Tally) (log : ImageLog) → IsSynced tells block_count reading may_leave disk tally log
+    → (image : Image) → (tells → reading disk ≡ image) → (r : Result (State D) E) → IfOk r (IsOver log) → tells → IfOk r (λ st. HasRecords (recs_in (books st)) image)
+over_records tells block_count reading may_leave disk tally log is image same (Err e) over t = tt
+over_records tells block_count reading may_leave disk tally log is image same (Ok st) over t =
+    subst (λ (rs : List Rec). HasRecords rs image) (sym over.recs) (subst (HasRecords log.recs.items) (same t) (is.has_log t).has)
+
+pub over_range : {D : Type 0} {E : Type 0} (count : ℕ) (log : ImageLog) → IsKnown count log → (r : Result (State D) E) → IfOk r (IsOver log) → IfOk r (λ st. AreInRange (books st).count (recs_in (books st)))
+over_range count log known (Err e) over = tt
+over_range count log known (Ok st) over =
+    subst (λ (n : ℕ). AreInRange n (recs_in (books st))) (sym over.count) (subst (AreInRange log.blocks) (sym over.recs) known.in_range)

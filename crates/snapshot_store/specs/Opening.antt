@@ -1,10 +1,14 @@
 -- What opening an image leaves of the disk, and what is known of a store behind it.
-use Rattle.std.specs.Prelude.{◌≡◌, ℕ, ◌+◌, ◌≤◌, Bool, false, true, List, [], ◌∷◌, replicate, slice_index}
+use Rattle.std.specs.Prelude.{◌≡◌, ℕ, ◌≤◌, Bool, false, true, List, [], ◌∷◌, replicate, slice_index}
 use Rattle.disk_trait.specs.Disk.{Only, Ticks}
 use Rattle.disk_trait.specs.Image.{Image}
 use Rattle.disk_trait.specs.Moments.{LeavesOnly}
 use Rattle.hop_base.specs.declared.records.Rec.{Rec}
 use Rattle.image_blocks.specs.Layout.{pool_at}
+use Rattle.disk_tally.specs.declared.Tally.{Tally}
+use Rattle.image_meaning.specs.Parts.{cut_of}
+use Rattle.log_reading.specs.Logs.{IsKnown, IsLogOf}
+use Rattle.log_reading.specs.declared.log.ImageLog.{ImageLog}
 use Rattle.image_blocks.specs.Logs.{AreFitting, HasFront, HasLog}
 use Rattle.page_shadow.specs.Ledger.{Ledger}
 use Rattle.snapshot_store.specs.State.{State, books}
@@ -38,6 +42,23 @@ pub record HasStableLog {D : Type 0} (reading : D → Image) (may_leave : D → 
   pub log : HasLog b.place (recs_in b) (reading disk)
   pub fit : AreFitting b.count (recs_in b)
   pub stable : Only (reading disk) (may_leave disk)
+
+-- A LOG THAT WAS READ behind a sync of the disk, which was only read since then: the one sync is counted, the image has this log, and a
+-- stop leaves that image alone
+pub record IsSynced {D : Type 0} (tells : Type 0) (block_count : D → ℕ) (reading : D → Image) (may_leave : D → Image → Type 0) (disk : D) (tally : Tally) (log : ImageLog) : Type 0 where
+  pub known : IsKnown (block_count disk) log
+  pub one : tally.0 ≡ 1
+  pub has_log : tells → IsLogOf (reading disk) log
+  pub stable : tells → Only (reading disk) (may_leave disk)
+
+-- a store of this log: its records, none of whose blobs is read yet, at its place, in an image of as many blocks, whose pool is what
+-- the store has the books of
+pub record IsOver {D : Type 0} (log : ImageLog) (st : State D) : Type 0 where
+  pub recs : recs_in (books st) ≡ log.recs.items
+  pub count : (books st).count ≡ log.blocks
+  pub place : (books st).place ≡ record { active = log.area; epoch = log.epoch }
+  pub first : st.blocks.first ≡ pool_at
+  pub cut : slice_index st.cut.0 ≡ cut_of log.recs.items
 
 -- a store as it was opened: no block is held or was named by a record, and each counts as named where there are records, no number was too large, the disk hasn't failed, one sync was begun, and no page
 -- was read

@@ -19,7 +19,7 @@ mod taking;
 
 pub use faults::StoreFault;
 pub use laws::same_kept_law;
-pub use opening::{OpenFault, OpenWhy};
+pub use opening::{OpenFault, OpenWhy, SyncedLog};
 pub use store::Store;
 
 #[cfg(test)]

@@ -1,14 +1,14 @@
 // What is read of an image before its store is made.
-ghost use Rattle.std.specs.Prelude.{◌≡◌, ◌≤◌, ◌+◌, ◌++◌, [], true, false, AllPairs, length, map, slice_index, IfOk, IfErr, MatchResult};
+ghost use Rattle.std.specs.Prelude.{◌≡◌, ◌⊎◌, ◌≤◌, ◌+◌, ◌++◌, [], true, false, AllPairs, length, map, slice_index, IfOk, IfErr, MatchResult};
 ghost use Rattle.image_blocks.specs.Layout.{last_number, slot_count};
 ghost use Rattle.image_blocks.specs.Logs.{HasRecords};
-ghost use Rattle.log_reading.specs.Logs.{AreInRange, IsOlder};
-ghost use Rattle.log_turn.specs.Standing.{begun_of, epoch_of};
+ghost use Rattle.disk_trait.specs.Disk.{Only};
+ghost use Rattle.log_reading.specs.Logs.{AreInRange, IsKnown, IsLogOf, IsOlder};
 ghost use Rattle.snapshot_store.specs.Keeping.{AreKept};
 ghost use Rattle.snapshot_store.specs.OpenFaults.{HasOpenCause};
-ghost use Rattle.snapshot_store.specs.Opening.{HasStableLog, IsFresh, SyncsOnly, fresh_ledger, unread};
-ghost use Rattle.snapshot_store.specs.State.{IsWhole, books, state_of};
-ghost use Rattle.store_model.specs.Books.{AreTrue, logged_recs, recs_in};
+ghost use Rattle.snapshot_store.specs.Opening.{HasStableLog, IsFresh, IsOver, IsSynced, SyncsOnly, fresh_ledger, unread};
+ghost use Rattle.snapshot_store.specs.State.{books};
+ghost use Rattle.store_model.specs.Books.{AreTrue, recs_in};
 
 use crate::shelf::Shelf;
 use crate::store::Store;
@@ -79,11 +79,11 @@ impl From<AllocError> for OpenWhy {
 
 // The records of a log in memory, those of them that are kept with their choice, and the blocks.
 #[derive(Drop)]
-pub(crate) struct Shelved {
-    pub(crate) log: Shelf,
-    pub(crate) kept: Shelf,
-    pub(crate) cut: Cut,
-    pub(crate) blocks: Ledger,
+struct Shelved {
+    log: Shelf,
+    kept: Shelf,
+    cut: Cut,
+    blocks: Ledger,
 }
 
 // Puts records on a shelf, none of whose blobs is read yet.
@@ -131,27 +131,98 @@ fn on_shelves(alloc: Global, recs: &[Rec], blocks: u32) -> Result<Shelved, Alloc
     })
 }
 
-// The areas and the memory of a store, from the log of an image that is synced first.
-pub(crate) fn found<D: Disk>(alloc: Global, disk: &mut D) -> Result<(Areas, Shelved), OpenWhy>
-    ensures records { D.tells → IfOk result (λ f. HasRecords (logged_recs f.1.log) (D.reading disk.old)) }
-    ensures whole { IfOk result (λ f. IsWhole D.block_count (state_of disk.new f.0 f.1.log f.1.kept f.1.cut f.1.blocks true false 0)) }
-    ensures blocks { IfOk result (λ f. f.1.blocks ≡ fresh_ledger f.1.blocks.end (logged_recs f.1.log)) }
-    ensures log { D.tells → IfOk result (λ f. HasStableLog D.reading D.may_leave (books (state_of disk.new f.0 f.1.log f.1.kept f.1.cut f.1.blocks true false 0)) disk.new) }
-    ensures range { IfOk result (λ f. AreInRange f.1.blocks.end (logged_recs f.1.log)) }
-    ensures older { IfOk result (λ f. AllPairs IsOlder (logged_recs f.1.log)) }
-    ensures areas { IfOk result (λ f. (begun_of f.0 ≡ 1) × (epoch_of f.0 ≤ last_number)) }
+// Syncs a disk, and reads the log of the image on it.
+fn synced<D: Disk>(alloc: Global, disk: &mut D) -> Result<(Tally, ImageLog), OpenWhy>
+    ensures log { D.tells → IfOk result (λ f. IsLogOf (D.reading disk.new) f.1) }
+    ensures stable { D.tells → IfOk result (λ _. Only (D.reading disk.new) (D.may_leave disk.new)) }
+    ensures settled { D.tells → IfErr result (λ why. (why ≡ OpenWhy.WriteFault) ⊎ Only (D.reading disk.new) (D.may_leave disk.new)) }
+    ensures known { IfOk result (λ f. IsKnown (D.block_count disk.new) f.1) }
+    ensures one { IfOk result (λ f. f.0.0 ≡ 1) }
     ensures cause { IfErr result (HasOpenCause D.tells (D.reading disk.old) (D.faults disk.old) (D.faults disk.new)) }
     ensures syncs { SyncsOnly D.tells D.block_count D.reading D.may_leave D.left_since D.clock D.faults disk.old disk.new }
 {
     let mut tally = Tally(0);
     tally.sync(disk)?;
     let log = read_log(alloc, disk)?;
-    let areas = Areas::new(log.area, log.epoch, log.recs.len() as u16, tally);
-    let shelved = on_shelves(alloc, &log.recs, log.blocks)?;
-    Ok((areas, shelved))
+    Ok((tally, log))
+}
+
+/// The log of an image, read behind a sync of its disk, with the count of that sync.
+#[derive(Drop)]
+pub struct SyncedLog<D: Disk> {
+    pub disk: D,
+    pub tally: Tally,
+    pub log: ImageLog,
+}
+
+impl<D: Disk> SyncedLog<D> {
+    /// Syncs the disk, and reads the log of the image that it holds by the checks of superblock, areas and bodies. It begins one sync
+    /// and no write, reads 1,286 blocks at most, and takes 568 bytes for each record.
+    ///
+    /// `Foreign` comes exactly where a check refuses the image, with its first bad place; `ReadFault` and `WriteFault` only where a read
+    /// or the sync failed. The disk comes back.
+    pub fn read(alloc: Global, disk: D) -> Result<SyncedLog<D>, OpenFault<D>>
+        ensures synced { IfOk result (λ s. IsSynced D.tells D.block_count D.reading D.may_leave s.disk s.tally s.log) }
+        // Only where the sync failed may a stop leave another image than the one that reads.
+        ensures settled { D.tells → IfErr result (λ fault. (fault.why ≡ OpenWhy.WriteFault) ⊎ Only (D.reading fault.disk) (D.may_leave fault.disk)) }
+        ensures cause { IfErr result (λ fault. HasOpenCause D.tells (D.reading disk) (D.faults disk) (D.faults fault.disk) fault.why) }
+        ensures syncs { MatchResult result
+            (λ s. SyncsOnly D.tells D.block_count D.reading D.may_leave D.left_since D.clock D.faults disk s.disk)
+            (λ fault. SyncsOnly D.tells D.block_count D.reading D.may_leave D.left_since D.clock D.faults disk fault.disk) }
+    {
+        let mut disk = disk;
+        match synced(alloc, &mut disk) {
+            Ok((tally, log)) => Ok(SyncedLog { disk, tally, log }),
+            Err(why) => Err(OpenFault { why, disk }),
+        }
+    }
 }
 
 impl<D: Disk> Store<D> {
+    /// The store of an image whose log was read behind a sync of the disk, which was only read since then. Blobs aren't read; where the
+    /// log has records each block counts as named until they are, and none is free. It doesn't touch the disk, and takes some 3
+    /// megabytes and 5 bytes for each block of the image.
+    ///
+    /// `Memory` alone comes, and then the disk is handed back.
+    pub fn over(alloc: Global, synced: SyncedLog<D>) -> Result<Store<D>, OpenFault<D>>
+        requires { IsSynced D.tells D.block_count D.reading D.may_leave synced.disk synced.tally synced.log }
+        ensures over { IfOk result (IsOver synced.log) }
+        ensures log { D.tells → IfOk result (λ st. HasStableLog D.reading D.may_leave (books st) st.disk) }
+        ensures fresh { IfOk result IsFresh }
+        // An image without a record is ready for commits.
+        ensures empty { D.tells → IfOk result (λ st. recs_in (books st) ≡ [] → AreTrue D.reading D.may_leave (books st) st.disk) }
+        ensures cause { IfErr result (λ fault. fault.why ≡ OpenWhy.Memory) }
+        ensures same_disk { MatchResult result (λ st. st.disk ≡ synced.disk) (λ fault. fault.disk ≡ synced.disk) }
+    {
+        let SyncedLog { disk, tally, log } = synced;
+        let areas = Areas::new(log.area, log.epoch, log.recs.len() as u16, tally);
+        match on_shelves(alloc, &log.recs, log.blocks) {
+            Ok(shelved) => {
+                let Shelved {
+                    log,
+                    kept,
+                    cut,
+                    blocks,
+                } = shelved;
+                Ok(Store {
+                    disk,
+                    areas,
+                    log,
+                    kept,
+                    cut,
+                    blocks,
+                    small: true,
+                    shut: false,
+                    read_calls: 0,
+                })
+            }
+            Err(_) => Err(OpenFault {
+                why: OpenWhy::Memory,
+                disk,
+            }),
+        }
+    }
+
     /// Opens the image that a disk holds: the disk is synced, and then the log is read by the checks of superblock, areas and bodies.
     /// Blobs aren't read; where the log has records each block counts as named until they are, and none is free. It begins one sync
     /// and no write, reads 1,286 blocks at most, and takes some 3 megabytes and 5 bytes for each block of the image.
@@ -174,28 +245,7 @@ impl<D: Disk> Store<D> {
             (λ st. SyncsOnly D.tells D.block_count D.reading D.may_leave D.left_since D.clock D.faults disk st.disk)
             (λ fault. SyncsOnly D.tells D.block_count D.reading D.may_leave D.left_since D.clock D.faults disk fault.disk) }
     {
-        let mut disk = disk;
-        match found(alloc, &mut disk) {
-            Ok((areas, shelved)) => {
-                let Shelved {
-                    log,
-                    kept,
-                    cut,
-                    blocks,
-                } = shelved;
-                Ok(Store {
-                    disk,
-                    areas,
-                    log,
-                    kept,
-                    cut,
-                    blocks,
-                    small: true,
-                    shut: false,
-                    read_calls: 0,
-                })
-            }
-            Err(why) => Err(OpenFault { why, disk }),
-        }
+        let synced = SyncedLog::read(alloc, disk)?;
+        Store::over(alloc, synced)
     }
 }

@@ -2,7 +2,7 @@
 use Rattle.std.proofs.Common.{◌≡◌, ℕ, ◌+◌, ◌<◌, Bool, true, false, if◌then◌else◌, ◌==◌, List, [], ◌∷◌, ◌++◌, length, Option, Some, None, is_some, is_none, IfSome, MatchOption, option_map, option_and_then, refl, sym, ap, subst, ◌∙◌, arith, eqb-true, ◌⊎◌, inl, inr}
 use Rattle.std.proofs.lemmas.Bool.{false≢true}
 use Rattle.std.proofs.lemmas.Bool.Decides.{nat_tests}
-use Rattle.std.proofs.lemmas.List.{append-nil}
+use Rattle.std.proofs.lemmas.List.{append-nil, append_assoc}
 use Rattle.hop_base.specs.declared.histories.Entry.{Entry}
 use Rattle.hop_base.specs.declared.histories.Event.TheVariants.{Birth, Step, Snap as SnapEvent, Stable, Tried}
 use Rattle.hop_base.specs.declared.capabilities.Region.{Region}
@@ -40,6 +40,12 @@ use Rattle.sound_runs.proofs.Standing.{IsStanding, standing_next, standing_over}
 pub record KeepsNames (a b : AtlasState) : Type 0 where
   pub containers : (us : List Text) × (b.containers ≡ a.containers ++ us)
   pub loci : (us : List Text) × (b.loci ≡ a.loci ++ us)
+
+pub keeps_then : (a b c : AtlasState) → KeepsNames a b → KeepsNames b c → KeepsNames a c
+keeps_then a b c f g = record {
+  containers = (f.containers.0 ++ g.containers.0, g.containers.1 ∙ ap (λ us. us ++ g.containers.0) f.containers.1 ∙ append_assoc a.containers f.containers.0 g.containers.0);
+  loci = (f.loci.0 ++ g.loci.0, g.loci.1 ∙ ap (λ us. us ++ g.loci.0) f.loci.1 ∙ append_assoc a.loci f.loci.0 g.loci.0);
+}
 
 keeps_same : (a b : AtlasState) → b.containers ≡ a.containers → b.loci ≡ a.loci → KeepsNames a b
 keeps_same a b c l = record { containers = ([], c ∙ sym (append-nil a.containers)); loci = ([], l ∙ sym (append-nil a.loci)) }
@@ -211,25 +217,26 @@ module _ (s : Supply) (me : ℕ) (w : KernelState) (a : AtlasState) (there : (w 
   seen_is true e = ap atlas_in there
   seen_is false e = absurd (false≢true e)
 
-  chosen : (t : Bool) (o : Outcome) → (t ≡ true → KeepsNames (seen_atlas w t) o.atlas) → KnowsMore a (if◌then◌else◌ {A = AtlasState} t o.atlas a)
-  chosen true o h = keeps_known a o.atlas (subst (λ b. KeepsNames b o.atlas) (ap atlas_in there) (h refl))
-  chosen false o h = λ x e. e
+  chosen : (t : Bool) (o : Outcome) → (t ≡ true → KeepsNames (seen_atlas w t) o.atlas) → KeepsNames a (if◌then◌else◌ {A = AtlasState} t o.atlas a)
+  chosen true o h = subst (λ b. KeepsNames b o.atlas) (ap atlas_in there) (h refl)
+  chosen false o h = keeps_same a a refl refl
 
-  step_atlas : KnowsMore a (atlas_in (cell_with (accesses_of me (wanted me l) (outcome_in s l (wanted me l) w)) 0 (w 0).cell))
+  step_atlas : KeepsNames a (atlas_in (cell_with (accesses_of me (wanted me l) (outcome_in s l (wanted me l) w)) 0 (w 0).cell))
   step_atlas =
       let act = wanted me l in
       let o = outcome_in s l act w in
       let c = put_other act.other o.other 0 (put_atlas act.atlas o.atlas 0 (w 0).cell) in
       let cell : cell_with (accesses_of me act o) 0 (w 0).cell ≡ c =
       step_cell me o.locus act.atlas o.atlas act.other o.other o.newborn 0 (w 0).cell ∙ ap (λ t. if t then LocusCell o.locus else put_newborn o.newborn 0 c) (above_0 me high) ∙ newborn_0 o.newborn c born_high in
-      elim (other_atlas w act.other o.other (put_atlas act.atlas o.atlas 0 (w 0).cell) a _ (wanted_is s me l (seen_atlas w act.atlas) (seen_other w act.other)).other_keeps there (put_atlas_0 act.atlas a o.atlas (w 0).cell there)) as (λ _. KnowsMore a (atlas_in (cell_with (accesses_of me act o) 0 (w 0).cell))) [
-        | inl is ↦ subst (λ k. KnowsMore a (atlas_in k)) (sym (cell ∙ is)) (chosen act.atlas o (wanted_keeping s me l (seen_atlas w act.atlas) (seen_other w act.other)))
-        | inr is ↦ subst (λ k. KnowsMore a (atlas_in k)) (sym (cell ∙ is)) (λ x e. e)
+      elim (other_atlas w act.other o.other (put_atlas act.atlas o.atlas 0 (w 0).cell) a _ (wanted_is s me l (seen_atlas w act.atlas) (seen_other w act.other)).other_keeps there (put_atlas_0 act.atlas a o.atlas (w 0).cell there)) as (λ _. KeepsNames a (atlas_in (cell_with (accesses_of me act o) 0 (w 0).cell))) [
+        | inl is ↦ subst (λ k. KeepsNames a (atlas_in k)) (sym (cell ∙ is)) (chosen act.atlas o (wanted_keeping s me l (seen_atlas w act.atlas) (seen_other w act.other)))
+        | inr is ↦ subst (λ k. KeepsNames a (atlas_in k)) (sym (cell ∙ is)) (keeps_same a a refl refl)
       ]
 
-pub step_knows : (s : Supply) (me : ℕ) (w : KernelState) (r : Entry × KernelState) → IsSound (λ x. (w x).cell) → step s me w ≡ Some r → KnowsMore (atlas_in (w 0).cell) (atlas_in (r.1 0).cell)
+-- a step takes no name from the atlas
+pub step_keeps : (s : Supply) (me : ℕ) (w : KernelState) (r : Entry × KernelState) → IsSound (λ x. (w x).cell) → step s me w ≡ Some r → KeepsNames (atlas_in (w 0).cell) (atlas_in (r.1 0).cell)
 unfolding step_change change_of
-step_knows s me w r sound is =
+step_keeps s me w r sound is =
     let change = some_of_map (λ (c : ℕ × Change). carried w Step c.0 c.1) (step_change s me w) r is in
     let locus = some_of_map (numbered_change s me w) (running (w me).cell) change.0 change.1 in
     let l = locus.0 in
@@ -237,8 +244,8 @@ step_knows s me w r sound is =
     let whole : carried w Step me (change_of s w me l) ≡ r = ap (λ (c : ℕ × Change). carried w Step c.0 c.1) locus.2 ∙ change.2 in
     let cell : (r.1 0).cell ≡ cell_with (accesses_of me (wanted me l) (outcome_in s l (wanted me l) w)) 0 (w 0).cell =
     ap (λ (q : Entry × KernelState). (q.1 0).cell) (sym whole) ∙ changed_cell w (accesses_of me (wanted me l) (outcome_in s l (wanted me l) w)) 0 in
-    subst (λ b. KnowsMore b (atlas_in (r.1 0).cell)) (sym (ap atlas_in sound.1.atlas))
-    (subst (λ k. KnowsMore sound.0 (atlas_in k)) (sym cell) (step_atlas s me w sound.0 sound.1.atlas l (above sound.0 at.0)))
+    subst (λ b. KeepsNames b (atlas_in (r.1 0).cell)) (sym (ap atlas_in sound.1.atlas))
+    (subst (λ k. KeepsNames sound.0 (atlas_in k)) (sym cell) (step_atlas s me w sound.0 sound.1.atlas l (above sound.0 at.0)))
   where
     above : (a : AtlasState) → Rattle.std.specs.Prelude.IsTrue (Rattle.hop_model.specs.Soundness.is_born_locus a me) → 0 < me
     above a born = grind (arith, nat_tests)
@@ -246,9 +253,9 @@ step_knows s me w r sound is =
 -- NO BIRTH IS OWED AGAIN
 
 module _ (s : Supply) (policy : Policy) (script : Script) (rules : IsScript script) where
-  after_step : (w : KernelState) (actor : ℕ) → IsSound (λ x. (w x).cell) → (o : Option (Entry × KernelState)) → step s actor w ≡ o → KnowsMore (atlas_in (w 0).cell) (atlas_in (next_of (event_of s script) w o 0).cell)
-  after_step w actor sound None is = λ x e. e
-  after_step w actor sound (Some r) is = step_knows s actor w r sound is
+  after_step : (w : KernelState) (actor : ℕ) → IsSound (λ x. (w x).cell) → (o : Option (Entry × KernelState)) → step s actor w ≡ o → KeepsNames (atlas_in (w 0).cell) (atlas_in (next_of (event_of s script) w o 0).cell)
+  after_step w actor sound None is = keeps_same (atlas_in (w 0).cell) (atlas_in (w 0).cell) refl refl
+  after_step w actor sound (Some r) is = step_keeps s actor w r sound is
 
   no_birth : (w : KernelState) (e : Entry) → is_some (next_name (atlas_in (w 0).cell) script) ≡ false → option_map (λ (q : Entry × KernelState). q.0) (next_birth s script w) ≡ Some e → ⊥
   unfolding next_birth_change
@@ -257,21 +264,37 @@ module _ (s : Supply) (policy : Policy) (script : Script) (rules : IsScript scri
       no_entry : (e : Entry) → None ≡ Some e → ⊥
       no_entry e h = cc
 
+  -- where no birth is owed all names stay
+  names_next : (r : Run) (e : Entry) → May s policy script r e → IsStanding script r → births_owed script r ≡ false → KeepsNames (atlas_in (r.state 0).cell) (atlas_in ((goes_on s script r e).state 0).cell)
+  names_next r e m k none =
+      let next = state_goes_on s policy script r e in
+      let a = atlas_in (r.state 0).cell in
+      let same = keeps_same a a refl refl in
+      subst (λ (w : KernelState). KeepsNames a (atlas_in (w 0).cell)) (sym next)
+      (elim e.event as (λ ev. may s policy script r e ev → KeepsNames a (atlas_in ((if is_event ev then next_of (event_of s script) r.state (Rattle.hop_model.specs.Histories.by_event s script ev e.actor r.state) else r.state) 0).cell)) [
+        | Birth ↦ λ m. absurd (no_birth r.state e none m.1)
+        | Step ↦ λ m. after_step r.state e.actor k.sound (step s e.actor r.state) refl
+        | SnapEvent ↦ λ m. same
+        | Stable ↦ λ m. same
+        | Tried ↦ λ m. same
+      ] m.1)
+
   pub owed_next : (r : Run) (e : Entry) → May s policy script r e → IsStanding script r → births_owed script r ≡ false → births_owed script (goes_on s script r e) ≡ false
   owed_next r e m k none =
-      let next = state_goes_on s policy script r e in
-      subst (λ (w : KernelState). is_some (next_name (atlas_in (w 0).cell) script) ≡ false) (sym next)
-      (elim e.event as (λ ev. may s policy script r e ev → is_some (next_name (atlas_in ((if is_event ev then next_of (event_of s script) r.state (Rattle.hop_model.specs.Histories.by_event s script ev e.actor r.state) else r.state) 0).cell) script) ≡ false) [
-        | Birth ↦ λ m. absurd (no_birth r.state e none m.1)
-        | Step ↦ λ m. no_next (atlas_in (r.state 0).cell) (atlas_in (next_of (event_of s script) r.state (step s e.actor r.state) 0).cell) script (after_step r.state e.actor k.sound (step s e.actor r.state) refl) none
-        | SnapEvent ↦ λ m. none
-        | Stable ↦ λ m. none
-        | Tried ↦ λ m. none
-      ] m.1)
+      let a = atlas_in (r.state 0).cell in
+      let b = atlas_in ((goes_on s script r e).state 0).cell in
+      no_next a b script (keeps_known a b (names_next r e m k none)) none
 
   pub owed_over : (fs : List Entry) (r : Run) → IsLegalFrom s policy script r fs → IsStanding script r → births_owed script r ≡ false → births_owed script (run_after s script r fs) ≡ false
   owed_over [] r legal k none = none
   owed_over (e ∷ fs) r legal k none = owed_over fs (goes_on s script r e) legal.1 (standing_next s policy script rules r e legal.0 k) (owed_next r e legal.0 k none)
+
+  pub names_over : (fs : List Entry) (r : Run) → IsLegalFrom s policy script r fs → IsStanding script r → births_owed script r ≡ false → KeepsNames (atlas_in (r.state 0).cell) (atlas_in ((run_after s script r fs).state 0).cell)
+  names_over [] r legal k none = keeps_same (atlas_in (r.state 0).cell) (atlas_in (r.state 0).cell) refl refl
+  names_over (e ∷ fs) r legal k none =
+      let q : Run = goes_on s script r e in
+      keeps_then (atlas_in (r.state 0).cell) (atlas_in (q.state 0).cell) (atlas_in ((run_after s script q fs).state 0).cell) (names_next r e legal.0 k none)
+      (names_over fs q legal.1 (standing_next s policy script rules r e legal.0 k) (owed_next r e legal.0 k none))
 
   pub births_over : (w : KernelState) (es fs : List Entry) → All (NotLocus (atlas_in (w 0).cell)) script.containers → IsSound (λ x. (w x).cell) → IsLegalRun s policy w script (es ++ fs)
       → births_owed script (run_after s script (start_run w) es) ≡ false → births_owed script (run_after s script (start_run w) (es ++ fs)) ≡ false

@@ -1,5 +1,5 @@
 // The step of a locus that looks at a container.
-ghost use Rattle.std.specs.Prelude.{◌≡◌, ◌<◌, ◌^◌, ℕ, [], ◌∷◌, IfErr, IfOk, OnErr, OnOk};
+ghost use Rattle.std.specs.Prelude.{◌≡◌, ◌≤◌, ◌+◌, ◌<◌, ◌^◌, ℕ, [], ◌∷◌, IfErr, IfOk, OnErr, OnOk};
 ghost use Rattle.fault_paging.specs.Calls.{IsCausedBy};
 ghost use Rattle.kernel_cells.specs.Cells.{part_of};
 ghost use Rattle.look_steps.specs.Looking.{LeavesMemory, MayLook};
@@ -36,6 +36,7 @@ pub fn advance_looking<B: PageStore, S: Supplier, P: Policy>(
     ensures memory { LeavesMemory (S.word gate.now.supply) B.tells B.held B.kept_names B.words other.old.part other.new.part store.old store.new }
     ensures cause { IfErr result (IsCausedBy (B.free store.old) (B.faults store.old) (B.faults store.new) (B.is_shut store.old) (B.is_shut store.new)) }
     ensures same_shut { OnOk result (B.is_shut store.new ≡ B.is_shut store.old) }
+    ensures one_write { B.written store.new ≤ B.written store.old + 1 }
     ensures between { B.Pages store.old store.new }
     ensures entities { (locus.new.clock.entity ≡ locus.old.clock.entity) × (other.new.clock.entity ≡ other.old.clock.entity) }
 {

@@ -86,7 +86,7 @@ module _ (held : ℕ → Bool) (cs : List Cell) (orderly : IsOrderly held cs) (m
       subst (λ n. Lends cs (slice_set cs n a') (a ∷ []) (a' ∷ [])) at (lends_one cs a a' orderly.numbers (ap (slice_get cs) at ∙ is_a) same) in
       let high : 40 < me = high_at held cs orderly me a p.locus is_a p.runs.is in
       subst (λ m. StepsQuietly m cs (slice_set cs me a') e) at
-      (steps_quietly a.clock.entity cs (slice_set cs me a') (a ∷ []) (a' ∷ []) e steps lends orderly.numbers (
+      (steps_quietly a.clock.entity cs (slice_set cs me a') (a ∷ []) (a' ∷ []) e steps lends orderly.numbers (omega arith) (
         apart_goes held cs orderly a.clock.entity (slice_set cs me a') (a ∷ []) (a' ∷ []) e steps lends me a a' is_a (ap (slice_get (slice_set cs me a')) (sym (same ∙ at)) ∙ lends.stand.0) (same ∙ at)
             (locus_born (cells held cs orderly me) (locus_of p.locus) (locus_at held cs orderly me a p.locus is_a p.runs.is)) (λ some low. absurd (omega (arith, high, low))),
         tt,
@@ -102,7 +102,7 @@ module _ (held : ℕ → Bool) (cs : List Cell) (orderly : IsOrderly held cs) (m
       let same_a = lends.numbers.0 ∙ at in
       let same_b = lends.numbers.1.0 ∙ at_b in
       subst (λ m. StepsQuietly m cs cs' e) at
-      (steps_quietly a.clock.entity cs cs' (a ∷ b ∷ []) (a' ∷ b' ∷ []) e steps lends orderly.numbers (
+      (steps_quietly a.clock.entity cs cs' (a ∷ b ∷ []) (a' ∷ b' ∷ []) e steps lends orderly.numbers (omega arith) (
         apart_goes held cs orderly a.clock.entity cs' (a ∷ b ∷ []) (a' ∷ b' ∷ []) e steps lends me a a' is_a (ap (slice_get cs') (sym same_a) ∙ lends.stand.0) same_a
             (locus_born (cells held cs orderly me) (locus_of p.locus) (locus_at held cs orderly me a p.locus is_a p.runs.is)) (λ some low. absurd (omega (arith, high, low))),
         (kept_goes held cs orderly a.clock.entity cs' (a ∷ b ∷ []) (a' ∷ b' ∷ []) e steps lends y b b' (ap (slice_get cs') (sym same_b) ∙ lends.stand.1.0) same_b (fits_born held cs orderly i y b is_b fits) keeps, tt),

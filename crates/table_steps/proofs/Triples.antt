@@ -57,7 +57,7 @@ module _ (held : ℕ → Bool) (cs : List Cell) (orderly : IsOrderly held cs) (m
         let at_k : k.clock.entity ≡ 0 = orderly.numbers.each 0 k at.was_k in
         let high : 40 < me = high_at held cs orderly me a q.locus at.was_a q.runs.is in
         subst (λ m. StepsQuietly m cs cs' e) at_a
-        (steps_quietly a.clock.entity cs cs' (a ∷ k ∷ b ∷ []) (a' ∷ k' ∷ b' ∷ []) e steps lends orderly.numbers (
+        (steps_quietly a.clock.entity cs cs' (a ∷ k ∷ b ∷ []) (a' ∷ k' ∷ b' ∷ []) e steps lends orderly.numbers (omega arith) (
           apart_goes held cs orderly a.clock.entity cs' (a ∷ k ∷ b ∷ []) (a' ∷ k' ∷ b' ∷ []) e steps lends me a a' at.was_a at.is_a (lends.numbers.0 ∙ at_a)
               (locus_born (cells held cs orderly me) (locus_of q.locus) (locus_at held cs orderly me a q.locus at.was_a q.runs.is)) (λ some low. absurd (omega (arith, high, low))),
           (apart_goes held cs orderly a.clock.entity cs' (a ∷ k ∷ b ∷ []) (a' ∷ k' ∷ b' ∷ []) e steps lends 0 k k' at.was_k at.is_k (lends.numbers.1.0 ∙ at_k) (atlas_born held cs orderly k at.was_k) (λ some low. absurd (omega (arith, some))), (third, tt)),
@@ -97,7 +97,7 @@ two_quiet held cs orderly me p planned cs' e a k a' k' was_a was_k is_a is_k len
     let at_k : k.clock.entity ≡ 0 = orderly.numbers.each 0 k was_k in
     let high : 40 < me = high_at held cs orderly me a q.locus was_a q.runs.is in
     subst (λ m. StepsQuietly m cs cs' e) at_a
-    (steps_quietly a.clock.entity cs cs' (a ∷ k ∷ []) (a' ∷ k' ∷ []) e steps lends orderly.numbers (
+    (steps_quietly a.clock.entity cs cs' (a ∷ k ∷ []) (a' ∷ k' ∷ []) e steps lends orderly.numbers (omega arith) (
       apart_goes held cs orderly a.clock.entity cs' (a ∷ k ∷ []) (a' ∷ k' ∷ []) e steps lends me a a' was_a is_a (lends.numbers.0 ∙ at_a)
           (locus_born (cells held cs orderly me) (locus_of q.locus) (locus_at held cs orderly me a q.locus was_a q.runs.is)) (λ some low. absurd (omega (arith, high, low))),
       (apart_goes held cs orderly a.clock.entity cs' (a ∷ k ∷ []) (a' ∷ k' ∷ []) e steps lends 0 k k' was_k is_k (lends.numbers.1.0 ∙ at_k) (atlas_born held cs orderly k was_k) (λ some low. absurd (omega (arith, some))), tt),

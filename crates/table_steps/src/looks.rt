@@ -1,9 +1,9 @@
 // The step of a locus over the table that looks at a container.
-ghost use Rattle.std.specs.Prelude.{◌≡◌, IfErr, IfOk, OnErr, OnOk};
+ghost use Rattle.std.specs.Prelude.{◌≡◌, ◌≤◌, ◌+◌, IfErr, IfOk, OnErr, OnOk};
 ghost use Rattle.fault_paging.specs.Calls.{IsCausedBy};
 ghost use Rattle.step_plans.specs.declared.plans.Plan.TheVariants as plan;
 ghost use Rattle.cell_table.specs.Steps.{EntersStep, GoesOn, IsPlannedAt, StaysAtFault};
-ghost use Rattle.cell_table.specs.Tables.{AreClean, AreFewWrites, IsOrderly};
+ghost use Rattle.cell_table.specs.Tables.{tables_in, AreClean, AreFewWrites, HasNews, IsOrderly};
 
 use fault_paging::PageFault;
 use hop_base::{Entity, Entry};
@@ -30,8 +30,10 @@ pub(crate) fn go_look<B: PageStore, S: Supplier, P: Policy>(
     ensures enters { IfOk result (EntersStep me cells.old cells.new) }
     ensures faulted { OnErr result (StaysAtFault B.tells (S.word gate.now.supply) (B.words store.old) (B.words store.new) cells.old cells.new) }
     ensures kept { B.kept_names store.new ≡ B.kept_names store.old }
+    ensures news { HasNews (B.kept_names store.old) (tables_in cells.old) (tables_in cells.new) }
     ensures cause { IfErr result (IsCausedBy (B.free store.old) (B.faults store.old) (B.faults store.new) (B.is_shut store.old) (B.is_shut store.new)) }
     ensures same_shut { OnOk result (B.is_shut store.new ≡ B.is_shut store.old) }
+    ensures one_write { B.written store.new ≤ B.written store.old + 1 }
     ensures between { B.Pages store.old store.new }
 {
     let (front, back) = cells.split_at_mut(me.number() as usize);

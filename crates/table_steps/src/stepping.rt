@@ -1,12 +1,12 @@
 // The step of a locus over the table.
-ghost use Rattle.std.specs.Prelude.{◌≡◌, ◌↔◌, ℕ, List, None, Some, IfErr, IfOk, IsErrOf, OnErr, OnOk, slice_get};
+ghost use Rattle.std.specs.Prelude.{◌≡◌, ◌≤◌, ◌+◌, ◌↔◌, ℕ, List, None, Some, IfErr, IfOk, IsErrOf, OnErr, OnOk, slice_get};
 ghost use Rattle.hop_model.specs.State.{Supply};
 ghost use Rattle.page_store.specs.declared.faults.PageFault.{PageFault as AFault};
 ghost use Rattle.fault_paging.specs.Calls.{IsCausedBy};
 ghost use Rattle.step_plans.specs.Plans.{idle_of};
 ghost use Rattle.step_plans.specs.declared.idle.Idle.{Idle as AnIdle};
 ghost use Rattle.cell_table.specs.Steps.{EntersStep, GoesOn, IsInOrder, IsPlannedAt, StaysAtFault};
-ghost use Rattle.cell_table.specs.Tables.{left_of, state_in, AreClean, AreFewWrites, IsOrderly};
+ghost use Rattle.cell_table.specs.Tables.{left_of, state_in, tables_in, AreClean, AreFewWrites, HasNews, IsOrderly};
 
 use crate::bearings::{go_making, go_mapping, go_spawning};
 use crate::besides::{go_alone, go_beside};
@@ -55,8 +55,10 @@ fn go<B: PageStore, S: Supplier, P: Policy>(
     ensures enters { IfOk result (EntersStep me cells.old cells.new) }
     ensures faulted { OnErr result (StaysAtFault B.tells (S.word gate.now.supply) (B.words store.old) (B.words store.new) cells.old cells.new) }
     ensures kept { B.kept_names store.new ≡ B.kept_names store.old }
+    ensures news { HasNews (B.kept_names store.old) (tables_in cells.old) (tables_in cells.new) }
     ensures cause { IfErr result (IsCausedBy (B.free store.old) (B.faults store.old) (B.faults store.new) (B.is_shut store.old) (B.is_shut store.new)) }
     ensures same_shut { OnOk result (B.is_shut store.new ≡ B.is_shut store.old) }
+    ensures one_write { B.written store.new ≤ B.written store.old + 1 }
     ensures between { B.Pages store.old store.new }
 {
     match next {
@@ -93,9 +95,11 @@ pub fn advance<B: PageStore, S: Supplier, P: Policy>(
     ensures faulted { (f : AFault) → IsErrOf result (StepFault.Paging f)
         → StaysAtFault B.tells (S.word gate.now.supply) (B.words store.old) (B.words store.new) cells.old cells.new }
     ensures kept { B.kept_names store.new ≡ B.kept_names store.old }
+    ensures news { HasNews (B.kept_names store.old) (tables_in cells.old) (tables_in cells.new) }
     ensures cause { (f : AFault) → IsErrOf result (StepFault.Paging f)
         → IsCausedBy (B.free store.old) (B.faults store.old) (B.faults store.new) (B.is_shut store.old) (B.is_shut store.new) f }
     ensures same_shut { OnOk result (B.is_shut store.new ≡ B.is_shut store.old) }
+    ensures one_write { B.written store.new ≤ B.written store.old + 1 }
     ensures between { B.Pages store.old store.new }
 {
     match plan_at(cells, me) {

@@ -10,7 +10,7 @@ use itoa::Buffer;
 use stream_edge::{Sink, SinkFault};
 
 /// A length that no line exceeds, its end included.
-pub const LINE: usize = 200;
+pub const LINE: usize = 300;
 
 /// Appends a word behind a blank.
 #[tactic(auto, unfolding(crate::specs::Lines::word))]

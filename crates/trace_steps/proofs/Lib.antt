@@ -8,3 +8,6 @@ pub mod Wanting
 pub mod Marking
 pub mod Stepping
 pub mod Stabling
+pub mod Bearing
+pub mod Beginning
+pub mod Single

@@ -71,18 +71,18 @@ few_new newest versions clocks old new a =
     few : (a b c d : ℕ) → a ≡ b → b ≡ c → c ≤ d → d ≡ 64 → a ≤ 64
     few a b c d e f g h = omega arith
 
-filtered_less : (f : ℕ → Bool) (m : ℕ) (xs : List ℕ) → AllLess m xs → AllLess m (filter f xs)
+pub filtered_less : (f : ℕ → Bool) (m : ℕ) (xs : List ℕ) → AllLess m xs → AllLess m (filter f xs)
 filtered_less f m [] all = tt
 filtered_less f m (x ∷ xs) all = elim (f x) as (λ b. AllLess m (if b then x ∷ filter f xs else filter f xs)) [
   | true ↦ (all.0, filtered_less f m xs all.1)
   | false ↦ filtered_less f m xs all.1
 ]
 
-filter_same : (f g : ℕ → Bool) (m : ℕ) (xs : List ℕ) → AllLess m xs → ((x : ℕ) → x < m → f x ≡ g x) → filter f xs ≡ filter g xs
+pub filter_same : (f g : ℕ → Bool) (m : ℕ) (xs : List ℕ) → AllLess m xs → ((x : ℕ) → x < m → f x ≡ g x) → filter f xs ≡ filter g xs
 filter_same f g m [] all same = refl
 filter_same f g m (x ∷ xs) all same = λ i. if same x all.0 i then x ∷ filter_same f g m xs all.1 same i else filter_same f g m xs all.1 same i
 
-records_same : (r : Run) (versions : List ℕ) (clocks : Clocks) (xs : List ℕ) (recs : List Rec) → AllLess 64 xs → ((x : ℕ) → version_of r x ≡ slice_index versions x) → HasClocks r clocks → AreRecordsAt (slice_index versions) (clock_at clocks) xs recs
+pub records_same : (r : Run) (versions : List ℕ) (clocks : Clocks) (xs : List ℕ) (recs : List Rec) → AllLess 64 xs → ((x : ℕ) → version_of r x ≡ slice_index versions x) → HasClocks r clocks → AreRecordsAt (slice_index versions) (clock_at clocks) xs recs
     → rec_commits recs ≡ commits_of r xs
 records_same r versions clocks [] [] all same has are = refl
 records_same r versions clocks [] (rec ∷ recs) all same has are = absurd are

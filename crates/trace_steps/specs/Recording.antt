@@ -1,7 +1,8 @@
 -- Records of entities as they are.
-use Rattle.std.specs.Prelude.{◌≡◌, ℕ, Bool, List, [], ◌∷◌, ◌++◌, Option, filter, find, nat_lt, slice_index}
+use Rattle.std.specs.Prelude.{◌≡◌, ℕ, Bool, List, [], ◌∷◌, ◌++◌, Option, filter, find, nat_lt, replicate, slice_index}
 use Rattle.hop_base.specs.Edges.{upto}
 use Rattle.hop_base.specs.declared.records.Rec.{Rec}
+use Rattle.trace_parts.specs.declared.cuts.Cuts.{Cuts}
 
 -- the record is of this entity, at this version and with this clock
 pub record IsRecordAt (versions : ℕ → ℕ) (clocks : ℕ → ℕ → ℕ) (x : ℕ) (rec : Rec) : Type 0 where
@@ -33,3 +34,9 @@ pub record Appends (newest versions : List ℕ) (clocks : ℕ → ℕ → ℕ) (
   pub news : List Rec
   pub records : AreRecordsAt (slice_index versions) clocks (filter (is_changed newest versions) (upto n)) news
   pub list : new ≡ old ++ news
+
+-- the cut is at these versions, and each entity that has one is on record
+pub record Opens (versions : List ℕ) (clocks : ℕ → ℕ → ℕ) (c : Cuts) : Type 0 where
+  pub start : c.start.0 ≡ versions
+  pub cut : c.cut.0 ≡ versions
+  pub recs : Appends (replicate 64 0) versions clocks 64 [] c.recs.items

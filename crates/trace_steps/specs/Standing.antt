@@ -1,14 +1,15 @@
 -- Where a checker stands: behind a legal run, with all that the rules look at.
-use Rattle.std.specs.Prelude.{◌≡◌, ℕ, ◌<◌, ◌≤◌, ◌^◌, true, false, None, Some, List, [], ◌∷◌, ◌++◌, is_some, slice_index}
+use Rattle.std.specs.Prelude.{◌≡◌, ℕ, ◌<◌, ◌≤◌, ◌^◌, true, false, Option, None, Some, List, [], ◌∷◌, ◌++◌, is_some, slice_index}
 use Rattle.hop_base.specs.declared.histories.Entry.{Entry}
 use Rattle.hop_base.specs.declared.histories.Event.{Event}
 use Rattle.history_model.specs.Born.{AreEdges, AreOfOneKind}
-use Rattle.history_model.specs.Events.{Has}
+use Rattle.history_model.specs.Events.{Has, state_with}
 use Rattle.history_model.specs.Plains.{atlas_of, cells_of}
+use Rattle.history_model.specs.declared.plain.Plain.{Plain}
 use Rattle.hop_model.specs.Histories.{IsLegalRun, May, MayCommit, Policy, Run, births_owed, run_after, start_run}
 use Rattle.hop_model.specs.Scripts.{Script}
 use Rattle.hop_model.specs.Soundness.{IsSound}
-use Rattle.hop_model.specs.State.{KernelState, Supply}
+use Rattle.hop_model.specs.State.{KernelState, Supply, Text}
 use Rattle.hop_model.specs.Vectors.{StampsBelow}
 use Rattle.run_laws.specs.Versions.{OnlyBelow64}
 use Rattle.script_form.specs.Rules.{IsScript}
@@ -105,3 +106,12 @@ pub record OwesStable (policy : Policy) (c : Checker) (actor : ℕ) : Type 0 whe
   pub stands : Stands supply policy script start c entries
   pub owed : c.owed ≡ Some actor
   pub whole : c.short ≡ false
+
+-- the state with these cells and versions, and clocks that tell nothing
+abbrev pub fresh : Supply → Plain → List ℕ → KernelState
+fresh s p versions = state_with (cells_of s p) versions (λ _ _. 0)
+
+-- with this name left to be born, or none: then the Stable of the atlas is owed
+abbrev pub owing : Option Text → Checker → Checker
+owing None c = record c { births_left = false; owed = Some 0 }
+owing (Some name) c = record c { births_left = true; owed = None }

@@ -17,7 +17,7 @@ use std::alloc::AllocError;
 use trace_parts::{Clocks, Cuts};
 
 /// Appends the record of each entity that has changed since its newest commit, ascending. The cut stays as it was.
-fn append_changed(
+pub(crate) fn append_changed(
     cuts: &mut Cuts,
     clocks: &Clocks,
     newest: &[u64; 64],
@@ -25,6 +25,7 @@ fn append_changed(
 ) -> Result<(), AllocError>
     ensures recs { OnOk result (Appends newest.now versions.now (clock_at clocks.now) 64 cuts.old.recs.items cuts.new.recs.items) }
     ensures start { cuts.new.start ≡ cuts.old.start }
+    ensures cut { cuts.new.cut ≡ cuts.old.cut }
 {
     for x in 0..64u8 {
         if newest[x as usize] < versions[x as usize] {

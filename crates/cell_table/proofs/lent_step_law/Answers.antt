@@ -2,4 +2,4 @@ use Rattle.cell_table.proofs.Quiet.{steps_quietly}
 use Rattle.cell_table.proofs.lent_step_law.Goals as goal
 
 pub returns : goal.returns
-returns c me cs cs' old new e steps lends numbers pairs = steps_quietly me cs cs' old new e steps lends numbers pairs
+returns c me cs cs' old new e steps lends few numbers pairs = steps_quietly me cs cs' old new e steps lends numbers few pairs

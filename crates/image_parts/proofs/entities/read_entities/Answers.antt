@@ -8,7 +8,7 @@ use Rattle.part_checks.specs.Chosen.{record_in}
 use Rattle.part_checks.specs.Fits.{AreChosen}
 use Rattle.part_checks.specs.declared.chosen.ChosenEntity.{ChosenEntity}
 use Rattle.image_parts.specs.Choosing.{IsBadEntity}
-use Rattle.image_parts.proofs.Reading.{ChosenTo, IsSpeltEntity, SpeltTo, all_chosen, all_spelt, first_bad_blob, with_one}
+use Rattle.image_parts.proofs.Reading.{ChosenTo, FormedTo, IsFormedEntity, IsSpeltEntity, SpeltTo, all_chosen, all_formed, all_spelt, first_bad_blob, with_one}
 use Rattle.image_parts.proofs.Verdicts.{handed_on}
 use Rattle.image_parts.proofs.entities.read_entities.Goals as goal
 
@@ -33,6 +33,8 @@ loop-number-preserved g c =
     record {
       long = (let was = so_far.long in let b = ap length items in let e = length-append es (o ∷ []) in omega (arith, was, b, e));
       chosen = subst (λ (l : List (Option ChosenEntity)). ChosenTo recs l (n + 1)) (sym items) (with_one es o (λ x p. chosen recs x ≡ record_in p) n so_far.long so_far.chosen here);
+      formed = subst (λ (l : List (Option ChosenEntity)). FormedTo l (n + 1)) (sym items)
+          (with_one es o IsFormedEntity n so_far.long so_far.formed (subst (λ (x : ℕ). IsFormedEntity x o) c.of.ensures c.in_ok-entity.ensures.formed));
       spelt = λ t.
           let image : Image = g.D.Disk.reading c.args.disk.now in
           let read : IsSpeltEntity (g.D.Disk.reading c.loop-number.disk) c.of.result o = c.in_ok-entity.ensures.spelt t in
@@ -48,6 +50,12 @@ returns-clause-chosen g c =
     let last : c.loop-number.number ≡ 64 = (let a = c.loop-number-test.false in let b = c.loop-number.auto.number-end in omega (arith, a, b)) in
     all_chosen c.args.log.now.blocks c.args.log.now.recs.items c.loop-number.entities.items c.requires.known.in_range (so_far.long ∙ last)
     (subst (λ (n : ℕ). ChosenTo c.args.log.now.recs.items c.loop-number.entities.items n) last so_far.chosen)
+
+pub returns-clause-formed : goal.returns-clause-formed
+returns-clause-formed g c =
+    let so_far = c.loop-number.invariant in
+    let last : c.loop-number.number ≡ 64 = (let a = c.loop-number-test.false in let b = c.loop-number.auto.number-end in omega (arith, a, b)) in
+    all_formed c.loop-number.entities.items (so_far.long ∙ last) (subst (FormedTo c.loop-number.entities.items) last so_far.formed)
 
 pub returns-clause-spelt : goal.returns-clause-spelt
 returns-clause-spelt g c t =

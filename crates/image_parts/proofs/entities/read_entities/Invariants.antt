@@ -1,6 +1,6 @@
 use Rattle.std.proofs.Common.{◌≡◌, ◌≤◌, length}
 use Rattle.log_reading.specs.Reads.{ReadsOnly}
-use Rattle.image_parts.proofs.Reading.{ChosenTo, SpeltTo}
+use Rattle.image_parts.proofs.Reading.{ChosenTo, FormedTo, SpeltTo}
 use Rattle.image_parts.proofs.entities.read_entities.Given as goal
 
 abbrev pub invariant-loop-number : goal.invariant-loop-number
@@ -9,6 +9,7 @@ invariant-loop-number g l =
     record {
       long : length l.entities.items ≡ l.number;
       chosen : ChosenTo l.log.recs.items l.entities.items l.number;
+      formed : FormedTo l.entities.items l.number;
       spelt : disk.tells → SpeltTo (disk.reading l.fn.disk) l.entities.items l.number;
       later : disk.faults l.fn.disk ≤ disk.faults l.disk;
       same : ReadsOnly disk.tells disk.block_count disk.reading disk.may_leave disk.left_since disk.clock disk.faults l.fn.disk l.disk;

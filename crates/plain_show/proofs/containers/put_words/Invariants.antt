@@ -3,13 +3,13 @@ use Rattle.std.proofs.Common.{◌≤◌}
 use Rattle.std.specs.Io.KnownBytes.{Appends}
 use Rattle.std.specs.List.{flat_map}
 use Rattle.hop_base.specs.Edges.{upto}
-use Rattle.history_model.specs.Plains.{atlas_of, container_of}
+use Rattle.history_model.specs.Plains.{container_of}
 use Rattle.plain_show.specs.Show.{word_line}
 use Rattle.plain_show.proofs.containers.put_words.Given as goal
 
 abbrev pub invariant-loop-address : goal.invariant-loop-address
 invariant-loop-address g l = record {
-  put : Appends (g.W.Sink.held l.initial.sink) (g.W.Sink.held l.sink) (flat_map (word_line g.s (atlas_of l.atlas) l.entity (container_of g.s l.c)) (upto l.address));
+  put : Appends (g.W.Sink.held l.initial.sink) (g.W.Sink.held l.sink) (flat_map (word_line g.s (g.N.Names.atlas l.names) l.entity (container_of g.s l.c)) (upto l.address));
   count : g.W.Sink.faults l.initial.sink ≤ g.W.Sink.faults l.sink;
 }
 

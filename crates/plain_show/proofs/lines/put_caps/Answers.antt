@@ -3,7 +3,6 @@ use Rattle.std.proofs.Common.{◌≡◌, ℕ, ◌<◌, List, length, Option, get
 use Rattle.std.proofs.lemmas.Option.{slice_get_read}
 use Rattle.hop_base.specs.declared.capabilities.Cap.{Cap}
 use Rattle.hop_model.specs.Words.{cap_at, flat}
-use Rattle.history_model.specs.Plains.{atlas_of}
 use Rattle.stream_edge.specs.Streams.{AppendsPart}
 use Rattle.std.specs.Io.KnownBytes.{Appends}
 use Rattle.plain_show.specs.Show.{cap_line}
@@ -15,7 +14,7 @@ slot_at caps i cap within is = sym (ap flat (slice_get_read caps (length caps) i
 
 pub returns-in_err-put_cap-clause-bytes : goal.returns-in_err-put_cap-clause-bytes
 returns-in_err-put_cap-clause-bytes g c =
-    let a = atlas_of c.args.atlas.now in
+    let a = g.N.Names.atlas c.args.names.now in
     let caps = c.args.caps.now in
     let x = c.args.entity in
     let i = c.loop-slot.slot in
@@ -28,7 +27,7 @@ returns-in_err-put_cap-clause-bytes g c =
 
 pub loop-slot-preserved : goal.loop-slot-preserved
 loop-slot-preserved g c =
-    let a = atlas_of c.args.atlas.now in
+    let a = g.N.Names.atlas c.args.names.now in
     let caps = c.args.caps.now in
     let x = c.args.entity in
     let i = c.loop-slot.slot in

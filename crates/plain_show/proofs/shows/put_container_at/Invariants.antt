@@ -5,3 +5,6 @@ ghost-container_at g a = g.s
 
 abbrev pub ghost-put_container : goal.ghost-put_container
 ghost-put_container g a = g.s
+
+abbrev pub ghost-names_of : goal.ghost-names_of
+ghost-names_of g a = g.s

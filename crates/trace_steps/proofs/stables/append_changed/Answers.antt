@@ -17,7 +17,7 @@ end : (n : ℕ) → n ≤ 64 → 64 ≤ n → n ≡ 64
 end n a b = omega arith
 
 pub loop-x-init : goal.loop-x-init
-loop-x-init c = record { recs = appends_none c.args.newest.now c.args.versions.now (clock_at c.args.clocks.now) c.args.cuts.now.recs.items; start = refl }
+loop-x-init c = record { recs = appends_none c.args.newest.now c.args.versions.now (clock_at c.args.clocks.now) c.args.cuts.now.recs.items; start = refl; cut = refl }
 
 pub loop-x-preserved : goal.loop-x-preserved
 loop-x-preserved c =
@@ -31,10 +31,12 @@ loop-x-preserved c =
             (subst (λ n. IsRecordAt (slice_index vs) clocks n w.record_of.result) w.of.ensures w.record_of.ensures)
             (ap (λ (q : Cuts). q.recs.items) w.cuts-is ∙ w.in_ok-append.ensures.recs);
         start = ap (λ (q : Cuts). q.start) w.cuts-is ∙ w.append.ensures.start ∙ c.loop-x.invariant.start;
+        cut = ap (λ (q : Cuts). q.cut) w.cuts-is ∙ w.append.ensures.cut ∙ c.loop-x.invariant.cut;
       }
       | else-newest-x w ↦ record {
         recs = subst (λ (q : Cuts). Appends ns vs clocks (c.loop-x.x + 1) old q.recs.items) (sym w.cuts-is) (appends_skip ns vs clocks c.loop-x.x old c.loop-x.cuts.recs.items c.loop-x.invariant.recs (not_less _ _ w.if-newest-x.false));
         start = ap (λ (q : Cuts). q.start) w.cuts-is ∙ c.loop-x.invariant.start;
+        cut = ap (λ (q : Cuts). q.cut) w.cuts-is ∙ c.loop-x.invariant.cut;
       }
     ]
 
@@ -42,4 +44,5 @@ pub returns : goal.returns
 returns c = record {
   recs = subst (λ n. Appends c.args.newest.now c.args.versions.now (clock_at c.args.clocks.now) n c.args.cuts.now.recs.items c.loop-x.cuts.recs.items) (end c.loop-x.x c.loop-x.auto.x-end c.loop-x-test.false) c.loop-x.invariant.recs;
   start = c.loop-x.invariant.start;
+  cut = c.loop-x.invariant.cut;
 }

@@ -8,4 +8,5 @@ abbrev pub invariant-loop-x : goal.invariant-loop-x
 invariant-loop-x l = record {
   recs : Appends l.newest l.versions (clock_at l.clocks) l.x l.fn.cuts.recs.items l.cuts.recs.items;
   start : l.cuts.start ≡ l.fn.cuts.start;
+  cut : l.cuts.cut ≡ l.fn.cuts.cut;
 }

@@ -1,8 +1,13 @@
-use Rattle.snapshot_store.proofs.Opened.{empty_true, fresh_store, none_logged}
+use Rattle.snapshot_store.proofs.Opened.{over_range, over_records}
 use Rattle.snapshot_store.proofs.store.Store.open.Goals as goal
 
-pub returns-in-Ok-clause-empty : goal.returns-in-Ok-clause-empty
-returns-in-Ok-clause-empty g c t none = empty_true g.D.Disk.reading g.D.Disk.may_leave _ c.found.new.disk (c.in-Ok.ensures.log t) (none_logged _ none)
+pub returns-clause-records : goal.returns-clause-records
+returns-clause-records g c =
+    let synced = c.in_ok-synced.synced in
+    over_records g.D.Disk.tells g.D.Disk.block_count g.D.Disk.reading g.D.Disk.may_leave synced.disk synced.tally synced.log c.in_ok-synced.ensures.synced
+    (g.D.Disk.reading c.args.disk) c.in_ok-synced.ensures.syncs.same_reading c.over.result c.over.ensures.over
 
-pub returns-in-Ok-clause-fresh : goal.returns-in-Ok-clause-fresh
-returns-in-Ok-clause-fresh g c = fresh_store c.found.new.disk c.in-Ok.areas c.in-Ok.shelved.log c.in-Ok.shelved.kept c.in-Ok.shelved.cut c.in-Ok.shelved.blocks c.in-Ok.ensures.blocks c.in-Ok.ensures.areas.0
+pub returns-clause-range : goal.returns-clause-range
+returns-clause-range g c =
+    let synced = c.in_ok-synced.synced in
+    over_range (g.D.Disk.block_count synced.disk) synced.log c.in_ok-synced.ensures.synced.known c.over.result c.over.ensures.over

@@ -1,0 +1,37 @@
+//! Who acts in a legal run, and what happens to names. The functions do nothing: the contract of each is a law.
+#![tactic(auto)]
+
+ghost use Rattle.std.specs.Prelude.{◌≡◌, IsTrue, ℕ, List, Some};
+ghost use Rattle.hop_base.specs.declared.histories.Entry.{Entry};
+ghost use Rattle.hop_base.specs.declared.histories.Event.TheVariants.{Birth};
+ghost use Rattle.hop_model.specs.State.{Supply, KernelState};
+ghost use Rattle.hop_model.specs.Histories.{Policy, IsLegalRun, May, goes_on, run_after, start_run};
+ghost use Rattle.hop_model.specs.Scripts.{Script};
+ghost use Rattle.hop_model.specs.Soundness.{IsSound, is_born};
+ghost use Rattle.hop_model.specs.Steps.{atlas_in, step};
+ghost use Rattle.history_model.specs.Lists.{KeepsNames};
+ghost use Rattle.script_form.specs.Rules.{IsScript};
+ghost use Rattle.sound_runs.specs.Kinds.{NamesNoLocus};
+
+/// A step takes no name from the atlas and gives none to another number.
+pub fn kept_names_law()
+    ensures { (s : Supply) (l : ℕ) (w : KernelState) (r : Entry × KernelState)
+        → IsSound (λ x. (w x).cell) → step s l w ≡ Some r → KeepsNames (atlas_in (w 0).cell) (atlas_in (r.1 0).cell) }
+{}
+
+/// In a legal run from a sound state each entry that may follow, a birth aside, is of an entity that is born, and leaves each
+/// name with its number. A newborn is born behind its birth.
+pub fn born_actor_law()
+    ensures born { (s : Supply) (policy : Policy) (script : Script) (w : KernelState) (es : List Entry) (e : Entry)
+        → IsScript script → NamesNoLocus script w → IsSound (λ x. (w x).cell) → IsLegalRun s policy w script es
+        → May s policy script (run_after s script (start_run w) es) e → (e.event ≡ Birth → ⊥)
+        → IsTrue (is_born (atlas_in ((run_after s script (start_run w) es).state 0).cell) e.actor) }
+    ensures names { (s : Supply) (policy : Policy) (script : Script) (w : KernelState) (es : List Entry) (e : Entry)
+        → IsScript script → NamesNoLocus script w → IsSound (λ x. (w x).cell) → IsLegalRun s policy w script es
+        → May s policy script (run_after s script (start_run w) es) e → (e.event ≡ Birth → ⊥)
+        → KeepsNames (atlas_in ((run_after s script (start_run w) es).state 0).cell)
+        (atlas_in ((goes_on s script (run_after s script (start_run w) es) e).state 0).cell) }
+    ensures newborn { (s : Supply) (policy : Policy) (script : Script) (w : KernelState) (es : List Entry) (e : Entry)
+        → IsScript script → May s policy script (run_after s script (start_run w) es) e → e.event ≡ Birth
+        → IsTrue (is_born (atlas_in ((goes_on s script (run_after s script (start_run w) es) e).state 0).cell) e.actor) }
+{}

@@ -1,0 +1,2 @@
+pub mod Committable
+pub mod Keeping

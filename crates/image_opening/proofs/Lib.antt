@@ -1,0 +1,9 @@
+pub mod Choices
+pub mod Moments
+pub mod Rows
+pub mod Naming
+pub mod Stored
+pub mod Owned
+pub mod Clauses
+pub mod Starting
+pub mod Newest

@@ -1,0 +1,107 @@
+use Rattle.std.proofs.Common.{◌≡◌, ◌⊎◌, inl, inr, ⊎_elim, sym, subst}
+use Rattle.std.specs.Prelude.{IfOk}
+use Rattle.disk_tally.specs.Counts.{Begins, shown}
+use Rattle.disk_trait.specs.Disk.{Only}
+use Rattle.disk_trait.specs.Image.{Image}
+use Rattle.disk_trait.specs.Moments.{LeavesOnly}
+use Rattle.disk_trait.proofs.Phases.{LeavesOnly-now, LeavesOnly-weaker, told}
+use Rattle.image_parts.specs.Parts.{IsAcceptedWith}
+use Rattle.part_checks.specs.Chosen.{parts_of}
+use Rattle.snapshot_store.specs.State.{books}
+use Rattle.snapshot_store.specs.declared.opening.OpenWhy.TheVariants as why
+use Rattle.image_opening.specs.Images.{HasImageCause, HasKeepCause, HasTurnLeft, HoldsImage, MeansSame, MeansSince, StopsShort}
+use Rattle.image_opening.proofs.Clauses.{begins_behind, both, err_weaker, keep_cause, keep_not_foreign, match_weaker, ok_weaker, open_not_foreign, settled, since_sync}
+use Rattle.image_opening.proofs.keeping.keep_image.Goals as goal
+
+pub kept-requires-clause-accepted : goal.kept-requires-clause-accepted
+kept-requires-clause-accepted g c t =
+    subst (λ (i : Image). IsAcceptedWith i c.in-Ok.read.synced.log.recs.items (parts_of c.in-Ok.read.parts.entities.items)) (sym (c.in-Ok.ensures.syncs.same_reading t)) (c.in-Ok.ensures.accepted t)
+
+pub returns-in-Ok-clause-holds : goal.returns-in-Ok-clause-holds
+returns-in-Ok-clause-holds g c t =
+    subst (λ (i : Image). IfOk c.kept.result (λ o. HoldsImage g.D.Disk.reading g.D.Disk.may_leave i o.0 o.1)) (c.in-Ok.ensures.syncs.same_reading t) (c.kept.ensures.holds t)
+
+pub returns-in-Ok-clause-cause : goal.returns-in-Ok-clause-cause
+returns-in-Ok-clause-cause g c =
+    err_weaker c.kept.result
+    (λ fault. HasKeepCause (g.D.Disk.faults c.in-Ok.read.synced.disk) (g.D.Disk.faults fault.disk) fault.why)
+    (λ fault. HasImageCause g.D.Disk.tells (g.D.Disk.reading c.args.disk) (g.D.Disk.faults c.args.disk) (g.D.Disk.faults fault.disk) fault.why)
+    (λ fault. keep_cause g.D.Disk.tells (g.D.Disk.reading c.args.disk) (g.D.Disk.faults c.args.disk) (g.D.Disk.faults c.in-Ok.read.synced.disk) (g.D.Disk.faults fault.disk) fault.why c.in-Ok.ensures.syncs.later)
+    c.kept.ensures.cause
+
+pub returns-in-Ok-clause-not_foreign : goal.returns-in-Ok-clause-not_foreign
+returns-in-Ok-clause-not_foreign g c t accepted =
+    err_weaker c.kept.result
+    (λ fault. HasKeepCause (g.D.Disk.faults c.in-Ok.read.synced.disk) (g.D.Disk.faults fault.disk) fault.why)
+    (λ fault. (bad : _) → fault.why ≡ why.Foreign bad → ⊥)
+    (λ fault cause bad. keep_not_foreign (g.D.Disk.faults c.in-Ok.read.synced.disk) (g.D.Disk.faults fault.disk) fault.why bad cause)
+    c.kept.ensures.cause
+
+pub returns-in-Err-clause-not_foreign : goal.returns-in-Err-clause-not_foreign
+returns-in-Err-clause-not_foreign g c t accepted bad =
+    open_not_foreign g.D.Disk.tells (g.D.Disk.reading c.args.disk) (g.D.Disk.faults c.args.disk) (g.D.Disk.faults c.in-Err.fault.disk) c.in-Err.fault.why bad t accepted c.in-Err.ensures.cause
+
+pub returns-in-Ok-clause-since : goal.returns-in-Ok-clause-since
+returns-in-Ok-clause-since g c t room =
+    let disk = g.met.D.Disk in
+    let old = c.args.disk in
+    let mid = c.in-Ok.read.synced.disk in
+    let same = c.in-Ok.ensures.syncs.same_reading t in
+    let ticks = c.in-Ok.ensures.syncs.one in
+    match_weaker c.kept.result
+    (λ o. LeavesOnly g.D.Disk.clock g.D.Disk.left_since mid o.0.disk (MeansSame (g.D.Disk.reading mid)))
+    (λ o. MeansSince g.D.Disk.reading g.D.Disk.left_since g.D.Disk.clock old o.0.disk)
+    (λ fault. LeavesOnly g.D.Disk.clock g.D.Disk.left_since mid fault.disk (MeansSame (g.D.Disk.reading mid)))
+    (λ fault. StopsShort g.D.Disk.may_leave g.D.Disk.clock fault.why old fault.disk ⊎ MeansSince g.D.Disk.reading g.D.Disk.left_since g.D.Disk.clock old fault.disk)
+    (λ o. since_sync (told t disk.counts_now disk.only_now) (λ d s u image le left. disk.counts_later d s u image t le left) g.D.Disk.reading old mid o.0.disk same ticks)
+    (λ fault leaves. inr (since_sync (told t disk.counts_now disk.only_now) (λ d s u image le left. disk.counts_later d s u image t le left) g.D.Disk.reading old mid fault.disk same ticks leaves))
+    (c.kept.ensures.moments t (subst HasTurnLeft (sym same) room))
+
+pub returns-in-Err-clause-since : goal.returns-in-Err-clause-since
+returns-in-Err-clause-since g c t room =
+    let disk = g.met.D.Disk in
+    let laws = told t disk.counts_now disk.only_now in
+    let old = c.args.disk in
+    let new = c.in-Err.fault.disk in
+    let syncs = c.in-Err.ensures.syncs in
+    ⊎_elim
+    (λ (failed : c.in-Err.fault.why ≡ why.WriteFault). inl (record { fault = failed; one = syncs.one; no_more = λ image may. LeavesOnly-now laws (syncs.moments t) image may }))
+    (λ (stable : Only (g.D.Disk.reading new) (g.D.Disk.may_leave new)).
+    inr (since_sync laws (λ d s u image le left. disk.counts_later d s u image t le left) g.D.Disk.reading old new new (syncs.same_reading t) syncs.one
+    (settled laws (λ d s u image le left. disk.counts_later d s u image t le left) g.D.Disk.reading new stable)))
+    (c.in-Err.ensures.stable t)
+
+pub returns-in-Ok-clause-any_moment : goal.returns-in-Ok-clause-any_moment
+returns-in-Ok-clause-any_moment g c t room =
+    let disk = g.met.D.Disk in
+    let laws = told t disk.counts_now disk.only_now in
+    let old = c.args.disk in
+    let mid = c.in-Ok.read.synced.disk in
+    let syncs = c.in-Ok.ensures.syncs in
+    let same = syncs.same_reading t in
+    match_weaker c.kept.result
+    (λ o. LeavesOnly g.D.Disk.clock g.D.Disk.left_since mid o.0.disk (MeansSame (g.D.Disk.reading mid)))
+    (λ o. LeavesOnly g.D.Disk.clock g.D.Disk.left_since old o.0.disk (λ i. g.D.Disk.may_leave old i ⊎ MeansSame (g.D.Disk.reading old) i))
+    (λ fault. LeavesOnly g.D.Disk.clock g.D.Disk.left_since mid fault.disk (MeansSame (g.D.Disk.reading mid)))
+    (λ fault. LeavesOnly g.D.Disk.clock g.D.Disk.left_since old fault.disk (λ i. g.D.Disk.may_leave old i ⊎ MeansSame (g.D.Disk.reading old) i))
+    (λ o leaves. both laws (λ d s u image le left. disk.counts_later d s u image t le left) (g.D.Disk.may_leave old) (MeansSame (g.D.Disk.reading old)) old mid o.0.disk (syncs.moments t)
+    (subst (λ (i : Image). LeavesOnly g.D.Disk.clock g.D.Disk.left_since mid o.0.disk (MeansSame i)) same leaves))
+    (λ fault leaves. both laws (λ d s u image le left. disk.counts_later d s u image t le left) (g.D.Disk.may_leave old) (MeansSame (g.D.Disk.reading old)) old mid fault.disk (syncs.moments t)
+    (subst (λ (i : Image). LeavesOnly g.D.Disk.clock g.D.Disk.left_since mid fault.disk (MeansSame i)) same leaves))
+    (c.kept.ensures.moments t (subst HasTurnLeft (sym same) room))
+
+pub returns-in-Err-clause-any_moment : goal.returns-in-Err-clause-any_moment
+returns-in-Err-clause-any_moment g c t room =
+    let disk = g.met.D.Disk in
+    let old = c.args.disk in
+    LeavesOnly-weaker (told t disk.counts_now disk.only_now) (λ i. g.D.Disk.may_leave old i ⊎ MeansSame (g.D.Disk.reading old) i) (λ i could. inl could) (c.in-Err.ensures.syncs.moments t)
+
+pub returns-in-Ok-clause-begins : goal.returns-in-Ok-clause-begins
+returns-in-Ok-clause-begins g c =
+    let old = c.args.disk in
+    let mid = c.in-Ok.read.synced.disk in
+    ok_weaker c.kept.result
+    (λ o. Begins 137 (shown g.D.Disk.block_count g.D.Disk.clock g.D.Disk.faults mid 1) (shown g.D.Disk.block_count g.D.Disk.clock g.D.Disk.faults o.0.disk (books o.0).begun))
+    (λ o. Begins 138 (shown g.D.Disk.block_count g.D.Disk.clock g.D.Disk.faults old 0) (shown g.D.Disk.block_count g.D.Disk.clock g.D.Disk.faults o.0.disk (books o.0).begun))
+    (λ o. begins_behind g.D.Disk.tells g.D.Disk.block_count g.D.Disk.reading g.D.Disk.may_leave g.D.Disk.left_since g.D.Disk.clock g.D.Disk.faults old mid o.0.disk (books o.0).begun c.in-Ok.ensures.syncs)
+    c.kept.ensures.begins

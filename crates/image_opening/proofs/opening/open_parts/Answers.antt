@@ -1,0 +1,42 @@
+use Rattle.std.proofs.Common.{◌⊎◌, inr, List, sym, subst}
+use Rattle.disk_trait.specs.Image.{Image}
+use Rattle.disk_trait.specs.Moments.{LeavesOnly}
+use Rattle.snapshot_store.specs.State.{State, books}
+use Rattle.kernel_cells.specs.declared.cells.Cell.{Cell}
+use Rattle.image_opening.specs.Images.{IsOpened, MeansSame, MeansSince}
+use Rattle.image_opening.proofs.Newest.{newest_in_books}
+use Rattle.image_opening.proofs.Starting.{starts}
+use Rattle.image_opening.proofs.opening.open_parts.Goals as goal
+
+pub returns-in-Ok-cells_of-clause-table : goal.returns-in-Ok-cells_of-clause-table
+returns-in-Ok-cells_of-clause-table g c =
+    let st : State g.row.D.Denot = c.in-Ok.kept.0 in
+    let o : IsOpened st c.in-Ok.kept.1 = c.in-Ok.ensures.opened in
+    record {
+      parts = c.in-Ok.kept.1;
+      opened = o;
+      orderly = c.in-Ok-cells_of.ensures.orderly o.log.blocks o.log (books st).held o.known o.parts_are o.held;
+      newest = newest_in_books c.args.frames c.args.steps st c.in-Ok.kept.1 c.in-Ok-cells_of.cells.items o c.in-Ok-cells_of.ensures.chosen;
+      frames_are = c.in-Ok-cells_of.ensures.frames;
+      wishes = c.in-Ok-cells_of.ensures.wishes;
+      clean = c.in-Ok-cells_of.ensures.clean;
+    }
+
+pub returns-in-Ok-cells_of-clause-starts : goal.returns-in-Ok-cells_of-clause-starts
+returns-in-Ok-cells_of-clause-starts g c t =
+    let st : State g.row.D.Denot = c.in-Ok.kept.0 in
+    let parts = c.in-Ok.kept.1 in
+    let cs : List Cell = c.in-Ok-cells_of.cells.items in
+    let o : IsOpened st parts = c.in-Ok.ensures.opened in
+    starts g.D.Disk.tells g.D.Disk.block_count g.D.Disk.clock g.D.Disk.faults g.D.Disk.reading g.D.Disk.may_leave g.D.Disk.left_since t c.args.disk st parts c.args.steps cs o (c.in-Ok.ensures.holds t)
+    (c.in-Ok-cells_of.ensures.orderly o.log.blocks o.log (books st).held o.known o.parts_are o.held) c.in-Ok-cells_of.ensures.tables c.in-Ok-cells_of.ensures.wishes c.in-Ok-cells_of.ensures.state
+    (c.in-Ok.ensures.since t) c.in-Ok.ensures.begins
+
+pub returns-in-Err-cells_of-clause-since : goal.returns-in-Err-cells_of-clause-since
+returns-in-Err-cells_of-clause-since g c t room =
+    inr (subst (λ (d : g.row.D.Denot). MeansSince g.D.Disk.reading g.D.Disk.left_since g.D.Disk.clock c.args.disk d) (sym c.into_disk.ensures) (c.in-Ok.ensures.since t room))
+
+pub returns-in-Err-cells_of-clause-any_moment : goal.returns-in-Err-cells_of-clause-any_moment
+returns-in-Err-cells_of-clause-any_moment g c t room =
+    let old = c.args.disk in
+    subst (λ (d : g.row.D.Denot). LeavesOnly g.D.Disk.clock g.D.Disk.left_since old d (λ (i : Image). g.D.Disk.may_leave old i ⊎ MeansSame (g.D.Disk.reading old) i)) (sym c.into_disk.ensures) (c.in-Ok.ensures.any_moment t room)

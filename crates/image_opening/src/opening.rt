@@ -1,0 +1,57 @@
+// An image opened for a kernel: its store, and its cells.
+ghost use Rattle.std.specs.Prelude.{◌≡◌, ◌⊎◌, ◌≤◌, ◌<◌, IfOk, IfErr, MatchResult};
+ghost use Rattle.disk_tally.specs.Counts.{Begins, shown};
+ghost use Rattle.disk_trait.specs.Moments.{LeavesOnly};
+ghost use Rattle.image_blocks.specs.Checks.{Bad as BadPlace};
+ghost use Rattle.image_meaning.specs.Meaning.{Accepted};
+ghost use Rattle.snapshot_store.specs.State.{books};
+ghost use Rattle.store_model.specs.Books.{AreTrue};
+ghost use Rattle.image_opening.specs.Images.{HasImageCause, HasTurnLeft, IsOpenedTable, MeansSame, MeansSince, StartsFrom, StopsShort};
+
+use crate::keeping::keep_image;
+use disk_trait::Disk;
+use kernel_cells::Cell;
+use opened_cells::cells_of;
+use snapshot_store::{OpenFault, OpenWhy, Store};
+use std::alloc::Global;
+
+/// Opens the image that a disk holds for a kernel: a store that keeps the chosen records alone (`keep_image`), and the 64 cells as these
+/// records tell them, with so many frames for each container, from 1 to 256, and so many steps for each locus. With both a kernel
+/// stands at the start of each run that begins with what the image means. Behind `keep_image` no disk is touched; the cells take 40
+/// KiB for a frame of each, and some 300 KiB besides.
+pub fn open_parts<D: Disk>(
+    alloc: Global,
+    disk: D,
+    frames: u16,
+    steps: u32,
+) -> Result<(Store<D>, Vec<Cell>), OpenFault<D>>
+    requires some { 0 < frames }
+    requires few { frames ≤ 256 }
+    ensures table { IfOk result (λ o. IsOpenedTable frames steps o.0 o.1.items) }
+    ensures starts { D.tells → IfOk result (λ o. StartsFrom D.tells D.clock D.reading D.may_leave D.left_since steps disk o.0 o.1.items) }
+    ensures true_books { D.tells → IfOk result (λ o. AreTrue D.reading D.may_leave (books o.0) o.0.disk) }
+    ensures cause { IfErr result (λ fault. HasImageCause D.tells (D.reading disk) (D.faults disk) (D.faults fault.disk) fault.why) }
+    ensures not_foreign { D.tells → Accepted (D.reading disk) → IfErr result (λ fault. (bad : BadPlace) → fault.why ≡ OpenWhy.Foreign bad → ⊥) }
+    // From the end of the sync on each image that a stop leaves means what was meant before; only where the sync failed nothing is said.
+    ensures since { D.tells → HasTurnLeft (D.reading disk) → MatchResult result
+        (λ o. MeansSince D.reading D.left_since D.clock disk o.0.disk)
+        (λ fault. StopsShort D.may_leave D.clock fault.why disk fault.disk ⊎ MeansSince D.reading D.left_since D.clock disk fault.disk) }
+    // And until then each that it leaves could be left before.
+    ensures any_moment { D.tells → HasTurnLeft (D.reading disk) → MatchResult result
+        (λ o. LeavesOnly D.clock D.left_since disk o.0.disk (λ c. D.may_leave disk c ⊎ MeansSame (D.reading disk) c))
+        (λ fault. LeavesOnly D.clock D.left_since disk fault.disk (λ c. D.may_leave disk c ⊎ MeansSame (D.reading disk) c)) }
+    ensures begins { IfOk result (λ o. Begins 138 (shown D.block_count D.clock D.faults disk 0) (shown D.block_count D.clock D.faults o.0.disk (books o.0).begun)) }
+    ensures count { IfErr result (λ fault. D.block_count fault.disk ≡ D.block_count disk) }
+{
+    let (store, parts) = match keep_image(alloc, disk) {
+        Ok(kept) => kept,
+        Err(fault) => return Err(fault),
+    };
+    match cells_of(alloc, parts, frames, steps) {
+        Ok(cells) => Ok((store, cells)),
+        Err(_) => Err(OpenFault {
+            why: OpenWhy::Memory,
+            disk: store.into_disk(),
+        }),
+    }
+}

@@ -1,0 +1,5 @@
+pub mod Aside
+pub mod Keeping
+pub mod Listing
+pub mod Making
+pub mod Reading

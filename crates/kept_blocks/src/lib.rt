@@ -1,0 +1,24 @@
+//! Which blocks a store holds that went on with the chosen records of an image: exactly those of the pages of the chosen containers. The
+//! function does nothing: its contract is the law.
+#![tactic(auto)]
+
+ghost use Rattle.std.specs.Prelude.{◌≡◌, List};
+ghost use Rattle.image_parts.specs.Parts.{ArePartsOf};
+ghost use Rattle.image_parts.specs.Tables.{AreTablesOf};
+ghost use Rattle.image_parts.specs.declared.parts.ImageParts.{ImageParts as Parts};
+ghost use Rattle.log_reading.specs.declared.log.ImageLog.{ImageLog as Log};
+ghost use Rattle.opened_cells.specs.Held.{HoldsNamed};
+ghost use Rattle.page_shadow.specs.declared.ShadowTable.{ShadowTable};
+ghost use Rattle.part_checks.specs.Chosen.{parts_of};
+ghost use Rattle.snapshot_store.specs.Choosing.{HasKept};
+ghost use Rattle.snapshot_store.specs.Opening.{IsFresh};
+ghost use Rattle.snapshot_store.specs.State.{IsWhole, State, books};
+ghost use Rattle.store_model.specs.Books.{recs_in};
+
+use disk_trait::Disk;
+
+/// A store that was opened, and kept the chosen records with the tables of their parts, holds exactly the blocks of the parts' pages.
+pub fn kept_blocks_law<D: Disk>()
+    ensures { (old new : State D) (log : Log) (parts : Parts) (tables : List ShadowTable) → IsWhole D.block_count old → IsFresh old → log.recs.items ≡ recs_in (books old) → ArePartsOf log parts
+        → AreTablesOf parts.entities.items tables → HasKept tables old new → HoldsNamed ((books new).held) (parts_of parts.entities.items) }
+{}

@@ -1,0 +1,102 @@
+-- What a public Snap leaves of a kernel, whatever came of it.
+use Rattle.std.proofs.Common.{◌≡◌, inl, ℕ, Bool, true, false, not, ◌&&◌, if◌then◌else◌, List, [], ◌∷◌, ◌++◌, Option, None, Ok, Err, refl, sym, ap, subst, ◌∙◌}
+use Rattle.std.specs.Prelude.{OnOk, Result}
+use Rattle.std.specs.Result.{result_err}
+use Rattle.std.proofs.lemmas.List.{append-nil}
+use Rattle.disk_trait.specs.Image.{Image}
+use Rattle.disk_trait.specs.declared.disk.NoBlocks.{NoBlocks as TooFewBlocks}
+use Rattle.hop_base.specs.declared.histories.Entry.{Entry}
+use Rattle.hop_base.specs.declared.histories.Event.TheVariants.{Snap}
+use Rattle.hop_model.specs.Histories.{Policy, Run, births_owed, goes_on, has_wish, is_due, is_full, mark, version_of}
+use Rattle.run_laws.proofs.Wishes.{due_stays}
+use Rattle.cell_table.specs.Tables.{IsOrderly}
+use Rattle.snapshot_store.specs.State.{books}
+use Rattle.kernel_model.specs.Beginnings.{Beginning, run_of}
+use Rattle.kernel_model.specs.Live.{IsCalm}
+use Rattle.kernel_views.proofs.Legal.{run_next}
+use Rattle.kernel_core.specs.Kernels.{IsKept, Lives}
+use Rattle.kernel_core.specs.Parts.{Parts}
+use Rattle.kernel_core.specs.Recording.{HasTried}
+use Rattle.kernel_core.specs.Snapping.{RunsFree, SnapsOne, wants_in}
+use Rattle.kernel_core.specs.Steady.{IsSteady}
+use Rattle.kernel_core.specs.declared.stopping.Stopped.{Stopped}
+use Rattle.kernel_core.specs.declared.stopping.Stopped.TheVariants.{Failed, TooFew}
+use Rattle.kernel_core.proofs.Stops.{tried_orderly}
+
+module _ {D : Type 0} (tells : Type 0) (clock faults : D → ℕ) (reading : D → Image) (may_leave : D → Image → Type 0) (left_since : D → ℕ → Image → Type 0)
+    (x : ℕ) (old new : Parts D) (k : IsSteady tells reading may_leave old) where
+  orderly_after : (r : Result Bool Stopped) → OnOk r (IsSteady tells reading may_leave new) → (r ≡ Err Failed → HasTried tells clock faults reading may_leave left_since x old new)
+      → ((n : TooFewBlocks) → r ≡ Err (TooFew n) → new ≡ old) → IsOrderly (books new.store).held new.cells
+  orderly_after (Ok b) steady tried same = steady.sound.matches.orderly
+  orderly_after (Err (TooFew n)) steady tried same = subst (λ (p : Parts D). IsOrderly (books p.store).held p.cells) (sym (same n refl)) k.sound.matches.orderly
+  orderly_after (Err Failed) steady tried same = tried_orderly tells clock faults reading may_leave left_since x old new k.sound.matches.orderly (tried refl)
+
+  steady_after : (r : Result Bool Stopped) → OnOk r (IsSteady tells reading may_leave new) → result_err r ≡ None → IsSteady tells reading may_leave new
+  steady_after (Ok b) steady none = steady
+  steady_after (Err why) steady none = absurd (cc none)
+
+  pub kept_after : (r : Result Bool Stopped) → OnOk r (IsSteady tells reading may_leave new) → (r ≡ Err Failed → HasTried tells clock faults reading may_leave left_since x old new)
+      → ((n : TooFewBlocks) → r ≡ Err (TooFew n) → new ≡ old) → (o : Option Stopped) → o ≡ result_err r → IsKept tells reading may_leave (record { parts = new; stop = o })
+  kept_after r steady tried same o is = record { orderly = orderly_after r steady tried same; steady = λ none. steady_after r steady (sym is ∙ none) }
+
+  -- IN A RUN
+
+  abbrev IsLiving : Beginning → Parts D → Option Stopped → Type 0
+  IsLiving b p o = Lives tells clock faults reading may_leave left_since b (record { parts = p; stop = o })
+
+  pub runs_free : (b : Beginning) (policy : Policy) → b.policy ≡ policy → IsLiving b old None → RunsFree tells clock faults reading may_leave left_since b policy old
+  runs_free b policy same lives =
+      let calm = lives.live.calm refl in
+      record {
+        same_policy = same;
+        stands = record { runs = lives.live.running; orderly = k.sound.matches.orderly; clean = lives.clean refl };
+        owes_nothing = calm.nothing_owed;
+        untried = calm.not_tried;
+      }
+
+  first : (a b : Bool) → (a && b) ≡ true → a ≡ true
+  first true b is = refl
+  first false b is = is
+
+  second : (a b : Bool) → (a && b) ≡ true → b ≡ true
+  second true b is = is
+  second false b is = absurd (cc is)
+
+  module _ (b : Beginning) (calm : IsCalm b old.noted.entries) where
+    abbrev r0 : Run
+    r0 = run_of b old.noted.entries
+
+    abbrev e : Entry
+    e = mark Snap x (version_of r0 x)
+
+    calm_next : wants_in b.policy r0 x ≡ true → IsCalm b (old.noted.entries ++ e ∷ [])
+    calm_next is = record {
+      births_made = ap (births_owed b.script) next ∙ calm.births_made;
+      nothing_owed = ap (λ (q : Run). q.owed) next ∙ calm.nothing_owed;
+      not_tried = ap (λ (q : Run). q.tried) next ∙ calm.not_tried;
+      nothing_due = λ y. ap (λ (q : Run). is_due b.policy q y) next
+          ∙ due_stays b.supply b.policy b.script r0 e y
+          (calm.not_tried, (refl, inl (first (has_wish b.policy r0 x) (not (is_full r0 x)) is, second (has_wish b.policy r0 x) (not (is_full r0 x)) is, calm.nothing_owed)))
+          refl (calm.nothing_due y);
+    }
+      where
+        next : run_of b (old.noted.entries ++ e ∷ []) ≡ goes_on b.supply b.script r0 e
+        next = run_next b old.noted.entries e
+
+    abbrev pub snap_by : Bool → List Entry
+    snap_by t = if t then e ∷ [] else []
+
+    pub calm_after : (t : Bool) → wants_in b.policy r0 x ≡ t → (es : List Entry) → es ≡ old.noted.entries ++ snap_by t → IsCalm b es
+    calm_after true is es entries = subst (IsCalm b) (sym entries) (calm_next is)
+    calm_after false is es entries = subst (IsCalm b) (sym (entries ∙ append-nil old.noted.entries)) calm
+
+  pub lives_after : (b : Beginning) (policy : Policy) → b.policy ≡ policy → IsLiving b old None → (r : Result Bool Stopped) → SnapsOne tells clock faults reading may_leave left_since b policy x r old new
+      → (o : Option Stopped) → o ≡ result_err r → IsLiving b new o
+  lives_after b policy same lives (Err why) s o is = subst (IsLiving b new) (sym is) (record { live = s.lives; clean = λ none. absurd (cc none) })
+  lives_after b policy same lives (Ok t) s o is = subst (IsLiving b new) (sym is) (record {
+    live = record { running = s.runs.stands.runs; calm = λ _. calm_after b (lives.live.calm refl) (wants_in b.policy (run_of b old.noted.entries) x) refl new.noted.entries entries };
+    clean = λ _. s.runs.stands.clean;
+  })
+    where
+      entries : new.noted.entries ≡ old.noted.entries ++ snap_by b (lives.live.calm refl) (wants_in b.policy (run_of b old.noted.entries) x)
+      entries = s.entries ∙ ap (λ (q : Policy). old.noted.entries ++ Rattle.serial_runs.specs.Serial.wished_snap q (run_of b old.noted.entries) x) (sym same)

@@ -1,0 +1,152 @@
+-- One look at a locus takes a run on: nothing where it can't step; its step with the Snaps that are wished behind it, or with the Stable that it owes.
+use Rattle.std.proofs.Common.{◌≡◌, ℕ, Bool, true, false, ◌&&◌, if◌then◌else◌, List, [], ◌∷◌, ◌++◌, Option, Some, None, Ok, Err, refl, sym, ap, subst, ◌∙◌}
+use Rattle.std.specs.Prelude.{OnOk, Result, ⊤}
+use Rattle.std.proofs.lemmas.List.{append-nil}
+use Rattle.disk_trait.specs.Image.{Image}
+use Rattle.hop_base.specs.declared.histories.Answer.TheVariants.{Reply as Replied}
+use Rattle.hop_base.specs.declared.histories.Entry.{Entry}
+use Rattle.hop_base.specs.declared.instructions.Reply.TheVariants.{Ok as AnsweredOk}
+use Rattle.hop_base.specs.declared.histories.Event.TheVariants.{Stable}
+use Rattle.hop_model.specs.Histories.{Policy, Run, births_owed, is_due, locus_in, mark, owed_by, start_run}
+use Rattle.hop_model.specs.Serial.{can_step}
+use Rattle.hop_model.specs.State.{KernelState, Supply}
+use Rattle.sound_runs.proofs.Naming.{births_over}
+use Rattle.cell_table.specs.Tables.{state_in}
+use Rattle.record_laws.specs.Cells.{words_on}
+use Rattle.snapshot_store.specs.State.{books}
+use Rattle.kernel_views.specs.Views.{FollowsRun}
+use Rattle.kernel_views.proofs.Following.{cells_follow}
+use Rattle.kernel_views.proofs.Legal.{run_next}
+use Rattle.kernel_model.specs.Beginnings.{Beginning, IsLegal, run_of}
+use Rattle.kernel_model.specs.Live.{IsCalm}
+use Rattle.serial_runs.specs.Serial.{IsBehind, IsCalm as IsQuiet, look, wished_snaps, written_in}
+use Rattle.serial_turns.proofs.Looks.{look_behind, look_idle}
+use Rattle.kernel_core.specs.Parts.{LivesAs, Parts, StandsAs, stop_of}
+use Rattle.kernel_core.specs.Looking.{LooksInRun}
+use Rattle.kernel_core.specs.Snapping.{RunsFree, SnapsAll}
+use Rattle.kernel_core.specs.Stabilising.{HasStabilised, OwesStable, Stabilises}
+use Rattle.kernel_core.specs.Stepping.{HasStepped, StepsInRun, is_ok}
+use Rattle.kernel_core.specs.declared.stopping.Stopped.{Stopped}
+use Rattle.kernel_core.proofs.StableOwed.{owed_next, owes_by}
+
+abbrev pub true_result : Bool → Result Bool Stopped
+true_result t = Ok t
+
+abbrev pub err_result : Stopped → Result Bool Stopped
+err_result why = Err why
+
+module _ {D : Type 0} (tells : Type 0) (clock faults : D → ℕ) (reading : D → Image) (may_leave : D → Image → Type 0) (left_since : D → ℕ → Image → Type 0)
+    (b : Beginning) (policy : Policy) (same : b.policy ≡ policy) (me : ℕ) (old : Parts D)
+    (stands : StandsAs tells clock faults reading may_leave left_since b old) (calm : IsCalm b old.noted.entries) where
+  abbrev looked : List Entry
+  looked = look b.supply policy b.script (run_of b old.noted.entries) me
+
+  -- births stay made
+  born : (new : Parts D) → StandsAs tells clock faults reading may_leave left_since b new → new.noted.entries ≡ old.noted.entries ++ looked → births_owed b.script (run_of b new.noted.entries) ≡ false
+  born new on is = subst (λ (es : List Entry). births_owed b.script (run_of b es) ≡ false) (sym is)
+      (births_over b.supply b.policy b.script stands.runs.begins.script b.state old.noted.entries looked stands.runs.begins.names stands.runs.begins.sound.sound
+      (subst (IsLegal b) is on.runs.legal) calm.births_made)
+
+  -- WHERE IT IS IDLE
+  pub look_still : can_step b.script (run_of b old.noted.entries) me ≡ false → {T : Type 0} → (r : Result T Stopped) → (y : T) → r ≡ Ok y → LooksInRun tells clock faults reading may_leave left_since b policy me r old old
+  look_still idle r y ok = subst (λ q. LooksInRun tells clock faults reading may_leave left_since b policy me q old old) (sym ok) (record {
+    stands = stands;
+    calm = calm;
+    entries = sym (ap (λ es. old.noted.entries ++ es) (look_idle b.supply policy b.script (run_of b old.noted.entries) me idle) ∙ append-nil old.noted.entries);
+    lives = tt;
+  })
+
+  -- BEHIND ITS STEP
+  module _ (mid : Parts D) (e : Entry) (h : HasStepped tells clock faults reading may_leave left_since me old mid e) (k : StepsInRun tells clock faults reading may_leave left_since b me e old mid) where
+    owed_of : (o : Option ℕ) → (run_of b mid.noted.entries).owed ≡ o → (run_of b (old.noted.entries ++ e ∷ [])).owed ≡ o
+    owed_of o is = ap (λ (es : List Entry). (run_of b es).owed) (sym h.entries) ∙ is
+
+    -- what it owes, where the locus's next instruction was a stabilise or not
+    abbrev words : ℕ → List ℕ
+    words = words_on (reading old.store.disk)
+
+    follow : FollowsRun b words old.cells old.noted.entries
+    follow = cells_follow b old.noted.entries (reading old.store.disk) old.cells stands.orderly.numbers (books old.store) old.noted.marks None stands.runs.follows
+
+    pub owes_is : (t : Bool) → ((s : Supply) (ws : ℕ → List ℕ) → owed_by me (Replied AnsweredOk) (locus_in (state_in s ws old.cells me).cell) ≡ (if t then Some me else None))
+        → (run_of b mid.noted.entries).owed ≡ (if t && is_ok e.answer then Some me else None)
+    owes_is t flag =
+        ap (λ (es : List Entry). (run_of b es).owed) h.entries
+        ∙ (ap (λ (q : Run). q.owed) (run_next b old.noted.entries e)
+        ∙ (owed_next b.supply b.script (run_of b old.noted.entries) e h.enters.event
+        ∙ (ap (λ x. owed_by x e.answer (locus_in ((run_of b old.noted.entries).state x).cell)) h.enters.actor
+        ∙ (ap (λ (w : KernelState). owed_by me e.answer (locus_in (w me).cell)) (sym follow.state)
+        ∙ owes_by me e.answer (locus_in (state_in b.supply words old.cells me).cell) t (flag b.supply words)))))
+
+    -- the Snaps are to be made from there
+    pub free_behind : (run_of b mid.noted.entries).owed ≡ None → RunsFree tells clock faults reading may_leave left_since b policy mid
+    free_behind owes = record { same_policy = same; stands = k.stands; owes_nothing = owes; untried = k.behind.tried }
+
+    behind : IsBehind policy (run_of b mid.noted.entries) (written_in e.touched)
+    behind = subst (λ (q : Policy). IsBehind q (run_of b mid.noted.entries) (written_in e.touched)) same k.behind
+
+    pub look_snaps : (run_of b mid.noted.entries).owed ≡ None → {T : Type 0} → (r : Result T Stopped) → (new : Parts D)
+        → SnapsAll tells clock faults reading may_leave left_since b policy (written_in e.touched) r mid new → LooksInRun tells clock faults reading may_leave left_since b policy me r old new
+    look_snaps owes (Err why) new snaps = record { stands = tt; calm = tt; entries = tt; lives = snaps.lives }
+    look_snaps owes (Ok y) new snaps =
+        let is : new.noted.entries ≡ old.noted.entries ++ looked =
+        snaps.entries
+        ∙ (ap (λ (es : List Entry). es ++ wished_snaps b.supply policy b.script (run_of b es) (written_in e.touched)) h.entries
+        ∙ look_behind b.supply policy b.script (start_run b.state) old.noted.entries me e k.state None k.can k.is (owed_of None owes)) in
+        let over = snaps.calm behind in
+        record {
+          stands = snaps.runs.stands;
+          calm = record {
+            births_made = born new snaps.runs.stands is;
+            nothing_owed = snaps.runs.owes_nothing;
+            not_tried = snaps.runs.untried;
+            nothing_due = λ x. subst (λ (q : Policy). is_due q (run_of b new.noted.entries) x ≡ false) (sym same) (over.due x refl);
+          };
+          entries = is;
+          lives = tt;
+        }
+
+    -- or its Stable, with which the run is at rest
+    pub look_stable : (actor : ℕ) → (run_of b mid.noted.entries).owed ≡ Some actor → (r : Result ⊤ Stopped) → (new : Parts D)
+        → OnOk r (new.noted.entries ≡ mid.noted.entries ++ mark Stable actor 0 ∷ []) → OnOk r (StandsAs tells clock faults reading may_leave left_since b new) → OnOk r (IsQuiet b.policy (run_of b new.noted.entries))
+        → Rattle.std.specs.Prelude.IfErr r (λ why. LivesAs tells clock faults reading may_leave left_since b new (Some (stop_of why)))
+        → LooksInRun tells clock faults reading may_leave left_since b policy me r old new
+    look_stable actor owes (Err why) new entries on quiet lives = record { stands = tt; calm = tt; entries = tt; lives = lives }
+    look_stable actor owes (Ok y) new entries on quiet lives =
+        let is : new.noted.entries ≡ old.noted.entries ++ looked =
+        entries
+        ∙ (ap (λ (es : List Entry). es ++ mark Stable actor 0 ∷ []) h.entries
+        ∙ look_behind b.supply policy b.script (start_run b.state) old.noted.entries me e k.state (Some actor) k.can k.is (owed_of (Some actor) owes)) in
+        record {
+          stands = on;
+          calm = record { births_made = born new on is; nothing_owed = quiet.owed; not_tried = quiet.tried; nothing_due = quiet.due };
+          entries = is;
+          lives = tt;
+        }
+
+    stable_entries : (r : Result ⊤ Stopped) (new : Parts D) → OnOk r (HasStabilised e.actor mid new) → OnOk r (new.noted.entries ≡ mid.noted.entries ++ mark Stable e.actor 0 ∷ [])
+    stable_entries (Ok y) new made = made.entries
+    stable_entries (Err why) new made = tt
+
+    -- whichever it owes
+    pub look_behind_step : (owes : Bool) → (run_of b mid.noted.entries).owed ≡ (if owes then Some me else None) → (r : Result ⊤ Stopped) (new : Parts D)
+        → (owes ≡ true → OnOk r (HasStabilised e.actor mid new))
+        → (owes ≡ true → OwesStable tells clock faults reading may_leave left_since b e.actor mid → Stabilises tells clock faults reading may_leave left_since b r new)
+        → (owes ≡ false → RunsFree tells clock faults reading may_leave left_since b policy mid → SnapsAll tells clock faults reading may_leave left_since b policy (written_in e.touched) r mid new)
+        → LooksInRun tells clock faults reading may_leave left_since b policy me r old new
+    look_behind_step true is r new made stable snaps =
+        let owed : (run_of b mid.noted.entries).owed ≡ Some e.actor = is ∙ ap (λ x. Some x) (sym h.enters.actor) in
+        let st = stable refl (record { stands = k.stands; owed = owed; whole = k.behind.short; untried = k.behind.tried }) in
+        look_stable e.actor owed r new (stable_entries r new (made refl)) st.stands st.calm st.lives
+    look_behind_step false is r new made stable snaps = look_snaps is r new (snaps refl (free_behind is))
+
+  -- told by a step's yes or no
+  pub ok_true : (r : Result ⊤ Stopped) (y : ⊤) (new : Parts D) → r ≡ Ok y → LooksInRun tells clock faults reading may_leave left_since b policy me r old new → LooksInRun tells clock faults reading may_leave left_since b policy me (true_result true) old new
+  ok_true r y new is looks =
+      let l = subst (λ q. LooksInRun tells clock faults reading may_leave left_since b policy me q old new) is looks in
+      record { stands = l.stands; calm = l.calm; entries = l.entries; lives = tt }
+
+  pub err_true : (r : Result ⊤ Stopped) (why : Stopped) (new : Parts D) → r ≡ Err why → LooksInRun tells clock faults reading may_leave left_since b policy me r old new → LooksInRun tells clock faults reading may_leave left_since b policy me (err_result why) old new
+  err_true r why new is looks =
+      let l = subst (λ q. LooksInRun tells clock faults reading may_leave left_since b policy me q old new) is looks in
+      record { stands = tt; calm = tt; entries = tt; lives = l.lives }

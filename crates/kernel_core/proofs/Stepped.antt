@@ -1,0 +1,422 @@
+-- A step over a kernel's parts: what it leaves of them, whatever the disk tells, and of a run.
+use Rattle.std.proofs.Common.{◌≡◌, ◌≢◌, ◌⊎◌, ◌↔◌, inl, inr, ℕ, zero, suc, ◌+◌, ◌*◌, ◌<◌, ◌≤◌, ◌^◌, Bool, true, false, not, ◌&&◌, ◌==◌, nat_lt, if◌then◌else◌, List, [], ◌∷◌, ◌++◌, length, slice_get, Option, Some, None, is_some, Ok, Err, refl, sym, ap, subst, ◌∙◌, arith, length-append, eqb-true}
+use Rattle.std.specs.Prelude.{IsErrOf, Result}
+use Rattle.std.proofs.lemmas.Bool.Decides.{nat_tests}
+use Rattle.std.proofs.lemmas.Option.{slice_get_within}
+use Rattle.disk_trait.specs.Image.{Image}
+use Rattle.hop_base.specs.declared.histories.Entry.{Entry}
+use Rattle.hop_base.specs.declared.instructions.Condition.{Condition}
+use Rattle.hop_base.specs.declared.instructions.Condition.TheVariants.{Halted, Running, Stopped as StoppedNow}
+use Rattle.hop_model.specs.Histories.{May, Run, goes_on}
+use Rattle.hop_model.specs.Serial.{can_step}
+use Rattle.hop_model.specs.State.{AtlasCell, Cell as ModelCell, ContainerCell, KernelState, LocusCell, LocusState, NotBorn, Supply, empty_state, no_atlas}
+use Rattle.hop_model.specs.Steps.{if_running, running, step}
+use Rattle.fault_paging.specs.Calls.{IsCausedBy}
+use Rattle.page_store.specs.declared.faults.PageFault.{PageFault}
+use Rattle.page_store.specs.declared.faults.PageFault.TheVariants as page
+use Rattle.store_model.specs.Books.{free_in}
+use Rattle.snapshot_store.specs.State.{State, books}
+use Rattle.locus_machine.specs.declared.loci.Head.{Head}
+use Rattle.locus_machine.specs.declared.loci.Locus.{Locus}
+use Rattle.fault_paging.specs.declared.paged.PagedMemory.{PagedMemory}
+use Rattle.kernel_cells.specs.Cells.{container_cell, part_of}
+use Rattle.kernel_cells.specs.declared.cells.Cell.{Cell}
+use Rattle.kernel_cells.specs.declared.cells.Part.{Part}
+use Rattle.kernel_cells.specs.declared.cells.Part.TheVariants as part
+use Rattle.step_plans.specs.Plans.{idle_by, idle_of}
+use Rattle.step_plans.specs.declared.idle.Idle.{Idle as AnIdle}
+use Rattle.step_plans.specs.declared.idle.Idle.TheVariants.{Absent, Spent}
+use Rattle.cell_table.specs.Steps.{EntersStep}
+use Rattle.cell_table.specs.Tables.{AreClean, AreFewWrites, HasKind, IsOrderly, entity_in, left_of, state_in}
+use Rattle.record_laws.specs.Cells.{words_on}
+use Rattle.table_steps.specs.declared.stepping.StepFault.{StepFault}
+use Rattle.table_steps.specs.declared.stepping.StepFault.TheVariants.{Idle, Paging}
+use Rattle.kernel_model.specs.Beginnings.{Beginning, run_of}
+use Rattle.kernel_model.specs.Live.{IsCalm}
+use Rattle.kernel_laws.proofs.Going.{event_runs, stop_lives}
+use Rattle.kernel_room.proofs.Enough.{calm_whole}
+use Rattle.kernel_views.specs.Events.{StepsOver, StopsOver}
+use Rattle.kernel_views.specs.Views.{FollowsRun, newest_at, view_of}
+use Rattle.kernel_views.proofs.Following.{cells_follow}
+use Rattle.kernel_views.proofs.Legal.{run_next}
+use Rattle.kernel_views.proofs.Stepping.{clean_on, made_event}
+use Rattle.kernel_views.proofs.Stopping.{stops}
+use Rattle.serial_runs.specs.Serial.{IsBehind, IsCalm as IsQuiet, written_in}
+use Rattle.serial_runs.proofs.Calm.{step_behind, step_entry, step_may}
+use Rattle.store_steps.specs.Leaving.{LeavesInOrder}
+use Rattle.cell_books.specs.Matching.{Rises, newest_of, version_at, version_of}
+use Rattle.cell_books.proofs.Keeping.{rises}
+use Rattle.kernel_core.specs.Parts.{LivesAs, Noted, Parts, StandsAs, parts_of, stop_of}
+use Rattle.kernel_core.specs.Steady.{IsSteady, entries_taken, entries_to_come, steps_to_come}
+use Rattle.kernel_core.specs.Stepping.{HasCause, HasStepped, StepsInRun, StepsOnce, StopsStep, idle_at, stop_by}
+use Rattle.kernel_core.specs.declared.stopping.Stopped.{Stopped}
+use Rattle.kernel_core.proofs.Room.{steps_within, taken_next}
+use Rattle.kernel_core.proofs.StepRoom.{step_room, step_spare}
+use Rattle.kernel_core.proofs.Steadying.{entry_room}
+
+-- TABLES OF ONE LENGTH
+
+abbrev Both : List Cell → List Cell → ℕ → Type 0
+Both cs cs' x = (c : Cell) × (d : Cell) × (slice_get cs x ≡ Some c) × (slice_get cs' x ≡ Some d)
+
+both_or : (cs cs' : List Cell) → length cs' ≡ length cs → (x : ℕ) → Both cs cs' x ⊎ ((slice_get cs x ≡ None) × (slice_get cs' x ≡ None))
+both_or [] [] len x = inr (refl, refl)
+both_or [] (d ∷ cs') len x = absurd (omega (arith, len))
+both_or (c ∷ cs) [] len x = absurd (omega (arith, len))
+both_or (c ∷ cs) (d ∷ cs') len zero = inl (c, d, refl, refl)
+both_or (c ∷ cs) (d ∷ cs') len (suc x) = both_or cs cs' (omega (arith, len)) x
+
+cell_or : (cs : List Cell) (x : ℕ) → ((c : Cell) × (slice_get cs x ≡ Some c)) ⊎ (slice_get cs x ≡ None)
+cell_or cs x = by (slice_get cs x) refl
+  where
+    by : (o : Option Cell) → slice_get cs x ≡ o → ((c : Cell) × (slice_get cs x ≡ Some c)) ⊎ (slice_get cs x ≡ None)
+    by (Some c) is = inl (c, is)
+    by None is = inr is
+
+-- WHO IS IDLE
+
+none_by : (o : Option AnIdle) → ((why : AnIdle) → o ≡ Some why → ⊥) → o ≡ None
+none_by None h = refl
+none_by (Some why) h = absurd (h why refl)
+
+absent_none : Some Absent ≡ None → ⊥
+absent_none e = cc
+
+-- nobody stands past the cells
+empty_idle : (x : ℕ) → idle_of 0 (empty_state x).cell ≡ Some Absent
+empty_idle x = by (x == 0)
+  where
+    by : (t : Bool) → idle_of 0 (if t then AtlasCell no_atlas else NotBorn) ≡ Some Absent
+    by true = refl
+    by false = refl
+
+empty_stays : (x : ℕ) → is_some (running (empty_state x).cell) ≡ false
+empty_stays x = by (x == 0)
+  where
+    by : (t : Bool) → is_some (running (if t then AtlasCell no_atlas else NotBorn)) ≡ false
+    by true = refl
+    by false = refl
+
+some_by : (o : Option AnIdle) → is_some o ≡ true → (why : AnIdle) × (o ≡ Some why)
+some_by None is = absurd (cc is)
+some_by (Some why) is = (why, refl)
+
+abbrev err_of : StepFault → Result Entry StepFault
+err_of f = Err f
+
+no_fault : (e : Entry) (f : StepFault) → IsErrOf {T = Entry} {E = StepFault} (Ok e) f → ⊥
+no_fault e f is = cc
+
+fault_is : (f g : StepFault) → f ≡ g → IsErrOf {T = Entry} {E = StepFault} (Err f) g
+fault_is f g is = ap (λ (h : StepFault). err_of h) is
+
+no_idle : (f : PageFault) (why : AnIdle) → IsErrOf {T = Entry} {E = StepFault} (Err (Paging f)) (Idle why) → ⊥
+no_idle f why is = cc
+
+absent_high : {A : Type 0} (why : AnIdle) → Some why ≡ None → A
+absent_high why is = absurd (cc is)
+
+high_by : (s : Supply) (words : ℕ → List ℕ) (x left : ℕ) (p : Part) → HasKind x p → idle_of left (part_of s words p) ≡ None → 40 < x
+high_by s words x left (part.Locus l) kind none = kind
+high_by s words x left (part.Atlas a) kind none = absurd (cc none)
+high_by s words x left (part.Container b) kind none = by b.memory b.head none
+  where
+    by : (m : PagedMemory) (h : Option Head) → idle_of left (container_cell s words m h) ≡ None → 40 < x
+    by m None none = absurd (cc none)
+    by m (Some h) none = absurd (cc none)
+
+spent : (left made total : ℕ) → made + left ≡ total → is_some (if left == 0 then Some Spent else None) ≡ not (nat_lt made total)
+spent left made total sum = elim (left == 0) as (λ t. (left == 0) ≡ t → is_some (if t then Some Spent else None) ≡ not (nat_lt made total)) [
+  | true ↦ λ is. sym (ap not (none (eqb-true left 0 is)))
+  | false ↦ λ is. sym (ap not (some is))
+] refl
+  where
+    none : left ≡ 0 → nat_lt made total ≡ false
+    none empty = grind (arith, nat_tests)
+
+    some : (left == 0) ≡ false → nat_lt made total ≡ true
+    some more = grind (arith, nat_tests)
+
+can_by : (cell : ModelCell) (left made total : ℕ) → made + left ≡ total → is_some (idle_of left cell) ≡ not (is_some (running cell) && nat_lt made total)
+can_by NotBorn left made total sum = refl
+can_by (AtlasCell a) left made total sum = refl
+can_by (ContainerCell c) left made total sum = refl
+can_by (LocusCell l) left made total sum = by l.condition
+  where
+    by : (k : Condition) → is_some (idle_by left k) ≡ not (is_some (if_running l k) && nat_lt made total)
+    by Halted = refl
+    by StoppedNow = refl
+    by Running = spent left made total sum
+
+not_true : (t : Bool) → true ≡ not t → t ≡ false
+not_true true is = absurd (cc is)
+not_true false is = refl
+
+not_false : (t : Bool) → false ≡ not t → t ≡ true
+not_false true is = refl
+not_false false is = absurd (cc is)
+
+abbrev ok_some : Entry → Result (Option Entry) Stopped
+ok_some e = Ok (Some e)
+
+abbrev ok_none : Result (Option Entry) Stopped
+ok_none = Ok None
+
+abbrev err_why : Stopped → Result (Option Entry) Stopped
+err_why why = Err why
+
+some_not : (e : Entry) → ok_some e ≡ ok_none → ⊥
+some_not e is = cc is
+
+err_not : (why : Stopped) → err_why why ≡ ok_none → ⊥
+err_not why is = cc is
+
+module _ {D : Type 0} (tells : Type 0) (clock faults : D → ℕ) (reading : D → Image) (may_leave : D → Image → Type 0) (left_since : D → ℕ → Image → Type 0)
+    (counts_later : (disk : D) (s t : ℕ) (c : Image) → tells → s ≤ t → left_since disk t c → left_since disk s c)
+    (only_now : (disk : D) (c : Image) → tells → left_since disk (clock disk) c → may_leave disk c)
+    (s : Supply) (me : ℕ) (cs cs' : List Cell) (st st' : State D) (noted : Noted)
+    (k : IsSteady tells reading may_leave (parts_of st cs noted))
+    (leaves : LeavesInOrder tells clock reading may_leave left_since cs cs' st st')
+    (clean' : tells → AreClean s (words_on (reading st'.disk)) cs') where
+  abbrev old : Parts D
+  old = parts_of st cs noted
+
+  before : IsOrderly (books st).held cs
+  before = k.sound.matches.orderly
+
+  -- idle in a run
+  module _ (b : Beginning) (stands : StandsAs tells clock faults reading may_leave left_since b old) where
+    abbrev words : ℕ → List ℕ
+    words = words_on (reading st.disk)
+
+    abbrev r : Run
+    r = run_of b noted.entries
+
+    follow : FollowsRun b words cs noted.entries
+    follow = cells_follow b noted.entries (reading st.disk) cs stands.orderly.numbers (books st) noted.marks None stands.runs.follows
+
+    left_is : (c : Cell) → slice_get cs me ≡ Some c → r.steps me + c.left ≡ b.script.steps
+    left_is c at =
+        let h = (follow.wishes me c at).left in
+        let same = ap r.steps (stands.orderly.numbers.each me c at) in
+        omega (arith, h, same)
+
+    empty_cell : slice_get cs me ≡ None → (r.state me).cell ≡ (empty_state me).cell
+    empty_cell none = sym (ap (λ (w : KernelState). (w me).cell) follow.state) ∙ ap (λ o. (entity_in b.supply words me o).cell) none
+
+    can_is : is_some (idle_at b.supply words me cs) ≡ not (can_step b.script r me)
+    can_is = elim (cell_or cs me) as (λ _. is_some (idle_at b.supply words me cs) ≡ not (can_step b.script r me)) [
+      | inl h ↦ ap (λ o. is_some (idle_of (left_of o) (state_in b.supply words cs me).cell)) h.1
+          ∙ (ap (λ (w : KernelState). is_some (idle_of h.0.left (w me).cell)) follow.state
+          ∙ can_by (r.state me).cell h.0.left (r.steps me) b.script.steps (left_is h.0 h.1))
+      | inr none ↦ ap (λ o. is_some (idle_of (left_of o) (entity_in b.supply words me o).cell)) none
+          ∙ (ap is_some (empty_idle me)
+          ∙ sym (ap not (ap (λ k. is_some (running k) && nat_lt (r.steps me) b.script.steps) (empty_cell none) ∙ ap (λ t. t && nat_lt (r.steps me) b.script.steps) (empty_stays me))))
+    ]
+
+  -- A STEP THAT WAS MADE
+  module _ (e : Entry) (idle : (z : Supply) (ws : ℕ → List ℕ) (why : AnIdle) → IsErrOf {T = Entry} {E = StepFault} (Ok e) (Idle why) ↔ (idle_at z ws me cs ≡ Some why))
+      (enters : EntersStep me cs cs' e) (same_shut : (books st').shut ≡ (books st).shut)
+      (over : (b : Beginning) → tells → b.supply ≡ s → (books st).shut ≡ false → StepsOver tells clock faults reading may_leave left_since b me cs cs' st st' e) where
+    abbrev new : Parts D
+    new = parts_of st' cs' (record noted { entries = noted.entries ++ e ∷ [] })
+
+    not_idle : (z : Supply) (ws : ℕ → List ℕ) → idle_at z ws me cs ≡ None
+    not_idle z ws = none_by (idle_at z ws me cs) (λ why is. no_fault e (Idle why) ((idle z ws why).1 is))
+
+    at_me : (c : Cell) × (slice_get cs me ≡ Some c)
+    at_me = elim (cell_or cs me) as (λ _. (c : Cell) × (slice_get cs me ≡ Some c)) [
+      | inl h ↦ h
+      | inr none ↦ absurd (absent_none (sym (ap (λ o. idle_of (left_of o) (entity_in s (words_on (reading st.disk)) me o).cell) none ∙ empty_idle me) ∙ not_idle s (words_on (reading st.disk))))
+    ]
+
+    low : me < 64
+    low = let within = slice_get_within cs me at_me.0 at_me.1 in let count = before.numbers.len in omega (arith, within, count)
+
+    high : 40 < me
+    high = high_by s (words_on (reading st.disk)) me at_me.0.left at_me.0.part (before.kinds me at_me.0 at_me.1)
+        (sym (ap (λ o. idle_of (left_of o) (entity_in s (words_on (reading st.disk)) me o).cell) at_me.1) ∙ not_idle s (words_on (reading st.disk)))
+
+    same_len : length cs' ≡ length cs
+    same_len = let a = before.numbers.len in let b = leaves.orderly.numbers.len in omega (arith, a, b)
+
+    rising : Rises cs cs'
+    rising = record {
+      versions = λ x. elim (both_or cs cs' same_len x) as (λ _. version_of cs x ≤ version_of cs' x) [
+        | inl h ↦ (
+            let up = (enters.versions x h.0 h.1 h.2 h.3).0 in
+            let old : version_of cs x ≡ h.0.clock.version = ap version_at h.2 in
+            let new : version_of cs' x ≡ h.1.clock.version = ap version_at h.3 in
+            omega (arith, up, old, new))
+        | inr h ↦ (let old : version_of cs x ≡ 0 = ap version_at h.0 in omega (arith, old))
+      ];
+      newest = λ x. elim (both_or cs cs' same_len x) as (λ _. newest_of cs' x ≡ newest_of cs x) [
+        | inl h ↦ ap newest_at h.3 ∙ (enters.newest x h.0 h.1 h.2 h.3 ∙ sym (ap newest_at h.2))
+        | inr h ↦ ap newest_at h.1 ∙ sym (ap newest_at h.0)
+      ];
+    }
+
+    next_version : (x : ℕ) → version_of cs' x ≤ version_of cs x + 1
+    next_version x = elim (both_or cs cs' same_len x) as (λ _. version_of cs' x ≤ version_of cs x + 1) [
+      | inl h ↦ (
+          let up = (enters.versions x h.0 h.1 h.2 h.3).1 in
+          let old : version_of cs x ≡ h.0.clock.version = ap version_at h.2 in
+          let new : version_of cs' x ≡ h.1.clock.version = ap version_at h.3 in
+          omega (arith, up, old, new))
+      | inr h ↦ (let new : version_of cs' x ≡ 0 = ap version_at h.1 in omega (arith, new))
+    ]
+
+    longer : length (noted.entries ++ e ∷ []) ≡ length noted.entries + 1
+    longer = length-append noted.entries (e ∷ [])
+
+    same_epoch : (books st').place.epoch ≡ (books st).place.epoch
+    same_epoch = ap (λ p. p.epoch) leaves.pages.same_place
+
+    steady_on : IsSteady tells reading may_leave new
+    steady_on = record {
+      sound = record {
+        matches = rises (λ _. 4) (books st) (books st') cs cs' k.sound.matches (record { same_logged = leaves.pages.same_logged; same_found = leaves.pages.same_found }) leaves.orderly rising;
+        working = same_shut ∙ k.sound.working;
+        true_books = λ told. leaves.pages.true_books told (k.sound.true_books told);
+      };
+      few = record {
+        versions = λ x. (let was = k.few.versions x in let up = next_version x in let more = longer in omega (arith, was, up, more));
+        epoch = (let was = k.few.epoch in let same = same_epoch in let more = longer in omega (arith, was, same, more));
+        marks = (let was = k.few.marks in let more = longer in omega (arith, was, more));
+        room = (
+            let was = k.few.room in
+            let less = step_room me cs cs' e before.numbers leaves.orderly.numbers high enters low in
+            let more = taken_next noted.entries e in
+            omega (arith, was, less, more));
+        small = k.few.small;
+      };
+    }
+
+    -- a Stable may follow
+    spare : steps_to_come cs' + entries_taken (noted.entries ++ e ∷ []) < noted.room
+    spare =
+        let was = k.few.room in
+        let within = steps_within cs in
+        let less = step_spare me cs cs' e before.numbers leaves.orderly.numbers high enters low in
+        let more = taken_next noted.entries e in
+        omega (arith, was, within, less, more)
+
+    module _ (told : tells) (b : Beginning) (same : b.supply ≡ s) (stands : StandsAs tells clock faults reading may_leave left_since b old) (calm : IsCalm b noted.entries) where
+      step_is : StepsOver tells clock faults reading may_leave left_since b me cs cs' st st' e
+      step_is = over b told same k.sound.working
+
+      made : step b.supply me (r b stands).state ≡ Some (e, state_in b.supply (words_on (reading st'.disk)) cs')
+      made = ap (step b.supply me) (sym (follow b stands).state) ∙ step_is.goes.step
+
+      can : can_step b.script (r b stands) me ≡ true
+      can = not_false (can_step b.script (r b stands) me) (sym (ap is_some (not_idle b.supply (words b stands))) ∙ can_is b stands)
+
+      quiet : IsQuiet b.policy (r b stands)
+      quiet = record { owed = calm.nothing_owed; short = calm_whole b noted.entries stands.runs.begins stands.runs.legal calm.nothing_owed; tried = calm.not_tried; due = calm.nothing_due }
+
+      few_steps : (r b stands).steps me < b.script.steps
+      few_steps =
+          let sum = left_is b stands at_me.0 at_me.1 in
+          let some = step_is.left in
+          let same_cell : at_me.0.left ≡ step_is.locus.left = ap left_of (sym at_me.1 ∙ step_is.at) in
+          omega (arith, sum, some, same_cell)
+
+      may : May b.supply b.policy b.script (r b stands) e
+      may = step_may b.supply b.policy b.script (r b stands) me (e, state_in b.supply (words_on (reading st'.disk)) cs') quiet calm.births_made few_steps made
+
+      runs_on : StepsInRun tells clock faults reading may_leave left_since b me e old new
+      runs_on = record {
+        stands = record {
+          runs = event_runs b tells clock reading may_leave left_since counts_later only_now (view_of reading b cs st noted.entries noted.marks None) _ st.disk st'.disk stands.runs e
+              (made_event tells clock faults reading may_leave left_since b me cs cs' st st' noted.entries noted.marks e told stands calm step_is);
+          orderly = step_is.orderly;
+          clean = clean_on tells clock faults reading may_leave left_since b me cs cs' st st' noted.entries noted.marks e told stands calm step_is;
+        };
+        state = state_in b.supply (words_on (reading st'.disk)) cs';
+        is = made;
+        can = can;
+        behind = subst (λ (q : Run). IsBehind b.policy q (written_in e.touched)) (sym (run_next b noted.entries e))
+            (step_behind b.supply b.policy b.script (r b stands) e quiet (step_entry b.supply b.policy b.script (r b stands) me (e, state_in b.supply (words_on (reading st'.disk)) cs') made).0 may);
+      }
+
+    pub once_made : StepsOnce tells clock faults reading may_leave left_since s me old new (Ok (Some e))
+    once_made = record {
+      idle = λ z ws. ((λ is. absurd (let h = some_by (idle_at z ws me cs) is in no_fault e (Idle h.0) ((idle z ws h.0).1 h.1))), (λ is. absurd (some_not e is)));
+      still = λ is. absurd (some_not e is);
+      made = record { enters = enters; entries = refl; marks = refl; room = refl; spare = spare };
+      failed = tt;
+      steady = steady_on;
+      clean = clean';
+      one_write = leaves.one_write;
+      counts = leaves.pages.counts;
+      run = runs_on;
+    }
+
+  -- NONE, where the locus is idle
+  idle_once : (why : AnIdle) → ((z : Supply) (ws : ℕ → List ℕ) (w : AnIdle) → IsErrOf {T = Entry} {E = StepFault} (Err (Idle why)) (Idle w) ↔ (idle_at z ws me cs ≡ Some w)) → cs' ≡ cs → st' ≡ st
+      → StepsOnce tells clock faults reading may_leave left_since s me old (parts_of st' cs' noted) (Ok None)
+  idle_once why idle same_cells same_store = record {
+    idle = λ z ws. ((λ is. refl), (λ is. ap is_some ((idle z ws why).0 refl)));
+    still = λ is. same_parts;
+    made = tt;
+    failed = tt;
+    steady = subst (IsSteady tells reading may_leave) (sym same_parts) k;
+    clean = clean';
+    one_write = leaves.one_write;
+    counts = leaves.pages.counts;
+    run = λ told b same stands calm. not_true (can_step b.script (r b stands) me) (sym (ap is_some ((idle b.supply (words b stands) why).0 refl)) ∙ can_is b stands);
+  }
+    where
+      same_parts : parts_of st' cs' noted ≡ old
+      same_parts = ap (λ q. parts_of q cs' noted) same_store ∙ ap (λ q. parts_of st q noted) same_cells
+
+  pub once_idle : (f : StepFault) (why : AnIdle) → f ≡ Idle why → ((z : Supply) (ws : ℕ → List ℕ) (w : AnIdle) → IsErrOf {T = Entry} {E = StepFault} (Err f) (Idle w) ↔ (idle_at z ws me cs ≡ Some w))
+      → ((w : AnIdle) → IsErrOf {T = Entry} {E = StepFault} (Err f) (Idle w) → (cs' ≡ cs) × (st' ≡ st))
+      → StepsOnce tells clock faults reading may_leave left_since s me old (parts_of st' cs' noted) (Ok None)
+  once_idle f why is idle still =
+      idle_once why (subst (λ f. (z : Supply) (ws : ℕ → List ℕ) (w : AnIdle) → IsErrOf {T = Entry} {E = StepFault} (Err f) (Idle w) ↔ (idle_at z ws me cs ≡ Some w)) is idle)
+      (still why (fault_is f (Idle why) is)).0 (still why (fault_is f (Idle why) is)).1
+
+  -- A FAULT
+  cause_by : (f : PageFault) → IsCausedBy (free_in (books st)) (faults st.disk) (faults st'.disk) (books st).shut (books st').shut f
+      → HasCause tells clock faults reading may_leave left_since old (parts_of st' cs' noted) (stop_by f)
+  cause_by (page.NoBlocks n) c = c
+  cause_by page.ReadFault c = c.0
+  cause_by page.WriteFault c = c.0
+  cause_by page.Shut c = absurd (let w = k.sound.working in cc (w, c))
+
+  failed_once : (f : PageFault) → ((z : Supply) (ws : ℕ → List ℕ) (w : AnIdle) → IsErrOf {T = Entry} {E = StepFault} (Err (Paging f)) (Idle w) ↔ (idle_at z ws me cs ≡ Some w))
+      → IsCausedBy (free_in (books st)) (faults st.disk) (faults st'.disk) (books st).shut (books st').shut f
+      → ((b : Beginning) → tells → b.supply ≡ s → StopsOver tells clock faults reading may_leave left_since b cs cs' st st')
+      → StepsOnce tells clock faults reading may_leave left_since s me old (parts_of st' cs' noted) (Err (stop_by f))
+  failed_once f idle cause over = record {
+    idle = λ z ws. ((λ is. absurd (let h = some_by (idle_at z ws me cs) is in no_idle f h.0 ((idle z ws h.0).1 h.1))), (λ is. absurd (err_not (stop_by f) is)));
+    still = λ is. absurd (err_not (stop_by f) is);
+    made = tt;
+    failed = record { noted = refl; orderly = leaves.orderly; cause = cause_by f cause };
+    steady = tt;
+    clean = clean';
+    one_write = leaves.one_write;
+    counts = leaves.pages.counts;
+    run = λ told b same stands calm.
+        stop_lives b tells clock reading may_leave left_since counts_later only_now (view_of reading b cs st noted.entries noted.marks None) _ st.disk st'.disk stands.runs
+        (stops tells clock faults reading may_leave left_since b cs cs' st st' noted.entries noted.marks (stop_of (stop_by f)) stands (over b told same));
+  }
+
+  pub once_failed : (g : StepFault) (f : PageFault) → g ≡ Paging f → ((z : Supply) (ws : ℕ → List ℕ) (w : AnIdle) → IsErrOf {T = Entry} {E = StepFault} (Err g) (Idle w) ↔ (idle_at z ws me cs ≡ Some w))
+      → ((q : PageFault) → IsErrOf {T = Entry} {E = StepFault} (Err g) (Paging q) → IsCausedBy (free_in (books st)) (faults st.disk) (faults st'.disk) (books st).shut (books st').shut q)
+      → ((b : Beginning) (q : PageFault) → tells → b.supply ≡ s → IsErrOf {T = Entry} {E = StepFault} (Err g) (Paging q) → StopsOver tells clock faults reading may_leave left_since b cs cs' st st')
+      → StepsOnce tells clock faults reading may_leave left_since s me old (parts_of st' cs' noted) (Err (stop_by f))
+  once_failed g f is idle cause over =
+      failed_once f (subst (λ f. (z : Supply) (ws : ℕ → List ℕ) (w : AnIdle) → IsErrOf {T = Entry} {E = StepFault} (Err f) (Idle w) ↔ (idle_at z ws me cs ≡ Some w)) is idle)
+      (cause f (fault_is g (Paging f) is)) (λ b told same. over b f told same (fault_is g (Paging f) is))
+
+-- each version may rise
+pub few_writes : {D : Type 0} (tells : Type 0) (clock faults : D → ℕ) (reading : D → Image) (may_leave : D → Image → Type 0) (left_since : D → ℕ → Image → Type 0)
+    → (p : Parts D) → IsSteady tells reading may_leave p → AreFewWrites p.cells
+few_writes tells clock faults reading may_leave left_since p k x c at =
+    let le = k.few.versions x in
+    let is : version_of p.cells x ≡ c.clock.version = ap version_at at in
+    let lt = entry_room tells clock faults reading may_leave left_since p k in
+    let small = k.few.small in
+    omega (arith, le, is, lt, small)

@@ -1,0 +1,47 @@
+use Rattle.std.proofs.Common.{◌≡◌, sym, ap, subst, ◌∙◌}
+use Rattle.std.specs.Prelude.{IfErr, OnOk}
+use Rattle.cell_table.specs.Tables.{AreClean}
+use Rattle.record_laws.specs.Cells.{words_on}
+use Rattle.kernel_core.specs.Kernels.{Held, Lives}
+use Rattle.kernel_core.specs.Looking.{StopsLook}
+use Rattle.kernel_core.specs.Parts.{Parts}
+use Rattle.kernel_core.proofs.Kept.{runs_free}
+use Rattle.kernel_core.proofs.LookKept.{look_entries, look_kept, look_lives}
+use Rattle.kernel_core.proofs.kernels.Kernel.step.Goals as goal
+
+pub invariant_of-self : goal.invariant_of-self
+invariant_of-self g c =
+    let d = g.D.Disk in
+    let s = c.look_core-looked.ensures in
+    look_kept d.tells d.clock d.faults d.reading d.may_leave d.left_since c.args.me c.self.inside.core c.look_core-looked.new.core c.look_core-looked.result s.steady s.stopped c.err-self-inside.result c.err-self-inside.ensures.value
+
+pub look_core-looked-requires-clause-clean : goal.look_core-looked-requires-clause-clean
+look_core-looked-requires-clause-clean g c = λ told.
+    subst (λ (k : Held g.row.D.Denot). AreClean (g.S.Supplier.word c.args.gate.now.supply) (words_on (g.D.Disk.reading k.parts.store.disk)) k.parts.cells) (sym c.self.view_is)
+    (c.requires.clean told (sym (ap (λ (k : Held g.row.D.Denot). k.stop) c.self.view_is) ∙ c.in_default.is))
+
+pub returns-clause-stopped : goal.returns-clause-stopped
+returns-clause-stopped g c = λ _.
+    let d = g.D.Disk in
+    subst (λ (p : Parts g.row.D.Denot). IfErr c.look_core-looked.result (StopsLook d.tells d.clock d.faults d.reading d.may_leave d.left_since c.args.me p c.look_core-looked.new.core))
+    (ap (λ (k : Held g.row.D.Denot). k.parts) c.self.view_is) c.look_core-looked.ensures.stopped
+
+pub returns-clause-run : goal.returns-clause-run
+returns-clause-run g c = λ told b supply policy lives.
+    let d = g.D.Disk in
+    let steady = c.self.invariant.steady c.in_default.is in
+    let was = subst (λ o. Lives d.tells d.clock d.faults d.reading d.may_leave d.left_since b (record { parts = c.self.inside.core; stop = o })) c.in_default.is (subst (Lives d.tells d.clock d.faults d.reading d.may_leave d.left_since b) (sym c.self.view_is) lives) in
+    let free = runs_free d.tells d.clock d.faults d.reading d.may_leave d.left_since c.args.me c.self.inside.core c.look_core-looked.new.core steady b (g.P.Policy.wish c.args.gate.now.policy) policy was in
+    look_lives d.tells d.clock d.faults d.reading d.may_leave d.left_since c.args.me c.self.inside.core c.look_core-looked.new.core b (g.P.Policy.wish c.args.gate.now.policy) c.look_core-looked.result
+    (c.look_core-looked.ensures.run told b supply policy free.stands (was.live.calm Rattle.std.proofs.Common.refl)) c.err-self-inside.result c.err-self-inside.ensures.value
+
+pub returns-clause-looks : goal.returns-clause-looks
+returns-clause-looks g c = λ told b supply policy lives _.
+    let d = g.D.Disk in
+    let steady = c.self.invariant.steady c.in_default.is in
+    let was = subst (λ o. Lives d.tells d.clock d.faults d.reading d.may_leave d.left_since b (record { parts = c.self.inside.core; stop = o })) c.in_default.is (subst (Lives d.tells d.clock d.faults d.reading d.may_leave d.left_since b) (sym c.self.view_is) lives) in
+    let free = runs_free d.tells d.clock d.faults d.reading d.may_leave d.left_since c.args.me c.self.inside.core c.look_core-looked.new.core steady b (g.P.Policy.wish c.args.gate.now.policy) policy was in
+    subst (λ (p : Parts g.row.D.Denot). Rattle.kernel_core.proofs.LookKept.Entries d.tells d.clock d.faults d.reading d.may_leave d.left_since c.args.me p c.look_core-looked.new.core b b.policy c.look_core-looked.result)
+    (ap (λ (k : Held g.row.D.Denot). k.parts) c.self.view_is)
+    (look_entries d.tells d.clock d.faults d.reading d.may_leave d.left_since c.args.me c.self.inside.core c.look_core-looked.new.core b (g.P.Policy.wish c.args.gate.now.policy) policy c.look_core-looked.result
+    (c.look_core-looked.ensures.run told b supply policy free.stands (was.live.calm Rattle.std.proofs.Common.refl)))

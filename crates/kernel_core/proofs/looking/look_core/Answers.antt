@@ -1,0 +1,52 @@
+use Rattle.std.proofs.Common.{◌≡◌, inl, inr, ℕ, Bool, List, Some, None, Ok, Option, sym, ap, subst, refl, ◌∙◌, if◌then◌else◌}
+use Rattle.hop_base.specs.declared.histories.Answer.TheVariants.{Reply as Replied}
+use Rattle.hop_base.specs.declared.histories.Entry.{Entry}
+use Rattle.hop_base.specs.declared.instructions.Reply.TheVariants.{Ok as AnsweredOk}
+use Rattle.hop_model.specs.Histories.{locus_in, owed_by}
+use Rattle.hop_model.specs.State.{Supply}
+use Rattle.kernel_cells.specs.declared.cells.Cell.{Cell}
+use Rattle.cell_table.specs.Tables.{state_in}
+use Rattle.kernel_core.specs.Looking.{LooksInRun}
+use Rattle.kernel_core.specs.Parts.{Parts}
+use Rattle.kernel_core.specs.Stepping.{StepsOnce}
+use Rattle.kernel_core.proofs.Looked.{err_true, look_behind_step, look_still, ok_true, owes_is, true_result}
+use Rattle.kernel_core.proofs.looking.look_core.Goals as goal
+
+pub returns-in-Ok-clause-run : goal.returns-in-Ok-clause-run
+returns-in-Ok-clause-run g c = λ told b same policy stands calm.
+    let d = g.D.Disk in
+    let once = subst (λ (o : Option Entry). StepsOnce d.tells d.clock d.faults d.reading d.may_leave d.left_since (g.S.Supplier.word c.args.gate.now.supply) c.args.me c.args.core.now c.step_core.new.core (Ok o)) c.in-Ok-Some.field-0-is c.in-Ok-Some.ensures in
+    let flag = subst (λ (cs : List Cell). (s : Supply) (ws : ℕ → List ℕ) → owed_by c.args.me (Replied AnsweredOk) (locus_in (state_in s ws cs c.args.me).cell) ≡ (if c.stabilises_at-stabilises.result then Some c.args.me else None))
+    (c.deref.ensures.value ∙ ap (λ (p : Parts g.row.D.Denot). p.cells) c.core.view_is) c.stabilises_at-stabilises.ensures in
+    let run = once.run told b same stands calm in
+    let owed = owes_is d.tells d.clock d.faults d.reading d.may_leave d.left_since b (g.P.Policy.wish c.args.gate.now.policy) policy c.args.me c.args.core.now stands calm c.step_core.new.core c.in-Ok-Some.entry once.made run c.stabilises_at-stabilises.result flag in
+    ok_true d.tells d.clock d.faults d.reading d.may_leave d.left_since b (g.P.Policy.wish c.args.gate.now.policy) policy c.args.me c.args.core.now stands calm c.keep_behind.result c.in-Ok.field-0 c.keep_behind.new.core c.in-Ok.is
+    (look_behind_step d.tells d.clock d.faults d.reading d.may_leave d.left_since b (g.P.Policy.wish c.args.gate.now.policy) policy c.args.me c.args.core.now stands calm c.step_core.new.core c.in-Ok-Some.entry once.made run
+    c.owes_stable-owes.result (owed ∙ ap (λ t. if t then Some c.args.me else None) (sym c.owes_stable-owes.ensures)) c.keep_behind.result c.keep_behind.new.core
+    c.keep_behind.ensures.stabilised (λ is. c.keep_behind.ensures.stable is told b) (λ is. c.keep_behind.ensures.snaps is told b))
+
+pub returns-in-Err-keep_behind-clause-run : goal.returns-in-Err-keep_behind-clause-run
+returns-in-Err-keep_behind-clause-run g c = λ told b same policy stands calm.
+    let d = g.D.Disk in
+    let once = subst (λ (o : Option Entry). StepsOnce d.tells d.clock d.faults d.reading d.may_leave d.left_since (g.S.Supplier.word c.args.gate.now.supply) c.args.me c.args.core.now c.step_core.new.core (Ok o)) c.in-Ok-Some.field-0-is c.in-Ok-Some.ensures in
+    let flag = subst (λ (cs : List Cell). (s : Supply) (ws : ℕ → List ℕ) → owed_by c.args.me (Replied AnsweredOk) (locus_in (state_in s ws cs c.args.me).cell) ≡ (if c.stabilises_at-stabilises.result then Some c.args.me else None))
+    (c.deref.ensures.value ∙ ap (λ (p : Parts g.row.D.Denot). p.cells) c.core.view_is) c.stabilises_at-stabilises.ensures in
+    let run = once.run told b same stands calm in
+    let owed = owes_is d.tells d.clock d.faults d.reading d.may_leave d.left_since b (g.P.Policy.wish c.args.gate.now.policy) policy c.args.me c.args.core.now stands calm c.step_core.new.core c.in-Ok-Some.entry once.made run c.stabilises_at-stabilises.result flag in
+    err_true d.tells d.clock d.faults d.reading d.may_leave d.left_since b (g.P.Policy.wish c.args.gate.now.policy) policy c.args.me c.args.core.now stands calm c.keep_behind.result c.in-Err-keep_behind.why c.keep_behind.new.core c.in-Err-keep_behind.is
+    (look_behind_step d.tells d.clock d.faults d.reading d.may_leave d.left_since b (g.P.Policy.wish c.args.gate.now.policy) policy c.args.me c.args.core.now stands calm c.step_core.new.core c.in-Ok-Some.entry once.made run
+    c.owes_stable-owes.result (owed ∙ ap (λ t. if t then Some c.args.me else None) (sym c.owes_stable-owes.ensures)) c.keep_behind.result c.keep_behind.new.core
+    c.keep_behind.ensures.stabilised (λ is. c.keep_behind.ensures.stable is told b) (λ is. c.keep_behind.ensures.snaps is told b))
+
+pub returns-in-Ok-None-clause-run : goal.returns-in-Ok-None-clause-run
+returns-in-Ok-None-clause-run g c = λ told b same policy stands calm.
+    let d = g.D.Disk in
+    let once = subst (λ (o : Option Entry). StepsOnce d.tells d.clock d.faults d.reading d.may_leave d.left_since (g.S.Supplier.word c.args.gate.now.supply) c.args.me c.args.core.now c.step_core.new.core (Ok o)) c.in-Ok-None.field-0-is c.in-Ok-None.ensures in
+    subst (λ (p : Parts g.row.D.Denot). LooksInRun d.tells d.clock d.faults d.reading d.may_leave d.left_since b (g.P.Policy.wish c.args.gate.now.policy) c.args.me (true_result Rattle.std.proofs.Common.false) c.args.core.now p) (sym (once.still refl))
+    (look_still d.tells d.clock d.faults d.reading d.may_leave d.left_since b (g.P.Policy.wish c.args.gate.now.policy) policy c.args.me c.args.core.now stands calm (once.run told b same stands calm) (true_result Rattle.std.proofs.Common.false) Rattle.std.proofs.Common.false refl)
+
+pub returns-in-Err-keep_behind-clause-stopped : goal.returns-in-Err-keep_behind-clause-stopped
+returns-in-Err-keep_behind-clause-stopped g c =
+    let d = g.D.Disk in
+    let once = subst (λ (o : Option Entry). StepsOnce d.tells d.clock d.faults d.reading d.may_leave d.left_since (g.S.Supplier.word c.args.gate.now.supply) c.args.me c.args.core.now c.step_core.new.core (Ok o)) c.in-Ok-Some.field-0-is c.in-Ok-Some.ensures in
+    inr (record { mid = c.step_core.new.core; entry = c.in-Ok-Some.entry; stepped = once.made; leaves = c.in-Err-keep_behind.ensures.stopped })

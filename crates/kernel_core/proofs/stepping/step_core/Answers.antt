@@ -1,0 +1,13 @@
+use Rattle.std.proofs.Common.{sym, ap, subst, List, ◌∙◌}
+use Rattle.kernel_cells.specs.declared.cells.Cell.{Cell}
+use Rattle.cell_table.specs.Tables.{AreClean}
+use Rattle.record_laws.specs.Cells.{words_on}
+use Rattle.kernel_core.specs.Parts.{Parts, parts_of}
+use Rattle.kernel_core.specs.Stepping.{StepsOnce}
+use Rattle.kernel_core.proofs.Answering.{refilled}
+use Rattle.kernel_core.proofs.stepping.step_core.Goals as goal
+
+pub step_among-requires-clause-clean : goal.step_among-requires-clause-clean
+step_among-requires-clause-clean g c = λ told.
+    subst (AreClean (g.S.Supplier.word c.args.gate.now.supply) (words_on (g.D.Disk.reading c.core.inside.store.disk))) (sym c.deref_mut.ensures.value)
+    (subst (λ (p : Parts g.row.D.Denot). AreClean (g.S.Supplier.word c.args.gate.now.supply) (words_on (g.D.Disk.reading p.store.disk)) p.cells) (sym c.core.view_is) (c.requires.clean told))

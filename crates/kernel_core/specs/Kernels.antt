@@ -1,0 +1,41 @@
+-- A kernel, as contracts see it.
+use Rattle.std.specs.Prelude.{◌≡◌, ℕ, ◌+◌, ◌≤◌, ◌^◌, false, List, [], Option, Some, None, slice_get}
+use Rattle.std.specs.Option.{option_map}
+use Rattle.disk_trait.specs.Image.{Image}
+use Rattle.kernel_cells.specs.declared.cells.Cell.{Cell}
+use Rattle.cell_table.specs.Tables.{AreClean, IsOrderly}
+use Rattle.record_laws.specs.Cells.{words_on}
+use Rattle.snapshot_store.specs.State.{State, books}
+use Rattle.kernel_model.specs.Beginnings.{Beginning}
+use Rattle.cell_books.specs.Matching.{version_of}
+use Rattle.kernel_core.specs.Parts.{LivesAs, Parts, stop_of}
+use Rattle.kernel_core.specs.Steady.{IsSound, IsSteady}
+use Rattle.kernel_core.specs.declared.stopping.Stopped.{Stopped}
+
+-- its parts, and why it has stopped, if it has
+pub record Held (D : Type 0) : Type 0 where
+  pub parts : Parts D
+  pub stop : Option Stopped
+
+-- WHAT IS TRUE OF EVERY KERNEL: its cells are in order, and while it goes on it is steady
+pub record IsKept {D : Type 0} (tells : Type 0) (reading : D → Image) (may_leave : D → Image → Type 0) (k : Held D) : Type 0 where
+  pub orderly : IsOrderly (books k.parts.store).held k.parts.cells
+  pub steady : k.stop ≡ None → IsSteady tells reading may_leave k.parts
+
+-- nothing of it was run yet: no wish is open, and each may make so many steps
+abbrev pub AreFresh : ℕ → List Cell → Type 0
+AreFresh steps cs = (x : ℕ) (c : Cell) → slice_get cs x ≡ Some c → (c.left ≡ steps) × (c.wish.by_step ≡ false) × (c.wish.asked ≡ false)
+
+-- A KERNEL MAY BEGIN with this store and these cells
+pub record MayBegin {D : Type 0} (tells : Type 0) (reading : D → Image) (may_leave : D → Image → Type 0) (steps : ℕ) (st : State D) (cs : List Cell) : Type 0 where
+  pub sound : IsSound tells reading may_leave (λ _. 4) (record { store = st; cells = cs; noted = record { entries = []; marks = []; room = 0 } })
+  pub fresh : AreFresh steps cs
+  pub steps_few : steps ≤ 40000
+  pub versions : (x : ℕ) → version_of cs x ≤ 2 ^ 62
+  pub epoch : (books st).place.epoch ≤ 2 ^ 62 + 1
+
+module _ {D : Type 0} (tells : Type 0) (clock faults : D → ℕ) (reading : D → Image) (may_leave : D → Image → Type 0) (left_since : D → ℕ → Image → Type 0) where
+  -- THE KERNEL IS LIVE in a run, and while it goes on its pages are clean
+  pub record Lives (b : Beginning) (k : Held D) : Type 0 where
+    pub live : LivesAs tells clock faults reading may_leave left_since b k.parts (option_map stop_of k.stop)
+    pub clean : k.stop ≡ None → AreClean b.supply (words_on (reading k.parts.store.disk)) k.parts.cells

@@ -1,0 +1,242 @@
+// A running kernel.
+ghost use Rattle.std.specs.Prelude.{◌≡◌, ◌↔◌, ◌⊎◌, ◌+◌, ◌*◌, ◌≤◌, ◌++◌, ℕ, List, [], true, false, None, Some, is_some, Ok, Err, IfErr, IfOk, IfSome, IsErrOf, OnOk, slice_get};
+ghost use Rattle.hop_model.specs.State.{Supply};
+ghost use Rattle.cell_table.specs.Tables.{AreClean};
+ghost use Rattle.disk_trait.specs.declared.disk.NoBlocks.{NoBlocks as TooFewBlocks};
+ghost use Rattle.kernel_cells.specs.declared.cells.Cell.{Cell as ACell};
+ghost use Rattle.kernel_cells.specs.declared.cells.Part.{Part as APart};
+ghost use Rattle.kernel_core.specs.Kernels.{Lives, MayBegin};
+ghost use Rattle.kernel_core.specs.Looking.{StopsLook};
+ghost use Rattle.kernel_core.specs.Recording.{HasRecorded, HasTried, IsShort};
+ghost use Rattle.kernel_core.specs.Snapping.{Snaps};
+ghost use Rattle.kernel_core.specs.Stepping.{idle_at};
+ghost use Rattle.kernel_core.specs.declared.stopping.Stopped.{Stopped as AStop};
+ghost use Rattle.kernel_model.specs.Beginnings.{Beginning, run_of};
+ghost use Rattle.kernel_records.specs.Committing.{CommitCounts};
+ghost use Rattle.record_laws.specs.Cells.{words_on};
+ghost use Rattle.serial_runs.specs.Serial.{look};
+
+use crate::inner::Core;
+use crate::looking::look_core;
+use crate::notes::Notes;
+use crate::snapping::snap_one;
+use crate::stopping::Stopped;
+use atlas_dir::Atlas;
+use block_code::Blob;
+use disk_trait::Disk;
+use hop_base::{Entity, Entry};
+use kernel_cells::{Cell, Part};
+use manager_gate::{Gate, Policy, Supplier};
+use snapshot_store::{OpenFault, OpenWhy, Store};
+use std::alloc::{AllocError, Global};
+use std::marker::Model;
+
+// A run on one thread with so many steps of each locus has four entries at most for each step, those of the births with their Stable, and
+// a record of each entity beside.
+const ENTRIES_A_STEP: usize = 4 * 23;
+
+const ENTRIES_BESIDE: usize = 200;
+
+// The memory of a kernel for runs with so many steps of each locus: that of the history, and of one blob.
+fn memory_for(alloc: Global, steps: u32) -> Result<(Notes, Blob), AllocError>
+    requires few { steps ≤ 40000 }
+    ensures nothing { IfOk result (λ m. (m.0.entries ≡ []) × (m.0.marks ≡ [])) }
+    ensures room { IfOk result (λ m. m.0.room ≡ 92 * steps + 200) }
+{
+    let room = ENTRIES_A_STEP * steps as usize + ENTRIES_BESIDE;
+    let notes = Notes::new(alloc, room)?;
+    let blob = Blob::new(alloc)?;
+    Ok((notes, blob))
+}
+
+/// A kernel over the cells of its entities and the store of its image. It takes no memory after it has begun.
+#[derive(Drop)]
+pub struct Kernel<D: Disk> {
+    pub(crate) core: Core<D>,
+    pub(crate) stopped: Option<Stopped>,
+}
+
+/// What is left of a kernel: its disk, the history with its marks, and why it had stopped, if it had.
+#[derive(Drop)]
+pub struct Ended<D> {
+    pub disk: D,
+    pub history: Vec<Entry>,
+    pub marks: Vec<u64>,
+    pub stopped: Option<Stopped>,
+}
+
+impl<D: Disk> Model for Kernel<D> {
+    ghost use Rattle.kernel_core.specs.Kernels.{Held, IsKept};
+
+    ghost Value = { Held D };
+
+    ghost view = { λ k. record { parts = k.core; stop = k.stopped } };
+
+    ghost invariant = { λ k. IsKept D.tells D.reading D.may_leave (record { parts = k.core; stop = k.stopped }) };
+}
+
+impl<D: Disk> Kernel<D> {
+    /// A kernel over a store and the 64 cells of its image, for runs with so many steps of each locus. It takes the memory of the
+    /// history, 92 entries of 64 bytes for each step and 200 beside, and of one blob. Where that runs out, the disk comes back.
+    pub fn begin(
+        alloc: Global,
+        store: Store<D>,
+        cells: Vec<Cell>,
+        steps: u32,
+    ) -> Result<Kernel<D>, OpenFault<D>>
+        requires may { MayBegin D.tells D.reading D.may_leave steps store cells.items }
+        ensures parts { IfOk result (λ k. (k.parts.store ≡ store) × (k.parts.cells ≡ cells.items)) }
+        ensures nothing { IfOk result (λ k. (k.parts.noted.entries ≡ []) × (k.parts.noted.marks ≡ []) × (k.stop ≡ None)) }
+        ensures room { IfOk result (λ k. k.parts.noted.room ≡ 92 * steps + 200) }
+        ensures memory { IfErr result (λ fault. (fault.why ≡ OpenWhy.Memory) × (fault.disk ≡ store.disk)) }
+    {
+        match memory_for(alloc, steps) {
+            Ok((notes, blob)) => {
+                let core = Core {
+                    store,
+                    cells,
+                    blob,
+                    notes,
+                };
+                Ok(Kernel {
+                    core,
+                    stopped: None,
+                })
+            }
+            Err(_) => Err(OpenFault {
+                why: OpenWhy::Memory,
+                disk: store.into_disk(),
+            }),
+        }
+    }
+
+    /// The history of the run so far.
+    pub fn history(&self) -> &[Entry]
+        ensures { result.now ≡ self.now.parts.noted.entries }
+    {
+        self.core.notes.entries()
+    }
+
+    /// How many writes and syncs were begun, of the store, when each of the history's records stood, one after another.
+    pub fn marks(&self) -> &[u64]
+        ensures { result.now ≡ self.now.parts.noted.marks }
+    {
+        self.core.notes.marks()
+    }
+
+    /// The 64 cells, each at its entity's number.
+    pub fn cells(&self) -> &[Cell]
+        ensures { result.now ≡ self.now.parts.cells }
+    {
+        &self.core.cells
+    }
+
+    /// The directory of who is born.
+    pub fn atlas(&self) -> &Atlas
+        ensures { (c : ACell) → slice_get self.now.parts.cells 0 ≡ Some c → c.part ≡ APart.Atlas result.now }
+    {
+        match &self.core.cells[0].part {
+            Part::Atlas(atlas) => atlas,
+            _ => unreachable!(),
+        }
+    }
+
+    /// Why the kernel has stopped, if it has.
+    pub fn stopped(&self) -> Option<Stopped>
+        ensures { result ≡ self.now.stop }
+    {
+        self.stopped
+    }
+
+    /// The disk as the kernel left it, with the history and the marks.
+    pub fn into_ended(self) -> Ended<D>
+        ensures disk { result.disk ≡ self.parts.store.disk }
+        ensures history { result.history.items ≡ self.parts.noted.entries }
+        ensures marks { result.marks.items ≡ self.parts.noted.marks }
+        ensures stopped { result.stopped ≡ self.stop }
+    {
+        let stopped = self.stopped;
+        let core = self.core;
+        let store = core.store;
+        let notes = core.notes;
+        let (history, marks) = notes.into_lists();
+        Ended {
+            disk: store.into_disk(),
+            history,
+            marks,
+            stopped,
+        }
+    }
+
+    /// Makes a record of an entity where one is wished and fewer than four kept records are its own, and tells whether it did. A kernel
+    /// that has stopped does nothing, and tells why it stopped; one that a fault meets stops.
+    ///
+    /// `TooFew` comes exactly where fewer blocks are free than the record needs, with both numbers, before the first write. `Failed` comes
+    /// only where the disk's count of faults rose: the record may be found when the image is opened again, or not.
+    ///
+    /// A record takes at most 1,556 writes and syncs.
+    pub fn snap<S: Supplier, P: Policy>(
+        &mut self,
+        entity: Entity,
+        gate: &Gate<S, P>,
+    ) -> Result<bool, Stopped>
+        requires keeps { P.keeps gate.now.policy }
+        ensures was_stopped { IfSome self.old.stop (λ why. (result ≡ Err why) × (self.new ≡ self.old)) }
+        ensures stops { IfErr result (λ why. self.new.stop ≡ Some why) }
+        ensures goes { OnOk result (self.new.stop ≡ None) }
+        ensures made { self.old.stop ≡ None → Snaps (P.wish gate.now.policy) entity self.old.parts true
+            → OnOk result ((result ≡ Ok true) × HasRecorded D.tells D.clock D.faults D.reading D.may_leave D.left_since entity self.old.parts self.new.parts) }
+        ensures none { self.old.stop ≡ None → Snaps (P.wish gate.now.policy) entity self.old.parts false → (result ≡ Ok false) × (self.new ≡ self.old) }
+        ensures failed { self.old.stop ≡ None → IsErrOf result AStop.Failed → HasTried D.tells D.clock D.faults D.reading D.may_leave D.left_since entity self.old.parts self.new.parts }
+        ensures too_few { (n : TooFewBlocks) → self.old.stop ≡ None
+            → IsErrOf result (AStop.TooFew n) ↔ (Snaps (P.wish gate.now.policy) entity self.old.parts true × IsShort D.tells D.clock D.faults D.reading D.may_leave D.left_since entity self.old.parts n) }
+        ensures untouched { (n : TooFewBlocks) → self.old.stop ≡ None → IsErrOf result (AStop.TooFew n) → self.new.parts ≡ self.old.parts }
+        ensures run { D.tells → (b : Beginning) → b.policy ≡ P.wish gate.now.policy → Lives D.tells D.clock D.faults D.reading D.may_leave D.left_since b self.old
+            → Lives D.tells D.clock D.faults D.reading D.may_leave D.left_since b self.new }
+        ensures counts { CommitCounts D.clock D.faults self.old.parts.store self.new.parts.store }
+    {
+        if let Some(why) = self.stopped {
+            return Err(why);
+        }
+        let made = snap_one(&mut self.core, entity, gate);
+        self.stopped = made.err();
+        made
+    }
+
+    /// One look at the locus with this number: its step, and behind it the Stable that it owes, or a Snap of each entity that it wrote
+    /// whose wish is open and of which fewer than four kept records are. Tells whether a step was made; none is made where the locus
+    /// can't step. A kernel that has stopped does nothing, and tells why it stopped; one that a fault meets stops.
+    ///
+    /// `TooFew` comes only where fewer blocks are free than are needed, for a page of the step or for a record behind it, with both
+    /// numbers. `Failed` comes only where the disk's count of faults rose over the step, or over what came behind it. Where the step
+    /// itself fails nothing is noted of it; where a record behind it fails the step is noted, with the Snaps that were made.
+    ///
+    /// A step takes at most one write, the Snaps behind it three records, and a Stable one for each of the 64 entities.
+    pub fn step<S: Supplier, P: Policy>(
+        &mut self,
+        me: Entity,
+        gate: &Gate<S, P>,
+    ) -> Result<bool, Stopped>
+        requires keeps { S.keeps gate.now.supply }
+        requires wishes { P.keeps gate.now.policy }
+        requires clean { D.tells → self.old.stop ≡ None → AreClean (S.word gate.now.supply) (words_on (D.reading self.old.parts.store.disk)) self.old.parts.cells }
+        ensures was_stopped { IfSome self.old.stop (λ why. (result ≡ Err why) × (self.new ≡ self.old)) }
+        ensures stops { IfErr result (λ why. self.new.stop ≡ Some why) }
+        ensures goes { OnOk result (self.new.stop ≡ None) }
+        ensures idle { (s : Supply) (words : ℕ → List ℕ) → self.old.stop ≡ None → (is_some (idle_at s words me self.old.parts.cells) ≡ true) ↔ (result ≡ Ok false) }
+        ensures still { result ≡ Ok false → self.new ≡ self.old }
+        ensures stopped { self.old.stop ≡ None → IfErr result (StopsLook D.tells D.clock D.faults D.reading D.may_leave D.left_since me self.old.parts self.new.parts) }
+        ensures looks { D.tells → (b : Beginning) → b.supply ≡ S.word gate.now.supply → b.policy ≡ P.wish gate.now.policy
+            → Lives D.tells D.clock D.faults D.reading D.may_leave D.left_since b self.old → self.old.stop ≡ None
+            → OnOk result (self.new.parts.noted.entries ≡ self.old.parts.noted.entries ++ look b.supply b.policy b.script (run_of b self.old.parts.noted.entries) me) }
+        ensures run { D.tells → (b : Beginning) → b.supply ≡ S.word gate.now.supply → b.policy ≡ P.wish gate.now.policy
+            → Lives D.tells D.clock D.faults D.reading D.may_leave D.left_since b self.old → Lives D.tells D.clock D.faults D.reading D.may_leave D.left_since b self.new }
+    {
+        if let Some(stop) = self.stopped {
+            return Err(stop);
+        }
+        let looked = look_core(&mut self.core, me, gate);
+        self.stopped = looked.err();
+        looked
+    }
+}

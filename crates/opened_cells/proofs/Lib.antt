@@ -1,0 +1,5 @@
+pub mod Spread
+mod Numbers
+mod OnePart
+mod OneCell
+mod AllCells

@@ -1,0 +1,58 @@
+//! The step of a locus over the kernel's cells and its store, in the words of a running kernel.
+#![tactic(auto)]
+
+ghost use Rattle.std.specs.Prelude.{◌≡◌, ◌↔◌, ℕ, List, Some, false, IfOk, IsErrOf, OnOk, slice_get};
+ghost use Rattle.hop_model.specs.State.{Supply};
+ghost use Rattle.page_store.specs.declared.faults.PageFault.{PageFault as AFault};
+ghost use Rattle.fault_paging.specs.Calls.{IsCausedBy};
+ghost use Rattle.step_plans.specs.Plans.{idle_of};
+ghost use Rattle.step_plans.specs.declared.idle.Idle.{Idle as AnIdle};
+ghost use Rattle.cell_table.specs.Steps.{EntersStep};
+ghost use Rattle.cell_table.specs.Tables.{left_of, state_in, AreClean, AreFewWrites, IsOrderly};
+ghost use Rattle.snapshot_store.specs.State.{books};
+ghost use Rattle.store_model.specs.Books.{free_in};
+ghost use Rattle.record_laws.specs.Cells.{words_on};
+ghost use Rattle.kernel_model.specs.Beginnings.{Beginning};
+ghost use Rattle.kernel_views.specs.Events.{StepsOver, StopsOver};
+ghost use Rattle.store_steps.specs.Leaving.{LeavesInOrder};
+
+use disk_trait::Disk;
+use hop_base::{Entity, Entry};
+use kernel_cells::Cell;
+use manager_gate::{Gate, Policy, Supplier};
+use snapshot_store::Store;
+use table_steps::{StepFault, advance};
+
+/// One step of the locus with this number, over the cells and the store of a kernel.
+///
+/// It answers as `table_steps::advance` does: `Idle` where the locus can't step, with nothing changed, and `Paging` where the look of a
+/// load or a store met a fault, with nothing changed in the model. A kernel of this supplier whose store works goes on by a step that was
+/// made (`EventLaw` of `kernel_views`), and stops at a fault (`StopLaw`).
+///
+/// It takes no memory. It makes at most one read and one write of the disk, of a page each.
+pub fn step_over<D: Disk, S: Supplier, P: Policy>(
+    cells: &mut [Cell],
+    me: Entity,
+    store: &mut Store<D>,
+    gate: &Gate<S, P>,
+) -> Result<Entry, StepFault>
+    requires keeps { S.keeps gate.now.supply }
+    requires orderly { IsOrderly (books store.old).held cells.old }
+    requires few { AreFewWrites cells.old }
+    requires clean { D.tells → AreClean (S.word gate.now.supply) (words_on (D.reading store.old.disk)) cells.old }
+    ensures idle { (s : Supply) → (words : ℕ → List ℕ) → (why : AnIdle)
+        → IsErrOf result (StepFault.Idle why) ↔ (idle_of (left_of (slice_get cells.old me)) (state_in s words cells.old me).cell ≡ Some why) }
+    ensures still { (why : AnIdle) → IsErrOf result (StepFault.Idle why) → (cells.new ≡ cells.old) × (store.new ≡ store.old) }
+    ensures steps { (b : Beginning) → D.tells → b.supply ≡ S.word gate.now.supply → (books store.old).shut ≡ false
+        → IfOk result (StepsOver D.tells D.clock D.faults D.reading D.may_leave D.left_since b me cells.old cells.new store.old store.new) }
+    ensures enters { IfOk result (EntersStep me cells.old cells.new) }
+    ensures stops { (b : Beginning) (f : AFault) → D.tells → b.supply ≡ S.word gate.now.supply → IsErrOf result (StepFault.Paging f)
+        → StopsOver D.tells D.clock D.faults D.reading D.may_leave D.left_since b cells.old cells.new store.old store.new }
+    ensures cause { (f : AFault) → IsErrOf result (StepFault.Paging f)
+        → IsCausedBy (free_in (books store.old)) (D.faults store.old.disk) (D.faults store.new.disk) (books store.old).shut (books store.new).shut f }
+    ensures same_shut { OnOk result ((books store.new).shut ≡ (books store.old).shut) }
+    ensures leaves { LeavesInOrder D.tells D.clock D.reading D.may_leave D.left_since cells.old cells.new store.old store.new }
+    ensures clean { D.tells → AreClean (S.word gate.now.supply) (words_on (D.reading store.new.disk)) cells.new }
+{
+    advance(cells, me, store, gate)
+}

@@ -1,0 +1,40 @@
+-- The atlas that the cells of a table have.
+use Rattle.std.proofs.Common.{◌≡◌, ℕ, List, slice_get, Option, Some, None, refl, ap, ◌∙◌}
+use Rattle.hop_model.specs.State.{Supply}
+use Rattle.hop_model.specs.Steps.{atlas_in}
+use Rattle.atlas_dir.specs.Directory.{Directory}
+use Rattle.kernel_calls.specs.Calls.{atlas_state}
+use Rattle.locus_machine.specs.declared.loci.Head.{Head}
+use Rattle.locus_machine.specs.declared.loci.Locus.{Locus}
+use Rattle.kernel_cells.specs.declared.cells.Cell.{Cell}
+use Rattle.kernel_cells.specs.declared.cells.Part.{Part}
+use Rattle.kernel_cells.specs.declared.cells.Part.TheVariants as part
+use Rattle.kernel_cells.specs.Cells.{container_cell, locus_cell, part_of}
+use Rattle.cell_table.specs.Steps.{HasDirectory}
+use Rattle.cell_table.specs.Tables.{entity_in, state_in}
+use Rattle.table_births.specs.Births.{atlas_state_at, atlas_state_by, atlas_state_in}
+
+module _ (s : Supply) (words : ℕ → List ℕ) where
+  of_part : (p : Part) → atlas_in (part_of s words p) ≡ atlas_state_by p
+  of_part (part.Atlas d) = refl
+  of_part (part.Container b) = by b.head
+    where
+      by : (o : Option Head) → atlas_in (container_cell s words b.memory o) ≡ atlas_state_by (part.Container b)
+      by (Some h) = refl
+      by None = refl
+  of_part (part.Locus l) = by l
+    where
+      by : (o : Option Locus) → atlas_in (locus_cell o) ≡ atlas_state_by (part.Locus l)
+      by (Some k) = refl
+      by None = refl
+
+  at_zero : (o : Option Cell) → atlas_in (entity_in s words 0 o).cell ≡ atlas_state_at o
+  at_zero (Some c) = of_part c.part
+  at_zero None = refl
+
+  -- the state's atlas is the cells'
+  pub same_atlas : (cs : List Cell) → atlas_in (state_in s words cs 0).cell ≡ atlas_state_in cs
+  same_atlas cs = at_zero (slice_get cs 0)
+
+pub has_atlas : (cs : List Cell) (d : Directory) → HasDirectory cs d → atlas_state_in cs ≡ atlas_state d
+has_atlas cs d has = ap atlas_state_at has.is ∙ ap atlas_state_by has.part

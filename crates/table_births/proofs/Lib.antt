@@ -1,0 +1,4 @@
+pub mod AtlasStates
+pub mod LentBirths
+pub mod Newborns
+pub mod Nexts

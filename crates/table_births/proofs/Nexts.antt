@@ -1,0 +1,74 @@
+-- The table that is next over the cells, and what its birth leaves of the progress.
+use Rattle.std.proofs.Common.{◌≡◌, ℕ, ◌+◌, Bool, List, length, None, unwrap_or, is_some, option_map, option_and_then, sym, ap, subst, ◌∙◌}
+use Rattle.hop_base.specs.declared.histories.Entry.{Entry}
+use Rattle.hop_base.specs.declared.histories.Event.TheVariants.{Birth}
+use Rattle.hop_model.specs.Births.{birth_named, next_birth, next_birth_change}
+use Rattle.hop_model.specs.Changes.{Change, carried}
+use Rattle.hop_model.specs.Scripts.{ContainerTable, LocusTable, Script, next_name}
+use Rattle.hop_model.specs.State.{KernelState, Supply}
+use Rattle.hop_model.specs.Steps.{atlas_in}
+use Rattle.script_form.specs.Rules.{IsScript}
+use Rattle.fitting_births.specs.Fitting.{Fits}
+use Rattle.atlas_dir.specs.Directory.{Directory, IsDirectory, entity_named}
+use Rattle.kernel_calls.specs.Calls.{atlas_state}
+use Rattle.directory_laws.proofs.NameLaws.{numbers_same}
+use Rattle.kernel_cells.specs.declared.cells.Cell.{Cell}
+use Rattle.script_against.specs.NextTables.{AreBornBefore, IsNextContainer, IsNextLocus, IsNextTable}
+use Rattle.script_against.specs.declared.tables.NextTable.{NextTable}
+use Rattle.script_against.specs.declared.tables.Progress.{Progress}
+use Rattle.script_against.proofs.ByKind.{container_number}
+use Rattle.script_against.proofs.Staying.{progress_stays}
+use Rattle.cell_births.specs.Bearing.{MayBearContainer, MayBearLocus}
+use Rattle.cell_births.proofs.Readiness.{may_bear_container, may_bear_locus}
+use Rattle.cell_table.specs.Steps.{HasDirectory}
+use Rattle.cell_table.specs.Tables.{IsOrderly, state_in}
+use Rattle.cell_table.proofs.Having.{no_supply, no_words}
+use Rattle.table_steps.proofs.Facing.{cells}
+use Rattle.table_steps.proofs.FacingAtlas.{directory_sound}
+use Rattle.table_births.specs.Births.{BearsQuietly, NoBirthLeft, atlas_state_in}
+use Rattle.table_births.proofs.AtlasStates.{has_atlas, same_atlas}
+
+-- WHAT MAY BE BORN
+module _ (held : ℕ → Bool) (cs : List Cell) (orderly : IsOrderly held cs) (script : Script) (rules : IsScript script) (fits : Fits (atlas_state_in cs) script) (d : Directory) (has : HasDirectory cs d) where
+  fits_here : Fits (atlas_state d) script
+  fits_here = subst (λ a. Fits a script) (has_atlas cs d has) fits
+
+  pub next_container : (t : ContainerTable) → IsNextContainer (atlas_state_in cs) script t → MayBearContainer d t (length d.containers + 1)
+  next_container t next =
+      may_bear_container script d (cells held cs orderly) t rules fits_here (directory_sound held cs orderly d has) (subst (λ a. IsNextContainer a script t) (has_atlas cs d has) next)
+
+  pub next_locus : (t : LocusTable) → IsNextLocus (atlas_state_in cs) script t → (host : ℕ) × MayBearLocus d t host (length d.loci + 41)
+  next_locus t next =
+      may_bear_locus script d (cells held cs orderly) t rules fits_here (directory_sound held cs orderly d has) (subst (λ a. IsNextLocus a script t) (has_atlas cs d has) next)
+
+-- what is next by the directory is next by the cells
+pub next_here : (script : Script) (cs : List Cell) (d : Directory) (next : NextTable) → HasDirectory cs d → IsNextTable (atlas_state d) script next → IsNextTable (atlas_state_in cs) script next
+next_here script cs d next has is = subst (λ a. IsNextTable a script next) (sym (has_atlas cs d has)) is
+
+-- the number that is found for the host is the host's
+pub host_found : (d : Directory) (t : LocusTable) (host n : ℕ) → IsDirectory d → MayBearLocus d t host n → unwrap_or (entity_named d t.host) 0 ≡ host
+host_found d t host n names may = ap (λ o. unwrap_or o 0) (numbers_same d t.host ∙ (container_number d t.host host names may.hosted).named)
+
+-- NOTHING IS LEFT
+pub none_left : (script : Script) (cs : List Cell) → next_name (atlas_state_in cs) script ≡ None → NoBirthLeft script cs
+unfolding next_birth_change
+none_left script cs none = record {
+  next = none;
+  birth = no_birth;
+  over = λ s words r at. ap (λ (w : KernelState). is_some (next_name (atlas_in (w 0).cell) script)) at ∙ ap is_some (none_in s words);
+}
+  where
+    none_in : (s : Supply) (words : ℕ → List ℕ) → next_name (atlas_in (state_in s words cs 0).cell) script ≡ None
+    none_in s words = ap (λ a. next_name a script) (same_atlas s words cs) ∙ none
+
+    no_birth : (s : Supply) (words : ℕ → List ℕ) → next_birth s script (state_in s words cs) ≡ None
+    no_birth s words =
+        let w = state_in s words cs in
+        ap (λ o. option_map (λ (c : ℕ × Change). carried w Birth c.0 c.1) (option_and_then (λ name. birth_named s script name w (atlas_in (w 0).cell)) o)) (none_in s words)
+
+-- PROGRESS
+pub progress_after : (script : Script) (cs cs' : List Cell) (e : Entry) (p : Progress) → IsScript script → BearsQuietly script cs cs' e → AreBornBefore (atlas_state_in cs) script p → AreBornBefore (atlas_state_in cs') script p
+progress_after script cs cs' e p rules bears before =
+    subst (λ a. AreBornBefore a script p) (same_atlas no_supply no_words cs')
+    (progress_stays no_supply script (state_in no_supply no_words cs) (e, state_in no_supply no_words cs') p rules (bears.bears no_supply no_words).birth
+    (subst (λ a. AreBornBefore a script p) (sym (same_atlas no_supply no_words cs)) before))

@@ -1,0 +1,5 @@
+pub mod Names
+pub mod Parsing
+pub mod Actors
+pub mod Lining
+pub mod Alike

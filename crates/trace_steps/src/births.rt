@@ -1,0 +1,65 @@
+//! A birth of the script's next name.
+ghost use Rattle.std.specs.Prelude.{◌≡◌, ℕ, IfNone, IfOk, IfSome, Some, None, false};
+ghost use Rattle.hop_base.specs.declared.histories.Event.TheVariants.{Birth as BirthEvent};
+ghost use Rattle.hop_model.specs.Scripts.{next_name as next_of};
+ghost use Rattle.history_model.specs.Plains.{atlas_of};
+ghost use Rattle.script_form.specs.Scripts.{tables_of};
+ghost use Rattle.trace_steps.specs.Standing.{GoesOn, IsStanding, Managers, Refuses, owing};
+ghost use Rattle.history_model.specs.Born.{HasFewNames};
+
+use crate::checker::Checker;
+use history_model::plain_birth;
+use hop_base::{Entity, Entry};
+use plain_run::next_name;
+use script_form::Script;
+use std::alloc::{AllocError, Global};
+
+/// Whether names are left to be born. After the last birth the Stable of the atlas is owed.
+fn owe_births(checker: &mut Checker, script: &Script)
+    requires { HasFewNames checker.old.state.atlas }
+    ensures { checker.new ≡ owing (next_of (atlas_of checker.old.state.atlas) (tables_of script.now)) checker.old }
+{
+    if next_name(script, &checker.state.atlas).is_some() {
+        checker.births_left = true;
+        checker.owed = None;
+    } else {
+        checker.births_left = false;
+        checker.owed = Some(Entity::ATLAS);
+    }
+}
+
+/// The birth of the script's next name. None exactly where no birth can be next. After None or want of memory the checker
+/// stands nowhere.
+pub fn birth(
+    alloc: Global,
+    checker: &mut Checker,
+    script: &Script,
+) -> Result<Option<Entry>, AllocError>
+    ghost gate: { Managers }
+    requires tried { checker.old.tried ≡ false }
+    requires stands { IsStanding gate.word gate.wish (tables_of script.now) checker.old }
+    ensures some { IfOk result (λ o. IfSome o (λ e. GoesOn gate.word gate.wish (tables_of script.now) checker.old BirthEvent e.actor e checker.new)) }
+    ensures none { IfOk result (λ o. IfNone o ((actor : ℕ) → Refuses gate.word gate.wish (tables_of script.now) checker.old BirthEvent actor)) }
+{
+    if !checker.began {
+        return Ok(None);
+    }
+    let Some(name) = next_name(script, &checker.state.atlas) else {
+        return Ok(None);
+    };
+    let Some(entry) = plain_birth(
+        alloc,
+        &mut checker.state,
+        &mut checker.versions,
+        script,
+        name,
+    )?
+    else {
+        return Ok(None);
+    };
+    let touched = entry.touched;
+    checker.clocks.take_in(touched);
+    checker.wishes.take_birth(touched);
+    owe_births(checker, script);
+    Ok(Some(entry))
+}

@@ -1,0 +1,70 @@
+//! A checker before the first entry.
+ghost use Rattle.std.specs.Prelude.{◌≡◌, ◌≤◌, ◌^◌, [], All, IfOk, false};
+ghost use Rattle.hop_model.specs.Histories.{Policy as AnyPolicy};
+ghost use Rattle.hop_model.specs.Soundness.{IsSound};
+ghost use Rattle.hop_model.specs.State.{Supply};
+ghost use Rattle.history_model.specs.Born.{AreEdges, AreOfOneKind};
+ghost use Rattle.history_model.specs.Plains.{atlas_of, cells_of};
+ghost use Rattle.script_form.specs.Rules.{IsScript};
+ghost use Rattle.script_form.specs.Scripts.{tables_of};
+ghost use Rattle.trace_parts.specs.Clocks.{clock_at};
+ghost use Rattle.trace_steps.specs.Recording.{Opens};
+ghost use Rattle.trace_steps.specs.Standing.{Stands, fresh};
+
+use crate::checker::Checker;
+use crate::stables::append_changed;
+use history_model::Plain;
+use hop_base::Cut;
+use plain_run::next_name;
+use script_form::Script;
+use std::alloc::{AllocError, Global};
+use trace_parts::{Clocks, Cuts, Wishes};
+
+/// The cut at the start, and a record of each entity that has a version there.
+fn opened(alloc: Global, clocks: &Clocks, versions: &[u64; 64]) -> Result<Cuts, AllocError>
+    ensures { IfOk result (λ cuts. Opens versions.now (clock_at clocks.now) cuts) }
+{
+    let mut cuts = Cuts {
+        start: Cut(*versions),
+        cut: Cut(*versions),
+        recs: Vec::new(alloc),
+    };
+    append_changed(&mut cuts, clocks, &[0; 64], versions)?;
+    Ok(cuts)
+}
+
+/// A checker before the first entry of a run of the script from this state. Its clocks tell nothing: which histories are legal
+/// doesn't depend on the clocks at the start.
+pub fn begin(
+    alloc: Global,
+    start: Plain,
+    versions: [u64; 64],
+    script: &Script,
+) -> Result<Checker, AllocError>
+    requires sound { (s : Supply) → IsSound (cells_of s start) }
+    requires edges { AreEdges start.atlas.edges.items }
+    requires low { All (λ v. v ≤ 2 ^ 62) versions }
+    requires script { IsScript (tables_of script.now) }
+    requires kinds { AreOfOneKind (atlas_of start.atlas) (tables_of script.now) }
+    ensures stands { IfOk result (λ c. (s : Supply) (p : AnyPolicy) → Stands s p (tables_of script.now) (fresh s start versions) c []) }
+    ensures untried { IfOk result (λ c. c.tried ≡ false) }
+{
+    let clocks = Clocks::new(alloc)?;
+    let cuts = opened(alloc, &clocks, &versions)?;
+    let mut wishes = Wishes::new(&versions);
+    wishes.full = cuts.full();
+    let births_left = next_name(script, &start.atlas).is_some();
+    Ok(Checker {
+        state: start,
+        versions,
+        clocks,
+        wishes,
+        cuts,
+        made: [0; 64],
+        began: true,
+        owed: None,
+        short: false,
+        births_left,
+        tried: false,
+    })
+}
