@@ -28,12 +28,6 @@ shown_next rs i r y lt is = by (r.target == y) refl
     by true e = count_by_more_yes (λ (q : Region). q.target == y) rs i r lt (at e)
     by false e = count_by_more_no (λ (q : Region). q.target == y) rs i r lt (at e) ∙ omega arith
 
-pub few_shown : (rs : List Region) (i y : ℕ) → shown (take i rs) y ≤ i
-few_shown rs i y =
-    let all = count_by-le-length (λ (r : Region). r.target == y) (take i rs) in
-    let len = length-take i rs in
-    omega (arith, all, len)
-
 -- one edge more
 pub linked : (old here new : Edges) (n : ℕ) (rs : List Region) (i : ℕ) (r : Region) → i < length rs → r ≡ get_or rs i r
     → ((x y : ℕ) → here x y ≡ old x y + (if x == n then shown (take i rs) y else 0)) → new ≡ with_edge here n r.target (here n r.target + 1)

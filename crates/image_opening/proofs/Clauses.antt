@@ -1,6 +1,6 @@
 -- The clauses of an image that is opened.
 use Rattle.std.proofs.Common.{◌≡◌, ◌⊎◌, inl, inr, ℕ, ◌+◌, ◌-◌, ◌^◌, ◌<◌, ◌≤◌, List, length, Option, Some, None, refl, sym, ap, subst, ◌∙◌, ⊎_elim, arith}
-use Rattle.std.specs.Prelude.{AllPairs, Err, IfErr, IfOk, IsErrOf, MatchResult, Ok, Result, slice_index}
+use Rattle.std.specs.Prelude.{AllPairs, Err, IfErr, IsErrOf, MatchResult, Ok, Result, slice_index}
 use Rattle.std.proofs.lemmas.Bool.{cases_lt}
 use Rattle.disk_trait.specs.Counts.{Rose}
 use Rattle.disk_trait.specs.Disk.{Only, Ticks}
@@ -73,8 +73,8 @@ module _ {D : Type 0} (log : ImageLog) (parts : ImageParts) (tables : List Shado
   those = parts_of parts.entities.items
 
   -- THE STORE whatever the disk tells
-  pub opened : (count : ℕ) → IsKnown count log → HasKept tables st new → IsOpened new parts
-  opened count known kept = record {
+  pub opened : (count : ℕ) → IsKnown count log → HasKept tables st new → (books st).begun ≤ (books new).begun → IsOpened new parts
+  opened count known kept later = record {
     log = log;
     known = record { enough = known.enough; most = known.most; within = omega arith; few = known.few; epoch = known.epoch; in_range = known.in_range; ascending = known.ascending };
     parts_are = is.parts_are;
@@ -89,6 +89,7 @@ module _ {D : Type 0} (log : ImageLog) (parts : ImageParts) (tables : List Shado
     read = kept.read;
     small = kept.same_small ∙ fresh.small;
     working = kept.working;
+    synced = (let one = fresh.one in omega (arith, one, later));
   }
 
   -- and where it does
@@ -162,10 +163,6 @@ module _ {D : Type 0} {clock : D → ℕ} {may_leave : D → Image → Type 0} {
 
 -- WHAT CAME of a call
 
-pub ok_weaker : {T E : Type 0} (r : Result T E) (P Q : T → Type 0) → ((x : T) → P x → Q x) → IfOk r P → IfOk r Q
-ok_weaker (Ok x) P Q more has = more x has
-ok_weaker (Err e) P Q more has = tt
-
 pub err_weaker : {T E : Type 0} (r : Result T E) (P Q : E → Type 0) → ((e : E) → P e → Q e) → IfErr r P → IfErr r Q
 err_weaker (Ok x) P Q more has = tt
 err_weaker (Err e) P Q more has = more e has
@@ -189,6 +186,10 @@ image_cause tells a b log before mid now why.Memory same of one two cause = tt
 
 pub keep_not_foreign : (before now : ℕ) (w : OpenWhy) (bad : Bad) → HasKeepCause before now w → w ≡ why.Foreign bad → ⊥
 keep_not_foreign before now w bad cause is = subst (HasKeepCause before now) is cause
+
+-- nor was a write that failed a bad place
+pub foreign_not_failed : (w : OpenWhy) (bad : Bad) → w ≡ why.Foreign bad → w ≡ why.WriteFault → ⊥
+foreign_not_failed w bad is failed = cc
 
 pub open_not_foreign : (tells : Type 0) (image : Image) (before now : ℕ) (w : OpenWhy) (bad : Bad) → tells → Accepted image → HasImageCause tells image before now w → w ≡ why.Foreign bad → ⊥
 open_not_foreign tells image before now w bad t a cause is = not_both image bad a (subst (HasImageCause tells image before now) is cause t)

@@ -2,13 +2,14 @@
 use Rattle.std.specs.Prelude.{◌≡◌, ℕ, ◌+◌, ◌<◌, ◌≤◌, ◌^◌, true, false, List, [], Some, None, slice_get, slice_index}
 use Rattle.disk_trait.specs.Counts.{Rose}
 use Rattle.disk_trait.specs.Disk.{LeavesNoMore, Only, Ticks}
+use Rattle.disk_tally.specs.Counts.{Begins, shown}
 use Rattle.disk_trait.specs.Image.{Image, SameOutside}
 use Rattle.hop_model.specs.State.{KernelState, Supply}
 use Rattle.image_blocks.specs.Checks.{active_area}
 use Rattle.image_blocks.specs.Layout.{epoch_in, last_number}
 use Rattle.image_blocks.specs.declared.areas.Area.{Area}
 use Rattle.image_meaning.specs.Foreign.{IsBadMeaning, IsForeign}
-use Rattle.image_meaning.specs.Meaning.{Means}
+use Rattle.image_meaning.specs.Meaning.{Accepted, Means}
 use Rattle.image_parts.specs.Parts.{ArePartsOf, IsAcceptedWith}
 use Rattle.image_parts.specs.Tables.{AreTablesOf}
 use Rattle.image_parts.specs.declared.parts.ImageParts.{ImageParts}
@@ -17,6 +18,8 @@ use Rattle.log_reading.specs.Logs.{IsKnown, IsLogOf}
 use Rattle.log_reading.specs.declared.log.ImageLog.{ImageLog}
 use Rattle.page_shadow.specs.declared.ShadowTable.{ShadowTable}
 use Rattle.part_checks.specs.Chosen.{parts_of}
+use Rattle.record_laws.specs.Cells.{words_on}
+use Rattle.snapshot_store.specs.Opening.{SyncsOnly}
 use Rattle.snapshot_store.specs.State.{State, books}
 use Rattle.snapshot_store.specs.declared.opening.OpenWhy.{OpenWhy}
 use Rattle.snapshot_store.specs.declared.opening.OpenWhy.TheVariants.{Foreign, Memory, ReadFault, WriteFault}
@@ -73,6 +76,7 @@ pub record IsOpened {D : Type 0} (st : State D) (parts : ImageParts) : Type 0 wh
   pub read : (books st).found ≡ false
   pub small : (books st).small ≡ true
   pub working : (books st).shut ≡ false
+  pub synced : 0 < (books st).begun
 
 -- the epoch leaves room for one turn more
 abbrev pub HasTurnLeft : Image → Type 0
@@ -109,6 +113,15 @@ pub record StopsShort {D : Type 0} (may_leave : D → Image → Type 0) (clock :
   pub one : Ticks (clock old) (clock new)
   pub no_more : LeavesNoMore may_leave old new
 
+-- a refused image was synced, and not written: it reads as before, and a stop leaves nothing else
+pub record WasRefused {D : Type 0} (tells : Type 0) (block_count : D → ℕ) (reading : D → Image) (may_leave : D → Image → Type 0) (left_since : D → ℕ → Image → Type 0) (clock faults : D → ℕ) (old new : D) : Type 0 where
+  pub synced : SyncsOnly tells block_count reading may_leave left_since clock faults old new
+  pub stable : tells → Only (reading new) (may_leave new)
+
+-- of a store that is gone: it had begun so many writes and syncs, which are few
+abbrev pub HasBegun : {D : Type 0} → (D → ℕ) → (D → ℕ) → (D → ℕ) → ℕ → ℕ → D → D → Type 0
+HasBegun block_count clock faults most before old new = (begun : ℕ) × Begins most (shown block_count clock faults old before) (shown block_count clock faults new begun)
+
 -- the newest record of each cell is the newest in the log of these books, with this stamp; it rests on newest ones alone, and no entity has more
 -- than one kept record
 pub record AreNewestIn (b : Books) (cs : List Cell) : Type 0 where
@@ -127,6 +140,12 @@ pub record IsOpenedTable {D : Type 0} (frames steps : ℕ) (st : State D) (cs : 
   pub frames_are : HaveFrames frames cs
   pub wishes : (s : Supply) (words : ℕ → List ℕ) → HasTableWishes steps (start_run (state_in s words cs)) cs
   pub clean : (s : Supply) (words : ℕ → List ℕ) → AreClean s words cs
+
+-- THEY ARE THE IMAGE'S: it is accepted, its chosen records alone are in the log, ascending by entity, and with each supply the cells are what it means
+pub record AreOfImage {D : Type 0} (image : Image) (st : State D) (cs : List Cell) : Type 0 where
+  pub accepted : Accepted image
+  pub recs : recs_in (books st) ≡ chosen_recs accepted.recs
+  pub means : (s : Supply) → Means s image (state_in s (words_on image) cs)
 
 -- the epoch is what a run may begin with
 abbrev pub HasLowEpoch : Image → Type 0

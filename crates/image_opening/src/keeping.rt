@@ -8,7 +8,7 @@ ghost use Rattle.image_parts.specs.Parts.{IsAcceptedWith};
 ghost use Rattle.part_checks.specs.Chosen.{parts_of};
 ghost use Rattle.snapshot_store.specs.Opening.{IsSynced};
 ghost use Rattle.snapshot_store.specs.State.{books};
-ghost use Rattle.image_opening.specs.Images.{AreReadOf, HasImageCause, HasKeepCause, HasTurnLeft, HoldsImage, IsOpened, MeansSame, MeansSince, StopsShort};
+ghost use Rattle.image_opening.specs.Images.{AreReadOf, HasBegun, HasImageCause, HasKeepCause, HasTurnLeft, HoldsImage, IsOpened, MeansSame, MeansSince, StopsShort, WasRefused};
 
 use crate::reading::{ReadImage, read_image};
 use disk_trait::Disk;
@@ -27,8 +27,9 @@ fn kept<D: Disk>(alloc: Global, read: ReadImage<D>) -> Result<(Store<D>, ImagePa
     ensures moments { D.tells → HasTurnLeft (D.reading read.synced.disk) → MatchResult result
         (λ o. LeavesOnly D.clock D.left_since read.synced.disk o.0.disk (MeansSame (D.reading read.synced.disk)))
         (λ fault. LeavesOnly D.clock D.left_since read.synced.disk fault.disk (MeansSame (D.reading read.synced.disk))) }
-    ensures begins { IfOk result (λ o. Begins 137 (shown D.block_count D.clock D.faults read.synced.disk 1) (shown D.block_count D.clock D.faults o.0.disk (books o.0).begun)) }
-    ensures count { IfErr result (λ fault. D.block_count fault.disk ≡ D.block_count read.synced.disk) }
+    ensures begins { MatchResult result
+        (λ o. Begins 137 (shown D.block_count D.clock D.faults read.synced.disk 1) (shown D.block_count D.clock D.faults o.0.disk (books o.0).begun))
+        (λ fault. HasBegun D.block_count D.clock D.faults 137 1 read.synced.disk fault.disk) }
 {
     let ReadImage {
         synced,
@@ -60,6 +61,8 @@ pub fn keep_image<D: Disk>(alloc: Global, disk: D) -> Result<(Store<D>, ImagePar
     ensures holds { D.tells → IfOk result (λ o. HoldsImage D.reading D.may_leave (D.reading disk) o.0 o.1) }
     ensures cause { IfErr result (λ fault. HasImageCause D.tells (D.reading disk) (D.faults disk) (D.faults fault.disk) fault.why) }
     ensures not_foreign { D.tells → Accepted (D.reading disk) → IfErr result (λ fault. (bad : BadPlace) → fault.why ≡ OpenWhy.Foreign bad → ⊥) }
+    ensures refused { IfErr result (λ fault. (bad : BadPlace) → fault.why ≡ OpenWhy.Foreign bad
+        → WasRefused D.tells D.block_count D.reading D.may_leave D.left_since D.clock D.faults disk fault.disk) }
     // From the end of the sync on each image that a stop leaves means what was meant before; only where the sync failed nothing is said.
     ensures since { D.tells → HasTurnLeft (D.reading disk) → MatchResult result
         (λ o. MeansSince D.reading D.left_since D.clock disk o.0.disk)
@@ -68,8 +71,9 @@ pub fn keep_image<D: Disk>(alloc: Global, disk: D) -> Result<(Store<D>, ImagePar
     ensures any_moment { D.tells → HasTurnLeft (D.reading disk) → MatchResult result
         (λ o. LeavesOnly D.clock D.left_since disk o.0.disk (λ c. D.may_leave disk c ⊎ MeansSame (D.reading disk) c))
         (λ fault. LeavesOnly D.clock D.left_since disk fault.disk (λ c. D.may_leave disk c ⊎ MeansSame (D.reading disk) c)) }
-    ensures begins { IfOk result (λ o. Begins 138 (shown D.block_count D.clock D.faults disk 0) (shown D.block_count D.clock D.faults o.0.disk (books o.0).begun)) }
-    ensures count { IfErr result (λ fault. D.block_count fault.disk ≡ D.block_count disk) }
+    ensures begins { MatchResult result
+        (λ o. Begins 138 (shown D.block_count D.clock D.faults disk 0) (shown D.block_count D.clock D.faults o.0.disk (books o.0).begun))
+        (λ fault. HasBegun D.block_count D.clock D.faults 138 0 disk fault.disk) }
 {
     match read_image(alloc, disk) {
         Ok(read) => kept(alloc, read),

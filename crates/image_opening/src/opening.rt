@@ -6,7 +6,7 @@ ghost use Rattle.image_blocks.specs.Checks.{Bad as BadPlace};
 ghost use Rattle.image_meaning.specs.Meaning.{Accepted};
 ghost use Rattle.snapshot_store.specs.State.{books};
 ghost use Rattle.store_model.specs.Books.{AreTrue};
-ghost use Rattle.image_opening.specs.Images.{HasImageCause, HasTurnLeft, IsOpenedTable, MeansSame, MeansSince, StartsFrom, StopsShort};
+ghost use Rattle.image_opening.specs.Images.{AreOfImage, HasBegun, HasImageCause, HasTurnLeft, IsOpenedTable, MeansSame, MeansSince, StartsFrom, StopsShort, WasRefused};
 
 use crate::keeping::keep_image;
 use disk_trait::Disk;
@@ -28,10 +28,13 @@ pub fn open_parts<D: Disk>(
     requires some { 0 < frames }
     requires few { frames ≤ 256 }
     ensures table { IfOk result (λ o. IsOpenedTable frames steps o.0 o.1.items) }
+    ensures means { D.tells → IfOk result (λ o. AreOfImage (D.reading disk) o.0 o.1.items) }
     ensures starts { D.tells → IfOk result (λ o. StartsFrom D.tells D.clock D.reading D.may_leave D.left_since steps disk o.0 o.1.items) }
     ensures true_books { D.tells → IfOk result (λ o. AreTrue D.reading D.may_leave (books o.0) o.0.disk) }
     ensures cause { IfErr result (λ fault. HasImageCause D.tells (D.reading disk) (D.faults disk) (D.faults fault.disk) fault.why) }
     ensures not_foreign { D.tells → Accepted (D.reading disk) → IfErr result (λ fault. (bad : BadPlace) → fault.why ≡ OpenWhy.Foreign bad → ⊥) }
+    ensures refused { IfErr result (λ fault. (bad : BadPlace) → fault.why ≡ OpenWhy.Foreign bad
+        → WasRefused D.tells D.block_count D.reading D.may_leave D.left_since D.clock D.faults disk fault.disk) }
     // From the end of the sync on each image that a stop leaves means what was meant before; only where the sync failed nothing is said.
     ensures since { D.tells → HasTurnLeft (D.reading disk) → MatchResult result
         (λ o. MeansSince D.reading D.left_since D.clock disk o.0.disk)
@@ -40,8 +43,9 @@ pub fn open_parts<D: Disk>(
     ensures any_moment { D.tells → HasTurnLeft (D.reading disk) → MatchResult result
         (λ o. LeavesOnly D.clock D.left_since disk o.0.disk (λ c. D.may_leave disk c ⊎ MeansSame (D.reading disk) c))
         (λ fault. LeavesOnly D.clock D.left_since disk fault.disk (λ c. D.may_leave disk c ⊎ MeansSame (D.reading disk) c)) }
-    ensures begins { IfOk result (λ o. Begins 138 (shown D.block_count D.clock D.faults disk 0) (shown D.block_count D.clock D.faults o.0.disk (books o.0).begun)) }
-    ensures count { IfErr result (λ fault. D.block_count fault.disk ≡ D.block_count disk) }
+    ensures begins { MatchResult result
+        (λ o. Begins 138 (shown D.block_count D.clock D.faults disk 0) (shown D.block_count D.clock D.faults o.0.disk (books o.0).begun))
+        (λ fault. HasBegun D.block_count D.clock D.faults 138 0 disk fault.disk) }
 {
     let (store, parts) = match keep_image(alloc, disk) {
         Ok(kept) => kept,

@@ -1,5 +1,5 @@
 -- What a public Snap leaves of a kernel, whatever came of it.
-use Rattle.std.proofs.Common.{◌≡◌, inl, ℕ, Bool, true, false, not, ◌&&◌, if◌then◌else◌, List, [], ◌∷◌, ◌++◌, Option, None, Ok, Err, refl, sym, ap, subst, ◌∙◌}
+use Rattle.std.proofs.Common.{◌≡◌, inl, ℕ, Bool, true, false, not, ◌&&◌, if◌then◌else◌, List, [], ◌∷◌, ◌++◌, Option, None, Some, Ok, Err, refl, sym, ap, subst, ◌∙◌}
 use Rattle.std.specs.Prelude.{OnOk, Result}
 use Rattle.std.specs.Result.{result_err}
 use Rattle.std.proofs.lemmas.List.{append-nil}
@@ -15,13 +15,18 @@ use Rattle.kernel_model.specs.Beginnings.{Beginning, run_of}
 use Rattle.kernel_model.specs.Live.{IsCalm}
 use Rattle.kernel_views.proofs.Legal.{run_next}
 use Rattle.kernel_core.specs.Kernels.{IsKept, Lives}
-use Rattle.kernel_core.specs.Parts.{Parts}
-use Rattle.kernel_core.specs.Recording.{HasTried}
-use Rattle.kernel_core.specs.Snapping.{RunsFree, SnapsOne, wants_in}
-use Rattle.kernel_core.specs.Steady.{IsSteady}
-use Rattle.kernel_core.specs.declared.stopping.Stopped.{Stopped}
-use Rattle.kernel_core.specs.declared.stopping.Stopped.TheVariants.{Failed, TooFew}
-use Rattle.kernel_core.proofs.Stops.{tried_orderly}
+use Rattle.kernel_commits.specs.Parts.{Parts}
+use Rattle.kernel_commits.specs.Recording.{HasTried}
+use Rattle.kernel_commits.specs.Snapping.{RunsFree, SnapsOne, wants_in}
+use Rattle.kernel_commits.specs.Steady.{IsSteady}
+use Rattle.kernel_commits.specs.declared.stopping.Stopped.{Stopped}
+use Rattle.kernel_commits.specs.declared.stopping.Stopped.TheVariants.{Failed, TooFew}
+use Rattle.kernel_commits.proofs.Stops.{tried_orderly}
+
+-- what holds where a call ended well holds while the kernel goes on
+pub while_going : {T P : Type 0} (r : Result T Stopped) → OnOk r P → (o : Option Stopped) → o ≡ result_err r → o ≡ None → P
+while_going (Ok t) p o is none = p
+while_going (Err why) p o is none = absurd (let clash : Some why ≡ None = sym is ∙ none in cc clash)
 
 module _ {D : Type 0} (tells : Type 0) (clock faults : D → ℕ) (reading : D → Image) (may_leave : D → Image → Type 0) (left_since : D → ℕ → Image → Type 0)
     (x : ℕ) (old new : Parts D) (k : IsSteady tells reading may_leave old) where
@@ -31,13 +36,9 @@ module _ {D : Type 0} (tells : Type 0) (clock faults : D → ℕ) (reading : D �
   orderly_after (Err (TooFew n)) steady tried same = subst (λ (p : Parts D). IsOrderly (books p.store).held p.cells) (sym (same n refl)) k.sound.matches.orderly
   orderly_after (Err Failed) steady tried same = tried_orderly tells clock faults reading may_leave left_since x old new k.sound.matches.orderly (tried refl)
 
-  steady_after : (r : Result Bool Stopped) → OnOk r (IsSteady tells reading may_leave new) → result_err r ≡ None → IsSteady tells reading may_leave new
-  steady_after (Ok b) steady none = steady
-  steady_after (Err why) steady none = absurd (cc none)
-
   pub kept_after : (r : Result Bool Stopped) → OnOk r (IsSteady tells reading may_leave new) → (r ≡ Err Failed → HasTried tells clock faults reading may_leave left_since x old new)
       → ((n : TooFewBlocks) → r ≡ Err (TooFew n) → new ≡ old) → (o : Option Stopped) → o ≡ result_err r → IsKept tells reading may_leave (record { parts = new; stop = o })
-  kept_after r steady tried same o is = record { orderly = orderly_after r steady tried same; steady = λ none. steady_after r steady (sym is ∙ none) }
+  kept_after r steady tried same o is = record { orderly = orderly_after r steady tried same; steady = while_going r steady o is }
 
   -- IN A RUN
 

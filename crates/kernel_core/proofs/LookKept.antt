@@ -1,5 +1,5 @@
 -- What a look at a locus leaves of a kernel, whatever came of it.
-use Rattle.std.proofs.Common.{◌≡◌, inl, inr, ℕ, Bool, List, ◌++◌, Option, None, Ok, Err, refl, sym, subst, ◌∙◌}
+use Rattle.std.proofs.Common.{◌≡◌, inl, inr, ℕ, Bool, ◌++◌, Option, Ok, Err, sym, subst}
 use Rattle.std.specs.Prelude.{IfErr, OnOk, Result}
 use Rattle.std.specs.Result.{result_err}
 use Rattle.disk_trait.specs.Image.{Image}
@@ -10,9 +10,10 @@ use Rattle.kernel_model.specs.Beginnings.{Beginning, run_of}
 use Rattle.serial_runs.specs.Serial.{look}
 use Rattle.kernel_core.specs.Kernels.{IsKept, Lives}
 use Rattle.kernel_core.specs.Looking.{LooksInRun, StopsLook}
-use Rattle.kernel_core.specs.Parts.{Parts}
-use Rattle.kernel_core.specs.Steady.{IsSteady}
-use Rattle.kernel_core.specs.declared.stopping.Stopped.{Stopped}
+use Rattle.kernel_commits.specs.Parts.{Parts}
+use Rattle.kernel_commits.specs.Steady.{IsSteady}
+use Rattle.kernel_commits.specs.declared.stopping.Stopped.{Stopped}
+use Rattle.kernel_core.proofs.Kept.{while_going}
 
 module _ {D : Type 0} (tells : Type 0) (clock faults : D → ℕ) (reading : D → Image) (may_leave : D → Image → Type 0) (left_since : D → ℕ → Image → Type 0) (me : ℕ) (old new : Parts D) where
   orderly_by : (r : Result Bool Stopped) → OnOk r (IsSteady tells reading may_leave new) → IfErr r (StopsLook tells clock faults reading may_leave left_since me old new) → IsOrderly (books new.store).held new.cells
@@ -22,13 +23,9 @@ module _ {D : Type 0} (tells : Type 0) (clock faults : D → ℕ) (reading : D �
     | inr behind ↦ behind.leaves.orderly
   ]
 
-  steady_by : (r : Result Bool Stopped) → OnOk r (IsSteady tells reading may_leave new) → result_err r ≡ None → IsSteady tells reading may_leave new
-  steady_by (Ok t) steady none = steady
-  steady_by (Err why) steady none = absurd (cc none)
-
   pub look_kept : (r : Result Bool Stopped) → OnOk r (IsSteady tells reading may_leave new) → IfErr r (StopsLook tells clock faults reading may_leave left_since me old new)
       → (o : Option Stopped) → o ≡ result_err r → IsKept tells reading may_leave (record { parts = new; stop = o })
-  look_kept r steady stopped o is = record { orderly = orderly_by r steady stopped; steady = λ none. steady_by r steady (sym is ∙ none) }
+  look_kept r steady stopped o is = record { orderly = orderly_by r steady stopped; steady = while_going r steady o is }
 
   -- IN A RUN
 

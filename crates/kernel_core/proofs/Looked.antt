@@ -1,13 +1,13 @@
 -- One look at a locus takes a run on: nothing where it can't step; its step with the Snaps that are wished behind it, or with the Stable that it owes.
 use Rattle.std.proofs.Common.{◌≡◌, ℕ, Bool, true, false, ◌&&◌, if◌then◌else◌, List, [], ◌∷◌, ◌++◌, Option, Some, None, Ok, Err, refl, sym, ap, subst, ◌∙◌}
 use Rattle.std.specs.Prelude.{OnOk, Result, ⊤}
-use Rattle.std.proofs.lemmas.List.{append-nil}
+use Rattle.std.proofs.lemmas.List.{append-nil, append_assoc}
 use Rattle.disk_trait.specs.Image.{Image}
 use Rattle.hop_base.specs.declared.histories.Answer.TheVariants.{Reply as Replied}
 use Rattle.hop_base.specs.declared.histories.Entry.{Entry}
 use Rattle.hop_base.specs.declared.instructions.Reply.TheVariants.{Ok as AnsweredOk}
 use Rattle.hop_base.specs.declared.histories.Event.TheVariants.{Stable}
-use Rattle.hop_model.specs.Histories.{Policy, Run, births_owed, is_due, locus_in, mark, owed_by, start_run}
+use Rattle.hop_model.specs.Histories.{Policy, Run, births_owed, goes_on, is_due, locus_in, mark, owed_by, start_run}
 use Rattle.hop_model.specs.Serial.{can_step}
 use Rattle.hop_model.specs.State.{KernelState, Supply}
 use Rattle.sound_runs.proofs.Naming.{births_over}
@@ -19,14 +19,18 @@ use Rattle.kernel_views.proofs.Following.{cells_follow}
 use Rattle.kernel_views.proofs.Legal.{run_next}
 use Rattle.kernel_model.specs.Beginnings.{Beginning, IsLegal, run_of}
 use Rattle.kernel_model.specs.Live.{IsCalm}
-use Rattle.serial_runs.specs.Serial.{IsBehind, IsCalm as IsQuiet, look, wished_snaps, written_in}
-use Rattle.serial_turns.proofs.Looks.{look_behind, look_idle}
-use Rattle.kernel_core.specs.Parts.{LivesAs, Parts, StandsAs, stop_of}
+use Rattle.serial_runs.specs.Serial.{IsBehind, IsCalm as IsQuiet, kept_behind, look, wished_snaps, written_in}
+use Rattle.serial_turns.specs.Turns.{IsStoppedIn}
+use Rattle.serial_turns.proofs.Looks.{look_behind, look_idle, look_made}
+use Rattle.serial_turns.proofs.Stops.{stopped_behind}
+use Rattle.kernel_commits.proofs.Parting.{none_came}
+use Rattle.kernel_commits.specs.Parts.{LivesAs, Noted, Parts, StandsAs, stop_of}
+use Rattle.kernel_commits.specs.Pieces.{StopsIn}
 use Rattle.kernel_core.specs.Looking.{LooksInRun}
-use Rattle.kernel_core.specs.Snapping.{RunsFree, SnapsAll}
-use Rattle.kernel_core.specs.Stabilising.{HasStabilised, OwesStable, Stabilises}
+use Rattle.kernel_commits.specs.Snapping.{RunsFree, SnapsAll}
+use Rattle.kernel_commits.specs.Stabilising.{HasStabilised, OwesStable, Stabilises}
 use Rattle.kernel_core.specs.Stepping.{HasStepped, StepsInRun, is_ok}
-use Rattle.kernel_core.specs.declared.stopping.Stopped.{Stopped}
+use Rattle.kernel_commits.specs.declared.stopping.Stopped.{Stopped}
 use Rattle.kernel_core.proofs.StableOwed.{owed_next, owes_by}
 
 abbrev pub true_result : Bool → Result Bool Stopped
@@ -40,6 +44,13 @@ module _ {D : Type 0} (tells : Type 0) (clock faults : D → ℕ) (reading : D �
     (stands : StandsAs tells clock faults reading may_leave left_since b old) (calm : IsCalm b old.noted.entries) where
   abbrev looked : List Entry
   looked = look b.supply policy b.script (run_of b old.noted.entries) me
+
+  -- the look by the run's own policy, which is this one
+  abbrev StopsInLook : List Entry → Type 0
+  StopsInLook new = StopsIn b (look b.supply b.policy b.script (run_of b old.noted.entries) me) old.noted.entries new
+
+  own_look : (new : List Entry) → StopsIn b looked old.noted.entries new → StopsInLook new
+  own_look new stop = subst (λ (q : Policy). StopsIn b (look b.supply q b.script (run_of b old.noted.entries) me) old.noted.entries new) (sym same) stop
 
   -- births stay made
   born : (new : Parts D) → StandsAs tells clock faults reading may_leave left_since b new → new.noted.entries ≡ old.noted.entries ++ looked → births_owed b.script (run_of b new.noted.entries) ≡ false
@@ -124,6 +135,19 @@ module _ {D : Type 0} (tells : Type 0) (clock faults : D → ℕ) (reading : D �
           lives = tt;
         }
 
+    -- the Stable is owed from there
+    owes_behind : (run_of b mid.noted.entries).owed ≡ Some e.actor → OwesStable tells clock faults reading may_leave left_since b e.actor mid
+    owes_behind owed = record { stands = k.stands; owed = owed; whole = k.behind.short; untried = k.behind.tried }
+
+    -- the one or the other, as the step's answer has it
+    pub owes_then : (owes : Bool) → (run_of b mid.noted.entries).owed ≡ (if owes then Some me else None) → owes ≡ true → OwesStable tells clock faults reading may_leave left_since b e.actor mid
+    owes_then true is _ = owes_behind (is ∙ ap (λ x. Some x) (sym h.enters.actor))
+    owes_then false is owes = absurd (cc owes)
+
+    pub free_then : (owes : Bool) → (run_of b mid.noted.entries).owed ≡ (if owes then Some me else None) → owes ≡ false → RunsFree tells clock faults reading may_leave left_since b policy mid
+    free_then true is free = absurd (cc free)
+    free_then false is _ = free_behind is
+
     stable_entries : (r : Result ⊤ Stopped) (new : Parts D) → OnOk r (HasStabilised e.actor mid new) → OnOk r (new.noted.entries ≡ mid.noted.entries ++ mark Stable e.actor 0 ∷ [])
     stable_entries (Ok y) new made = made.entries
     stable_entries (Err why) new made = tt
@@ -136,9 +160,42 @@ module _ {D : Type 0} (tells : Type 0) (clock faults : D → ℕ) (reading : D �
         → LooksInRun tells clock faults reading may_leave left_since b policy me r old new
     look_behind_step true is r new made stable snaps =
         let owed : (run_of b mid.noted.entries).owed ≡ Some e.actor = is ∙ ap (λ x. Some x) (sym h.enters.actor) in
-        let st = stable refl (record { stands = k.stands; owed = owed; whole = k.behind.short; untried = k.behind.tried }) in
+        let st = stable refl (owes_behind owed) in
         look_stable e.actor owed r new (stable_entries r new (made refl)) st.stands st.calm st.lives
     look_behind_step false is r new made stable snaps = look_snaps is r new (snaps refl (free_behind is))
+
+    -- WHERE IT STOPPED BEHIND ITS STEP: the step came, and a part of what comes behind it
+    mid_next : run_of b mid.noted.entries ≡ goes_on b.supply b.script (run_of b old.noted.entries) e
+    mid_next = ap (run_of b) h.entries ∙ run_next b old.noted.entries e
+
+    abbrev kept : Run → Option ℕ → List Entry
+    kept r o = kept_behind b.supply policy b.script r (written_in e.touched) o
+
+    part_from : (o : Option ℕ) → (run_of b mid.noted.entries).owed ≡ o → (new : List Entry) → StopsIn b (kept (run_of b mid.noted.entries) o) mid.noted.entries new → StopsIn b looked old.noted.entries new
+    part_from o owed new stop =
+        let r0 : Run = run_of b old.noted.entries in
+        let r1 : Run = goes_on b.supply b.script r0 e in
+        record {
+          part = e ∷ stop.part;
+          entries = stop.entries ∙ ap (λ es. es ++ stop.part) h.entries ∙ append_assoc old.noted.entries (e ∷ []) stop.part;
+          is = stopped_behind b.supply b.script r0 looked (e ∷ []) (kept r1 o) stop.part
+              (sym (look_made b.supply policy b.script r0 me e k.state o k.can k.is (sym (ap (λ (q : Run). q.owed) mid_next) ∙ owed)))
+              (subst (λ (q : Run). IsStoppedIn b.supply b.script q (kept q o) stop.part) mid_next stop.is);
+        }
+
+    pub part_behind_step : (owes : Bool) → (run_of b mid.noted.entries).owed ≡ (if owes then Some me else None) → (new : List Entry)
+        → (owes ≡ true → OwesStable tells clock faults reading may_leave left_since b e.actor mid → StopsIn b (mark Stable e.actor 0 ∷ []) mid.noted.entries new)
+        → (owes ≡ false → RunsFree tells clock faults reading may_leave left_since b policy mid
+        → StopsIn b (wished_snaps b.supply policy b.script (run_of b mid.noted.entries) (written_in e.touched)) mid.noted.entries new)
+        → StopsInLook new
+    part_behind_step true is new stable snaps =
+        let owed : (run_of b mid.noted.entries).owed ≡ Some e.actor = is ∙ ap (λ x. Some x) (sym h.enters.actor) in
+        own_look new (part_from (Some e.actor) owed new (stable refl (owes_behind owed)))
+    part_behind_step false is new stable snaps = own_look new (part_from None is new (snaps refl (free_behind is)))
+
+  -- where it stopped at its step, nothing came
+  pub part_at_step : (new : Parts D) → new.noted ≡ old.noted → StopsInLook new.noted.entries
+  part_at_step new as_before = own_look new.noted.entries (none_came b looked old.noted.entries new.noted.entries (ap (λ (n : Noted). n.entries) as_before))
 
   -- told by a step's yes or no
   pub ok_true : (r : Result ⊤ Stopped) (y : ⊤) (new : Parts D) → r ≡ Ok y → LooksInRun tells clock faults reading may_leave left_since b policy me r old new → LooksInRun tells clock faults reading may_leave left_since b policy me (true_result true) old new

@@ -1,5 +1,5 @@
 -- Whether a step owes a Stable, by its locus's cell before it and its answer.
-use Rattle.std.proofs.Common.{◌≡◌, ℕ, Bool, true, false, ◌&&◌, if◌then◌else◌, List, slice_get, Option, Some, None, refl, sym, ap, ◌∙◌}
+use Rattle.std.proofs.Common.{◌≡◌, ℕ, Bool, true, false, ◌&&◌, if◌then◌else◌, List, slice_get, Option, Some, None, refl, ap}
 use Rattle.hop_base.specs.declared.histories.Answer.{Answer}
 use Rattle.hop_base.specs.declared.histories.Answer.TheVariants.{Hop, Print, Quiet, Read, Reply as Replied}
 use Rattle.hop_base.specs.declared.histories.Entry.{Entry}
@@ -9,22 +9,13 @@ use Rattle.hop_base.specs.declared.instructions.Reply.TheVariants.{Ok}
 use Rattle.hop_model.specs.Histories.{Run, goes_on, locus_in, owed_by, went_on}
 use Rattle.hop_model.specs.Scripts.{Script}
 use Rattle.hop_model.specs.State.{LocusState, Supply}
-use Rattle.locus_machine.specs.Loci.{locus_of}
-use Rattle.locus_machine.specs.declared.loci.Head.{Head}
-use Rattle.locus_machine.specs.declared.loci.Locus.{Locus}
-use Rattle.fault_paging.specs.declared.paged.PagedMemory.{PagedMemory}
-use Rattle.kernel_cells.specs.Cells.{container_cell, part_of}
+use Rattle.kernel_cells.specs.Cells.{part_of}
 use Rattle.kernel_cells.specs.declared.cells.Cell.{Cell}
-use Rattle.kernel_cells.specs.declared.cells.Part.{Part}
-use Rattle.kernel_cells.specs.declared.cells.Part.TheVariants as part
 use Rattle.cell_table.specs.Tables.{entity_in, state_in}
 use Rattle.kernel_core.specs.Stepping.{is_ok}
 
 abbrev owing : ℕ → Bool → Option ℕ
 owing me t = if t then Some me else None
-
-none_without : (me : ℕ) (t : Bool) → owing me (false && t) ≡ None
-none_without me t = refl
 
 never_ok : (me : ℕ) (a : Answer) (t : Bool) → None ≡ owing me t → None ≡ owing me (t && is_ok a)
 never_ok me a false is = refl

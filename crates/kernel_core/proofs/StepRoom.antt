@@ -1,12 +1,12 @@
 -- A step leaves fewer entries to come: it takes the four of a step left, and opens three wishes at most.
-use Rattle.std.proofs.Common.{◌≡◌, ◌⊎◌, inl, inr, ℕ, zero, suc, ◌+◌, ◌*◌, ◌<◌, ◌≤◌, Bool, true, false, ◌||◌, ◌==◌, nat_lt, if◌then◌else◌, List, [], ◌∷◌, length, slice_get, Option, Some, None, refl, sym, ap, subst, ◌∙◌, arith, eqb-true, eq-eqb}
+use Rattle.std.proofs.Common.{◌≡◌, ℕ, zero, suc, ◌+◌, ◌*◌, ◌<◌, ◌≤◌, Bool, true, false, ◌||◌, ◌==◌, nat_lt, if◌then◌else◌, List, [], ◌∷◌, length, slice_get, Some, refl, sym, ap, subst, ◌∙◌, arith, eqb-true, eq-eqb}
 use Rattle.std.specs.List.{list_any}
 use Rattle.std.proofs.lemmas.Bool.Decides.{nat_tests}
 use Rattle.hop_base.specs.declared.histories.Entry.{Entry}
 use Rattle.kernel_cells.specs.declared.cells.Cell.{Cell}
-use Rattle.cell_table.specs.Steps.{ChangesThree, EntersStep}
+use Rattle.cell_table.specs.Steps.{EntersStep}
 use Rattle.cell_table.specs.Tables.{AreNumbered}
-use Rattle.kernel_core.specs.Steady.{entries_of, entries_to_come, steps_of, steps_to_come, total}
+use Rattle.kernel_commits.specs.Steady.{entries_of, entries_to_come, steps_of, steps_to_come, total}
 
 -- HOW MANY of n numbers from k on are z
 abbrev hits : ℕ → ℕ → ℕ → ℕ

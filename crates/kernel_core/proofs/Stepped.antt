@@ -1,39 +1,32 @@
 -- A step over a kernel's parts: what it leaves of them, whatever the disk tells, and of a run.
-use Rattle.std.proofs.Common.{◌≡◌, ◌≢◌, ◌⊎◌, ◌↔◌, inl, inr, ℕ, zero, suc, ◌+◌, ◌*◌, ◌<◌, ◌≤◌, ◌^◌, Bool, true, false, not, ◌&&◌, ◌==◌, nat_lt, if◌then◌else◌, List, [], ◌∷◌, ◌++◌, length, slice_get, Option, Some, None, is_some, Ok, Err, refl, sym, ap, subst, ◌∙◌, arith, length-append, eqb-true}
+use Rattle.std.proofs.Common.{◌≡◌, ◌⊎◌, ◌↔◌, inl, inr, ℕ, ◌+◌, ◌<◌, ◌≤◌, Bool, true, false, not, ◌&&◌, nat_lt, List, [], ◌∷◌, ◌++◌, length, slice_get, Option, Some, None, is_some, Ok, Err, refl, sym, ap, subst, ◌∙◌, arith, length-append}
 use Rattle.std.specs.Prelude.{IsErrOf, Result}
-use Rattle.std.proofs.lemmas.Bool.Decides.{nat_tests}
 use Rattle.std.proofs.lemmas.Option.{slice_get_within}
 use Rattle.disk_trait.specs.Image.{Image}
+use Rattle.disk_trait.specs.declared.disk.NoBlocks.{NoBlocks as TooFewBlocks}
 use Rattle.hop_base.specs.declared.histories.Entry.{Entry}
-use Rattle.hop_base.specs.declared.instructions.Condition.{Condition}
-use Rattle.hop_base.specs.declared.instructions.Condition.TheVariants.{Halted, Running, Stopped as StoppedNow}
-use Rattle.hop_model.specs.Histories.{May, Run, goes_on}
+use Rattle.hop_model.specs.Histories.{May, Run}
 use Rattle.hop_model.specs.Serial.{can_step}
-use Rattle.hop_model.specs.State.{AtlasCell, Cell as ModelCell, ContainerCell, KernelState, LocusCell, LocusState, NotBorn, Supply, empty_state, no_atlas}
-use Rattle.hop_model.specs.Steps.{if_running, running, step}
+use Rattle.hop_model.specs.State.{KernelState, Supply, empty_state}
+use Rattle.hop_model.specs.Steps.{running, step}
 use Rattle.fault_paging.specs.Calls.{IsCausedBy}
 use Rattle.page_store.specs.declared.faults.PageFault.{PageFault}
 use Rattle.page_store.specs.declared.faults.PageFault.TheVariants as page
 use Rattle.store_model.specs.Books.{free_in}
 use Rattle.snapshot_store.specs.State.{State, books}
-use Rattle.locus_machine.specs.declared.loci.Head.{Head}
-use Rattle.locus_machine.specs.declared.loci.Locus.{Locus}
-use Rattle.fault_paging.specs.declared.paged.PagedMemory.{PagedMemory}
-use Rattle.kernel_cells.specs.Cells.{container_cell, part_of}
 use Rattle.kernel_cells.specs.declared.cells.Cell.{Cell}
-use Rattle.kernel_cells.specs.declared.cells.Part.{Part}
-use Rattle.kernel_cells.specs.declared.cells.Part.TheVariants as part
-use Rattle.step_plans.specs.Plans.{idle_by, idle_of}
+use Rattle.step_plans.specs.Plans.{idle_of}
 use Rattle.step_plans.specs.declared.idle.Idle.{Idle as AnIdle}
-use Rattle.step_plans.specs.declared.idle.Idle.TheVariants.{Absent, Spent}
+use Rattle.step_plans.specs.declared.idle.Idle.TheVariants.{Absent}
 use Rattle.cell_table.specs.Steps.{EntersStep}
-use Rattle.cell_table.specs.Tables.{AreClean, AreFewWrites, HasKind, IsOrderly, entity_in, left_of, state_in}
+use Rattle.cell_table.specs.Tables.{AreClean, IsOrderly, entity_in, left_of, state_in}
 use Rattle.record_laws.specs.Cells.{words_on}
 use Rattle.table_steps.specs.declared.stepping.StepFault.{StepFault}
 use Rattle.table_steps.specs.declared.stepping.StepFault.TheVariants.{Idle, Paging}
-use Rattle.kernel_model.specs.Beginnings.{Beginning, run_of}
+use Rattle.kernel_model.specs.Beginnings.{Beginning, run_of, state_after}
 use Rattle.kernel_model.specs.Live.{IsCalm}
 use Rattle.kernel_laws.proofs.Going.{event_runs, stop_lives}
+use Rattle.kernel_room.specs.Room.{enough_blocks}
 use Rattle.kernel_room.proofs.Enough.{calm_whole}
 use Rattle.kernel_views.specs.Events.{StepsOver, StopsOver}
 use Rattle.kernel_views.specs.Views.{FollowsRun, newest_at, view_of}
@@ -46,25 +39,18 @@ use Rattle.serial_runs.proofs.Calm.{step_behind, step_entry, step_may}
 use Rattle.store_steps.specs.Leaving.{LeavesInOrder}
 use Rattle.cell_books.specs.Matching.{Rises, newest_of, version_at, version_of}
 use Rattle.cell_books.proofs.Keeping.{rises}
-use Rattle.kernel_core.specs.Parts.{LivesAs, Noted, Parts, StandsAs, parts_of, stop_of}
-use Rattle.kernel_core.specs.Steady.{IsSteady, entries_taken, entries_to_come, steps_to_come}
-use Rattle.kernel_core.specs.Stepping.{HasCause, HasStepped, StepsInRun, StepsOnce, StopsStep, idle_at, stop_by}
-use Rattle.kernel_core.specs.declared.stopping.Stopped.{Stopped}
-use Rattle.kernel_core.proofs.Room.{steps_within, taken_next}
+use Rattle.kernel_commits.specs.Parts.{Noted, Parts, StandsAs, parts_of, stop_of}
+use Rattle.kernel_commits.specs.Lacking.{LacksBlocks}
+use Rattle.kernel_commits.specs.Pieces.{CountsWithin}
+use Rattle.kernel_commits.specs.Steady.{IsSteady, entries_taken, steps_to_come}
+use Rattle.kernel_core.specs.Stepping.{HasCause, StepsInRun, StepsOnce, idle_at, stop_by}
+use Rattle.kernel_commits.specs.declared.stopping.Stopped.{Stopped}
+use Rattle.kernel_commits.specs.declared.stopping.Stopped.TheVariants.{TooFew}
+use Rattle.kernel_commits.proofs.Enough.{none_lacks}
+use Rattle.kernel_commits.proofs.Room.{steps_within, taken_next}
+use Rattle.kernel_core.proofs.Idling.{can_by, empty_idle, empty_stays, high_by}
 use Rattle.kernel_core.proofs.StepRoom.{step_room, step_spare}
-use Rattle.kernel_core.proofs.Steadying.{entry_room}
-
--- TABLES OF ONE LENGTH
-
-abbrev Both : List Cell → List Cell → ℕ → Type 0
-Both cs cs' x = (c : Cell) × (d : Cell) × (slice_get cs x ≡ Some c) × (slice_get cs' x ≡ Some d)
-
-both_or : (cs cs' : List Cell) → length cs' ≡ length cs → (x : ℕ) → Both cs cs' x ⊎ ((slice_get cs x ≡ None) × (slice_get cs' x ≡ None))
-both_or [] [] len x = inr (refl, refl)
-both_or [] (d ∷ cs') len x = absurd (omega (arith, len))
-both_or (c ∷ cs) [] len x = absurd (omega (arith, len))
-both_or (c ∷ cs) (d ∷ cs') len zero = inl (c, d, refl, refl)
-both_or (c ∷ cs) (d ∷ cs') len (suc x) = both_or cs cs' (omega (arith, len)) x
+use Rattle.kernel_core.proofs.Paired.{both_or}
 
 cell_or : (cs : List Cell) (x : ℕ) → ((c : Cell) × (slice_get cs x ≡ Some c)) ⊎ (slice_get cs x ≡ None)
 cell_or cs x = by (slice_get cs x) refl
@@ -82,21 +68,6 @@ none_by (Some why) h = absurd (h why refl)
 absent_none : Some Absent ≡ None → ⊥
 absent_none e = cc
 
--- nobody stands past the cells
-empty_idle : (x : ℕ) → idle_of 0 (empty_state x).cell ≡ Some Absent
-empty_idle x = by (x == 0)
-  where
-    by : (t : Bool) → idle_of 0 (if t then AtlasCell no_atlas else NotBorn) ≡ Some Absent
-    by true = refl
-    by false = refl
-
-empty_stays : (x : ℕ) → is_some (running (empty_state x).cell) ≡ false
-empty_stays x = by (x == 0)
-  where
-    by : (t : Bool) → is_some (running (if t then AtlasCell no_atlas else NotBorn)) ≡ false
-    by true = refl
-    by false = refl
-
 some_by : (o : Option AnIdle) → is_some o ≡ true → (why : AnIdle) × (o ≡ Some why)
 some_by None is = absurd (cc is)
 some_by (Some why) is = (why, refl)
@@ -112,41 +83,6 @@ fault_is f g is = ap (λ (h : StepFault). err_of h) is
 
 no_idle : (f : PageFault) (why : AnIdle) → IsErrOf {T = Entry} {E = StepFault} (Err (Paging f)) (Idle why) → ⊥
 no_idle f why is = cc
-
-absent_high : {A : Type 0} (why : AnIdle) → Some why ≡ None → A
-absent_high why is = absurd (cc is)
-
-high_by : (s : Supply) (words : ℕ → List ℕ) (x left : ℕ) (p : Part) → HasKind x p → idle_of left (part_of s words p) ≡ None → 40 < x
-high_by s words x left (part.Locus l) kind none = kind
-high_by s words x left (part.Atlas a) kind none = absurd (cc none)
-high_by s words x left (part.Container b) kind none = by b.memory b.head none
-  where
-    by : (m : PagedMemory) (h : Option Head) → idle_of left (container_cell s words m h) ≡ None → 40 < x
-    by m None none = absurd (cc none)
-    by m (Some h) none = absurd (cc none)
-
-spent : (left made total : ℕ) → made + left ≡ total → is_some (if left == 0 then Some Spent else None) ≡ not (nat_lt made total)
-spent left made total sum = elim (left == 0) as (λ t. (left == 0) ≡ t → is_some (if t then Some Spent else None) ≡ not (nat_lt made total)) [
-  | true ↦ λ is. sym (ap not (none (eqb-true left 0 is)))
-  | false ↦ λ is. sym (ap not (some is))
-] refl
-  where
-    none : left ≡ 0 → nat_lt made total ≡ false
-    none empty = grind (arith, nat_tests)
-
-    some : (left == 0) ≡ false → nat_lt made total ≡ true
-    some more = grind (arith, nat_tests)
-
-can_by : (cell : ModelCell) (left made total : ℕ) → made + left ≡ total → is_some (idle_of left cell) ≡ not (is_some (running cell) && nat_lt made total)
-can_by NotBorn left made total sum = refl
-can_by (AtlasCell a) left made total sum = refl
-can_by (ContainerCell c) left made total sum = refl
-can_by (LocusCell l) left made total sum = by l.condition
-  where
-    by : (k : Condition) → is_some (idle_by left k) ≡ not (is_some (if_running l k) && nat_lt made total)
-    by Halted = refl
-    by StoppedNow = refl
-    by Running = spent left made total sum
 
 not_true : (t : Bool) → true ≡ not t → t ≡ false
 not_true true is = absurd (cc is)
@@ -176,13 +112,16 @@ module _ {D : Type 0} (tells : Type 0) (clock faults : D → ℕ) (reading : D �
     (only_now : (disk : D) (c : Image) → tells → left_since disk (clock disk) c → may_leave disk c)
     (s : Supply) (me : ℕ) (cs cs' : List Cell) (st st' : State D) (noted : Noted)
     (k : IsSteady tells reading may_leave (parts_of st cs noted))
-    (leaves : LeavesInOrder tells clock reading may_leave left_since cs cs' st st')
+    (leaves : LeavesInOrder tells clock faults reading may_leave left_since cs cs' st st')
     (clean' : tells → AreClean s (words_on (reading st'.disk)) cs') where
   abbrev old : Parts D
   old = parts_of st cs noted
 
   before : IsOrderly (books st).held cs
   before = k.sound.matches.orderly
+
+  counts_on : CountsWithin clock faults 1 st st'
+  counts_on = record { few = leaves.one_write; counts = leaves.pages.only.counts; later = leaves.pages.later }
 
   -- idle in a run
   module _ (b : Beginning) (stands : StandsAs tells clock faults reading may_leave left_since b old) where
@@ -270,14 +209,14 @@ module _ {D : Type 0} (tells : Type 0) (clock faults : D → ℕ) (reading : D �
     longer = length-append noted.entries (e ∷ [])
 
     same_epoch : (books st').place.epoch ≡ (books st).place.epoch
-    same_epoch = ap (λ p. p.epoch) leaves.pages.same_place
+    same_epoch = ap (λ p. p.epoch) leaves.pages.only.same_place
 
     steady_on : IsSteady tells reading may_leave new
     steady_on = record {
       sound = record {
-        matches = rises (λ _. 4) (books st) (books st') cs cs' k.sound.matches (record { same_logged = leaves.pages.same_logged; same_found = leaves.pages.same_found }) leaves.orderly rising;
+        matches = rises (λ _. 4) (books st) (books st') cs cs' k.sound.matches (record { same_logged = leaves.pages.only.same_logged; same_found = leaves.pages.only.same_found }) leaves.orderly rising;
         working = same_shut ∙ k.sound.working;
-        true_books = λ told. leaves.pages.true_books told (k.sound.true_books told);
+        true_books = λ told. leaves.pages.only.true_books told (k.sound.true_books told);
       };
       few = record {
         versions = λ x. (let was = k.few.versions x in let up = next_version x in let more = longer in omega (arith, was, up, more));
@@ -347,9 +286,9 @@ module _ {D : Type 0} (tells : Type 0) (clock faults : D → ℕ) (reading : D �
       failed = tt;
       steady = steady_on;
       clean = clean';
-      one_write = leaves.one_write;
-      counts = leaves.pages.counts;
+      counts = counts_on;
       run = runs_on;
+      enough = λ told b stands calm n is. absurd (cc is);
     }
 
   -- NONE, where the locus is idle
@@ -362,9 +301,9 @@ module _ {D : Type 0} (tells : Type 0) (clock faults : D → ℕ) (reading : D �
     failed = tt;
     steady = subst (IsSteady tells reading may_leave) (sym same_parts) k;
     clean = clean';
-    one_write = leaves.one_write;
-    counts = leaves.pages.counts;
+    counts = counts_on;
     run = λ told b same stands calm. not_true (can_step b.script (r b stands) me) (sym (ap is_some ((idle b.supply (words b stands) why).0 refl)) ∙ can_is b stands);
+    enough = λ told b stands calm n is. absurd (cc is);
   }
     where
       same_parts : parts_of st' cs' noted ≡ old
@@ -385,6 +324,17 @@ module _ {D : Type 0} (tells : Type 0) (clock faults : D → ℕ) (reading : D �
   cause_by page.WriteFault c = c.0
   cause_by page.Shut c = absurd (let w = k.sound.working in cc (w, c))
 
+  -- a page is short of a block only where the image lacks them
+  short_by : (f : PageFault) → IsCausedBy (free_in (books st)) (faults st.disk) (faults st'.disk) (books st).shut (books st').shut f
+      → tells → (b : Beginning) → StandsAs tells clock faults reading may_leave left_since b old → IsCalm b noted.entries
+      → (n : TooFewBlocks) → err_why (stop_by f) ≡ err_why (TooFew n) → LacksBlocks b (parts_of st' cs' noted)
+  short_by (page.NoBlocks m) c told b stands calm n is =
+      subst (λ count. count < enough_blocks (state_after b noted.entries)) (sym leaves.pages.only.same_count)
+      (none_lacks tells clock faults reading may_leave left_since b old told stands (calm_whole b noted.entries stands.runs.begins stands.runs.legal calm.nothing_owed) c.0)
+  short_by page.ReadFault c told b stands calm n is = absurd (cc is)
+  short_by page.WriteFault c told b stands calm n is = absurd (cc is)
+  short_by page.Shut c told b stands calm n is = absurd (cc is)
+
   failed_once : (f : PageFault) → ((z : Supply) (ws : ℕ → List ℕ) (w : AnIdle) → IsErrOf {T = Entry} {E = StepFault} (Err (Paging f)) (Idle w) ↔ (idle_at z ws me cs ≡ Some w))
       → IsCausedBy (free_in (books st)) (faults st.disk) (faults st'.disk) (books st).shut (books st').shut f
       → ((b : Beginning) → tells → b.supply ≡ s → StopsOver tells clock faults reading may_leave left_since b cs cs' st st')
@@ -396,11 +346,11 @@ module _ {D : Type 0} (tells : Type 0) (clock faults : D → ℕ) (reading : D �
     failed = record { noted = refl; orderly = leaves.orderly; cause = cause_by f cause };
     steady = tt;
     clean = clean';
-    one_write = leaves.one_write;
-    counts = leaves.pages.counts;
+    counts = counts_on;
     run = λ told b same stands calm.
         stop_lives b tells clock reading may_leave left_since counts_later only_now (view_of reading b cs st noted.entries noted.marks None) _ st.disk st'.disk stands.runs
         (stops tells clock faults reading may_leave left_since b cs cs' st st' noted.entries noted.marks (stop_of (stop_by f)) stands (over b told same));
+    enough = short_by f cause;
   }
 
   pub once_failed : (g : StepFault) (f : PageFault) → g ≡ Paging f → ((z : Supply) (ws : ℕ → List ℕ) (w : AnIdle) → IsErrOf {T = Entry} {E = StepFault} (Err g) (Idle w) ↔ (idle_at z ws me cs ≡ Some w))
@@ -410,13 +360,3 @@ module _ {D : Type 0} (tells : Type 0) (clock faults : D → ℕ) (reading : D �
   once_failed g f is idle cause over =
       failed_once f (subst (λ f. (z : Supply) (ws : ℕ → List ℕ) (w : AnIdle) → IsErrOf {T = Entry} {E = StepFault} (Err f) (Idle w) ↔ (idle_at z ws me cs ≡ Some w)) is idle)
       (cause f (fault_is g (Paging f) is)) (λ b told same. over b f told same (fault_is g (Paging f) is))
-
--- each version may rise
-pub few_writes : {D : Type 0} (tells : Type 0) (clock faults : D → ℕ) (reading : D → Image) (may_leave : D → Image → Type 0) (left_since : D → ℕ → Image → Type 0)
-    → (p : Parts D) → IsSteady tells reading may_leave p → AreFewWrites p.cells
-few_writes tells clock faults reading may_leave left_since p k x c at =
-    let le = k.few.versions x in
-    let is : version_of p.cells x ≡ c.clock.version = ap version_at at in
-    let lt = entry_room tells clock faults reading may_leave left_since p k in
-    let small = k.few.small in
-    omega (arith, le, is, lt, small)

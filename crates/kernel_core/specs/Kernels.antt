@@ -2,15 +2,16 @@
 use Rattle.std.specs.Prelude.{◌≡◌, ℕ, ◌+◌, ◌≤◌, ◌^◌, false, List, [], Option, Some, None, slice_get}
 use Rattle.std.specs.Option.{option_map}
 use Rattle.disk_trait.specs.Image.{Image}
+use Rattle.hop_model.specs.State.{Supply}
 use Rattle.kernel_cells.specs.declared.cells.Cell.{Cell}
 use Rattle.cell_table.specs.Tables.{AreClean, IsOrderly}
 use Rattle.record_laws.specs.Cells.{words_on}
 use Rattle.snapshot_store.specs.State.{State, books}
 use Rattle.kernel_model.specs.Beginnings.{Beginning}
 use Rattle.cell_books.specs.Matching.{version_of}
-use Rattle.kernel_core.specs.Parts.{LivesAs, Parts, stop_of}
-use Rattle.kernel_core.specs.Steady.{IsSound, IsSteady}
-use Rattle.kernel_core.specs.declared.stopping.Stopped.{Stopped}
+use Rattle.kernel_commits.specs.Parts.{LivesAs, Parts, stop_of}
+use Rattle.kernel_commits.specs.Steady.{IsSound, IsSteady}
+use Rattle.kernel_commits.specs.declared.stopping.Stopped.{Stopped}
 
 -- its parts, and why it has stopped, if it has
 pub record Held (D : Type 0) : Type 0 where
@@ -33,6 +34,10 @@ pub record MayBegin {D : Type 0} (tells : Type 0) (reading : D → Image) (may_l
   pub steps_few : steps ≤ 40000
   pub versions : (x : ℕ) → version_of cs x ≤ 2 ^ 62
   pub epoch : (books st).place.epoch ≤ 2 ^ 62 + 1
+
+-- while the kernel goes on its pages are clean, where the disk tells its content
+abbrev pub StaysClean : {D : Type 0} → Type 0 → (D → Image) → Supply → Held D → Type 0
+StaysClean tells reading supply k = tells → k.stop ≡ None → AreClean supply (words_on (reading k.parts.store.disk)) k.parts.cells
 
 module _ {D : Type 0} (tells : Type 0) (clock faults : D → ℕ) (reading : D → Image) (may_leave : D → Image → Type 0) (left_since : D → ℕ → Image → Type 0) where
   -- THE KERNEL IS LIVE in a run, and while it goes on its pages are clean

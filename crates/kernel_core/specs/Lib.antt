@@ -1,10 +1,4 @@
-pub mod Parts
-pub mod Recording
-pub mod Steady
-pub mod Snapping
 pub mod Kernels
-pub mod Stabilising
-pub mod Through
 pub mod Stepping
 pub mod Looking
-pub mod Stops
+pub mod Bearing

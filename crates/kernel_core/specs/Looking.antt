@@ -6,10 +6,10 @@ use Rattle.hop_model.specs.Histories.{Policy}
 use Rattle.kernel_model.specs.Beginnings.{Beginning, run_of}
 use Rattle.kernel_model.specs.Live.{IsCalm}
 use Rattle.serial_runs.specs.Serial.{look}
-use Rattle.kernel_core.specs.Parts.{LivesAs, Parts, StandsAs, stop_of}
+use Rattle.kernel_commits.specs.Parts.{LivesAs, Parts, StandsAs, stop_of}
 use Rattle.kernel_core.specs.Stepping.{HasStepped, StopsStep}
-use Rattle.kernel_core.specs.Stops.{LeavesStopped}
-use Rattle.kernel_core.specs.declared.stopping.Stopped.{Stopped}
+use Rattle.kernel_commits.specs.Stops.{LeavesStopped}
+use Rattle.kernel_commits.specs.declared.stopping.Stopped.{Stopped}
 
 module _ {D : Type 0} (tells : Type 0) (clock faults : D → ℕ) (reading : D → Image) (may_leave : D → Image → Type 0) (left_since : D → ℕ → Image → Type 0) where
   -- WHERE A LOOK STOPPED, whatever the disk tells: at its step, or behind a step that was made

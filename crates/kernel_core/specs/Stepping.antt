@@ -1,8 +1,8 @@
 -- One look at a locus: its step, and what comes behind it.
-use Rattle.std.specs.Prelude.{◌≡◌, ◌↔◌, ℕ, ◌+◌, ◌<◌, ◌≤◌, Bool, true, false, List, [], ◌∷◌, ◌++◌, Option, None, Some, is_some, IfErr, IfOk, IfSome, Ok, Err, OnOk, Result, slice_get}
+use Rattle.std.specs.Prelude.{◌≡◌, ◌↔◌, ℕ, ◌+◌, ◌<◌, ◌≤◌, Bool, true, false, List, [], ◌∷◌, ◌++◌, Option, None, Some, is_some, IfErr, IfOk, IfSome, IsErrOf, Ok, Err, OnOk, Result, slice_get}
 use Rattle.disk_trait.specs.Counts.{Rose}
 use Rattle.disk_trait.specs.Image.{Image}
-use Rattle.disk_tally.specs.Counts.{CountsOn}
+use Rattle.disk_trait.specs.declared.disk.NoBlocks.{NoBlocks}
 use Rattle.hop_base.specs.declared.histories.Answer.{Answer}
 use Rattle.hop_base.specs.declared.histories.Answer.TheVariants.{Reply as Replied}
 use Rattle.hop_base.specs.declared.histories.Entry.{Entry}
@@ -13,7 +13,7 @@ use Rattle.hop_model.specs.Steps.{step}
 use Rattle.page_store.specs.declared.faults.PageFault.{PageFault}
 use Rattle.page_store.specs.declared.faults.PageFault.TheVariants as page
 use Rattle.store_model.specs.Books.{free_in}
-use Rattle.snapshot_store.specs.State.{State, books}
+use Rattle.snapshot_store.specs.State.{books}
 use Rattle.kernel_cells.specs.declared.cells.Cell.{Cell}
 use Rattle.step_plans.specs.Plans.{idle_of}
 use Rattle.step_plans.specs.declared.idle.Idle.{Idle}
@@ -23,10 +23,12 @@ use Rattle.record_laws.specs.Cells.{words_on}
 use Rattle.kernel_model.specs.Beginnings.{Beginning, run_of}
 use Rattle.kernel_model.specs.Live.{IsCalm}
 use Rattle.serial_runs.specs.Serial.{IsBehind, written_in}
-use Rattle.kernel_core.specs.Parts.{LivesAs, Parts, StandsAs, stop_of}
-use Rattle.kernel_core.specs.Steady.{IsSteady, entries_taken, steps_to_come}
-use Rattle.kernel_core.specs.declared.stopping.Stopped.{Stopped}
-use Rattle.kernel_core.specs.declared.stopping.Stopped.TheVariants.{Failed, TooFew}
+use Rattle.kernel_commits.specs.Lacking.{LacksBlocks}
+use Rattle.kernel_commits.specs.Pieces.{CountsWithin}
+use Rattle.kernel_commits.specs.Parts.{LivesAs, Parts, StandsAs, stop_of}
+use Rattle.kernel_commits.specs.Steady.{IsSteady, entries_taken, steps_to_come}
+use Rattle.kernel_commits.specs.declared.stopping.Stopped.{Stopped}
+use Rattle.kernel_commits.specs.declared.stopping.Stopped.TheVariants.{Failed, TooFew}
 
 -- why a locus can't step, if it can't, whatever the blocks hold
 abbrev pub idle_at : Supply → (ℕ → List ℕ) → ℕ → List Cell → Option Idle
@@ -85,7 +87,9 @@ module _ {D : Type 0} (tells : Type 0) (clock faults : D → ℕ) (reading : D �
     pub failed : IfErr result (StopsStep old new)
     pub steady : OnOk result (IsSteady tells reading may_leave new)
     pub clean : tells → AreClean supply (words_on (reading new.store.disk)) new.cells
-    pub one_write : (books new.store).begun ≤ (books old.store).begun + 1
-    pub counts : CountsOn (clock old.store.disk) (clock new.store.disk) (books old.store).begun (books new.store).begun
+    pub counts : CountsWithin clock faults 1 old.store new.store
     pub run : tells → (b : Beginning) → b.supply ≡ supply → StandsAs tells clock faults reading may_leave left_since b old → IsCalm b old.noted.entries
         → RunsStep b me old new result
+    -- short of a block only where the image lacks them
+    pub enough : tells → (b : Beginning) → StandsAs tells clock faults reading may_leave left_since b old → IsCalm b old.noted.entries
+        → (n : NoBlocks) → IsErrOf result (TooFew n) → LacksBlocks b new

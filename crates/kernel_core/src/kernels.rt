@@ -1,32 +1,38 @@
 // A running kernel.
-ghost use Rattle.std.specs.Prelude.{◌≡◌, ◌↔◌, ◌⊎◌, ◌+◌, ◌*◌, ◌≤◌, ◌++◌, ℕ, List, [], true, false, None, Some, is_some, Ok, Err, IfErr, IfOk, IfSome, IsErrOf, OnOk, slice_get};
+ghost use Rattle.std.specs.Prelude.{◌≡◌, ◌↔◌, ◌⊎◌, ◌+◌, ◌*◌, ◌^◌, ◌≤◌, ◌++◌, ℕ, List, [], true, false, None, Some, is_some, Ok, Err, IfErr, IfOk, IfSome, IsErrOf, OnErr, OnOk, length, slice_get};
 ghost use Rattle.hop_model.specs.State.{Supply};
-ghost use Rattle.cell_table.specs.Tables.{AreClean};
 ghost use Rattle.disk_trait.specs.declared.disk.NoBlocks.{NoBlocks as TooFewBlocks};
 ghost use Rattle.kernel_cells.specs.declared.cells.Cell.{Cell as ACell};
 ghost use Rattle.kernel_cells.specs.declared.cells.Part.{Part as APart};
-ghost use Rattle.kernel_core.specs.Kernels.{Lives, MayBegin};
+ghost use Rattle.fitting_births.specs.Fitting.{Fits};
+ghost use Rattle.script_form.specs.Rules.{IsScript};
+ghost use Rattle.script_form.specs.Scripts.{tables_of};
+ghost use Rattle.table_births.specs.Births.{atlas_state_in};
+ghost use Rattle.kernel_laws.specs.Opening.{empty_script, with_script};
+ghost use Rattle.kernel_core.specs.Bearing.{HasOpened, IsShortBehind};
+ghost use Rattle.kernel_core.specs.Kernels.{Lives, MayBegin, StaysClean};
+ghost use Rattle.kernel_commits.specs.Lacking.{LacksBlocks};
+ghost use Rattle.kernel_commits.specs.Pieces.{CountsWithin, StopsIn};
+ghost use Rattle.disk_trait.specs.Counts.{Rose};
 ghost use Rattle.kernel_core.specs.Looking.{StopsLook};
-ghost use Rattle.kernel_core.specs.Recording.{HasRecorded, HasTried, IsShort};
-ghost use Rattle.kernel_core.specs.Snapping.{Snaps};
+ghost use Rattle.kernel_commits.specs.Recording.{HasRecorded, HasTried, IsShort};
+ghost use Rattle.kernel_commits.specs.Snapping.{Snaps};
 ghost use Rattle.kernel_core.specs.Stepping.{idle_at};
-ghost use Rattle.kernel_core.specs.declared.stopping.Stopped.{Stopped as AStop};
+ghost use Rattle.kernel_commits.specs.declared.stopping.Stopped.{Stopped as AStop};
 ghost use Rattle.kernel_model.specs.Beginnings.{Beginning, run_of};
 ghost use Rattle.kernel_records.specs.Committing.{CommitCounts};
-ghost use Rattle.record_laws.specs.Cells.{words_on};
-ghost use Rattle.serial_runs.specs.Serial.{look};
+ghost use Rattle.serial_runs.specs.Serial.{look, opening, wished_snap};
 
-use crate::inner::Core;
+use crate::bearing::open_core;
 use crate::looking::look_core;
-use crate::notes::Notes;
-use crate::snapping::snap_one;
-use crate::stopping::Stopped;
 use atlas_dir::Atlas;
 use block_code::Blob;
 use disk_trait::Disk;
 use hop_base::{Entity, Entry};
 use kernel_cells::{Cell, Part};
+use kernel_commits::{Core, Notes, Stopped, snap_one};
 use manager_gate::{Gate, Policy, Supplier};
+use script_form::Script;
 use snapshot_store::{OpenFault, OpenWhy, Store};
 use std::alloc::{AllocError, Global};
 use std::marker::Model;
@@ -112,7 +118,8 @@ impl<D: Disk> Kernel<D> {
 
     /// The history of the run so far.
     pub fn history(&self) -> &[Entry]
-        ensures { result.now ≡ self.now.parts.noted.entries }
+        ensures entries { result.now ≡ self.now.parts.noted.entries }
+        ensures few { self.now.stop ≡ None → length result.now ≤ 2 ^ 22 }
     {
         self.core.notes.entries()
     }
@@ -193,6 +200,11 @@ impl<D: Disk> Kernel<D> {
         ensures untouched { (n : TooFewBlocks) → self.old.stop ≡ None → IsErrOf result (AStop.TooFew n) → self.new.parts ≡ self.old.parts }
         ensures run { D.tells → (b : Beginning) → b.policy ≡ P.wish gate.now.policy → Lives D.tells D.clock D.faults D.reading D.may_leave D.left_since b self.old
             → Lives D.tells D.clock D.faults D.reading D.may_leave D.left_since b self.new }
+        ensures part { D.tells → (b : Beginning) → b.policy ≡ P.wish gate.now.policy → Lives D.tells D.clock D.faults D.reading D.may_leave D.left_since b self.old → self.old.stop ≡ None
+            → OnErr result (StopsIn b (wished_snap b.policy (run_of b self.old.parts.noted.entries) entity) self.old.parts.noted.entries self.new.parts.noted.entries) }
+        ensures enough { D.tells → (b : Beginning) → b.policy ≡ P.wish gate.now.policy → Lives D.tells D.clock D.faults D.reading D.may_leave D.left_since b self.old → self.old.stop ≡ None
+            → (n : TooFewBlocks) → IsErrOf result (AStop.TooFew n) → LacksBlocks b self.old.parts }
+        ensures clean { (s : Supply) → StaysClean D.tells D.reading s self.old → StaysClean D.tells D.reading s self.new }
         ensures counts { CommitCounts D.clock D.faults self.old.parts.store self.new.parts.store }
     {
         if let Some(why) = self.stopped {
@@ -203,15 +215,59 @@ impl<D: Disk> Kernel<D> {
         made
     }
 
+    /// The births of a script that fits the atlas, in the order of its tables, and behind the last the Stable of the atlas: a record of each
+    /// entity that has changed since its newest one. Where each name of the script is in the atlas already, nothing is done. A kernel that
+    /// has stopped does nothing, and tells why it stopped; one that a fault meets stops.
+    ///
+    /// `TooFew` comes exactly where fewer blocks are free than all those records need together, behind all births, with both numbers,
+    /// before the first write. `Failed` comes only where the disk's count of faults rose. The births are noted in either case; where the
+    /// disk failed, with the Snaps of the records that were made.
+    ///
+    /// There are at most 63 births: all of them cost one pass over the script's tables, and each a pass over the names of the atlas. They
+    /// write nothing and take no memory. The Stable takes a record of each changed entity.
+    pub fn births(&mut self, script: &Script) -> Result<(), Stopped>
+        requires allowed { IsScript (tables_of script.now) }
+        requires fits { Fits (atlas_state_in self.old.parts.cells) (tables_of script.now) }
+        requires first { self.old.parts.noted.entries ≡ [] }
+        ensures was_stopped { IfSome self.old.stop (λ why. (result ≡ Err why) × (self.new ≡ self.old)) }
+        ensures stops { IfErr result (λ why. self.new.stop ≡ Some why) }
+        ensures goes { OnOk result (self.new.stop ≡ None) }
+        ensures made { self.old.stop ≡ None → OnOk result (HasOpened (tables_of script.now) self.old.parts self.new.parts) }
+        ensures too_few { self.old.stop ≡ None → IsShortBehind (tables_of script.now) result self.old.parts self.new.parts }
+        ensures failed { self.old.stop ≡ None → IsErrOf result AStop.Failed → Rose (D.faults self.old.parts.store.disk) (D.faults self.new.parts.store.disk) }
+        ensures run { D.tells → (b : Beginning) → b.script ≡ tables_of script.now
+            → Lives D.tells D.clock D.faults D.reading D.may_leave D.left_since (with_script b (empty_script b.script.steps)) self.old
+            → Lives D.tells D.clock D.faults D.reading D.may_leave D.left_since b self.new }
+        ensures opening { D.tells → (b : Beginning) → b.script ≡ tables_of script.now
+            → Lives D.tells D.clock D.faults D.reading D.may_leave D.left_since (with_script b (empty_script b.script.steps)) self.old → self.old.stop ≡ None
+            → OnOk result (self.new.parts.noted.entries ≡ opening b.supply b.script b.state) }
+        ensures part { D.tells → (b : Beginning) → b.script ≡ tables_of script.now
+            → Lives D.tells D.clock D.faults D.reading D.may_leave D.left_since (with_script b (empty_script b.script.steps)) self.old → self.old.stop ≡ None
+            → OnErr result (StopsIn b (opening b.supply b.script b.state) [] self.new.parts.noted.entries) }
+        ensures enough { D.tells → (b : Beginning) → b.script ≡ tables_of script.now
+            → Lives D.tells D.clock D.faults D.reading D.may_leave D.left_since (with_script b (empty_script b.script.steps)) self.old → self.old.stop ≡ None
+            → (n : TooFewBlocks) → IsErrOf result (AStop.TooFew n) → LacksBlocks b self.new.parts }
+        ensures clean { (s : Supply) → StaysClean D.tells D.reading s self.old → StaysClean D.tells D.reading s self.new }
+        ensures counts { CountsWithin D.clock D.faults (64 * 1556) self.old.parts.store self.new.parts.store }
+    {
+        if let Some(cause) = self.stopped {
+            return Err(cause);
+        }
+        let opened = open_core(&mut self.core, script);
+        self.stopped = opened.err();
+        opened
+    }
+
     /// One look at the locus with this number: its step, and behind it the Stable that it owes, or a Snap of each entity that it wrote
     /// whose wish is open and of which fewer than four kept records are. Tells whether a step was made; none is made where the locus
     /// can't step. A kernel that has stopped does nothing, and tells why it stopped; one that a fault meets stops.
     ///
     /// `TooFew` comes only where fewer blocks are free than are needed, for a page of the step or for a record behind it, with both
-    /// numbers. `Failed` comes only where the disk's count of faults rose over the step, or over what came behind it. Where the step
-    /// itself fails nothing is noted of it; where a record behind it fails the step is noted, with the Snaps that were made.
+    /// numbers, and in a run only where the image has fewer than are enough for the state. `Failed` comes only where the disk's count of
+    /// faults rose over the step, or over what came behind it. Where the step itself fails nothing is noted of it; where a record behind
+    /// it fails the step is noted, with the Snaps that were made.
     ///
-    /// A step takes at most one write, the Snaps behind it three records, and a Stable one for each of the 64 entities.
+    /// A step begins at most one write, and what comes behind it a record of each of the 64 entities, of at most 1,556 writes and syncs each.
     pub fn step<S: Supplier, P: Policy>(
         &mut self,
         me: Entity,
@@ -219,7 +275,7 @@ impl<D: Disk> Kernel<D> {
     ) -> Result<bool, Stopped>
         requires keeps { S.keeps gate.now.supply }
         requires wishes { P.keeps gate.now.policy }
-        requires clean { D.tells → self.old.stop ≡ None → AreClean (S.word gate.now.supply) (words_on (D.reading self.old.parts.store.disk)) self.old.parts.cells }
+        requires clean { StaysClean D.tells D.reading (S.word gate.now.supply) self.old }
         ensures was_stopped { IfSome self.old.stop (λ why. (result ≡ Err why) × (self.new ≡ self.old)) }
         ensures stops { IfErr result (λ why. self.new.stop ≡ Some why) }
         ensures goes { OnOk result (self.new.stop ≡ None) }
@@ -231,6 +287,15 @@ impl<D: Disk> Kernel<D> {
             → OnOk result (self.new.parts.noted.entries ≡ self.old.parts.noted.entries ++ look b.supply b.policy b.script (run_of b self.old.parts.noted.entries) me) }
         ensures run { D.tells → (b : Beginning) → b.supply ≡ S.word gate.now.supply → b.policy ≡ P.wish gate.now.policy
             → Lives D.tells D.clock D.faults D.reading D.may_leave D.left_since b self.old → Lives D.tells D.clock D.faults D.reading D.may_leave D.left_since b self.new }
+        ensures part { D.tells → (b : Beginning) → b.supply ≡ S.word gate.now.supply → b.policy ≡ P.wish gate.now.policy
+            → Lives D.tells D.clock D.faults D.reading D.may_leave D.left_since b self.old → self.old.stop ≡ None
+            → OnErr result (StopsIn b (look b.supply b.policy b.script (run_of b self.old.parts.noted.entries) me) self.old.parts.noted.entries self.new.parts.noted.entries) }
+        ensures failed { self.old.stop ≡ None → IsErrOf result AStop.Failed → Rose (D.faults self.old.parts.store.disk) (D.faults self.new.parts.store.disk) }
+        ensures enough { D.tells → (b : Beginning) → b.supply ≡ S.word gate.now.supply → b.policy ≡ P.wish gate.now.policy
+            → Lives D.tells D.clock D.faults D.reading D.may_leave D.left_since b self.old → self.old.stop ≡ None
+            → (n : TooFewBlocks) → IsErrOf result (AStop.TooFew n) → LacksBlocks b self.new.parts }
+        ensures clean { StaysClean D.tells D.reading (S.word gate.now.supply) self.new }
+        ensures counts { CountsWithin D.clock D.faults (1 + 64 * 1556) self.old.parts.store self.new.parts.store }
     {
         if let Some(stop) = self.stopped {
             return Err(stop);

@@ -1,16 +1,11 @@
 //! A kernel over its cells and the store of its image.
 #![tactic(auto)]
 
-mod inner;
+mod bearing;
 mod kernels;
 mod looking;
-mod notes;
 mod owing;
-mod recording;
-mod snapping;
-mod stabilising;
 mod stepping;
-mod stopping;
 
+pub use kernel_commits::Stopped;
 pub use kernels::{Ended, Kernel};
-pub use stopping::Stopped;

@@ -1,27 +1,31 @@
 // One look at a locus.
-ghost use Rattle.std.specs.Prelude.{◌≡◌, ◌↔◌, ◌<◌, ◌+◌, ℕ, List, true, false, is_some, IfErr, Ok, OnOk};
+ghost use Rattle.std.specs.Prelude.{◌≡◌, ◌↔◌, ◌<◌, ◌*◌, ◌+◌, ◌∷◌, [], ℕ, List, true, false, is_some, IfErr, IsErrOf, Ok, OnErr, OnOk};
+ghost use Rattle.disk_trait.specs.Counts.{Rose};
+ghost use Rattle.disk_trait.specs.declared.disk.NoBlocks.{NoBlocks as TooFewBlocks};
+ghost use Rattle.hop_base.specs.declared.histories.Event.TheVariants as AnEvent;
+ghost use Rattle.hop_model.specs.Histories.{mark};
 ghost use Rattle.hop_model.specs.State.{Supply};
 ghost use Rattle.cell_table.specs.Tables.{AreClean};
 ghost use Rattle.kernel_core.specs.Looking.{LooksInRun, StopsLook};
-ghost use Rattle.kernel_core.specs.Parts.{StandsAs};
-ghost use Rattle.kernel_core.specs.Snapping.{RunsFree, SnapsAll};
-ghost use Rattle.kernel_core.specs.Stabilising.{HasStabilised, OwesStable, Stabilises};
-ghost use Rattle.kernel_core.specs.Steady.{IsSteady, entries_taken, steps_to_come};
-ghost use Rattle.kernel_core.specs.Stops.{LeavesStopped};
+ghost use Rattle.kernel_commits.specs.Lacking.{LacksBlocks};
+ghost use Rattle.kernel_commits.specs.Parts.{StandsAs};
+ghost use Rattle.kernel_commits.specs.Pieces.{CountsWithin, StopsIn};
+ghost use Rattle.kernel_commits.specs.Snapping.{RunsFree, SnapsAll};
+ghost use Rattle.kernel_commits.specs.Stabilising.{HasStabilised, OwesStable, Stabilises};
+ghost use Rattle.kernel_commits.specs.Steady.{IsSteady, entries_taken, steps_to_come};
+ghost use Rattle.kernel_commits.specs.Stops.{LeavesStopped};
+ghost use Rattle.kernel_commits.specs.declared.stopping.Stopped.{Stopped as AStop};
 ghost use Rattle.kernel_core.specs.Stepping.{idle_at};
-ghost use Rattle.kernel_model.specs.Beginnings.{Beginning};
+ghost use Rattle.kernel_model.specs.Beginnings.{Beginning, run_of};
 ghost use Rattle.kernel_model.specs.Live.{IsCalm};
 ghost use Rattle.record_laws.specs.Cells.{words_on};
-ghost use Rattle.serial_runs.specs.Serial.{written_in};
+ghost use Rattle.serial_runs.specs.Serial.{look, wished_snaps, written_in};
 
-use crate::inner::Core;
 use crate::owing::{owes_stable, stabilises_at};
-use crate::snapping::snap_written;
-use crate::stabilising::settle;
 use crate::stepping::step_core;
-use crate::stopping::Stopped;
 use disk_trait::Disk;
 use hop_base::{Entity, Entry};
+use kernel_commits::{Core, Stopped, settle, snap_written};
 use manager_gate::{Gate, Policy, Supplier};
 
 /// Behind a step: the Stable that it owes, or the Snaps of what it wrote whose wishes are open.
@@ -41,6 +45,17 @@ fn keep_behind<D: Disk, S: Supplier, P: Policy>(
         → Stabilises D.tells D.clock D.faults D.reading D.may_leave D.left_since b result core.new }
     ensures snaps { owes ≡ false → D.tells → (b : Beginning) → RunsFree D.tells D.clock D.faults D.reading D.may_leave D.left_since b (P.wish gate.now.policy) core.old
         → SnapsAll D.tells D.clock D.faults D.reading D.may_leave D.left_since b (P.wish gate.now.policy) (written_in entry.now.touched) result core.old core.new }
+    ensures stable_part { owes ≡ true → D.tells → (b : Beginning) → OwesStable D.tells D.clock D.faults D.reading D.may_leave D.left_since b entry.now.actor core.old
+        → OnErr result (StopsIn b (mark AnEvent.Stable entry.now.actor 0 ∷ []) core.old.noted.entries core.new.noted.entries) }
+    ensures snaps_part { owes ≡ false → D.tells → (b : Beginning) → RunsFree D.tells D.clock D.faults D.reading D.may_leave D.left_since b (P.wish gate.now.policy) core.old
+        → OnErr result (StopsIn b (wished_snaps b.supply (P.wish gate.now.policy) b.script (run_of b core.old.noted.entries) (written_in entry.now.touched)) core.old.noted.entries core.new.noted.entries) }
+    ensures enough { D.tells → (b : Beginning)
+        → (owes ≡ true → OwesStable D.tells D.clock D.faults D.reading D.may_leave D.left_since b entry.now.actor core.old)
+        → (owes ≡ false → RunsFree D.tells D.clock D.faults D.reading D.may_leave D.left_since b (P.wish gate.now.policy) core.old)
+        → (n : TooFewBlocks) → IsErrOf result (AStop.TooFew n) → LacksBlocks b core.new }
+    ensures clean { D.tells → (s : Supply) → AreClean s (words_on (D.reading core.old.store.disk)) core.old.cells
+        → OnOk result (AreClean s (words_on (D.reading core.new.store.disk)) core.new.cells) }
+    ensures counts { CountsWithin D.clock D.faults (64 * 1556) core.old.store core.new.store }
 {
     if owes {
         return settle(core, entry.actor);
@@ -65,6 +80,15 @@ pub(crate) fn look_core<D: Disk, S: Supplier, P: Policy>(
     ensures run { D.tells → (b : Beginning) → b.supply ≡ S.word gate.now.supply → b.policy ≡ P.wish gate.now.policy
         → StandsAs D.tells D.clock D.faults D.reading D.may_leave D.left_since b core.old → IsCalm b core.old.noted.entries
         → LooksInRun D.tells D.clock D.faults D.reading D.may_leave D.left_since b (P.wish gate.now.policy) me result core.old core.new }
+    ensures part { D.tells → (b : Beginning) → b.supply ≡ S.word gate.now.supply → b.policy ≡ P.wish gate.now.policy
+        → StandsAs D.tells D.clock D.faults D.reading D.may_leave D.left_since b core.old → IsCalm b core.old.noted.entries
+        → OnErr result (StopsIn b (look b.supply b.policy b.script (run_of b core.old.noted.entries) me) core.old.noted.entries core.new.noted.entries) }
+    ensures enough { D.tells → (b : Beginning) → b.supply ≡ S.word gate.now.supply → b.policy ≡ P.wish gate.now.policy
+        → StandsAs D.tells D.clock D.faults D.reading D.may_leave D.left_since b core.old → IsCalm b core.old.noted.entries
+        → (n : TooFewBlocks) → IsErrOf result (AStop.TooFew n) → LacksBlocks b core.new }
+    ensures failed { IsErrOf result AStop.Failed → Rose (D.faults core.old.store.disk) (D.faults core.new.store.disk) }
+    ensures clean { D.tells → OnOk result (AreClean (S.word gate.now.supply) (words_on (D.reading core.new.store.disk)) core.new.cells) }
+    ensures counts { CountsWithin D.clock D.faults (1 + 64 * 1556) core.old.store core.new.store }
 {
     let stabilises = stabilises_at(&core.cells, me);
     match step_core(core, me, gate) {

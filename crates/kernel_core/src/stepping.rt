@@ -1,17 +1,15 @@
 // One look at a locus: its step, and what comes behind it.
 ghost use Rattle.std.specs.Prelude.{◌≡◌, ◌<◌, ◌++◌, ◌∷◌, [], length};
 ghost use Rattle.cell_table.specs.Tables.{AreClean};
-ghost use Rattle.kernel_core.specs.Parts.{parts_of};
-ghost use Rattle.kernel_core.specs.Steady.{IsSteady};
+ghost use Rattle.kernel_commits.specs.Parts.{parts_of};
+ghost use Rattle.kernel_commits.specs.Steady.{IsSteady};
 ghost use Rattle.kernel_core.specs.Stepping.{StepsOnce, stop_by};
 ghost use Rattle.record_laws.specs.Cells.{words_on};
 
-use crate::inner::Core;
-use crate::notes::Notes;
-use crate::stopping::Stopped;
 use disk_trait::Disk;
 use hop_base::{Entity, Entry};
 use kernel_cells::Cell;
+use kernel_commits::{Core, Notes, Stopped};
 use manager_gate::{Gate, Policy, Supplier};
 use page_store::PageFault;
 use snapshot_store::Store;

@@ -54,7 +54,7 @@ module _ {X : Type 0} (p : X → Bool) where
 abbrev cut_log : List Logged → ℕ → ℕ
 cut_log ls = cut_of (logged_recs ls)
 
-abbrev kept_log : List Logged → List Logged
+abbrev pub kept_log : List Logged → List Logged
 kept_log ls = filter (is_from (cut_log ls)) ls
 
 rises : (ls : List Logged) (k : Logged) (x : ℕ) → cut_log ls x ≤ cut_log (ls ++ k ∷ []) x
@@ -81,7 +81,7 @@ module _ (p : Logged → Bool) where
       let fewer = counts_some p (is_from (cut_log (ks ++ k ∷ []))) ks in
       omega (arith, behind, fewer)
 
-  kept_more : (ls now : List Logged) (k : Logged) → (now ≡ ls ++ k ∷ []) ⊎ (now ≡ kept_log ls ++ k ∷ []) → count_by p (kept_log now) ≤ count_by p (kept_log ls) + cond (p k) 1 0
+  pub kept_more : (ls now : List Logged) (k : Logged) → (now ≡ ls ++ k ∷ []) ⊎ (now ≡ kept_log ls ++ k ∷ []) → count_by p (kept_log now) ≤ count_by p (kept_log ls) + cond (p k) 1 0
   kept_more ls now k (inl is) = subst (λ (ms : List Logged). count_by p (kept_log ms) ≤ count_by p (kept_log ls) + cond (p k) 1 0) (sym is) (one_more ls k)
   kept_more ls now k (inr is) = subst (λ (ms : List Logged). count_by p (kept_log ms) ≤ count_by p (kept_log ls) + cond (p k) 1 0) (sym is) (one_behind (kept_log ls) k)
 

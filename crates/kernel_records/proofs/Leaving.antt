@@ -1,8 +1,9 @@
 -- What a commit leaves, from what its stages leave.
-use Rattle.std.proofs.Common.{◌≡◌, inl, ℕ, Bool, true, false, List, refl, ◌∙◌}
+use Rattle.std.proofs.Common.{◌≡◌, inl, ℕ, ◌+◌, ◌≤◌, Bool, true, false, List, refl, ◌∙◌, arith}
 use Rattle.disk_trait.specs.Image.{Image}
 use Rattle.store_model.specs.Between.{Between-stay}
-use Rattle.store_model.specs.Books.{kept_names}
+use Rattle.cell_blobs.specs.Blobs.{IsFormed, blob_need, page_need}
+use Rattle.store_model.specs.Books.{free_in, kept_names}
 use Rattle.snapshot_store.specs.Committed.{HasFailedShut, SameUsed}
 use Rattle.snapshot_store.specs.State.{HoldsPoolBlocks, State, books}
 use Rattle.fault_paging.specs.Calls.{Keeps}
@@ -13,6 +14,9 @@ use Rattle.kernel_cells.specs.declared.cells.Part.TheVariants as part
 use Rattle.record_laws.specs.Cells.{IsSettled, IsSoundIn, words_on}
 use Rattle.kernel_records.specs.Committing.{HasCommitted, HasNotCommitted, HasPages, HasRecord, HoldsSame, IsSpelt, LeavesCell}
 use Rattle.kernel_records.specs.Flushing.{Flushes}
+use Rattle.kernel_records.proofs.Freeing.{record_frees}
+use Rattle.kernel_records.proofs.Rests.{held_pages}
+use Rattle.kernel_records.proofs.Spelling.{same_need}
 use Rattle.kernel_records.proofs.Staying.{clean_stays, held_words, part_stays}
 
 -- NOTHING IS WRITTEN
@@ -98,9 +102,10 @@ module _ {D : Type 0} (tells : Type 0) (clock : D → ℕ) (reading : D → Imag
   -- a record that was made; then no other is wished
   pub made_commit : (c : Cell) (q : Part) (old mid new : State D) → HasPages tells clock reading may_leave left_since c.part q old mid → HoldsPoolBlocks (books mid)
       → (tells → SameUsed (books mid) (reading mid.disk) (reading new.disk)) → HasRecord tells clock reading may_leave left_since (record c { part = q }) mid new → IsSpelt (record c { part = q }) → IsSettled q
+      → free_in (books old) ≤ free_in (books mid) + page_need (kept_names (books old)) c.part → IsFormed c.part
       → HasCommitted tells clock reading may_leave left_since c (record c { part = q; wish = record { by_step = false; asked = false; newest = c.clock.version } }) old new
   unfolding leaves_cell
-  made_commit c q old mid new pages pool same_used has spelt settled =
+  made_commit c q old mid new pages pool same_used has spelt settled few formed =
       let d : Cell = record c { part = q; wish = record { by_step = false; asked = false; newest = c.clock.version } } in
       record {
         leaves = leaves_cell c d old mid new pages pool (record { same_held = has.made.same_held; same_found = has.made.same_found; same_count = has.made.same_count }) same_used refl refl;
@@ -108,4 +113,9 @@ module _ {D : Type 0} (tells : Type 0) (clock : D → ℕ) (reading : D → Imag
         spelt = record { spells = spelt.spells; components = spelt.components };
         settled = settled;
         recorded = record { same_clock = refl; same_left = refl; wish = refl };
+        free = (
+            let more : free_in (books mid) ≤ free_in (books new) + blob_need q = record_frees (books mid) (books new) _ _ _ _ _ has.made (held_pages (books mid).held q pages.table) in
+            let same : blob_need q ≡ blob_need c.part =
+            same_need tells (λ (x : State D). (books x).held) (λ (x : State D). kept_names (books x)) (λ (x : State D). words_on (reading x.disk)) (books mid).held c.part q old mid pages.flushes pages.table formed in
+            omega (arith, few, more, same));
       }

@@ -8,3 +8,4 @@ pub mod Telling
 pub mod Raising
 pub mod Fewer
 pub mod Newest
+pub mod Freeing

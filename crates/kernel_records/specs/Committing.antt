@@ -22,7 +22,7 @@ use Rattle.kernel_cells.specs.declared.cells.Cell.{Cell}
 use Rattle.kernel_cells.specs.declared.cells.Part.{Part}
 use Rattle.kernel_cells.specs.Cells.{part_of}
 use Rattle.wish_laws.specs.Founded.{IsRecordedNow}
-use Rattle.cell_blobs.specs.Blobs.{bytes_of, need_in, spelt_in}
+use Rattle.cell_blobs.specs.Blobs.{blob_need, bytes_of, need_in, page_need, spelt_in}
 use Rattle.record_laws.specs.Cells.{IsCleanIn, IsSettled, IsSoundIn, IsSpellable, table_of, words_on}
 use Rattle.kernel_records.specs.Flushing.{Flushes}
 
@@ -83,13 +83,15 @@ module _ {D : Type 0} (tells : Type 0) (clock : D → ℕ) (reading : D → Imag
     pub blob : tells → blob_in (reading new.disk) made.rec ≡ bytes_of (spelt_in c.part)
     pub small : (books new).small ≡ ((books old).small && are_small c.clock.version c.clock.stamp.0)
 
-  -- A COMMIT of the cell: its pages are written, none is changed any more, and behind them its record
+  -- A COMMIT of the cell: its pages are written, none is changed any more, and behind them its record; no more blocks are taken than these
+  -- need
   pub record HasCommitted (c d : Cell) (old new : State D) : Type 0 where
     pub leaves : LeavesCell c d old new
     pub has : HasRecord d leaves.flushed new
     pub spelt : IsSpelt d
     pub settled : IsSettled d.part
     pub recorded : IsRecordedNow c d
+    pub free : free_in (books old) ≤ free_in (books new) + (page_need (kept_names (books old)) c.part + blob_need c.part)
 
   -- NO RECORD came in memory: the log is the same, and of the cell nothing but the part is another
   pub record HasNotCommitted (c d : Cell) (old new : State D) : Type 0 where

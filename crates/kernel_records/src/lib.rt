@@ -12,4 +12,4 @@ pub use flushing::flush_part;
 pub use laws::{
     few_kept_law, kept_more_law, left_cell_law, newest_law, settled_store_law, told_commit_law,
 };
-pub use snaps::snap_cell;
+pub use snaps::{FULL, mark_entry, snap_cell};

@@ -20,16 +20,16 @@ use kernel_cells::Cell;
 use manager_gate::{Gate, Policy, Supplier};
 use snapshot_store::{Store, StoreFault};
 
-// An entity with so many kept records has no further snapshot made.
-const FULL: u16 = 4;
+/// An entity with so many kept records has no further snapshot made.
+pub const FULL: u16 = 4;
 
-/// The entry of a snapshot, which touches nothing.
-fn snap_entry(entity: Entity, version: u64) -> Entry
-    ensures { result ≡ mark Snap entity version }
+/// The entry of an event that touches nothing.
+pub fn mark_entry(event: Event, actor: Entity, version: u64) -> Entry
+    ensures { result ≡ mark event actor version }
 {
     Entry {
-        event: Event::Snap,
-        actor: entity,
+        event,
+        actor,
         touched: Touched::none(),
         version,
         answer: Answer::Quiet,
@@ -72,5 +72,5 @@ pub fn snap_cell<D: Disk, S: Supplier, P: Policy>(
         return Ok(None);
     }
     commit_cell(cell, store, blob)?;
-    Ok(Some(snap_entry(entity, version)))
+    Ok(Some(mark_entry(Event::Snap, entity, version)))
 }

@@ -15,18 +15,18 @@ use Rattle.kernel_room.proofs.Counting.{count_any, count_le, count_more, count_n
 abbrev pool : Books → List ℕ
 pool b = range_with_len pool_at (b.count - pool_at)
 
-or_cases : (p q : Bool) → (p || q) ≡ true → (p ≡ true) ⊎ (q ≡ true)
+pub or_cases : (p q : Bool) → (p || q) ≡ true → (p ≡ true) ⊎ (q ≡ true)
 or_cases true q h = inl refl
 or_cases false q h = inr h
 
-or_left : (p q : Bool) → p ≡ true → (p || q) ≡ true
+pub or_left : (p q : Bool) → p ≡ true → (p || q) ≡ true
 or_left p q h = ap (λ t. t || q) h
 
-or_right : (p q : Bool) → q ≡ true → (p || q) ≡ true
+pub or_right : (p q : Bool) → q ≡ true → (p || q) ≡ true
 or_right true q h = refl
 or_right false q h = h
 
-and_both : (p q : Bool) → (p && q) ≡ true → (p ≡ true) × (q ≡ true)
+pub and_both : (p q : Bool) → (p && q) ≡ true → (p ≡ true) × (q ≡ true)
 and_both true q h = (refl, h)
 and_both false q h = absurd (false≢true h)
 
@@ -37,7 +37,7 @@ abbrev table_names : List ℕ → ℕ → Bool
 table_names t n = not (n == 0) && list_any (λ m. m == n) t
 
 module _ (a k : ℕ) where
-  blocks_count : (bs : List ℕ) → count_by (λ n. list_any (λ m. m == n) bs) (range_with_len a k) ≤ length bs
+  pub blocks_count : (bs : List ℕ) → count_by (λ n. list_any (λ m. m == n) bs) (range_with_len a k) ≤ length bs
   blocks_count [] = (let none = none_any (range_with_len a k) in omega (arith, none))
     where
       none_any : (ns : List ℕ) → count_by (λ (n : ℕ). list_any (λ (m : ℕ). m == n) []) ns ≡ 0

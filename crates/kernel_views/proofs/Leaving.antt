@@ -5,7 +5,7 @@ use Rattle.std.proofs.lemmas.Bool.{le-leb}
 use Rattle.disk_trait.specs.Image.{Image}
 use Rattle.hop_base.specs.declared.histories.Entry.{Entry}
 use Rattle.hop_model.specs.Histories.{Run, version_of}
-use Rattle.hop_model.specs.State.{KernelState}
+use Rattle.hop_model.specs.State.{KernelState, Supply}
 use Rattle.image_blocks.specs.Layout.{last_number}
 use Rattle.snapshot_store.specs.Putting.{are_small}
 use Rattle.snapshot_store.specs.State.{State, books}
@@ -18,7 +18,7 @@ use Rattle.kernel_cells.specs.Cells.{HasCell}
 use Rattle.fault_paging.specs.declared.paged.PagedMemory.{PagedMemory}
 use Rattle.fault_paging.specs.Words.{AreCleanTrue}
 use Rattle.beside_steps.specs.Besides.{memory_of}
-use Rattle.cell_table.specs.Tables.{AreClean, AreNumbered, blocks_by, entity_by, entity_in, memory_at, state_in}
+use Rattle.cell_table.specs.Tables.{AreClean, AreNumbered, IsOrderly, blocks_by, entity_by, entity_in, memory_at, state_in}
 use Rattle.cell_table.proofs.Having.{state_has}
 use Rattle.record_laws.specs.Cells.{IsCleanIn, IsSpellable, table_of, words_on}
 use Rattle.record_laws.proofs.Telling.{no_blocks}
@@ -59,6 +59,19 @@ all_small (n ∷ xs) low = ap (λ t. t && list_all (λ n. nat_le n last_number) 
 pub small_both : (version : ℕ) (stamp : List ℕ) → version ≤ last_number → ((i : ℕ) → slice_index stamp i ≤ last_number) → are_small version stamp ≡ true
 small_both version stamp low each = ap (λ t. t && list_all (λ n. nat_le n last_number) stamp) (le-leb version last_number low) ∙ all_small stamp each
 
+-- THE PAGES STAY CLEAN behind a commit of one cell, whether it was made or not
+module _ {D : Type 0} (tells : Type 0) (clock : D → ℕ) (reading : D → Image) (may_leave : D → Image → Type 0) (left_since : D → ℕ → Image → Type 0) (told : tells)
+    (s : Supply) (cs cs' : List Cell) (c d : Cell) (old new : State D) (ord : IsOrderly (books old).held cs) (lends : Lends cs cs' (c ∷ []) (d ∷ []))
+    (l : LeavesCell tells clock reading may_leave left_since c d old new) (clean : AreClean s (words_on (reading old.disk)) cs) where
+  pub clean_cell : IsCleanIn s (words_on (reading old.disk)) c.part
+  clean_cell = clean_part s (words_on (reading old.disk)) c.part (λ m is. clean c.clock.entity m (ap memory_at lends.stood.0 ∙ is))
+
+  pub stay_clean : AreClean s (words_on (reading new.disk)) cs'
+  stay_clean y m is = elim (spot cs cs' c d (ap (λ (k : Clock). k.entity) l.same_clock) lends y) as (λ _. AreCleanTrue s (words_on (reading new.disk)) m) [
+    | inl p ↦ clean_memory s (words_on (reading new.disk)) d.part m (l.means told s clean_cell).1 (sym (ap memory_at p.1) ∙ is)
+    | inr p ↦ (let was = sym (ap memory_at p.1) ∙ is in other_clean tells clock reading may_leave left_since told s cs c.clock.entity c d old new ord lends.stood.0 l y m p.0 was (clean y m was))
+  ]
+
 -- WHAT IS LEFT, whether the commit was made or not
 pub record LeftCell {D : Type 0} (tells : Type 0) (clock faults : D → ℕ) (reading : D → Image) (may_leave : D → Image → Type 0) (left_since : D → ℕ → Image → Type 0)
     (b : Beginning) (cs cs' : List Cell) (c d : Cell) (old new : State D) (es : List Entry) (marks : List ℕ) : Type 0 where
@@ -96,7 +109,7 @@ module _ {D : Type 0} {tells : Type 0} {clock faults : D → ℕ} {reading : D �
   had = subst (λ (w : KernelState). HasCell b.supply words0 w c) follows_before.state (state_has b.supply words0 cs c stood)
 
   pub clean_before : IsCleanIn b.supply words0 c.part
-  clean_before = clean_part b.supply words0 c.part (λ m is. q.stands.clean x m (ap memory_at stood ∙ is))
+  clean_before = clean_cell tells clock reading may_leave left_since q.told b.supply cs cs' c d old new q.stands.orderly q.lends q.leaves q.stands.clean
 
   pub kept_clock : d.clock ≡ c.clock
   kept_clock = q.leaves.same_clock
@@ -138,7 +151,4 @@ module _ {D : Type 0} {tells : Type 0} {clock faults : D → ℕ} {reading : D �
   version_is = sym had.clock.version
 
   pub clean_after : AreClean b.supply words2 cs'
-  clean_after y m is = elim (place_of y) as (λ _. AreCleanTrue b.supply words2 m) [
-    | inl p ↦ clean_memory b.supply words2 d.part m (q.leaves.means q.told b.supply clean_before).1 (sym (ap memory_at p.1) ∙ is)
-    | inr p ↦ (let was = sym (ap memory_at p.1) ∙ is in other_clean tells clock reading may_leave left_since q.told b.supply cs x c d old new q.stands.orderly stood q.leaves y m p.0 was (q.stands.clean y m was))
-  ]
+  clean_after = stay_clean tells clock reading may_leave left_since q.told b.supply cs cs' c d old new q.stands.orderly q.lends q.leaves q.stands.clean

@@ -101,10 +101,3 @@ locus_first a (u ∷ ts) (suc i) t before at new =
       ap (λ (b : Bool). if b then Some u.name else next_locus_name a ts) first.0 ∙ rest.0,
       ap (λ (b : Bool). if b then Some u else locus_table ts t.name) other ∙ rest.1,
     )
-
-pub locus_all : (a : AtlasState) (ts : List LocusTable) (i : ℕ) → next_locus_name a (take i ts) ≡ None → length ts ≤ i → next_locus_name a ts ≡ None
-locus_all a [] i before le = refl
-locus_all a (t ∷ ts) zero before le = absurd (omega arith)
-locus_all a (t ∷ ts) (suc i) before le =
-    let first = known_first (is_none (number_of a t.name)) t.name (next_locus_name a (take i ts)) before in
-    ap (λ (b : Bool). if b then Some t.name else next_locus_name a ts) first.0 ∙ locus_all a ts i first.1 (omega arith)

@@ -60,10 +60,6 @@ number_at from zero i h = absurd (omega (arith, h))
 number_at from (suc n) zero h = omega arith
 number_at from (suc n) (suc i) h = (let rest = number_at (suc from) n i (omega (arith, h)) in omega (arith, rest))
 
-length-numbers : (from n : ℕ) → length (numbers from n) ≡ n
-length-numbers from zero = refl
-length-numbers from (suc n) = ap suc (length-numbers (suc from) n)
-
 pub locus_more : (script : Script) (r : Run) (made l : ℕ) → 41 ≤ l → l < 64 → before_locus script r made (l + 1) ≡ before_locus script r made l ++ l ∷ []
 locus_more script r made l low high =
     let i = l - 41 in

@@ -75,40 +75,6 @@ shelved_kept count recs log kept cut is kept_is greatest older range =
       narrow = subst (λ (rs : List Rec). IsNarrow (commits_of rs)) back (narrow_in_range count recs range);
     }
 
-pub none_held : (n k : ℕ) → slice_index_or (replicate n false) k false ≡ false
-none_held zero k = refl
-none_held (suc n) zero = refl
-none_held (suc n) (suc k) = none_held n k
-
-pub none_named : (n k : ℕ) → slice_index (replicate n 0) k ≡ 0
-none_named zero k = refl
-none_named (suc n) zero = refl
-none_named (suc n) (suc k) = none_named n k
-
--- a kept record names no block where there is none
-none_listed : (recs : List Rec) (kept : List Logged) (cut : ℕ → ℕ) (blocks : ℕ) → kept ≡ filter (is_from cut) (map unread recs) → is_some_rec recs ≡ false → AreListed (fresh_ledger blocks recs) kept
-none_listed [] kept cut blocks is none = subst (λ (ls : List Logged). AreListed (fresh_ledger blocks []) ls) (sym is) (record { placed = λ i d lt. absurd (omega (arith, lt)); counted = λ n. none_named blocks n })
-none_listed (r ∷ recs) kept cut blocks is none = absurd (false≢true (sym none))
-
--- THE STORE IS WHOLE
-pub fresh_whole : {D : Type 0} (block_count : D → ℕ) (disk : D) (areas : Areas) (recs : List Rec) (kept : List Logged) (cut : Cut) (blocks : ℕ) → pool_at ≤ blocks → blocks ≤ most_blocks → blocks ≤ block_count disk
-    → length recs ≤ slot_count → AreKept (map unread recs) kept (slice_index cut.0) → has_failed areas ≡ false → length recs ≡ used_of areas
-    → IsWhole block_count (state_of disk areas (map unread recs) kept cut (fresh_ledger blocks recs) true false 0)
-fresh_whole block_count disk areas recs kept cut blocks least most within few are_kept working used = record {
-  within = within;
-  enough = least;
-  most = most;
-  first = refl;
-  sized = length-replicate blocks 0;
-  marked = length-replicate blocks false;
-  held = λ n is. absurd (false≢true (sym (none_held blocks n) ∙ is));
-  few = (let same = length-map recs unread in omega (arith, same, few));
-  kept = are_kept;
-  listed = λ none. none_listed recs kept (slice_index cut.0) blocks are_kept.kept none;
-  working = λ _. working;
-  used = λ _. length-map recs unread ∙ used;
-}
-
 -- WHERE THE LOG STANDS
 
 active_A : (b : Bool) (m n : ℕ) → (b ≡ true → n < m) → active_by true b m n ≡ Some A

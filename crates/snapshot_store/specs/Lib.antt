@@ -3,6 +3,7 @@ pub mod Naming
 pub mod Keeping
 pub mod Taking
 pub mod State
+pub mod Paging
 pub mod Putting
 pub mod Committed
 pub mod CommitAnswers

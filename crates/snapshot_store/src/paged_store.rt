@@ -14,8 +14,8 @@ use page_words::block_with;
 impl<D: Disk> PageStore for Store<D> {
     ghost use Rattle.disk_trait.specs.Image.{block_at};
     ghost use Rattle.page_shadow.specs.Ledger.{is_held};
+    ghost use Rattle.snapshot_store.specs.Paging.{GoesByPages, GoesByPages-join, GoesByPages-stay};
     ghost use Rattle.snapshot_store.specs.State.{State, books};
-    ghost use Rattle.store_model.specs.Between.{Between-join, Between-stay, OnlyPages};
     ghost use Rattle.store_model.specs.Books.{free_in, kept_names as kept_names_in, words_of_bytes};
 
     ghost tells = { D.tells };
@@ -36,7 +36,7 @@ impl<D: Disk> PageStore for Store<D> {
 
     ghost read_calls = { λ st. st.read_calls };
 
-    ghost Pages = { λ a b. OnlyPages D.tells D.clock D.reading D.may_leave D.left_since a.disk b.disk (books a) (books b) (books a).begun (books b).begun };
+    ghost Pages = { GoesByPages D.tells D.clock D.faults D.reading D.may_leave D.left_since };
 
     fn read_page(&mut self, block: u32, out: &mut [u64; 128]) -> Result<(), PageFault> {
         self.read_calls = self.read_calls.saturating_add(1);
@@ -78,7 +78,7 @@ impl<D: Disk> PageStore for Store<D> {
 
     ghost whole = { λ b n told named. refl };
 
-    ghost stays = { λ b. Between-stay D.tells D.clock D.reading D.may_leave D.left_since b.disk (books b) (books b).begun (λ c told left. D.only_now b.disk c told left) };
+    ghost stays = { λ b. GoesByPages-stay D.tells D.clock D.faults D.reading D.may_leave D.left_since b (λ c told left. D.only_now b.disk c told left) };
 
-    ghost goes_on = { λ a b c p q. Between-join D.tells D.clock D.reading D.may_leave D.left_since a.disk b.disk c.disk (books a) (books b) (books c) (books a).begun (books b).begun (books c).begun p q };
+    ghost goes_on = { GoesByPages-join D.tells D.clock D.faults D.reading D.may_leave D.left_since };
 }

@@ -7,8 +7,8 @@ use Rattle.hop_model.specs.Histories.{Run}
 use Rattle.hop_model.specs.State.{Supply, AtlasCell, NotBorn, empty_state, no_atlas}
 use Rattle.page_store.specs.declared.faults.PageFault.{PageFault}
 use Rattle.event_clocks.specs.declared.Clock.{Clock}
-use Rattle.store_model.specs.Between.{OnlyPages}
 use Rattle.store_model.specs.Books.{kept_names}
+use Rattle.snapshot_store.specs.Paging.{GoesByPages}
 use Rattle.snapshot_store.specs.State.{State, books}
 use Rattle.kernel_cells.specs.declared.cells.Cell.{Cell}
 use Rattle.kernel_cells.specs.declared.cells.Wish.{Wish}
@@ -65,7 +65,7 @@ same_wish steps r c d clock wish left has = record {
 
 module _ {D : Type 0} (tells : Type 0) (clock faults : D → ℕ) (reading : D → Image) (may_leave : D → Image → Type 0) (left_since : D → ℕ → Image → Type 0)
     (s : Supply) (me : ℕ) (cs cs' : List Cell) (old new : State D) (before : IsOrderly (books old).held cs) (after : IsOrderly (books new).held cs')
-    (pages : OnlyPages tells clock reading may_leave left_since old.disk new.disk (books old) (books new) (books old).begun (books new).begun)
+    (pages : GoesByPages tells clock faults reading may_leave left_since old new)
     (one_write : (books new).begun ≤ (books old).begun + 1) where
   abbrev words : ℕ → List ℕ
   words = words_on (reading old.disk)
@@ -96,7 +96,7 @@ module _ {D : Type 0} (tells : Type 0) (clock faults : D → ℕ) (reading : D �
           news = news;
           before = (books old).begun;
           after = (books new).begun;
-          pages = pages;
+          pages = pages.only;
           one_write = one_write;
           working = same_shut ∙ working;
           locus = c.0;
@@ -126,7 +126,7 @@ module _ {D : Type 0} (tells : Type 0) (clock faults : D → ℕ) (reading : D �
     wishes = wishes_stay stays;
     before = (books old).begun;
     after = (books new).begun;
-    pages = pages;
+    pages = pages.only;
   }
 
   -- WHATEVER CAME OF IT
@@ -145,7 +145,7 @@ module _ {D : Type 0} (tells : Type 0) (clock faults : D → ℕ) (reading : D �
   versions_by (Err (Paging f)) enters still faulted x c d was is = same_version c d ((faulted f refl).same x c d was is).0
 
   pub leaves : (r : Result Entry StepFault) → IfOk r (EntersStep me cs cs') → ((why : AnIdle) → IsErrOf r (Idle why) → Still) → ((f : PageFault) → IsErrOf r (Paging f) → Stays)
-      → LeavesInOrder tells clock reading may_leave left_since cs cs' old new
+      → LeavesInOrder tells clock faults reading may_leave left_since cs cs' old new
   unfolding Versions
   leaves r enters still faulted = record { orderly = after; versions = versions_by r enters still faulted; pages = pages; one_write = one_write }
 

@@ -51,7 +51,7 @@ pub fn step_over<D: Disk, S: Supplier, P: Policy>(
     ensures cause { (f : AFault) → IsErrOf result (StepFault.Paging f)
         → IsCausedBy (free_in (books store.old)) (D.faults store.old.disk) (D.faults store.new.disk) (books store.old).shut (books store.new).shut f }
     ensures same_shut { OnOk result ((books store.new).shut ≡ (books store.old).shut) }
-    ensures leaves { LeavesInOrder D.tells D.clock D.reading D.may_leave D.left_since cells.old cells.new store.old store.new }
+    ensures leaves { LeavesInOrder D.tells D.clock D.faults D.reading D.may_leave D.left_since cells.old cells.new store.old store.new }
     ensures clean { D.tells → AreClean (S.word gate.now.supply) (words_on (D.reading store.new.disk)) cells.new }
 {
     advance(cells, me, store, gate)

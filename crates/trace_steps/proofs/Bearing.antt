@@ -47,9 +47,6 @@ module _ (s : Supply) (policy : Policy) (script : Script) (w : KernelState) (es 
       let k = subst (may_be s policy script r e) ev m.1 in
       (sym h.keeps.marks.began ∙ k.0, k.1)
 
-  pub late_refuses : old.began ≡ false → (e : Entry) → e.event ≡ Birth → May s policy script (run_of s script w es) e → ⊥
-  late_refuses late e ev m = false≢true (sym late ∙ (bears_next e ev m).0)
-
   undefined_refuses : next_birth s script (run_of s script w es).state ≡ None → (e : Entry) → e.event ≡ Birth → May s policy script (run_of s script w es) e → ⊥
   undefined_refuses none e ev m = apart e (sym (ap (option_map (λ (q : Entry × KernelState). q.0)) none) ∙ (bears_next e ev m).1)
 

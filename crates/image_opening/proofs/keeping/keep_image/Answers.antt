@@ -1,5 +1,6 @@
 use Rattle.std.proofs.Common.{◌≡◌, ◌⊎◌, inl, inr, ⊎_elim, sym, subst}
 use Rattle.std.specs.Prelude.{IfOk}
+use Rattle.disk_tally.proofs.Counting.{Begins-stay}
 use Rattle.disk_tally.specs.Counts.{Begins, shown}
 use Rattle.disk_trait.specs.Disk.{Only}
 use Rattle.disk_trait.specs.Image.{Image}
@@ -9,8 +10,8 @@ use Rattle.image_parts.specs.Parts.{IsAcceptedWith}
 use Rattle.part_checks.specs.Chosen.{parts_of}
 use Rattle.snapshot_store.specs.State.{books}
 use Rattle.snapshot_store.specs.declared.opening.OpenWhy.TheVariants as why
-use Rattle.image_opening.specs.Images.{HasImageCause, HasKeepCause, HasTurnLeft, HoldsImage, MeansSame, MeansSince, StopsShort}
-use Rattle.image_opening.proofs.Clauses.{begins_behind, both, err_weaker, keep_cause, keep_not_foreign, match_weaker, ok_weaker, open_not_foreign, settled, since_sync}
+use Rattle.image_opening.specs.Images.{HasBegun, HasImageCause, HasKeepCause, HasTurnLeft, HoldsImage, MeansSame, MeansSince, StopsShort, WasRefused}
+use Rattle.image_opening.proofs.Clauses.{begins_behind, both, err_weaker, foreign_not_failed, keep_cause, keep_not_foreign, match_weaker, open_not_foreign, settled, since_sync}
 use Rattle.image_opening.proofs.keeping.keep_image.Goals as goal
 
 pub kept-requires-clause-accepted : goal.kept-requires-clause-accepted
@@ -100,8 +101,38 @@ pub returns-in-Ok-clause-begins : goal.returns-in-Ok-clause-begins
 returns-in-Ok-clause-begins g c =
     let old = c.args.disk in
     let mid = c.in-Ok.read.synced.disk in
-    ok_weaker c.kept.result
+    let behind = begins_behind g.D.Disk.tells g.D.Disk.block_count g.D.Disk.reading g.D.Disk.may_leave g.D.Disk.left_since g.D.Disk.clock g.D.Disk.faults old mid in
+    match_weaker c.kept.result
     (λ o. Begins 137 (shown g.D.Disk.block_count g.D.Disk.clock g.D.Disk.faults mid 1) (shown g.D.Disk.block_count g.D.Disk.clock g.D.Disk.faults o.0.disk (books o.0).begun))
     (λ o. Begins 138 (shown g.D.Disk.block_count g.D.Disk.clock g.D.Disk.faults old 0) (shown g.D.Disk.block_count g.D.Disk.clock g.D.Disk.faults o.0.disk (books o.0).begun))
-    (λ o. begins_behind g.D.Disk.tells g.D.Disk.block_count g.D.Disk.reading g.D.Disk.may_leave g.D.Disk.left_since g.D.Disk.clock g.D.Disk.faults old mid o.0.disk (books o.0).begun c.in-Ok.ensures.syncs)
+    (λ fault. HasBegun g.D.Disk.block_count g.D.Disk.clock g.D.Disk.faults 137 1 mid fault.disk)
+    (λ fault. HasBegun g.D.Disk.block_count g.D.Disk.clock g.D.Disk.faults 138 0 old fault.disk)
+    (λ o. behind o.0.disk (books o.0).begun c.in-Ok.ensures.syncs)
+    (λ fault has. (has.0, behind fault.disk has.0 c.in-Ok.ensures.syncs has.1))
     c.kept.ensures.begins
+
+pub returns-in-Err-clause-begins : goal.returns-in-Err-clause-begins
+returns-in-Err-clause-begins g c =
+    let new = c.in-Err.fault.disk in (
+      1,
+      begins_behind g.D.Disk.tells g.D.Disk.block_count g.D.Disk.reading g.D.Disk.may_leave g.D.Disk.left_since g.D.Disk.clock g.D.Disk.faults c.args.disk new new 1 c.in-Err.ensures.syncs
+          (Begins-stay 137 (shown g.D.Disk.block_count g.D.Disk.clock g.D.Disk.faults new 1)),
+    )
+
+pub returns-in-Ok-clause-refused : goal.returns-in-Ok-clause-refused
+returns-in-Ok-clause-refused g c =
+    err_weaker c.kept.result
+    (λ fault. HasKeepCause (g.D.Disk.faults c.in-Ok.read.synced.disk) (g.D.Disk.faults fault.disk) fault.why)
+    (λ fault. (bad : _) → fault.why ≡ why.Foreign bad
+    → WasRefused g.D.Disk.tells g.D.Disk.block_count g.D.Disk.reading g.D.Disk.may_leave g.D.Disk.left_since g.D.Disk.clock g.D.Disk.faults c.args.disk fault.disk)
+    (λ fault cause bad is. absurd (keep_not_foreign (g.D.Disk.faults c.in-Ok.read.synced.disk) (g.D.Disk.faults fault.disk) fault.why bad cause is))
+    c.kept.ensures.cause
+
+pub returns-in-Err-clause-refused : goal.returns-in-Err-clause-refused
+returns-in-Err-clause-refused g c bad is = record {
+  synced = c.in-Err.ensures.syncs;
+  stable = λ t. ⊎_elim
+      (λ (failed : c.in-Err.fault.why ≡ why.WriteFault). absurd (foreign_not_failed c.in-Err.fault.why bad is failed))
+      (λ (stable : Only (g.D.Disk.reading c.in-Err.fault.disk) (g.D.Disk.may_leave c.in-Err.fault.disk)). stable)
+      (c.in-Err.ensures.stable t);
+}

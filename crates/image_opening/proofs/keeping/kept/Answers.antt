@@ -1,5 +1,7 @@
 use Rattle.std.proofs.Common.{ℕ, sym, subst}
 use Rattle.std.specs.List.{AllByRecursion}
+use Rattle.disk_tally.proofs.Counting.{Begins-stay}
+use Rattle.disk_tally.specs.Counts.{Begins, shown}
 use Rattle.disk_trait.specs.Image.{SameOutside}
 use Rattle.disk_trait.specs.Moments.{LeavesOnly}
 use Rattle.disk_trait.proofs.Phases.{LeavesOnly-now, told}
@@ -8,7 +10,7 @@ use Rattle.log_reading.specs.Logs.{AreInRange, IsLogOf}
 use Rattle.snapshot_store.specs.Choosing.{IsKeeping, are_chosen, books_kept}
 use Rattle.snapshot_store.specs.State.{State, books}
 use Rattle.store_model.specs.Books.{IsBeforePool, kept_of, recs_in}
-use Rattle.image_opening.specs.Images.{AreReadOf, MeansSame}
+use Rattle.image_opening.specs.Images.{AreReadOf, HasBegun, MeansSame}
 use Rattle.image_opening.specs.Opened.{IsRead}
 use Rattle.image_opening.proofs.Clauses.{holds, is_read, low_epoch, moments, opened, settled}
 use Rattle.image_opening.proofs.Stored.{rows_placed, rows_spelt}
@@ -53,7 +55,7 @@ returns-in-Ok-keep_chosen-clause-opened g c =
     let count = g.D.Disk.block_count c.args.read.synced.disk in
     let read : AreReadOf log parts c.deref.result.now = subst (AreReadOf log parts) (sym c.deref.ensures.value) c.requires.read in
     opened log parts c.deref.result.now st c.keep_chosen.new.self (is_read count log parts c.deref.result.now st c.requires.synced.known read c.in-Ok.ensures.over) c.in-Ok.ensures.fresh
-    count c.requires.synced.known c.in-Ok-keep_chosen.ensures.kept
+    count c.requires.synced.known c.in-Ok-keep_chosen.ensures.kept c.keep_chosen.ensures.begins.counts.begun_later
 
 pub returns-in-Ok-keep_chosen-clause-holds : goal.returns-in-Ok-keep_chosen-clause-holds
 returns-in-Ok-keep_chosen-clause-holds g c t =
@@ -106,3 +108,21 @@ returns-in-Err-keep_chosen-clause-moments g c t room =
     (moments log parts c.deref.result.now st new is c.in-Ok.ensures.fresh (told t disk.counts_now disk.only_now) (g.D.Disk.reading mid) of mid new.disk
     (subst (λ (d : g.row.D.Denot). LeavesOnly g.D.Disk.clock g.D.Disk.left_since d new.disk (IsKeeping (g.D.Disk.reading d) (books st) (are_chosen st))) c.in-Ok.ensures.same_disk
     (c.keep_chosen.ensures.any_moment t c.in-Ok.ensures.fresh.working low)))
+
+pub returns-in-Err-clause-begins : goal.returns-in-Err-clause-begins
+returns-in-Err-clause-begins g c =
+    let mid = c.args.read.synced.disk in
+    subst (λ (d : g.row.D.Denot). HasBegun g.D.Disk.block_count g.D.Disk.clock g.D.Disk.faults 137 1 mid d) (sym c.in-Err.ensures.same_disk)
+    (1, Begins-stay 137 (shown g.D.Disk.block_count g.D.Disk.clock g.D.Disk.faults mid 1))
+
+pub returns-in-Err-keep_chosen-clause-begins : goal.returns-in-Err-keep_chosen-clause-begins
+returns-in-Err-keep_chosen-clause-begins g c =
+    let st : State g.row.D.Denot = c.in-Ok.store in
+    let new : State g.row.D.Denot = c.keep_chosen.new.self in
+    let mid = c.args.read.synced.disk in
+    subst (λ (d : g.row.D.Denot). HasBegun g.D.Disk.block_count g.D.Disk.clock g.D.Disk.faults 137 1 mid d) (sym c.into_disk.ensures) (
+      (books new).begun,
+      subst (λ (n : ℕ). Begins 137 (shown g.D.Disk.block_count g.D.Disk.clock g.D.Disk.faults mid n) (shown g.D.Disk.block_count g.D.Disk.clock g.D.Disk.faults new.disk (books new).begun)) c.in-Ok.ensures.fresh.one
+          (subst (λ (d : g.row.D.Denot). Begins 137 (shown g.D.Disk.block_count g.D.Disk.clock g.D.Disk.faults d (books st).begun) (shown g.D.Disk.block_count g.D.Disk.clock g.D.Disk.faults new.disk (books new).begun)) c.in-Ok.ensures.same_disk
+          c.keep_chosen.ensures.begins),
+    )

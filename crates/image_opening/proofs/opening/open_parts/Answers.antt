@@ -1,9 +1,10 @@
-use Rattle.std.proofs.Common.{◌⊎◌, inr, List, sym, subst}
+use Rattle.std.proofs.Common.{◌⊎◌, inr, List, sym, subst, ap, ◌∙◌}
 use Rattle.disk_trait.specs.Image.{Image}
 use Rattle.disk_trait.specs.Moments.{LeavesOnly}
 use Rattle.snapshot_store.specs.State.{State, books}
 use Rattle.kernel_cells.specs.declared.cells.Cell.{Cell}
-use Rattle.image_opening.specs.Images.{IsOpened, MeansSame, MeansSince}
+use Rattle.store_model.specs.Books.{logged_recs}
+use Rattle.image_opening.specs.Images.{HasBegun, IsOpened, MeansSame, MeansSince}
 use Rattle.image_opening.proofs.Newest.{newest_in_books}
 use Rattle.image_opening.proofs.Starting.{starts}
 use Rattle.image_opening.proofs.opening.open_parts.Goals as goal
@@ -20,6 +21,16 @@ returns-in-Ok-cells_of-clause-table g c =
       frames_are = c.in-Ok-cells_of.ensures.frames;
       wishes = c.in-Ok-cells_of.ensures.wishes;
       clean = c.in-Ok-cells_of.ensures.clean;
+    }
+
+pub returns-in-Ok-cells_of-clause-means : goal.returns-in-Ok-cells_of-clause-means
+returns-in-Ok-cells_of-clause-means g c t =
+    let o : IsOpened c.in-Ok.kept.0 c.in-Ok.kept.1 = c.in-Ok.ensures.opened in
+    let h = c.in-Ok.ensures.holds t in
+    record {
+      accepted = h.accepted.whole;
+      recs = ap logged_recs (sym o.all_kept) ∙ h.keeps.recs;
+      means = λ s. c.in-Ok-cells_of.ensures.state h.log (g.D.Disk.reading c.args.disk) s h.parts_are h.accepted;
     }
 
 pub returns-in-Ok-cells_of-clause-starts : goal.returns-in-Ok-cells_of-clause-starts
@@ -40,3 +51,7 @@ pub returns-in-Err-cells_of-clause-any_moment : goal.returns-in-Err-cells_of-cla
 returns-in-Err-cells_of-clause-any_moment g c t room =
     let old = c.args.disk in
     subst (λ (d : g.row.D.Denot). LeavesOnly g.D.Disk.clock g.D.Disk.left_since old d (λ (i : Image). g.D.Disk.may_leave old i ⊎ MeansSame (g.D.Disk.reading old) i)) (sym c.into_disk.ensures) (c.in-Ok.ensures.any_moment t room)
+
+pub returns-in-Err-cells_of-clause-begins : goal.returns-in-Err-cells_of-clause-begins
+returns-in-Err-cells_of-clause-begins g c =
+    subst (λ (d : g.row.D.Denot). HasBegun g.D.Disk.block_count g.D.Disk.clock g.D.Disk.faults 138 0 c.args.disk d) (sym c.into_disk.ensures) ((books c.in-Ok.kept.0).begun, c.in-Ok.ensures.begins)

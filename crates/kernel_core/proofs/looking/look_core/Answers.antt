@@ -1,4 +1,5 @@
-use Rattle.std.proofs.Common.{◌≡◌, inl, inr, ℕ, Bool, List, Some, None, Ok, Option, sym, ap, subst, refl, ◌∙◌, if◌then◌else◌}
+use Rattle.std.proofs.Common.{◌≡◌, ◌*◌, inl, inr, ℕ, Bool, List, Some, None, Ok, Option, sym, ap, subst, refl, ◌∙◌, if◌then◌else◌}
+use Rattle.std.specs.Prelude.{⊤}
 use Rattle.hop_base.specs.declared.histories.Answer.TheVariants.{Reply as Replied}
 use Rattle.hop_base.specs.declared.histories.Entry.{Entry}
 use Rattle.hop_base.specs.declared.instructions.Reply.TheVariants.{Ok as AnsweredOk}
@@ -7,9 +8,12 @@ use Rattle.hop_model.specs.State.{Supply}
 use Rattle.kernel_cells.specs.declared.cells.Cell.{Cell}
 use Rattle.cell_table.specs.Tables.{state_in}
 use Rattle.kernel_core.specs.Looking.{LooksInRun}
-use Rattle.kernel_core.specs.Parts.{Parts}
+use Rattle.kernel_commits.specs.Parts.{Parts}
 use Rattle.kernel_core.specs.Stepping.{StepsOnce}
-use Rattle.kernel_core.proofs.Looked.{err_true, look_behind_step, look_still, ok_true, owes_is, true_result}
+use Rattle.kernel_commits.specs.declared.stopping.Stopped.TheVariants.{TooFew}
+use Rattle.kernel_commits.proofs.Wishing.{err_over}
+use Rattle.kernel_commits.proofs.Counting.{CountsWithin-then}
+use Rattle.kernel_core.proofs.Looked.{err_true, free_then, look_behind_step, look_still, ok_true, owes_is, owes_then, part_at_step, part_behind_step, true_result}
 use Rattle.kernel_core.proofs.looking.look_core.Goals as goal
 
 pub returns-in-Ok-clause-run : goal.returns-in-Ok-clause-run
@@ -50,3 +54,46 @@ returns-in-Err-keep_behind-clause-stopped g c =
     let d = g.D.Disk in
     let once = subst (λ (o : Option Entry). StepsOnce d.tells d.clock d.faults d.reading d.may_leave d.left_since (g.S.Supplier.word c.args.gate.now.supply) c.args.me c.args.core.now c.step_core.new.core (Ok o)) c.in-Ok-Some.field-0-is c.in-Ok-Some.ensures in
     inr (record { mid = c.step_core.new.core; entry = c.in-Ok-Some.entry; stepped = once.made; leaves = c.in-Err-keep_behind.ensures.stopped })
+
+pub returns-in-Err-keep_behind-clause-part : goal.returns-in-Err-keep_behind-clause-part
+returns-in-Err-keep_behind-clause-part g c = λ told b same policy stands calm.
+    let d = g.D.Disk in
+    let once = subst (λ (o : Option Entry). StepsOnce d.tells d.clock d.faults d.reading d.may_leave d.left_since (g.S.Supplier.word c.args.gate.now.supply) c.args.me c.args.core.now c.step_core.new.core (Ok o)) c.in-Ok-Some.field-0-is c.in-Ok-Some.ensures in
+    let flag = subst (λ (cs : List Cell). (s : Supply) (ws : ℕ → List ℕ) → owed_by c.args.me (Replied AnsweredOk) (locus_in (state_in s ws cs c.args.me).cell) ≡ (if c.stabilises_at-stabilises.result then Some c.args.me else None))
+    (c.deref.ensures.value ∙ ap (λ (p : Parts g.row.D.Denot). p.cells) c.core.view_is) c.stabilises_at-stabilises.ensures in
+    let run = once.run told b same stands calm in
+    let owed = owes_is d.tells d.clock d.faults d.reading d.may_leave d.left_since b (g.P.Policy.wish c.args.gate.now.policy) policy c.args.me c.args.core.now stands calm c.step_core.new.core c.in-Ok-Some.entry once.made run c.stabilises_at-stabilises.result flag in
+    part_behind_step d.tells d.clock d.faults d.reading d.may_leave d.left_since b (g.P.Policy.wish c.args.gate.now.policy) policy c.args.me c.args.core.now stands calm c.step_core.new.core c.in-Ok-Some.entry once.made run
+    c.owes_stable-owes.result (owed ∙ ap (λ t. if t then Some c.args.me else None) (sym c.owes_stable-owes.ensures)) c.keep_behind.new.core.noted.entries
+    (λ is. c.in-Err-keep_behind.ensures.stable_part is told b) (λ is. c.in-Err-keep_behind.ensures.snaps_part is told b)
+
+pub returns-in-Err-clause-part : goal.returns-in-Err-clause-part
+returns-in-Err-clause-part g c = λ told b same policy stands calm.
+    let d = g.D.Disk in
+    part_at_step d.tells d.clock d.faults d.reading d.may_leave d.left_since b (g.P.Policy.wish c.args.gate.now.policy) policy c.args.me c.args.core.now stands calm c.step_core.new.core c.in-Err.ensures.failed.noted
+
+pub returns-in-Ok-clause-counts : goal.returns-in-Ok-clause-counts
+returns-in-Ok-clause-counts g c =
+    CountsWithin-then g.D.Disk.clock g.D.Disk.faults 1 (64 * 1556) c.args.core.now.store c.step_core.new.core.store c.keep_behind.new.core.store c.step_core.ensures.counts c.keep_behind.ensures.counts
+
+pub returns-in-Err-keep_behind-clause-counts : goal.returns-in-Err-keep_behind-clause-counts
+returns-in-Err-keep_behind-clause-counts g c =
+    CountsWithin-then g.D.Disk.clock g.D.Disk.faults 1 (64 * 1556) c.args.core.now.store c.step_core.new.core.store c.keep_behind.new.core.store c.step_core.ensures.counts c.keep_behind.ensures.counts
+
+pub returns-in-Err-keep_behind-clause-enough : goal.returns-in-Err-keep_behind-clause-enough
+returns-in-Err-keep_behind-clause-enough g c = λ told b same policy stands calm n is.
+    let d = g.D.Disk in
+    let once = subst (λ (o : Option Entry). StepsOnce d.tells d.clock d.faults d.reading d.may_leave d.left_since (g.S.Supplier.word c.args.gate.now.supply) c.args.me c.args.core.now c.step_core.new.core (Ok o)) c.in-Ok-Some.field-0-is c.in-Ok-Some.ensures in
+    let flag = subst (λ (cs : List Cell). (s : Supply) (ws : ℕ → List ℕ) → owed_by c.args.me (Replied AnsweredOk) (locus_in (state_in s ws cs c.args.me).cell) ≡ (if c.stabilises_at-stabilises.result then Some c.args.me else None))
+    (c.deref.ensures.value ∙ ap (λ (p : Parts g.row.D.Denot). p.cells) c.core.view_is) c.stabilises_at-stabilises.ensures in
+    let run = once.run told b same stands calm in
+    let owed = owes_is d.tells d.clock d.faults d.reading d.may_leave d.left_since b (g.P.Policy.wish c.args.gate.now.policy) policy c.args.me c.args.core.now stands calm c.step_core.new.core c.in-Ok-Some.entry once.made run c.stabilises_at-stabilises.result flag in
+    let owes = owed ∙ ap (λ t. if t then Some c.args.me else None) (sym c.owes_stable-owes.ensures) in
+    c.in-Err-keep_behind.ensures.enough told b
+    (owes_then d.tells d.clock d.faults d.reading d.may_leave d.left_since b (g.P.Policy.wish c.args.gate.now.policy) policy c.args.me c.args.core.now stands calm c.step_core.new.core c.in-Ok-Some.entry once.made run c.owes_stable-owes.result owes)
+    (free_then d.tells d.clock d.faults d.reading d.may_leave d.left_since b (g.P.Policy.wish c.args.gate.now.policy) policy c.args.me c.args.core.now stands calm c.step_core.new.core c.in-Ok-Some.entry once.made run c.owes_stable-owes.result owes)
+    n (err_over Bool ⊤ c.in-Err-keep_behind.why (TooFew n) is)
+
+pub returns-in-Err-clause-enough : goal.returns-in-Err-clause-enough
+returns-in-Err-clause-enough g c = λ told b same policy stands calm n is.
+    c.in-Err.ensures.enough told b stands calm n (err_over Bool (Option Entry) c.in-Err.why (TooFew n) is)

@@ -1,8 +1,9 @@
 use Rattle.std.proofs.Common.{Err, Ok, Some, sym, subst}
-use Rattle.kernel_core.specs.Parts.{Noted, parts_of}
+use Rattle.kernel_commits.specs.Parts.{Noted, parts_of}
 use Rattle.kernel_core.specs.Stepping.{StepsOnce}
-use Rattle.kernel_core.specs.declared.stopping.Stopped.{Stopped}
-use Rattle.kernel_core.proofs.Stepped.{few_writes, once_failed, once_idle, once_made}
+use Rattle.kernel_commits.specs.declared.stopping.Stopped.{Stopped}
+use Rattle.kernel_core.proofs.Paired.{few_writes}
+use Rattle.kernel_core.proofs.Stepped.{once_failed, once_idle, once_made}
 use Rattle.kernel_core.proofs.stepping.step_among.Goals as goal
 
 pub step_over-requires-clause-few : goal.step_over-requires-clause-few

@@ -1,10 +1,7 @@
-use Rattle.std.proofs.Common.{sym, ap, subst, List, ◌∙◌}
-use Rattle.kernel_cells.specs.declared.cells.Cell.{Cell}
+use Rattle.std.proofs.Common.{sym, subst}
 use Rattle.cell_table.specs.Tables.{AreClean}
 use Rattle.record_laws.specs.Cells.{words_on}
-use Rattle.kernel_core.specs.Parts.{Parts, parts_of}
-use Rattle.kernel_core.specs.Stepping.{StepsOnce}
-use Rattle.kernel_core.proofs.Answering.{refilled}
+use Rattle.kernel_commits.specs.Parts.{Parts}
 use Rattle.kernel_core.proofs.stepping.step_core.Goals as goal
 
 pub step_among-requires-clause-clean : goal.step_among-requires-clause-clean

@@ -39,7 +39,7 @@ record_cell-requires-clause-may g c =
     let f = c.flush_part-flushed.ensures in
     let d : Cell = record c.args.cell.now { part = c.flush_part-flushed.new.part } in
     may_again g.D.Disk.tells (λ (st : State g.row.D.Denot). (books st).held) (λ (st : State g.row.D.Denot). kept_names (books st)) (λ (st : State g.row.D.Denot). words_on (g.D.Disk.reading st.disk))
-    c.args.store.now c.flush_part-flushed.new.store (books c.args.store.now) (books c.flush_part-flushed.new.store) c.args.cell.now d refl f.flushes f.table f.between.same_logged f.between.same_place f.between.same_found c.requires.may
+    c.args.store.now c.flush_part-flushed.new.store (books c.args.store.now) (books c.flush_part-flushed.new.store) c.args.cell.now d refl f.flushes f.table f.between.only.same_logged f.between.only.same_place f.between.only.same_found c.requires.may
 
 pub record_cell-requires-clause-free : goal.record_cell-requires-clause-free
 record_cell-requires-clause-free g c =
@@ -59,7 +59,7 @@ pub returns-then-is_err-clause-unmade : goal.returns-then-is_err-clause-unmade
 returns-then-is_err-clause-unmade g c =
     let f = c.flush_part-flushed.ensures in
     failed_pages g.D.Disk.tells g.D.Disk.clock g.D.Disk.reading g.D.Disk.may_leave g.D.Disk.left_since c.args.cell.now c.flush_part-flushed.new.part c.args.store.now c.flush_part-flushed.new.store
-    (record { flushes = f.flushes; only = f.between; table = f.table; means = f.means }) c.held_law.ensures
+    (record { flushes = f.flushes; only = f.between.only; table = f.table; means = f.means }) c.held_law.ensures
 
 pub returns-then-is_err-clause-failed : goal.returns-then-is_err-clause-failed
 returns-then-is_err-clause-failed g c = λ e is.
@@ -72,7 +72,7 @@ pub returns-then-is_err-clause-any_moment : goal.returns-then-is_err-clause-any_
 returns-then-is_err-clause-any_moment g c = λ t small own.
     let d : Cell = record c.args.cell.now { part = c.flush_part-flushed.new.part } in
     moments_pages g.D.Disk.tells g.D.Disk.clock g.D.Disk.reading g.D.Disk.may_leave g.D.Disk.left_since c.args.cell.now d c.args.store.now c.flush_part-flushed.new.store t
-    c.flush_part-flushed.ensures.between (c.requires.true_books t) small c.requires.working
+    c.flush_part-flushed.ensures.between.only (c.requires.true_books t) small c.requires.working
 
 -- A WRITE OF THE RECORD FAILED
 
@@ -82,7 +82,7 @@ returns-in_err-record_cell-clause-unmade g c =
     let p = err_from_is_err_and c.from_residual.result c.from_residual.ensures.1 in
     let failed = c.record_cell.ensures.failed c.in_err-record_cell.field-0.0 c.in_err-record_cell.was in
     rw p.1 (failed_commit g.D.Disk.tells g.D.Disk.clock g.D.Disk.reading g.D.Disk.may_leave g.D.Disk.left_since c.args.cell.now c.flush_part-flushed.new.part c.args.store.now c.flush_part-flushed.new.store c.record_cell.new.store
-    (record { flushes = f.flushes; only = f.between; table = f.table; means = f.means }) c.held_law.ensures c.record_cell.ensures.same_used failed.2)
+    (record { flushes = f.flushes; only = f.between.only; table = f.table; means = f.means }) c.held_law.ensures c.record_cell.ensures.same_used failed.2)
 
 pub returns-in_err-record_cell-clause-failed : goal.returns-in_err-record_cell-clause-failed
 returns-in_err-record_cell-clause-failed g c = λ e is.
@@ -99,8 +99,8 @@ returns-in_err-record_cell-clause-any_moment g c = λ t small own.
     let f = c.flush_part-flushed.ensures in
     let d : Cell = record c.args.cell.now { part = c.flush_part-flushed.new.part } in
     moments_then g.D.Disk.tells g.D.Disk.clock g.D.Disk.reading g.D.Disk.may_leave g.D.Disk.left_since c.args.cell.now d c.args.store.now c.flush_part-flushed.new.store t c.record_cell.new.store.disk
-    (record { flushes = f.flushes; only = f.between; table = f.table; means = f.means }) c.record_cell.ensures.spelt (worked c.flush_part-flushed.result (sym c.is_err.ensures.value ∙ c.if-is_err.false) f.settled) (c.requires.true_books t) small c.requires.working
-    (c.record_cell.ensures.any_moment t (small_on (books c.args.store.now) (books c.flush_part-flushed.new.store) f.between.same_small f.between.same_place small) own)
+    (record { flushes = f.flushes; only = f.between.only; table = f.table; means = f.means }) c.record_cell.ensures.spelt (worked c.flush_part-flushed.result (sym c.is_err.ensures.value ∙ c.if-is_err.false) f.settled) (c.requires.true_books t) small c.requires.working
+    (c.record_cell.ensures.any_moment t (small_on (books c.args.store.now) (books c.flush_part-flushed.new.store) f.between.only.same_small f.between.only.same_place small) own)
 
 pub returns-in_err-record_cell-clause-counts : goal.returns-in_err-record_cell-clause-counts
 returns-in_err-record_cell-clause-counts g c =
@@ -108,7 +108,7 @@ returns-in_err-record_cell-clause-counts g c =
     let b = c.record_cell.ensures.begins in
     record {
       few = (let one = f.writes.few in let two = b.few in omega (arith, one, two));
-      counts = CountsOn-then (g.D.Disk.clock c.args.store.now.disk) (g.D.Disk.clock c.flush_part-flushed.new.store.disk) (g.D.Disk.clock c.record_cell.new.store.disk) (books c.args.store.now).begun (books c.flush_part-flushed.new.store).begun (books c.record_cell.new.store).begun f.between.counts b.counts;
+      counts = CountsOn-then (g.D.Disk.clock c.args.store.now.disk) (g.D.Disk.clock c.flush_part-flushed.new.store.disk) (g.D.Disk.clock c.record_cell.new.store.disk) (books c.args.store.now).begun (books c.flush_part-flushed.new.store).begun (books c.record_cell.new.store).begun f.between.only.counts b.counts;
       later = (let one = f.faults in let two = b.later in omega (arith, one, two));
     }
 
@@ -118,16 +118,18 @@ pub returns-clause-made : goal.returns-clause-made
 returns-clause-made g c =
     let f = c.flush_part-flushed.ensures in
     let settled : IsSettled c.flush_part-flushed.new.part = worked c.flush_part-flushed.result (sym c.is_err.ensures.value ∙ c.if-is_err.false) f.settled in
+    let free = worked c.flush_part-flushed.result (sym c.is_err.ensures.value ∙ c.if-is_err.false) f.free in
     made_commit g.D.Disk.tells g.D.Disk.clock g.D.Disk.reading g.D.Disk.may_leave g.D.Disk.left_since c.args.cell.now c.flush_part-flushed.new.part c.args.store.now c.flush_part-flushed.new.store c.record_cell.new.store
-    (record { flushes = f.flushes; only = f.between; table = f.table; means = f.means }) c.held_law.ensures c.record_cell.ensures.same_used c.in_ok-record_cell.ensures.made c.record_cell.ensures.spelt settled
+    (record { flushes = f.flushes; only = f.between.only; table = f.table; means = f.means }) c.held_law.ensures c.record_cell.ensures.same_used c.in_ok-record_cell.ensures.made c.record_cell.ensures.spelt settled
+    free c.requires.may.spellable.formed
 
 pub returns-clause-any_moment : goal.returns-clause-any_moment
 returns-clause-any_moment g c = λ t small own.
     let f = c.flush_part-flushed.ensures in
     let d : Cell = record c.args.cell.now { part = c.flush_part-flushed.new.part; wish = record { by_step = false; asked = false; newest = c.args.cell.now.clock.version } } in
     moments_then g.D.Disk.tells g.D.Disk.clock g.D.Disk.reading g.D.Disk.may_leave g.D.Disk.left_since c.args.cell.now d c.args.store.now c.flush_part-flushed.new.store t c.record_cell.new.store.disk
-    (record { flushes = f.flushes; only = f.between; table = f.table; means = f.means }) (record { spells = c.record_cell.ensures.spelt.spells; components = c.record_cell.ensures.spelt.components }) (worked c.flush_part-flushed.result (sym c.is_err.ensures.value ∙ c.if-is_err.false) f.settled) (c.requires.true_books t) small c.requires.working
-    (c.record_cell.ensures.any_moment t (small_on (books c.args.store.now) (books c.flush_part-flushed.new.store) f.between.same_small f.between.same_place small) own)
+    (record { flushes = f.flushes; only = f.between.only; table = f.table; means = f.means }) (record { spells = c.record_cell.ensures.spelt.spells; components = c.record_cell.ensures.spelt.components }) (worked c.flush_part-flushed.result (sym c.is_err.ensures.value ∙ c.if-is_err.false) f.settled) (c.requires.true_books t) small c.requires.working
+    (c.record_cell.ensures.any_moment t (small_on (books c.args.store.now) (books c.flush_part-flushed.new.store) f.between.only.same_small f.between.only.same_place small) own)
 
 pub returns-clause-counts : goal.returns-clause-counts
 returns-clause-counts g c =
@@ -135,6 +137,6 @@ returns-clause-counts g c =
     let b = c.record_cell.ensures.begins in
     record {
       few = (let one = f.writes.few in let two = b.few in omega (arith, one, two));
-      counts = CountsOn-then (g.D.Disk.clock c.args.store.now.disk) (g.D.Disk.clock c.flush_part-flushed.new.store.disk) (g.D.Disk.clock c.record_cell.new.store.disk) (books c.args.store.now).begun (books c.flush_part-flushed.new.store).begun (books c.record_cell.new.store).begun f.between.counts b.counts;
+      counts = CountsOn-then (g.D.Disk.clock c.args.store.now.disk) (g.D.Disk.clock c.flush_part-flushed.new.store.disk) (g.D.Disk.clock c.record_cell.new.store.disk) (books c.args.store.now).begun (books c.flush_part-flushed.new.store).begun (books c.record_cell.new.store).begun f.between.only.counts b.counts;
       later = (let one = f.faults in let two = b.later in omega (arith, one, two));
     }

@@ -54,7 +54,7 @@ returns-in_err-commit_cell-clause-faults g c = λ s words.
 pub returns-clause-made : goal.returns-clause-made
 returns-clause-made g c = λ s words is.
     let changed = is_changed (g.P.Policy.wish c.args.gate.now.policy) s words c.args.cell.now (books c.args.store.now) c.requires.founded (is_wished (g.P.Policy.wish c.args.gate.now.policy) s words c.args.cell.now (books c.args.store.now) is) in
-    (ap (λ (e : Entry). Ok (Some e)) c.snap_entry.ensures, (c.in_ok-commit_cell.ensures.made changed).1)
+    (ap (λ (e : Entry). Ok (Some e)) c.mark_entry.ensures, (c.in_ok-commit_cell.ensures.made changed).1)
 
 pub returns-clause-faults : goal.returns-clause-faults
 returns-clause-faults g c = λ s words.
@@ -64,7 +64,7 @@ returns-clause-faults g c = λ s words.
     let was : c.commit_cell.result ≡ Ok c.in_ok-commit_cell.field-0 = c.in_ok-commit_cell.was in
     let wished = sym (c.is_wished.ensures.open s words) ∙ c.if-not-is_wished.false in
     let is = snapped policy s words cell (books st) wished (let few = c.if-kept_count-ge-FULL.false in let count = c.kept_count.ensures in omega (arith, few, count)) in
-    handed_on g.D.Disk.faults (is_recorded cell ≡ false) (is_snapped policy s words cell (books st) ≡ true) c.commit_cell.result (Ok (Some c.snap_entry.result)) cell c.commit_cell.new.cell st c.commit_cell.new.store
+    handed_on g.D.Disk.faults (is_recorded cell ≡ false) (is_snapped policy s words cell (books st) ≡ true) c.commit_cell.result (Ok (Some c.mark_entry.result)) cell c.commit_cell.new.cell st c.commit_cell.new.store
     (λ changed. is) (λ one. is_changed policy s words cell (books st) c.requires.founded wished)
     (λ f same. absurd (cc (was, same)))
     (λ f same. absurd (cc same))

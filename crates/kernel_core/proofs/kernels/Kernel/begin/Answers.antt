@@ -1,6 +1,6 @@
-use Rattle.kernel_core.specs.Parts.{parts_of}
-use Rattle.kernel_core.proofs.Room.{begun_few}
-use Rattle.kernel_core.proofs.Steadying.{few_at_start}
+use Rattle.kernel_commits.specs.Parts.{parts_of}
+use Rattle.kernel_commits.proofs.Room.{begun_few}
+use Rattle.kernel_commits.proofs.Steadying.{few_at_start}
 use Rattle.kernel_core.proofs.kernels.Kernel.begin.Goals as goal
 
 pub invariant_of-result : goal.invariant_of-result

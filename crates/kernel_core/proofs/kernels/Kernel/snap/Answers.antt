@@ -1,11 +1,17 @@
 use Rattle.std.proofs.Common.{◌≡◌, ◌↔◌, true, Ok, sym, ap, subst}
-use Rattle.std.specs.Prelude.{IsErrOf, OnOk}
-use Rattle.kernel_core.specs.Kernels.{Held, Lives}
-use Rattle.kernel_core.specs.Parts.{Parts}
-use Rattle.kernel_core.specs.Recording.{HasRecorded, IsShort}
-use Rattle.kernel_core.specs.Snapping.{Snaps}
-use Rattle.kernel_core.specs.declared.stopping.Stopped.TheVariants.{TooFew}
-use Rattle.kernel_core.proofs.Kept.{kept_after, lives_after, runs_free}
+use Rattle.std.specs.Prelude.{IsErrOf, OnErr, OnOk}
+use Rattle.disk_trait.specs.declared.disk.NoBlocks.{NoBlocks as TooFewBlocks}
+use Rattle.hop_model.specs.Histories.{Policy}
+use Rattle.kernel_model.specs.Beginnings.{run_of}
+use Rattle.serial_runs.specs.Serial.{wished_snap}
+use Rattle.kernel_core.specs.Kernels.{Held, Lives, StaysClean}
+use Rattle.kernel_commits.specs.Lacking.{LacksBlocks}
+use Rattle.kernel_commits.specs.Parts.{Parts}
+use Rattle.kernel_commits.specs.Pieces.{StopsIn}
+use Rattle.kernel_commits.specs.Recording.{HasRecorded, IsShort}
+use Rattle.kernel_commits.specs.Snapping.{Snaps}
+use Rattle.kernel_commits.specs.declared.stopping.Stopped.TheVariants.{TooFew}
+use Rattle.kernel_core.proofs.Kept.{kept_after, lives_after, runs_free, while_going}
 use Rattle.kernel_core.proofs.kernels.Kernel.snap.Goals as goal
 
 pub invariant_of-self : goal.invariant_of-self
@@ -29,3 +35,29 @@ returns-clause-run g c = λ told b same lives.
     let was = subst (λ o. Lives g.D.Disk.tells g.D.Disk.clock g.D.Disk.faults g.D.Disk.reading g.D.Disk.may_leave g.D.Disk.left_since b (record { parts = c.self.inside.core; stop = o })) c.in_default.is (subst (Lives g.D.Disk.tells g.D.Disk.clock g.D.Disk.faults g.D.Disk.reading g.D.Disk.may_leave g.D.Disk.left_since b) (sym c.self.view_is) lives) in
     lives_after g.D.Disk.tells g.D.Disk.clock g.D.Disk.faults g.D.Disk.reading g.D.Disk.may_leave g.D.Disk.left_since c.args.entity c.self.inside.core c.snap_one-made.new.core steady b (g.P.Policy.wish c.args.gate.now.policy) same was c.snap_one-made.result
     (c.snap_one-made.ensures.run told b (runs_free g.D.Disk.tells g.D.Disk.clock g.D.Disk.faults g.D.Disk.reading g.D.Disk.may_leave g.D.Disk.left_since c.args.entity c.self.inside.core c.snap_one-made.new.core steady b (g.P.Policy.wish c.args.gate.now.policy) same was)) c.err-self-inside.result c.err-self-inside.ensures.value
+
+pub returns-clause-part : goal.returns-clause-part
+returns-clause-part g c = λ told b same lives _.
+    let d = g.D.Disk in
+    let steady = c.self.invariant.steady c.in_default.is in
+    let was = subst (λ o. Lives d.tells d.clock d.faults d.reading d.may_leave d.left_since b (record { parts = c.self.inside.core; stop = o })) c.in_default.is (subst (Lives d.tells d.clock d.faults d.reading d.may_leave d.left_since b) (sym c.self.view_is) lives) in
+    let free = runs_free d.tells d.clock d.faults d.reading d.may_leave d.left_since c.args.entity c.self.inside.core c.snap_one-made.new.core steady b (g.P.Policy.wish c.args.gate.now.policy) same was in
+    subst (λ (p : Parts g.row.D.Denot). OnErr c.snap_one-made.result (StopsIn b (wished_snap b.policy (run_of b p.noted.entries) c.args.entity) p.noted.entries c.snap_one-made.new.core.noted.entries))
+    (ap (λ (k : Held g.row.D.Denot). k.parts) c.self.view_is)
+    (subst (λ (q : Policy). OnErr c.snap_one-made.result (StopsIn b (wished_snap q (run_of b c.self.inside.core.noted.entries) c.args.entity) c.self.inside.core.noted.entries c.snap_one-made.new.core.noted.entries)) (sym same)
+    (c.snap_one-made.ensures.part told b free))
+
+pub returns-clause-enough : goal.returns-clause-enough
+returns-clause-enough g c = λ told b same lives _.
+    let d = g.D.Disk in
+    let steady = c.self.invariant.steady c.in_default.is in
+    let was = subst (λ o. Lives d.tells d.clock d.faults d.reading d.may_leave d.left_since b (record { parts = c.self.inside.core; stop = o })) c.in_default.is (subst (Lives d.tells d.clock d.faults d.reading d.may_leave d.left_since b) (sym c.self.view_is) lives) in
+    let free = runs_free d.tells d.clock d.faults d.reading d.may_leave d.left_since c.args.entity c.self.inside.core c.snap_one-made.new.core steady b (g.P.Policy.wish c.args.gate.now.policy) same was in
+    subst (λ (p : Parts g.row.D.Denot). (n : TooFewBlocks) → IsErrOf c.snap_one-made.result (TooFew n) → LacksBlocks b p) (ap (λ (k : Held g.row.D.Denot). k.parts) c.self.view_is)
+    (c.snap_one-made.ensures.enough told b free)
+
+pub returns-clause-clean : goal.returns-clause-clean
+returns-clause-clean g c = λ s stays told none.
+    let d = g.D.Disk in
+    let was = subst (λ (k : Held g.row.D.Denot). StaysClean d.tells d.reading s k) (sym c.self.view_is) stays in
+    while_going c.snap_one-made.result (c.snap_one-made.ensures.clean told s (was told c.in_default.is)) c.err-self-inside.result c.err-self-inside.ensures.value none

@@ -1,11 +1,16 @@
 use Rattle.std.proofs.Common.{◌≡◌, sym, ap, subst, ◌∙◌}
-use Rattle.std.specs.Prelude.{IfErr, OnOk}
+use Rattle.std.specs.Prelude.{IfErr, IsErrOf, OnErr}
+use Rattle.disk_trait.specs.Counts.{Rose}
 use Rattle.cell_table.specs.Tables.{AreClean}
 use Rattle.record_laws.specs.Cells.{words_on}
+use Rattle.kernel_model.specs.Beginnings.{run_of}
+use Rattle.serial_runs.specs.Serial.{look}
 use Rattle.kernel_core.specs.Kernels.{Held, Lives}
 use Rattle.kernel_core.specs.Looking.{StopsLook}
-use Rattle.kernel_core.specs.Parts.{Parts}
-use Rattle.kernel_core.proofs.Kept.{runs_free}
+use Rattle.kernel_commits.specs.Parts.{Parts}
+use Rattle.kernel_commits.specs.Pieces.{StopsIn}
+use Rattle.kernel_commits.specs.declared.stopping.Stopped.TheVariants.{Failed}
+use Rattle.kernel_core.proofs.Kept.{runs_free, while_going}
 use Rattle.kernel_core.proofs.LookKept.{look_entries, look_kept, look_lives}
 use Rattle.kernel_core.proofs.kernels.Kernel.step.Goals as goal
 
@@ -45,3 +50,31 @@ returns-clause-looks g c = λ told b supply policy lives _.
     (ap (λ (k : Held g.row.D.Denot). k.parts) c.self.view_is)
     (look_entries d.tells d.clock d.faults d.reading d.may_leave d.left_since c.args.me c.self.inside.core c.look_core-looked.new.core b (g.P.Policy.wish c.args.gate.now.policy) policy c.look_core-looked.result
     (c.look_core-looked.ensures.run told b supply policy free.stands (was.live.calm Rattle.std.proofs.Common.refl)))
+
+pub returns-clause-part : goal.returns-clause-part
+returns-clause-part g c = λ told b supply policy lives _.
+    let d = g.D.Disk in
+    let steady = c.self.invariant.steady c.in_default.is in
+    let was = subst (λ o. Lives d.tells d.clock d.faults d.reading d.may_leave d.left_since b (record { parts = c.self.inside.core; stop = o })) c.in_default.is (subst (Lives d.tells d.clock d.faults d.reading d.may_leave d.left_since b) (sym c.self.view_is) lives) in
+    let free = runs_free d.tells d.clock d.faults d.reading d.may_leave d.left_since c.args.me c.self.inside.core c.look_core-looked.new.core steady b (g.P.Policy.wish c.args.gate.now.policy) policy was in
+    subst (λ (p : Parts g.row.D.Denot). OnErr c.look_core-looked.result (StopsIn b (look b.supply b.policy b.script (run_of b p.noted.entries) c.args.me) p.noted.entries c.look_core-looked.new.core.noted.entries))
+    (ap (λ (k : Held g.row.D.Denot). k.parts) c.self.view_is)
+    (c.look_core-looked.ensures.part told b supply policy free.stands (was.live.calm Rattle.std.proofs.Common.refl))
+
+pub returns-clause-failed : goal.returns-clause-failed
+returns-clause-failed g c = λ _.
+    let d = g.D.Disk in
+    subst (λ (p : Parts g.row.D.Denot). IsErrOf c.look_core-looked.result Failed → Rose (d.faults p.store.disk) (d.faults c.look_core-looked.new.core.store.disk))
+    (ap (λ (k : Held g.row.D.Denot). k.parts) c.self.view_is) c.look_core-looked.ensures.failed
+
+pub returns-clause-enough : goal.returns-clause-enough
+returns-clause-enough g c = λ told b supply policy lives _.
+    let d = g.D.Disk in
+    let steady = c.self.invariant.steady c.in_default.is in
+    let was = subst (λ o. Lives d.tells d.clock d.faults d.reading d.may_leave d.left_since b (record { parts = c.self.inside.core; stop = o })) c.in_default.is (subst (Lives d.tells d.clock d.faults d.reading d.may_leave d.left_since b) (sym c.self.view_is) lives) in
+    let free = runs_free d.tells d.clock d.faults d.reading d.may_leave d.left_since c.args.me c.self.inside.core c.look_core-looked.new.core steady b (g.P.Policy.wish c.args.gate.now.policy) policy was in
+    c.look_core-looked.ensures.enough told b supply policy free.stands (was.live.calm Rattle.std.proofs.Common.refl)
+
+pub returns-clause-clean : goal.returns-clause-clean
+returns-clause-clean g c = λ told none.
+    while_going c.look_core-looked.result (c.look_core-looked.ensures.clean told) c.err-self-inside.result c.err-self-inside.ensures.value none

@@ -11,7 +11,10 @@ returns-clause-between g c =
     let i = c.self.inside in
     let st : State g.row.D.Denot = state_of i.disk i.areas i.log i.kept i.cut i.blocks i.small i.shut i.read_calls in
     rw (← c.self.view_is)
-    (held_by g.D.Disk.tells g.D.Disk.clock g.D.Disk.reading g.D.Disk.may_leave g.D.Disk.left_since st c.give_back.new.self (set c.self.inside.blocks.held c.args.block false) c.give_back.ensures (λ image told left. g.met.D.Disk.only_now c.self.inside.disk image told left))
+    (record {
+      only = held_by g.D.Disk.tells g.D.Disk.clock g.D.Disk.reading g.D.Disk.may_leave g.D.Disk.left_since st c.give_back.new.self (set c.self.inside.blocks.held c.args.block false) c.give_back.ensures (λ image told left. g.met.D.Disk.only_now c.self.inside.disk image told left);
+      later = omega arith;
+    })
 
 pub returns-clause-free : goal.returns-clause-free
 returns-clause-free g c =

@@ -25,7 +25,10 @@ returns-then-is_err-clause-between g c =
     let disk = g.met.D.Disk in
     let st : State g.row.D.Denot = state_of i.disk i.areas i.log i.kept i.cut i.blocks i.small i.shut i.read_calls in
     rw (← c.self.view_is)
-    (read_between g.D.Disk.tells g.D.Disk.block_count g.D.Disk.clock g.D.Disk.reading g.D.Disk.may_leave g.D.Disk.left_since g.D.Disk.faults (λ t. told t disk.counts_now disk.only_now) (books st) _ i.disk c.read_words.new.disk c.if-self.false c.read_words.ensures.same)
+    (record {
+      only = read_between g.D.Disk.tells g.D.Disk.block_count g.D.Disk.clock g.D.Disk.reading g.D.Disk.may_leave g.D.Disk.left_since g.D.Disk.faults (λ t. told t disk.counts_now disk.only_now) (books st) _ i.disk c.read_words.new.disk c.if-self.false c.read_words.ensures.same;
+      later = c.read_words.ensures.same.later;
+    })
 
 pub returns-clause-between : goal.returns-clause-between
 returns-clause-between g c =
@@ -33,7 +36,10 @@ returns-clause-between g c =
     let disk = g.met.D.Disk in
     let st : State g.row.D.Denot = state_of i.disk i.areas i.log i.kept i.cut i.blocks i.small i.shut i.read_calls in
     rw (← c.self.view_is)
-    (read_between g.D.Disk.tells g.D.Disk.block_count g.D.Disk.clock g.D.Disk.reading g.D.Disk.may_leave g.D.Disk.left_since g.D.Disk.faults (λ t. told t disk.counts_now disk.only_now) (books st) _ i.disk c.read_words.new.disk c.if-self.false c.read_words.ensures.same)
+    (record {
+      only = read_between g.D.Disk.tells g.D.Disk.block_count g.D.Disk.clock g.D.Disk.reading g.D.Disk.may_leave g.D.Disk.left_since g.D.Disk.faults (λ t. told t disk.counts_now disk.only_now) (books st) _ i.disk c.read_words.new.disk c.if-self.false c.read_words.ensures.same;
+      later = c.read_words.ensures.same.later;
+    })
 
 pub returns-clause-words : goal.returns-clause-words
 returns-clause-words g c = rw (← c.self.view_is) (λ t. worked c.read_words.result (sym c.is_err.ensures.value ∙ c.if-is_err.false) (c.read_words.ensures.words t))

@@ -1,4 +1,4 @@
-use Rattle.std.proofs.Common.{◌≡◌, ◌+◌, ℕ, ap, length, set, refl, sym, true, ◌∙◌}
+use Rattle.std.proofs.Common.{◌≡◌, ◌+◌, ℕ, ap, length, set, refl, sym, true, ◌∙◌, arith}
 use Rattle.std.proofs.lemmas.Result.{on_ok_weaker}
 use Rattle.page_shadow.specs.Ledger.{Ledger, is_held, unused_blocks}
 use Rattle.snapshot_store.specs.State.{State, state_of}
@@ -12,7 +12,10 @@ returns-clause-between g c =
     let st : State g.row.D.Denot = state_of i.disk i.areas i.log i.kept i.cut i.blocks i.small i.shut i.read_calls in
     let m = marks_of _ (λ e. e ≡ record { need = 1; free = 0 }) c.take_block.result c.self.inside.blocks c.take_block.new.self (λ (n : ℕ). set c.self.inside.blocks.held n true) c.take_block.ensures.value c.take_block.ensures.none in
     rw (← c.self.view_is)
-    (held_by g.D.Disk.tells g.D.Disk.clock g.D.Disk.reading g.D.Disk.may_leave g.D.Disk.left_since st c.take_block.new.self m.0 m.1 (λ image told left. g.met.D.Disk.only_now c.self.inside.disk image told left))
+    (record {
+      only = held_by g.D.Disk.tells g.D.Disk.clock g.D.Disk.reading g.D.Disk.may_leave g.D.Disk.left_since st c.take_block.new.self m.0 m.1 (λ image told left. g.met.D.Disk.only_now c.self.inside.disk image told left);
+      later = omega arith;
+    })
 
 pub returns-clause-free : goal.returns-clause-free
 returns-clause-free g c =

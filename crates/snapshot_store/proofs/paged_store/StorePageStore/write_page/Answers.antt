@@ -47,8 +47,11 @@ returns-then-is_err-clause-between g c =
     let held : is_held i.blocks c.args.block ≡ true = subst (λ (s : State g.row.D.Denot). is_held s.blocks c.args.block ≡ true) (sym c.self.view_is) c.requires.held in
     let not_kept : kept_names (books st) c.args.block ≡ false = subst (λ (s : State g.row.D.Denot). kept_names (books s) c.args.block ≡ false) (sym c.self.view_is) c.requires.not_kept in
     rw (← c.self.view_is)
-    (write_between g.D.Disk.tells g.D.Disk.block_count g.D.Disk.clock g.D.Disk.reading g.D.Disk.may_leave g.D.Disk.left_since g.D.Disk.faults (λ t. told t disk.counts_now disk.only_now) st c.write-written.new.self c.args.block _ c.write-written.new.disk c.if-self.false c.write-written.ensures.areas
-    (c.self.invariant.held c.args.block held).0 not_kept c.write-written.ensures.reading c.write-written.ensures.stop c.write-written.ensures.time c.write-written.ensures.counts)
+    (record {
+      only = write_between g.D.Disk.tells g.D.Disk.block_count g.D.Disk.clock g.D.Disk.reading g.D.Disk.may_leave g.D.Disk.left_since g.D.Disk.faults (λ t. told t disk.counts_now disk.only_now) st c.write-written.new.self c.args.block _ c.write-written.new.disk c.if-self.false c.write-written.ensures.areas
+          (c.self.invariant.held c.args.block held).0 not_kept c.write-written.ensures.reading c.write-written.ensures.stop c.write-written.ensures.time c.write-written.ensures.counts;
+      later = c.write-written.ensures.cause.later;
+    })
 
 pub returns-clause-between : goal.returns-clause-between
 returns-clause-between g c =
@@ -58,8 +61,11 @@ returns-clause-between g c =
     let held : is_held i.blocks c.args.block ≡ true = subst (λ (s : State g.row.D.Denot). is_held s.blocks c.args.block ≡ true) (sym c.self.view_is) c.requires.held in
     let not_kept : kept_names (books st) c.args.block ≡ false = subst (λ (s : State g.row.D.Denot). kept_names (books s) c.args.block ≡ false) (sym c.self.view_is) c.requires.not_kept in
     rw (← c.self.view_is)
-    (write_between g.D.Disk.tells g.D.Disk.block_count g.D.Disk.clock g.D.Disk.reading g.D.Disk.may_leave g.D.Disk.left_since g.D.Disk.faults (λ t. told t disk.counts_now disk.only_now) st c.write-written.new.self c.args.block _ c.write-written.new.disk c.if-self.false c.write-written.ensures.areas
-    (c.self.invariant.held c.args.block held).0 not_kept c.write-written.ensures.reading c.write-written.ensures.stop c.write-written.ensures.time c.write-written.ensures.counts)
+    (record {
+      only = write_between g.D.Disk.tells g.D.Disk.block_count g.D.Disk.clock g.D.Disk.reading g.D.Disk.may_leave g.D.Disk.left_since g.D.Disk.faults (λ t. told t disk.counts_now disk.only_now) st c.write-written.new.self c.args.block _ c.write-written.new.disk c.if-self.false c.write-written.ensures.areas
+          (c.self.invariant.held c.args.block held).0 not_kept c.write-written.ensures.reading c.write-written.ensures.stop c.write-written.ensures.time c.write-written.ensures.counts;
+      later = c.write-written.ensures.cause.later;
+    })
 
 pub returns-clause-words : goal.returns-clause-words
 returns-clause-words g c =

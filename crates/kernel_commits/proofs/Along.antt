@@ -1,0 +1,140 @@
+-- The Snaps of what a step wrote, one after another.
+use Rattle.std.proofs.Common.{◌≡◌, inl, ℕ, zero, suc, ◌+◌, ◌<◌, ◌≤◌, Bool, true, false, not, ◌&&◌, if◌then◌else◌, List, [], ◌∷◌, ◌++◌, length, get_or, drop, Ok, refl, sym, ap, subst, ◌∙◌, arith, append_assoc}
+use Rattle.std.specs.Prelude.{⊤}
+use Rattle.std.proofs.Math.Seq.{drop-cons}
+use Rattle.std.proofs.lemmas.List.{append-nil}
+use Rattle.disk_trait.specs.Image.{Image}
+use Rattle.hop_base.specs.declared.histories.Entry.{Entry}
+use Rattle.hop_base.specs.declared.histories.Touch.{Touch}
+use Rattle.hop_base.specs.Touches.{AllTouches, IsRising}
+use Rattle.hop_base.specs.declared.histories.Event.TheVariants.{Snap}
+use Rattle.hop_model.specs.Histories.{Policy, Run, has_wish, is_full, mark, run_after, start_run, version_of}
+use Rattle.hop_model.proofs.StableCuts.{run_append}
+use Rattle.serial_runs.specs.Serial.{IsBehind, wished_snap, wished_snaps, written_in}
+use Rattle.serial_runs.proofs.Calm.{snap_next, without}
+use Rattle.serial_turns.specs.Turns.{IsStoppedIn}
+use Rattle.serial_turns.proofs.Stops.{stopped_behind, stopped_longer}
+use Rattle.kernel_model.specs.Beginnings.{Beginning, run_of}
+use Rattle.kernel_commits.specs.Parts.{Parts}
+use Rattle.kernel_commits.specs.Pieces.{StopsIn}
+use Rattle.kernel_commits.specs.Snapping.{RunsFree, SnapsAll, SnapsOne, wants_in}
+
+module _ {D : Type 0} (tells : Type 0) (clock faults : D → ℕ) (reading : D → Image) (may_leave : D → Image → Type 0) (left_since : D → ℕ → Image → Type 0) (b : Beginning) (policy : Policy) where
+  abbrev later_snaps : Run → List Touch → List Entry
+  later_snaps r ts = wished_snaps b.supply policy b.script r (written_in ts)
+
+  -- some of the Snaps were made, and these touches are left
+  pub record SnapsAlong (ts rest : List Touch) (old now : Parts D) : Type 0 where
+    pub runs : RunsFree tells clock faults reading may_leave left_since b policy now
+    pub made : List Entry
+    pub entries : now.noted.entries ≡ old.noted.entries ++ made
+    pub all : made ++ later_snaps (run_of b now.noted.entries) rest ≡ later_snaps (run_of b old.noted.entries) ts
+    pub calm : IsBehind policy (run_of b old.noted.entries) (written_in ts) → IsBehind policy (run_of b now.noted.entries) (written_in rest)
+
+  pub begins_along : (ts : List Touch) (old : Parts D) → RunsFree tells clock faults reading may_leave left_since b policy old → SnapsAlong ts ts old old
+  begins_along ts old free = record { runs = free; made = []; entries = sym (append-nil old.noted.entries); all = refl; calm = λ behind. behind }
+
+  pub ends_along : (ts : List Touch) (old now : Parts D) → SnapsAlong ts [] old now → SnapsAll tells clock faults reading may_leave left_since b policy (written_in ts) {T = ⊤} (Ok tt) old now
+  ends_along ts old now a = record {
+    runs = a.runs;
+    entries = a.entries ∙ ap (λ es. old.noted.entries ++ es) (sym (append-nil a.made) ∙ a.all);
+    calm = a.calm;
+    lives = tt;
+  }
+
+  module _ (ts rest : List Touch) (t : Touch) (old now : Parts D) (a : SnapsAlong ts (t ∷ rest) old now) where
+    abbrev rn : Run
+    rn = run_of b now.noted.entries
+
+    written : (wrote : Bool) → t.wrote ≡ wrote → written_in (t ∷ rest) ≡ (if wrote then t.entity ∷ written_in rest else written_in rest)
+    written wrote is = ap (λ (w : Bool). if w then t.entity ∷ written_in rest else written_in rest) is
+
+    pub skip : t.wrote ≡ false → SnapsAlong ts rest old now
+    skip is = record {
+      runs = a.runs;
+      made = a.made;
+      entries = a.entries;
+      all = ap (λ xs. a.made ++ wished_snaps b.supply policy b.script rn xs) (sym (written false is)) ∙ a.all;
+      calm = λ behind. subst (IsBehind policy rn) (written false is) (a.calm behind);
+    }
+
+    abbrev snaps : List Entry
+    snaps = wished_snap policy rn t.entity
+
+    abbrev later : List Entry
+    later = later_snaps (run_after b.supply b.script rn snaps) rest
+
+    with_snaps : t.wrote ≡ true → a.made ++ (snaps ++ later) ≡ later_snaps (run_of b old.noted.entries) ts
+    with_snaps wrote = ap (λ xs. a.made ++ wished_snaps b.supply policy b.script rn xs) (sym (written true wrote)) ∙ a.all
+
+    -- where one failed, a part of them came
+    pub stops_along : t.wrote ≡ true → (next : Parts D) → StopsIn b snaps now.noted.entries next.noted.entries → StopsIn b (later_snaps (run_of b old.noted.entries) ts) old.noted.entries next.noted.entries
+    stops_along wrote next p =
+        let behind : rn ≡ run_after b.supply b.script (run_of b old.noted.entries) a.made = ap (run_of b) a.entries ∙ run_append b.supply policy b.script (start_run b.state) old.noted.entries a.made in
+        record {
+          part = a.made ++ p.part;
+          entries = p.entries ∙ (ap (λ es. es ++ p.part) a.entries ∙ append_assoc old.noted.entries a.made p.part);
+          is = stopped_behind b.supply b.script (run_of b old.noted.entries) (later_snaps (run_of b old.noted.entries) ts) a.made (snaps ++ later) p.part (with_snaps wrote)
+              (subst (λ (q : Run). IsStoppedIn b.supply b.script q (snaps ++ later) p.part) behind (stopped_longer b.supply b.script rn snaps p.part later p.is));
+        }
+
+    module _ (wrote : t.wrote ≡ true) (v : Bool) (next : Parts D) (s : SnapsOne tells clock faults reading may_leave left_since b policy t.entity {T = Bool} (Ok v) now next) where
+      run_is : run_of b next.noted.entries ≡ run_after b.supply b.script rn snaps
+      run_is = ap (run_of b) s.entries ∙ run_append b.supply policy b.script (start_run b.state) now.noted.entries snaps
+
+      first : (p q : Bool) → (p && q) ≡ true → p ≡ true
+      first true q is = refl
+      first false q is = is
+
+      second : (p q : Bool) → (p && q) ≡ true → q ≡ true
+      second true q is = is
+      second false q is = absurd (cc is)
+
+      behind_next : (c : Bool) → wants_in policy rn t.entity ≡ c → IsBehind policy rn (t.entity ∷ written_in rest)
+          → IsBehind policy (run_after b.supply b.script rn (if c then mark Snap t.entity (version_of rn t.entity) ∷ [] else [])) (written_in rest)
+      behind_next true is behind = snap_next b.supply policy b.script rn t.entity (written_in rest) a.runs.owes_nothing behind
+          (a.runs.untried, (refl, inl (first (has_wish policy rn t.entity) (not (is_full rn t.entity)) is, second (has_wish policy rn t.entity) (not (is_full rn t.entity)) is, a.runs.owes_nothing)))
+      behind_next false is behind = without b.supply policy b.script rn t.entity (written_in rest) behind is
+
+      pub take_one : SnapsAlong ts rest old next
+      take_one = record {
+        runs = s.runs;
+        made = a.made ++ snaps;
+        entries = s.entries ∙ (ap (λ es. es ++ snaps) a.entries ∙ append_assoc old.noted.entries a.made snaps);
+        all =
+            append_assoc a.made snaps (later_snaps (run_of b next.noted.entries) rest)
+            ∙ (ap (λ (q : Run). a.made ++ (snaps ++ later_snaps q rest)) run_is ∙ with_snaps wrote);
+        calm = λ behind. subst (λ (q : Run). IsBehind policy q (written_in rest)) (sym run_is)
+            (behind_next (wants_in policy rn t.entity) refl (subst (IsBehind policy rn) (written true wrote) (a.calm behind)));
+      }
+
+-- the touches from one on
+pub next_touch : (ts : List Touch) (i : ℕ) (t : Touch) → i < length ts → t ≡ get_or ts i t → drop i ts ≡ t ∷ drop (i + 1) ts
+next_touch ts i t lt is =
+    let more : suc i ≡ i + 1 = omega arith in
+    drop-cons ts i t lt ∙ (ap (λ u. u ∷ drop (suc i) ts) (sym is) ∙ ap (λ n. t ∷ drop n ts) more)
+
+pub none_left : (ts : List Touch) (i : ℕ) → length ts ≤ i → drop i ts ≡ []
+none_left [] zero le = refl
+none_left [] (suc i) le = refl
+none_left (t ∷ ts) zero le = absurd (omega (arith, le))
+none_left (t ∷ ts) (suc i) le = none_left ts i (omega (arith, le))
+
+-- each entity comes once, so that its number is at least its place
+rises_by : (ts : List Touch) (low : ℕ) → AllTouches (λ u. low ≤ u.entity) ts → IsRising ts → (i : ℕ) (t : Touch) → i < length ts → t ≡ get_or ts i t → low + i ≤ t.entity
+rises_by [] low above rising i t lt is = absurd (omega (arith, lt))
+rises_by (u ∷ ts) low above rising zero t lt is = (let le = above.0 in let same = ap (λ (z : Touch). z.entity) is in omega (arith, le, same))
+rises_by (u ∷ ts) low above rising (suc i) t lt is =
+    let le = rises_by ts (suc low) (higher ts (λ z over. (let le = above.0 in omega (arith, le, over))) rising.0) rising.1 i t (omega (arith, lt)) is in
+    omega (arith, le)
+  where
+    higher : (zs : List Touch) → ((z : Touch) → u.entity < z.entity → suc low ≤ z.entity) → AllTouches (λ z. u.entity < z.entity) zs → AllTouches (λ z. suc low ≤ z.entity) zs
+    higher [] up all = tt
+    higher (z ∷ zs) up all = (up z all.0, higher zs up all.1)
+
+pub place_low : (ts : List Touch) → IsRising ts → (i : ℕ) (t : Touch) → i < length ts → t ≡ get_or ts i t → i ≤ t.entity
+place_low ts rising i t lt is = (let le = rises_by ts 0 (all ts) rising i t lt is in omega (arith, le))
+  where
+    all : (zs : List Touch) → AllTouches (λ u. 0 ≤ u.entity) zs
+    all [] = tt
+    all (z ∷ zs) = (omega arith, all zs)

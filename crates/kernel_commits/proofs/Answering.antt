@@ -1,0 +1,184 @@
+-- What a record of one cell answers: the pieces of its contract, over the parts as the call found them.
+use Rattle.std.proofs.Common.{◌≡◌, ◌↔◌, inl, inr, ℕ, zero, suc, ◌≤◌, Bool, false, List, [], ◌∷◌, ◌++◌, length, slice_get, take, drop, Some, Ok, Err, refl, sym, ap, subst, ◌∙◌}
+use Rattle.std.specs.Prelude.{Result, ⊤}
+use Rattle.std.proofs.Math.Seq.{take-append_seam}
+use Rattle.std.proofs.lemmas.Bool.{cases_eq}
+use Rattle.disk_trait.specs.Image.{Image}
+use Rattle.disk_trait.specs.Counts.{Rose}
+use Rattle.disk_trait.specs.declared.disk.NoBlocks.{NoBlocks as TooFewBlocks}
+use Rattle.hop_base.specs.declared.histories.Entry.{Entry}
+use Rattle.hop_base.specs.declared.histories.Event.TheVariants.{Snap, Tried}
+use Rattle.hop_model.specs.Histories.{mark}
+use Rattle.kernel_cells.specs.declared.cells.Cell.{Cell}
+use Rattle.cell_blobs.specs.Blobs.{is_recorded}
+use Rattle.cell_table.specs.Lending.{Lends}
+use Rattle.snapshot_store.specs.State.{State, books}
+use Rattle.snapshot_store.specs.declared.faults.StoreFault.{StoreFault}
+use Rattle.snapshot_store.specs.declared.faults.StoreFault.TheVariants.{NoBlocks, ReadFault, Shut, WriteFault}
+use Rattle.kernel_records.specs.Committing.{CellFaults, CommitCounts, IsTooFew}
+use Rattle.kernel_model.specs.Beginnings.{Beginning}
+use Rattle.kernel_model.specs.Live.{TooFew as TooFewStop}
+use Rattle.cell_books.specs.Matching.{version_of}
+use Rattle.kernel_commits.specs.Parts.{LivesAs, Noted, Parts, parts_of}
+use Rattle.kernel_commits.specs.Recording.{CanRecord, CommitsAmong, GoesOnBy, HasMade, HasNotMade, HasRecorded, HasTried, IsShort, MayRecord, why_of, with_fault}
+use Rattle.kernel_commits.specs.declared.stopping.Stopped.{Stopped}
+use Rattle.kernel_commits.specs.declared.stopping.Stopped.TheVariants.{Failed, TooFew}
+use Rattle.kernel_commits.proofs.Committing.{not_recorded, recorded}
+use Rattle.kernel_commits.proofs.Running.{snap_stands, still_lives}
+use Rattle.kernel_commits.proofs.Trying.{tried_stops}
+
+some_is : {A : Type 0} (x y : A) → Some x ≡ Some y → x ≡ y
+some_is x y e = cc
+
+abbrev stop_result : Stopped → Result ⊤ Stopped
+stop_result why = Err why
+
+abbrev made_result : Result ⊤ Stopped
+made_result = Ok tt
+
+abbrev fault_result : StoreFault → Result Bool StoreFault
+fault_result f = Err f
+
+-- a vector whose elements were written over
+pub refilled : {A : Type 0} (n : ℕ) (items ws : List A) → length ws ≡ n → take n (ws ++ drop (length ws) items) ≡ ws
+refilled n items ws len = subst (λ m. take m (ws ++ drop (length ws) items) ≡ ws) len (take-append_seam ws (drop (length ws) items))
+
+-- lists with the same elements
+lists_same : {A : Type 0} (xs ys : List A) → ((y : ℕ) → slice_get xs y ≡ slice_get ys y) → xs ≡ ys
+lists_same [] [] same = refl
+lists_same [] (y ∷ ys) same = absurd (let h = same zero in cc h)
+lists_same (x ∷ xs) [] same = absurd (let h = same zero in cc h)
+lists_same {A} (x ∷ xs) (y ∷ ys) same = ap (λ (z : A). z ∷ xs) (some_is x y (same zero)) ∙ ap (λ (zs : List A). y ∷ zs) (lists_same xs ys (λ k. same (suc k)))
+
+-- a cell that came back as it was leaves the table as it was
+lent_same : (cs cs' : List Cell) (c d : Cell) → Lends cs cs' (c ∷ []) (d ∷ []) → d ≡ c → cs' ≡ cs
+lent_same cs cs' c d lends same = lists_same cs' cs (λ y. elim (cases_eq y c.clock.entity) as (λ _. slice_get cs' y ≡ slice_get cs y) [
+  | inl at ↦ ap (slice_get cs') (at ∙ sym lends.numbers.0) ∙ (lends.stand.0 ∙ (ap (λ (k : Cell). Some k) same ∙ sym (ap (slice_get cs) at ∙ lends.stood.0)))
+  | inr apart ↦ lends.others y (apart, tt)
+])
+
+module _ {D : Type 0} (tells : Type 0) (clock faults : D → ℕ) (reading : D → Image) (may_leave : D → Image → Type 0) (left_since : D → ℕ → Image → Type 0)
+    (x : ℕ) (old : Parts D) (st0 : State D) (cs0 cs1 : List Cell) (n0 : Noted) (view : parts_of st0 cs0 n0 ≡ old) (deref : cs1 ≡ cs0)
+    (st' : State D) (cs' : List Cell) (v : ℕ) (version0 : v ≡ version_of cs0 x) (can : CanRecord tells clock faults reading may_leave left_since x old.cells old.store) where
+  abbrev inside : Parts D
+  inside = parts_of st0 cs0 n0
+
+  can0 : CanRecord tells clock faults reading may_leave left_since x cs0 st0
+  can0 = subst (λ (p : Parts D). CanRecord tells clock faults reading may_leave left_since x p.cells p.store) (sym view) can
+
+  -- THE RECORD WAS MADE
+  module _ (e : Entry) (entry : e ≡ mark Snap x v) (n1 : Noted) (pushed : n1 ≡ record n0 { entries = n0.entries ++ e ∷ [] }) (m : ℕ) (begun : m ≡ (books st').begun)
+      (n2 : Noted) (marked : n2 ≡ record n1 { marks = n1.marks ++ m ∷ [] }) (made : HasMade tells clock faults reading may_leave left_since x cs1 cs' st0 st') where
+    pub ok_recorded : HasRecorded tells clock faults reading may_leave left_since x old (parts_of st' cs' n2)
+    ok_recorded =
+        subst (λ (p : Parts D). HasRecorded tells clock faults reading may_leave left_since x p (parts_of st' cs' n2)) view
+        (recorded tells clock faults reading may_leave left_since x inside (parts_of st' cs' n2) can0
+        (subst (λ cs. HasMade tells clock faults reading may_leave left_since x cs cs' st0 st') deref made)
+        (ap (λ (n : Noted). n.entries) marked ∙ (ap (λ (n : Noted). n.entries) pushed ∙ (ap (λ k. n0.entries ++ k ∷ []) entry ∙ ap (λ w. n0.entries ++ mark Snap x w ∷ []) version0)))
+        (ap (λ (n : Noted). n.marks) marked ∙ (ap (λ (n : Noted). n.marks ++ m ∷ []) pushed ∙ ap (λ k. n0.marks ++ k ∷ []) begun))
+        (ap (λ (n : Noted). n.room) marked ∙ ap (λ (n : Noted). n.room) pushed))
+
+    module _ (counts_later : (disk : D) (s t : ℕ) (c : Image) → tells → s ≤ t → left_since disk t c → left_since disk s c)
+        (only_now : (disk : D) (c : Image) → tells → left_since disk (clock disk) c → may_leave disk c) (counts : CommitCounts clock faults st0 st') where
+      pub ok_run : tells → (b : Beginning) → MayRecord tells clock faults reading may_leave left_since b x old → GoesOnBy tells clock faults reading may_leave left_since b (Ok tt) (parts_of st' cs' n2)
+      ok_run told b may = record {
+        stands = snap_stands tells clock faults reading may_leave left_since counts_later only_now b x old (parts_of st' cs' n2) told may can ok_recorded
+            (subst (λ (p : Parts D). CommitCounts clock faults p.store st') view counts);
+        lives = tt;
+      }
+
+  -- WHICH FAULT
+  module _ (r : Result Bool StoreFault) (faults_at : (c d : Cell) → slice_get cs1 x ≡ Some c → slice_get cs' x ≡ Some d → CellFaults faults (is_recorded c ≡ false) r c d st0 st')
+      (c d : Cell) (q : CommitsAmong tells clock faults reading may_leave left_since x c d cs1 cs' st0 st') where
+    at_c : slice_get cs1 x ≡ Some c
+    at_c = ap (slice_get cs1) (sym q.number) ∙ q.lends.stood.0
+
+    at_c0 : slice_get cs0 x ≡ Some c
+    at_c0 = ap (λ cs. slice_get cs x) (sym deref) ∙ at_c
+
+    at_d : slice_get cs' x ≡ Some d
+    at_d = ap (slice_get cs') (sym (q.lends.numbers.0 ∙ q.number)) ∙ q.lends.stand.0
+
+    fault_is : CellFaults faults (is_recorded c ≡ false) r c d st0 st'
+    fault_is = faults_at c d at_c at_d
+
+    unrecorded : is_recorded c ≡ false
+    unrecorded = not_recorded tells clock faults reading may_leave left_since x cs0 st0 can0 c at_c0
+
+    pub short_from : (n : TooFewBlocks) → r ≡ Err (NoBlocks n) → IsShort tells clock faults reading may_leave left_since x old n
+    short_from n is = subst (λ (p : Parts D). IsShort tells clock faults reading may_leave left_since x p n) view (record { cell = c; at = at_c0; short = ((fault_is.no_blocks n).0 is).1 })
+
+    pub short_to : (n : TooFewBlocks) → IsShort tells clock faults reading may_leave left_since x old n → r ≡ Err (NoBlocks n)
+    short_to n short =
+        let s : IsShort tells clock faults reading may_leave left_since x inside n = subst (λ (p : Parts D). IsShort tells clock faults reading may_leave left_since x p n) (sym view) short in
+        let same : s.cell ≡ c = some_is s.cell c (sym s.at ∙ at_c0) in
+        (fault_is.no_blocks n).1 (unrecorded, subst (λ k. IsTooFew k (books st0) n) same s.short)
+
+    pub still : (n : TooFewBlocks) → r ≡ Err (NoBlocks n) → parts_of st' cs' n0 ≡ old
+    still n is =
+        let both = fault_is.untouched (inr (n, is)) in
+        ap (λ st. parts_of st cs' n0) both.1 ∙ (ap (λ cs. parts_of st0 cs n0) (lent_same cs1 cs' c d q.lends both.0 ∙ deref) ∙ view)
+
+  -- where a record was made it isn't short of blocks
+  pub ok_short : (r : Result Bool StoreFault) → ((c d : Cell) → slice_get cs1 x ≡ Some c → slice_get cs' x ≡ Some d → CellFaults faults (is_recorded c ≡ false) r c d st0 st')
+      → (b : Bool) → r ≡ Ok b → HasMade tells clock faults reading may_leave left_since x cs1 cs' st0 st' → (n : TooFewBlocks) → (made_result ≡ Err (TooFew n)) ↔ IsShort tells clock faults reading may_leave left_since x old n
+  ok_short r faults_at b is made n = (λ same. absurd (cc same), λ short. absurd (let h = short_to r faults_at made.before made.after made.commits n short in cc (is, h)))
+
+  -- IT FAILED
+
+  module _ (e : Entry) (entry : e ≡ mark Tried x v) where
+    tried_by : (n1 : Noted) → n1 ≡ record n0 { entries = n0.entries ++ e ∷ [] } → HasNotMade tells clock faults reading may_leave left_since x cs1 cs' st0 st' → Rose (faults st0.disk) (faults st'.disk)
+        → HasTried tells clock faults reading may_leave left_since x old (parts_of st' cs' n1)
+    tried_by n1 pushed failed rose =
+        subst (λ (p : Parts D). HasTried tells clock faults reading may_leave left_since x p (parts_of st' cs' n1)) view
+        (record {
+          entries = ap (λ (n : Noted). n.entries) pushed ∙ (ap (λ k. n0.entries ++ k ∷ []) entry ∙ ap (λ w. n0.entries ++ mark Tried x w ∷ []) version0);
+          marks = ap (λ (n : Noted). n.marks) pushed;
+          room = ap (λ (n : Noted). n.room) pushed;
+          failed = subst (λ cs. HasNotMade tells clock faults reading may_leave left_since x cs cs' st0 st') deref failed;
+          rose = rose;
+        })
+
+    module _ (r : Result Bool StoreFault) (faults_at : (c d : Cell) → slice_get cs1 x ≡ Some c → slice_get cs' x ≡ Some d → CellFaults faults (is_recorded c ≡ false) r c d st0 st')
+        (failed : HasNotMade tells clock faults reading may_leave left_since x cs1 cs' st0 st') where
+      pub err_tried : (f : StoreFault) → r ≡ Err f → (n1 : Noted) → n1 ≡ with_fault f e n0 → stop_result (why_of f) ≡ Err Failed → HasTried tells clock faults reading may_leave left_since x old (parts_of st' cs' n1)
+      err_tried (NoBlocks n) is n1 pushed failed_is = absurd (cc failed_is)
+      err_tried WriteFault is n1 pushed failed_is = tried_by n1 pushed failed ((fault_is r faults_at failed.before failed.after failed.commits).write_fault is).1
+      err_tried ReadFault is n1 pushed failed_is = absurd ((fault_is r faults_at failed.before failed.after failed.commits).no_read is)
+      err_tried Shut is n1 pushed failed_is =
+          let shut = ((fault_is r faults_at failed.before failed.after failed.commits).shut.0 is).1 in
+          absurd (let works = can0.working in cc (shut, works))
+
+      pub err_short : (f : StoreFault) → r ≡ Err f → (n : TooFewBlocks) → (stop_result (why_of f) ≡ Err (TooFew n)) ↔ IsShort tells clock faults reading may_leave left_since x old n
+      err_short f is n = (to f is, λ short. back f (sym is ∙ short_to r faults_at failed.before failed.after failed.commits n short))
+        where
+          to : (f : StoreFault) → r ≡ Err f → stop_result (why_of f) ≡ Err (TooFew n) → IsShort tells clock faults reading may_leave left_since x old n
+          to (NoBlocks k) is same = short_from r faults_at failed.before failed.after failed.commits n (is ∙ (let e : k ≡ n = cc same in ap (λ z. Err (NoBlocks z)) e))
+          to WriteFault is same = absurd (cc same)
+          to ReadFault is same = absurd (cc same)
+          to Shut is same = absurd (cc same)
+
+          back : (f : StoreFault) → fault_result f ≡ Err (NoBlocks n) → stop_result (why_of f) ≡ Err (TooFew n)
+          back f same = ap (λ z. Err (why_of z)) (let e : f ≡ NoBlocks n = cc same in e)
+
+      pub err_still : (f : StoreFault) → r ≡ Err f → (n1 : Noted) → n1 ≡ with_fault f e n0 → (n : TooFewBlocks) → stop_result (why_of f) ≡ Err (TooFew n) → parts_of st' cs' n1 ≡ old
+      err_still (NoBlocks k) is n1 pushed n same = ap (λ z. parts_of st' cs' z) pushed ∙ still r faults_at failed.before failed.after failed.commits k is
+      err_still WriteFault is n1 pushed n same = absurd (cc same)
+      err_still ReadFault is n1 pushed n same = absurd (cc same)
+      err_still Shut is n1 pushed n same = absurd (cc same)
+
+      module _ (counts_later : (disk : D) (s t : ℕ) (c : Image) → tells → s ≤ t → left_since disk t c → left_since disk s c)
+          (only_now : (disk : D) (c : Image) → tells → left_since disk (clock disk) c → may_leave disk c) (counts : CommitCounts clock faults st0 st') where
+        counts0 : CommitCounts clock faults old.store st'
+        counts0 = subst (λ (p : Parts D). CommitCounts clock faults p.store st') view counts
+
+        pub err_run : (f : StoreFault) → r ≡ Err f → (n1 : Noted) → n1 ≡ with_fault f e n0 → tells → (b : Beginning) → MayRecord tells clock faults reading may_leave left_since b x old
+            → GoesOnBy tells clock faults reading may_leave left_since b (Err (why_of f)) (parts_of st' cs' n1)
+        err_run (NoBlocks k) is n1 pushed told b may = record {
+          stands = tt;
+          lives = subst (λ p. LivesAs tells clock faults reading may_leave left_since b p (Some (TooFewStop k.need k.free))) (sym (ap (λ z. parts_of st' cs' z) pushed ∙ still r faults_at failed.before failed.after failed.commits k is))
+              (still_lives tells clock faults reading may_leave left_since counts_later only_now b old (TooFewStop k.need k.free) may.stands);
+        }
+        err_run WriteFault is n1 pushed told b may = record { stands = tt; lives = tried_stops tells clock faults reading may_leave left_since counts_later only_now b x old (parts_of st' cs' n1) told may can (err_tried WriteFault is n1 pushed refl) counts0 }
+        err_run ReadFault is n1 pushed told b may = record { stands = tt; lives = tried_stops tells clock faults reading may_leave left_since counts_later only_now b x old (parts_of st' cs' n1) told may can (err_tried ReadFault is n1 pushed refl) counts0 }
+        err_run Shut is n1 pushed told b may = record { stands = tt; lives = tried_stops tells clock faults reading may_leave left_since counts_later only_now b x old (parts_of st' cs' n1) told may can (err_tried Shut is n1 pushed refl) counts0 }

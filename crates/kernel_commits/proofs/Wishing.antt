@@ -1,0 +1,154 @@
+-- A Snap by its wish takes a run on.
+use Rattle.std.proofs.Common.{◌≡◌, inl, ℕ, ◌<◌, Bool, true, false, not, ◌&&◌, ◌||◌, nat_lt, if◌then◌else◌, List, [], ◌∷◌, ◌++◌, slice_get, Some, None, Ok, Err, refl, sym, ap, subst, ◌∙◌, arith}
+use Rattle.std.specs.Prelude.{Result}
+use Rattle.std.proofs.lemmas.Bool.Decides.{nat_tests}
+use Rattle.std.proofs.lemmas.List.{append-nil}
+use Rattle.disk_trait.specs.Image.{Image}
+use Rattle.disk_trait.specs.declared.disk.NoBlocks.{NoBlocks as TooFewBlocks}
+use Rattle.hop_base.specs.declared.histories.Entry.{Entry}
+use Rattle.hop_base.specs.declared.histories.Event.TheVariants.{Snap, Tried}
+use Rattle.hop_model.specs.Histories.{MayCommit, Policy, Run, goes_on, has_wish, is_full, mark, version_of}
+use Rattle.kernel_cells.specs.declared.cells.Cell.{Cell}
+use Rattle.hop_model.specs.State.{Supply}
+use Rattle.kernel_cells.specs.Cells.{HasCell, part_of}
+use Rattle.kernel_cells.specs.Wishes.{HasWish, is_open}
+use Rattle.cell_table.specs.Tables.{state_in}
+use Rattle.cell_table.proofs.Having.{no_supply, no_words, state_has}
+use Rattle.record_laws.specs.Cells.{words_on}
+use Rattle.snapshot_store.specs.State.{books}
+use Rattle.snapshot_store.specs.Shelves.{records_of}
+use Rattle.store_model.specs.Books.{kept_in}
+use Rattle.kernel_records.specs.Snapping.{has_room, is_snapped}
+use Rattle.serial_runs.specs.Serial.{wished_snap}
+use Rattle.serial_turns.specs.Turns.{IsStoppedIn}
+use Rattle.serial_turns.proofs.Stops.{cut_tried}
+use Rattle.kernel_model.specs.Beginnings.{Beginning, run_of}
+use Rattle.kernel_views.specs.Views.{FollowsRun}
+use Rattle.kernel_views.proofs.Following.{cells_follow}
+use Rattle.kernel_views.proofs.Fullness.{full_same}
+use Rattle.kernel_views.proofs.Legal.{run_next}
+use Rattle.cell_books.specs.Matching.{version_at}
+use Rattle.kernel_commits.specs.Parts.{LivesAs, Parts, StandsAs, stop_of}
+use Rattle.kernel_commits.specs.Pieces.{StopsIn}
+use Rattle.kernel_commits.specs.Recording.{HasRecorded, HasTried, MayRecord}
+use Rattle.kernel_commits.specs.Snapping.{RunsFree, Snaps, SnapsOne}
+use Rattle.kernel_commits.specs.declared.stopping.Stopped.{Stopped}
+use Rattle.kernel_commits.proofs.Parting.{none_came}
+use Rattle.kernel_commits.specs.declared.stopping.Stopped.TheVariants.{Failed, TooFew}
+
+not_first : (a b : Bool) → a ≡ false → (a && b) ≡ false
+not_first true b is = absurd (cc is)
+not_first false b is = refl
+
+-- a Snap of the entity is to be made, or none, where it has a cell
+pub one_answer : {D : Type 0} (policy : Policy) (x : ℕ) (p : Parts D) (c : Cell) → slice_get p.cells x ≡ Some c → (a b : Bool) → Snaps policy x p a → Snaps policy x p b → a ≡ b
+one_answer policy x p c at a b is also = sym (is no_supply no_words c at) ∙ also no_supply no_words c at
+
+-- by its wish and the room in the store
+pub snapped_by : {D : Type 0} (policy : Policy) (x : ℕ) (p : Parts D) (c : Cell) (s : Supply) (words : ℕ → List ℕ) → c.clock.entity ≡ x
+    → is_open policy (part_of s words c.part) c.clock.version c.wish ≡ true → is_snapped policy s words c (books p.store) ≡ nat_lt (records_of x (kept_in (books p.store))) 4
+snapped_by policy x p c s words number is = ap (λ t. t && has_room (books p.store) c.clock.entity) is ∙ ap (has_room (books p.store)) number
+
+pub noted_open : (by_step due asked : Bool) → (by_step && due || asked) ≡ true → (by_step || asked) ≡ true
+noted_open true due asked is = refl
+noted_open false due asked is = is
+
+abbrev pub fault_in : (T : Type 0) → Stopped → Result T Stopped
+fault_in T why = Err why
+
+pub err_over : (T U : Type 0) (a b : Stopped) → fault_in T a ≡ fault_in T b → fault_in U a ≡ fault_in U b
+err_over T U a b same = let e : a ≡ b = cc same in ap (fault_in U) e
+
+pub few_is : (n m : ℕ) → nat_lt n 4 ≡ true → n ≡ m → m < 4
+few_is n m lt same = grind (arith, nat_tests)
+
+module _ {D : Type 0} (tells : Type 0) (clock faults : D → ℕ) (reading : D → Image) (may_leave : D → Image → Type 0) (left_since : D → ℕ → Image → Type 0)
+    (b : Beginning) (policy : Policy) (x : ℕ) (old : Parts D) (told : tells)
+    (free : RunsFree tells clock faults reading may_leave left_since b policy old) (c : Cell) (at : slice_get old.cells x ≡ Some c) where
+  abbrev r : Run
+  r = run_of b old.noted.entries
+
+  abbrev words : ℕ → List ℕ
+  words = words_on (reading old.store.disk)
+
+  follow : FollowsRun b words old.cells old.noted.entries
+  follow = cells_follow b old.noted.entries (reading old.store.disk) old.cells free.stands.orderly.numbers (books old.store) old.noted.marks None free.stands.runs.follows
+
+  number : c.clock.entity ≡ x
+  number = free.stands.orderly.numbers.each x c at
+
+  pub has : HasCell b.supply words r.state c
+  has = subst (λ w. HasCell b.supply words w c) follow.state (state_has b.supply words old.cells c (ap (slice_get old.cells) number ∙ at))
+
+  pub wish : HasWish b.script.steps r c
+  wish = follow.wishes x c at
+
+  full : has_room (books old.store) x ≡ not (is_full r x)
+  full = full_same tells clock faults reading may_leave left_since b old.cells old.store old.noted.entries old.noted.marks x told free.stands
+
+  version_is : version_of r x ≡ version_at (slice_get old.cells x)
+  version_is = ap (λ w. (w x).version) (sym follow.state) ∙ (ap (λ o. (Rattle.cell_table.specs.Tables.entity_in b.supply words x o).version) at ∙ sym (ap version_at at))
+
+  abbrev test : Bool
+  test = has_wish policy r x && not (is_full r x)
+
+  pub test_unwished : has_wish policy r c.clock.entity ≡ false → test ≡ false
+  test_unwished none = not_first (has_wish policy r x) (not (is_full r x)) (ap (has_wish policy r) (sym number) ∙ none)
+
+  pub test_is : has_wish policy r c.clock.entity ≡ true → test ≡ nat_lt (records_of x (kept_in (books old.store))) 4
+  test_is wished = ap (λ t. t && not (is_full r x)) (ap (has_wish policy r) (sym number) ∙ wished) ∙ sym full
+
+  abbrev snap_by : Bool → List Entry
+  snap_by t = if t then mark Snap x (version_of r x) ∷ [] else []
+
+  -- nothing is to be made
+  pub none_made : test ≡ false → {T : Type 0} → (res : Result T Stopped) → (y : T) → res ≡ Ok y → SnapsOne tells clock faults reading may_leave left_since b policy x res old old
+  none_made is res y ok = subst (λ q. SnapsOne tells clock faults reading may_leave left_since b policy x q old old) (sym ok) (record {
+    runs = free;
+    entries = sym (ap (λ es. old.noted.entries ++ es) (ap snap_by is) ∙ append-nil old.noted.entries);
+    lives = tt;
+  })
+
+  may_commit : test ≡ true → MayCommit b.policy r x
+  may_commit is = subst (λ q. MayCommit q r x) (sym free.same_policy) (inl (first (has_wish policy r x) (not (is_full r x)) is, second (has_wish policy r x) (not (is_full r x)) is, free.owes_nothing))
+    where
+      first : (a b : Bool) → (a && b) ≡ true → a ≡ true
+      first true b is = refl
+      first false b is = is
+
+      second : (a b : Bool) → (a && b) ≡ true → b ≡ true
+      second true b is = is
+      second false b is = absurd (cc is)
+
+  pub may_record : test ≡ true → MayRecord tells clock faults reading may_leave left_since b x old
+  may_record is = record { stands = free.stands; untried = free.untried; may = may_commit is }
+
+  -- the Snap was made
+  module _ (new : Parts D) (is : test ≡ true) (rec : HasRecorded tells clock faults reading may_leave left_since x old new) where
+    entries_are : new.noted.entries ≡ old.noted.entries ++ mark Snap x (version_of r x) ∷ []
+    entries_are = rec.entries ∙ ap (λ v. old.noted.entries ++ mark Snap x v ∷ []) (sym version_is)
+
+    run_is : run_of b new.noted.entries ≡ goes_on b.supply b.script r (mark Snap x (version_of r x))
+    run_is = ap (run_of b) entries_are ∙ run_next b old.noted.entries (mark Snap x (version_of r x))
+
+    pub one_made : StandsAs tells clock faults reading may_leave left_since b new → {T : Type 0} → (res : Result T Stopped) → (y : T) → res ≡ Ok y
+        → SnapsOne tells clock faults reading may_leave left_since b policy x res old new
+    one_made st res y ok = subst (λ q. SnapsOne tells clock faults reading may_leave left_since b policy x q old new) (sym ok) (record {
+      runs = record { same_policy = free.same_policy; stands = st; owes_nothing = ap (λ q. q.owed) run_is ∙ free.owes_nothing; untried = ap (λ q. q.tried) run_is ∙ free.untried };
+      entries = entries_are ∙ ap (λ es. old.noted.entries ++ es) (sym (ap snap_by is));
+      lives = tt;
+    })
+
+  -- or it failed: a part of it came
+  pub one_part : test ≡ true → (new : Parts D) → {T : Type 0} → (res : Result T Stopped) → (res ≡ Err Failed → HasTried tells clock faults reading may_leave left_since x old new) → ((n : TooFewBlocks) → res ≡ Err (TooFew n) → new ≡ old)
+      → (why : Stopped) → res ≡ Err why → StopsIn b (wished_snap policy r x) old.noted.entries new.noted.entries
+  one_part is new res tried same (TooFew n) err = none_came b (wished_snap policy r x) old.noted.entries new.noted.entries (ap (λ (p : Parts D). p.noted.entries) (same n err))
+  one_part is new res tried same Failed err = record {
+    part = mark Tried x (version_of r x) ∷ [];
+    entries = (tried err).entries ∙ ap (λ v. old.noted.entries ++ mark Tried x v ∷ []) (sym version_is);
+    is = subst (λ (all : List Entry). IsStoppedIn b.supply b.script r all (mark Tried x (version_of r x) ∷ [])) (sym (ap snap_by is)) (cut_tried b.supply b.script r (snap_by true) [] [] x (version_of r x) refl);
+  }
+
+  pub one_failed : (new : Parts D) → {T : Type 0} → (res : Result T Stopped) → (why : Stopped) → res ≡ Err why → LivesAs tells clock faults reading may_leave left_since b new (Some (stop_of why))
+      → SnapsOne tells clock faults reading may_leave left_since b policy x res old new
+  one_failed new res why err lives = subst (λ q. SnapsOne tells clock faults reading may_leave left_since b policy x q old new) (sym err) (record { runs = tt; entries = tt; lives = lives })

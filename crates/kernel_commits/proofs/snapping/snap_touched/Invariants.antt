@@ -1,0 +1,19 @@
+use Rattle.std.proofs.Common.{drop}
+use Rattle.hop_model.specs.State.{Supply}
+use Rattle.cell_table.specs.Tables.{AreClean}
+use Rattle.record_laws.specs.Cells.{words_on}
+use Rattle.kernel_model.specs.Beginnings.{Beginning}
+use Rattle.kernel_commits.specs.Snapping.{RunsFree}
+use Rattle.kernel_commits.specs.Steady.{IsSteady}
+use Rattle.kernel_commits.proofs.Along.{SnapsAlong}
+use Rattle.kernel_commits.proofs.Counting.{CountsAlong}
+use Rattle.kernel_commits.proofs.snapping.snap_touched.Given as goal
+
+abbrev pub invariant-loop-i : goal.invariant-loop-i
+invariant-loop-i g l = record {
+  steady : IsSteady g.D.Disk.tells g.D.Disk.reading g.D.Disk.may_leave l.core;
+  counts : CountsAlong g.D.Disk.clock g.D.Disk.faults l.i l.fn.core.store l.core.store;
+  clean : g.D.Disk.tells → (s : Supply) → AreClean s (words_on (g.D.Disk.reading l.fn.core.store.disk)) l.fn.core.cells → AreClean s (words_on (g.D.Disk.reading l.core.store.disk)) l.core.cells;
+  run : g.D.Disk.tells → (b : Beginning) → RunsFree g.D.Disk.tells g.D.Disk.clock g.D.Disk.faults g.D.Disk.reading g.D.Disk.may_leave g.D.Disk.left_since b (g.P.Policy.wish l.gate.policy) l.fn.core
+      → SnapsAlong g.D.Disk.tells g.D.Disk.clock g.D.Disk.faults g.D.Disk.reading g.D.Disk.may_leave g.D.Disk.left_since b (g.P.Policy.wish l.gate.policy) l.touches (drop l.i l.touches) l.fn.core l.core;
+}

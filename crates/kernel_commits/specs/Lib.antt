@@ -1,0 +1,9 @@
+pub mod Parts
+pub mod Recording
+pub mod Steady
+pub mod Snapping
+pub mod Stabilising
+pub mod Through
+pub mod Stops
+pub mod Pieces
+pub mod Lacking

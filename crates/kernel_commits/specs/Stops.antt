@@ -1,0 +1,19 @@
+-- What a kernel is left with where it stops, whatever the disk tells.
+use Rattle.std.specs.Prelude.{ℕ, ◌<◌, ◌≤◌, length}
+use Rattle.disk_trait.specs.Counts.{Rose}
+use Rattle.cell_table.specs.Tables.{IsOrderly}
+use Rattle.snapshot_store.specs.State.{books}
+use Rattle.kernel_commits.specs.Parts.{Parts}
+use Rattle.kernel_commits.specs.declared.stopping.Stopped.{Stopped}
+use Rattle.kernel_commits.specs.declared.stopping.Stopped.TheVariants.{Failed, TooFew}
+
+-- the cause: fewer blocks were free than were needed, or the disk's count of faults rose
+abbrev pub IsCause : {D : Type 0} → (D → ℕ) → Parts D → Parts D → Stopped → Type 0
+IsCause faults old new (TooFew n) = n.free < n.need
+IsCause faults old new Failed = Rose (faults old.store.disk) (faults new.store.disk)
+
+-- THE STOP: its cells are in order still, and no more marks are noted than entries
+pub record LeavesStopped {D : Type 0} (faults : D → ℕ) (old new : Parts D) (why : Stopped) : Type 0 where
+  pub orderly : IsOrderly (books new.store).held new.cells
+  pub marks : length new.noted.marks ≤ length new.noted.entries
+  pub cause : IsCause faults old new why

@@ -1,0 +1,41 @@
+// Whether enough blocks are free for the records of all changed cells.
+ghost use Rattle.std.specs.Prelude.{◌≡◌, ◌↔◌, None, Some};
+ghost use Rattle.cell_table.specs.Tables.{IsOrderly};
+ghost use Rattle.disk_trait.specs.declared.disk.NoBlocks.{NoBlocks as TooFewBlocks};
+ghost use Rattle.kernel_commits.specs.Stabilising.{AreTooFew, NeedsFit, needs_in};
+ghost use Rattle.snapshot_store.specs.State.{books};
+ghost use Rattle.store_model.specs.Books.{kept_names};
+
+use crate::cores::Core;
+use block_code::Blob;
+use cell_blobs::need_cell;
+use disk_trait::{Disk, NoBlocks};
+use kernel_cells::Cell;
+use snapshot_store::Store;
+
+/// The blocks that a record of each changed cell needs, together. What was in `blob` is lost.
+fn all_needs<D: Disk>(cells: &[Cell], store: &Store<D>, blob: &mut Blob) -> u32
+    requires { IsOrderly (books store.now).held cells.now }
+    ensures { result ≡ needs_in (kept_names (books store.now)) cells.now }
+{
+    let mut sum = 0;
+    for cell in cells {
+        sum += need_cell(cell, store, blob);
+    }
+    sum
+}
+
+/// Both numbers, where fewer blocks are free than records of all changed cells need together.
+pub(crate) fn shortage<D: Disk>(core: &mut Core<D>) -> Option<NoBlocks>
+    requires { IsOrderly (books core.old.store).held core.old.cells }
+    ensures same { core.new ≡ core.old }
+    ensures none { result ≡ None → NeedsFit core.old }
+    ensures some { (n : TooFewBlocks) → (result ≡ Some n) ↔ AreTooFew core.old n }
+{
+    let need = all_needs(&core.cells, &core.store, &mut core.blob);
+    let free = core.store.free();
+    if free < need {
+        return Some(NoBlocks { need, free });
+    }
+    None
+}

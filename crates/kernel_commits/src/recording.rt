@@ -1,0 +1,91 @@
+// One record of a cell of the kernel.
+ghost use Rattle.std.specs.Prelude.{◌≡◌, ◌↔◌, ◌<◌, ℕ, Bool, true, false, Some, IfErr, IsErrOf, OnErr, OnOk, length, slice_get};
+ghost use Rattle.disk_trait.specs.declared.disk.NoBlocks.{NoBlocks as TooFewBlocks};
+ghost use Rattle.cell_books.specs.Matching.{version_of};
+ghost use Rattle.hop_base.specs.declared.histories.Event.TheVariants as AnEvent;
+ghost use Rattle.hop_model.specs.Histories.{mark};
+ghost use Rattle.cell_blobs.specs.Blobs.{is_recorded};
+ghost use Rattle.kernel_cells.specs.declared.cells.Cell.{Cell as ACell};
+ghost use Rattle.kernel_commits.specs.Lacking.{LacksBlocks};
+ghost use Rattle.kernel_commits.specs.Parts.{Parts};
+ghost use Rattle.kernel_commits.specs.Recording.{CanRecord, GoesOnBy, HasMade, HasNotMade, HasRecorded, HasTried, IsShort, MayRecord, why_of, with_fault};
+ghost use Rattle.kernel_commits.specs.declared.stopping.Stopped.{Stopped as AStop};
+ghost use Rattle.kernel_model.specs.Beginnings.{Beginning, run_of};
+ghost use Rattle.kernel_records.specs.Committing.{CellFaults, CommitCounts};
+
+use crate::cores::Core;
+use crate::notes::Notes;
+use crate::stopping::Stopped;
+use block_code::Blob;
+use disk_trait::Disk;
+use hop_base::{Entity, Event};
+use kernel_cells::Cell;
+use kernel_records::{commit_cell, mark_entry};
+use snapshot_store::{Store, StoreFault};
+
+/// Commits a record of one of the cells, which has changed since its newest one.
+fn commit_among<D: Disk>(
+    cells: &mut [Cell],
+    store: &mut Store<D>,
+    blob: &mut Blob,
+    entity: Entity,
+) -> Result<bool, StoreFault>
+    requires can { CanRecord D.tells D.clock D.faults D.reading D.may_leave D.left_since entity cells.old store.old }
+    ensures made { OnOk result (HasMade D.tells D.clock D.faults D.reading D.may_leave D.left_since entity cells.old cells.new store.old store.new) }
+    ensures unmade { OnErr result (HasNotMade D.tells D.clock D.faults D.reading D.may_leave D.left_since entity cells.old cells.new store.old store.new) }
+    ensures faults { (c d : ACell) → slice_get cells.old entity ≡ Some c → slice_get cells.new entity ≡ Some d
+        → CellFaults D.faults (is_recorded c ≡ false) result c d store.old store.new }
+    ensures counts { CommitCounts D.clock D.faults store.old store.new }
+{
+    commit_cell(&mut cells[entity.number() as usize], store, blob)
+}
+
+/// The version of one of the cells.
+fn version_among(cells: &[Cell], entity: Entity) -> u64
+    requires { length cells.now ≡ 64 }
+    ensures { result ≡ version_of cells.now entity }
+{
+    cells[entity.number() as usize].clock.version
+}
+
+/// Why a fault of a commit stops the kernel. Where a call of the disk failed, its Tried is noted.
+fn note_fault(notes: &mut Notes, entity: Entity, version: u64, fault: StoreFault) -> Stopped
+    requires room { length notes.old.entries < notes.old.room }
+    ensures why { result ≡ why_of fault }
+    ensures noted { notes.new ≡ with_fault fault (mark AnEvent.Tried entity version) notes.old }
+{
+    match fault {
+        StoreFault::NoBlocks(blocks) => Stopped::TooFew(blocks),
+        StoreFault::WriteFault | StoreFault::ReadFault | StoreFault::Shut => {
+            notes.push_entry(mark_entry(Event::Tried, entity, version));
+            Stopped::Failed
+        }
+    }
+}
+
+/// Makes a record of an entity that has changed since its newest one, with its Snap and its mark. Where it fails the kernel is to stop.
+pub(crate) fn record_one<D: Disk>(core: &mut Core<D>, entity: Entity) -> Result<(), Stopped>
+    requires can { CanRecord D.tells D.clock D.faults D.reading D.may_leave D.left_since entity core.old.cells core.old.store }
+    requires entry_room { length core.old.noted.entries < core.old.noted.room }
+    requires mark_room { length core.old.noted.marks < core.old.noted.room }
+    ensures recorded { OnOk result (HasRecorded D.tells D.clock D.faults D.reading D.may_leave D.left_since entity core.old core.new) }
+    ensures tried { IsErrOf result AStop.Failed → HasTried D.tells D.clock D.faults D.reading D.may_leave D.left_since entity core.old core.new }
+    ensures too_few { (n : TooFewBlocks) → IsErrOf result (AStop.TooFew n) ↔ IsShort D.tells D.clock D.faults D.reading D.may_leave D.left_since entity core.old n }
+    ensures untouched { (n : TooFewBlocks) → IsErrOf result (AStop.TooFew n) → core.new ≡ core.old }
+    ensures run { D.tells → (b : Beginning) → MayRecord D.tells D.clock D.faults D.reading D.may_leave D.left_since b entity core.old
+        → GoesOnBy D.tells D.clock D.faults D.reading D.may_leave D.left_since b result core.new }
+    ensures enough { D.tells → (b : Beginning) → MayRecord D.tells D.clock D.faults D.reading D.may_leave D.left_since b entity core.old
+        → (run_of b core.old.noted.entries).short ≡ false → (n : TooFewBlocks) → IsErrOf result (AStop.TooFew n) → LacksBlocks b core.old }
+    ensures counts { CommitCounts D.clock D.faults core.old.store core.new.store }
+{
+    let version = version_among(&core.cells, entity);
+    match commit_among(&mut core.cells, &mut core.store, &mut core.blob, entity) {
+        Ok(_) => {
+            core.notes
+                .push_entry(mark_entry(Event::Snap, entity, version));
+            core.notes.push_mark(core.store.begun());
+            Ok(())
+        }
+        Err(fault) => Err(note_fault(&mut core.notes, entity, version, fault)),
+    }
+}

@@ -1,0 +1,156 @@
+// Snaps of entities whose wishes are open.
+ghost use Rattle.std.specs.Prelude.{◌≡◌, ◌↔◌, ◌*◌, ℕ, List, Bool, true, false, IfErr, IsErrOf, Ok, OnErr, OnOk, Some, length, slice_get};
+ghost use Rattle.hop_base.specs.Touches.{IsRising};
+ghost use Rattle.hop_model.specs.Histories.{Run, has_wish};
+ghost use Rattle.hop_model.specs.State.{Supply};
+ghost use Rattle.kernel_cells.specs.Cells.{HasCell, part_of};
+ghost use Rattle.kernel_cells.specs.Wishes.{HasWish, is_open};
+ghost use Rattle.kernel_cells.specs.declared.cells.Cell.{Cell as ACell};
+ghost use Rattle.kernel_model.specs.Beginnings.{run_of};
+ghost use Rattle.wish_laws.specs.Founded.{IsFoundedCell};
+ghost use Rattle.disk_trait.specs.declared.disk.NoBlocks.{NoBlocks as TooFewBlocks};
+ghost use Rattle.kernel_commits.specs.Lacking.{LacksBlocks};
+ghost use Rattle.kernel_commits.specs.Recording.{HasRecorded, HasTried, IsShort};
+ghost use Rattle.kernel_commits.specs.Snapping.{CanSnap, RunsFree, Snaps, SnapsAll, SnapsOne, wants_in};
+ghost use Rattle.kernel_commits.specs.Steady.{IsSteady};
+ghost use Rattle.kernel_commits.specs.Stops.{LeavesStopped};
+ghost use Rattle.kernel_commits.specs.declared.stopping.Stopped.{Stopped as AStop};
+ghost use Rattle.kernel_model.specs.Beginnings.{Beginning};
+ghost use Rattle.kernel_records.specs.Committing.{CommitCounts};
+ghost use Rattle.serial_runs.specs.Serial.{wished_snap, wished_snaps, written_in};
+ghost use Rattle.cell_table.specs.Tables.{AreClean};
+ghost use Rattle.record_laws.specs.Cells.{words_on};
+ghost use Rattle.kernel_commits.specs.Pieces.{CountsWithin, StopsIn};
+
+use crate::cores::Core;
+use crate::recording::record_one;
+use crate::stopping::Stopped;
+use disk_trait::Disk;
+use hop_base::{Entity, Entry, Touch};
+use kernel_cells::Cell;
+use kernel_records::FULL;
+use manager_gate::{Gate, Policy, Supplier};
+
+/// Whether a record of one of the cells is wished.
+fn wishes_among<S: Supplier, P: Policy>(cells: &[Cell], entity: Entity, gate: &Gate<S, P>) -> bool
+    requires keeps { P.keeps gate.now.policy }
+    requires all { length cells.now ≡ 64 }
+    requires founded { (x : ℕ) (c : ACell) → slice_get cells.now x ≡ Some c → IsFoundedCell c }
+    ensures there { (c : ACell) × (slice_get cells.now entity ≡ Some c) }
+    ensures open { (s : Supply) (words : ℕ → List ℕ) (c : ACell) → slice_get cells.now entity ≡ Some c
+        → result ≡ is_open (P.wish gate.now.policy) (part_of s words c.part) c.clock.version c.wish }
+    ensures run { (s : Supply) (words : ℕ → List ℕ) (steps : ℕ) (r : Run) (c : ACell) → slice_get cells.now entity ≡ Some c → HasCell s words r.state c → HasWish steps r c
+        → result ≡ has_wish (P.wish gate.now.policy) r c.clock.entity }
+{
+    cells[entity.number() as usize].is_wished(gate)
+}
+
+/// Whether a Snap of the entity is to be made: its wish is open, and it isn't full.
+fn wants_snap<D: Disk, S: Supplier, P: Policy>(
+    core: &Core<D>,
+    entity: Entity,
+    gate: &Gate<S, P>,
+) -> bool
+    requires keeps { P.keeps gate.now.policy }
+    requires steady { IsSteady D.tells D.reading D.may_leave core.now }
+    ensures there { (c : ACell) × (slice_get core.now.cells entity ≡ Some c) }
+    ensures snaps { Snaps (P.wish gate.now.policy) entity core.now result }
+    ensures can { result ≡ true → CanSnap D.tells D.clock D.faults D.reading D.may_leave D.left_since entity core.now }
+    ensures run { D.tells → (b : Beginning) → RunsFree D.tells D.clock D.faults D.reading D.may_leave D.left_since b (P.wish gate.now.policy) core.now
+        → wants_in (P.wish gate.now.policy) (run_of b core.now.noted.entries) entity ≡ result }
+{
+    if !wishes_among(&core.cells, entity, gate) {
+        return false;
+    }
+    core.store.kept_count(entity) < FULL
+}
+
+/// Makes a record of an entity where one is wished and the entity isn't full, and tells whether it did.
+pub fn snap_one<D: Disk, S: Supplier, P: Policy>(
+    core: &mut Core<D>,
+    entity: Entity,
+    gate: &Gate<S, P>,
+) -> Result<bool, Stopped>
+    requires keeps { P.keeps gate.now.policy }
+    requires steady { IsSteady D.tells D.reading D.may_leave core.old }
+    ensures steady { OnOk result (IsSteady D.tells D.reading D.may_leave core.new) }
+    ensures made { Snaps (P.wish gate.now.policy) entity core.old true
+        → OnOk result ((result ≡ Ok true) × HasRecorded D.tells D.clock D.faults D.reading D.may_leave D.left_since entity core.old core.new) }
+    ensures none { Snaps (P.wish gate.now.policy) entity core.old false → (result ≡ Ok false) × (core.new ≡ core.old) }
+    ensures tried { IsErrOf result AStop.Failed → HasTried D.tells D.clock D.faults D.reading D.may_leave D.left_since entity core.old core.new }
+    ensures too_few { (n : TooFewBlocks) → IsErrOf result (AStop.TooFew n) ↔ (Snaps (P.wish gate.now.policy) entity core.old true × IsShort D.tells D.clock D.faults D.reading D.may_leave D.left_since entity core.old n) }
+    ensures untouched { (n : TooFewBlocks) → IsErrOf result (AStop.TooFew n) → core.new ≡ core.old }
+    ensures run { D.tells → (b : Beginning) → RunsFree D.tells D.clock D.faults D.reading D.may_leave D.left_since b (P.wish gate.now.policy) core.old
+        → SnapsOne D.tells D.clock D.faults D.reading D.may_leave D.left_since b (P.wish gate.now.policy) entity result core.old core.new }
+    ensures part { D.tells → (b : Beginning) → RunsFree D.tells D.clock D.faults D.reading D.may_leave D.left_since b (P.wish gate.now.policy) core.old
+        → OnErr result (StopsIn b (wished_snap (P.wish gate.now.policy) (run_of b core.old.noted.entries) entity) core.old.noted.entries core.new.noted.entries) }
+    ensures clean { D.tells → (s : Supply) → AreClean s (words_on (D.reading core.old.store.disk)) core.old.cells
+        → OnOk result (AreClean s (words_on (D.reading core.new.store.disk)) core.new.cells) }
+    ensures enough { D.tells → (b : Beginning) → RunsFree D.tells D.clock D.faults D.reading D.may_leave D.left_since b (P.wish gate.now.policy) core.old
+        → (n : TooFewBlocks) → IsErrOf result (AStop.TooFew n) → LacksBlocks b core.old }
+    ensures counts { CommitCounts D.clock D.faults core.old.store core.new.store }
+{
+    if !wants_snap(core, entity, gate) {
+        return Ok(false);
+    }
+    match record_one(core, entity) {
+        Ok(()) => Ok(true),
+        Err(why) => Err(why),
+    }
+}
+
+/// The Snaps of those entities that were written among the touched ones, in their order, whose wishes are open.
+fn snap_touched<D: Disk, S: Supplier, P: Policy>(
+    core: &mut Core<D>,
+    touches: &[Touch],
+    gate: &Gate<S, P>,
+) -> Result<(), Stopped>
+    requires keeps { P.keeps gate.now.policy }
+    requires steady { IsSteady D.tells D.reading D.may_leave core.old }
+    requires rising { IsRising touches.now }
+    ensures steady { OnOk result (IsSteady D.tells D.reading D.may_leave core.new) }
+    ensures run { D.tells → (b : Beginning) → RunsFree D.tells D.clock D.faults D.reading D.may_leave D.left_since b (P.wish gate.now.policy) core.old
+        → SnapsAll D.tells D.clock D.faults D.reading D.may_leave D.left_since b (P.wish gate.now.policy) (written_in touches.now) result core.old core.new }
+    ensures part { D.tells → (b : Beginning) → RunsFree D.tells D.clock D.faults D.reading D.may_leave D.left_since b (P.wish gate.now.policy) core.old
+        → OnErr result (StopsIn b (wished_snaps b.supply (P.wish gate.now.policy) b.script (run_of b core.old.noted.entries) (written_in touches.now)) core.old.noted.entries core.new.noted.entries) }
+    ensures enough { D.tells → (b : Beginning) → RunsFree D.tells D.clock D.faults D.reading D.may_leave D.left_since b (P.wish gate.now.policy) core.old
+        → (n : TooFewBlocks) → IsErrOf result (AStop.TooFew n) → LacksBlocks b core.new }
+    ensures stopped { IfErr result (LeavesStopped D.faults core.old core.new) }
+    ensures clean { D.tells → (s : Supply) → AreClean s (words_on (D.reading core.old.store.disk)) core.old.cells
+        → OnOk result (AreClean s (words_on (D.reading core.new.store.disk)) core.new.cells) }
+    // one record at most of each of the 64 entities
+    ensures counts { CountsWithin D.clock D.faults (64 * 1556) core.old.store core.new.store }
+{
+    for i in 0..touches.len() {
+        let touch = touches[i];
+        if touch.wrote {
+            if let Err(why) = snap_one(core, touch.entity, gate) {
+                return Err(why);
+            }
+        }
+    }
+    Ok(())
+}
+
+/// Behind a step: the Snaps of what it wrote whose wishes are open, in ascending number.
+pub fn snap_written<D: Disk, S: Supplier, P: Policy>(
+    core: &mut Core<D>,
+    entry: &Entry,
+    gate: &Gate<S, P>,
+) -> Result<(), Stopped>
+    requires keeps { P.keeps gate.now.policy }
+    requires steady { IsSteady D.tells D.reading D.may_leave core.old }
+    ensures steady { OnOk result (IsSteady D.tells D.reading D.may_leave core.new) }
+    ensures run { D.tells → (b : Beginning) → RunsFree D.tells D.clock D.faults D.reading D.may_leave D.left_since b (P.wish gate.now.policy) core.old
+        → SnapsAll D.tells D.clock D.faults D.reading D.may_leave D.left_since b (P.wish gate.now.policy) (written_in entry.now.touched) result core.old core.new }
+    ensures part { D.tells → (b : Beginning) → RunsFree D.tells D.clock D.faults D.reading D.may_leave D.left_since b (P.wish gate.now.policy) core.old
+        → OnErr result (StopsIn b (wished_snaps b.supply (P.wish gate.now.policy) b.script (run_of b core.old.noted.entries) (written_in entry.now.touched)) core.old.noted.entries core.new.noted.entries) }
+    ensures enough { D.tells → (b : Beginning) → RunsFree D.tells D.clock D.faults D.reading D.may_leave D.left_since b (P.wish gate.now.policy) core.old
+        → (n : TooFewBlocks) → IsErrOf result (AStop.TooFew n) → LacksBlocks b core.new }
+    ensures stopped { IfErr result (LeavesStopped D.faults core.old core.new) }
+    ensures clean { D.tells → (s : Supply) → AreClean s (words_on (D.reading core.old.store.disk)) core.old.cells
+        → OnOk result (AreClean s (words_on (D.reading core.new.store.disk)) core.new.cells) }
+    ensures counts { CountsWithin D.clock D.faults (64 * 1556) core.old.store core.new.store }
+{
+    snap_touched(core, entry.touched.as_slice(), gate)
+}

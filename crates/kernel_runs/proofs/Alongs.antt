@@ -1,0 +1,106 @@
+-- A kernel along its course: by one pick, by one locus, and to its end.
+use Rattle.std.proofs.Common.{◌≡◌, ℕ, ◌+◌, ◌<◌, ◌≤◌, List, [], ◌∷◌, ◌++◌, length, Option, Some, slice_get, sym, ap, subst, ◌∙◌}
+use Rattle.std.specs.Prelude.{Result}
+use Rattle.disk_trait.specs.Image.{Image}
+use Rattle.disk_trait.specs.declared.disk.NoBlocks.{NoBlocks as TooFewBlocks}
+use Rattle.hop_base.specs.declared.histories.Entry.{Entry}
+use Rattle.hop_model.specs.Histories.{Policy}
+use Rattle.hop_model.specs.Scripts.{Script, locus_named}
+use Rattle.hop_model.specs.Serial.{looks_of}
+use Rattle.hop_model.specs.State.{Supply, Text}
+use Rattle.hop_model.specs.Steps.{atlas_in}
+use Rattle.fitting_births.specs.Fitting.{Fits}
+use Rattle.serial_runs.specs.Serial.{IsStopped, opening}
+use Rattle.serial_turns.specs.Turns.{ComeFirst, HasLooked, before_locus, before_pick}
+use Rattle.serial_turns.proofs.Course.{loci_first, locus_more, picks_first}
+use Rattle.serial_turns.proofs.Picks.{pick_now}
+use Rattle.serial_turns.proofs.Stops.{stopped_opening}
+use Rattle.serial_turns.proofs.Whereabouts.{looked_opening}
+use Rattle.table_births.proofs.AtlasStates.{same_atlas}
+use Rattle.table_births.specs.Births.{atlas_state_in}
+use Rattle.record_laws.specs.Cells.{words_on}
+use Rattle.kernel_laws.specs.Opening.{empty_script, with_script}
+use Rattle.kernel_model.specs.Beginnings.{Beginning, run_of, state_after}
+use Rattle.kernel_core.specs.Kernels.{Held, Lives}
+use Rattle.kernel_commits.specs.Lacking.{LacksBlocks}
+use Rattle.kernel_commits.specs.Pieces.{StopsIn}
+use Rattle.kernel_commits.specs.declared.stopping.Stopped.{Stopped}
+use Rattle.kernel_commits.specs.declared.stopping.Stopped.TheVariants.{TooFew}
+use Rattle.kernel_commits.proofs.Wishing.{fault_in}
+use Rattle.kernel_runs.specs.Running.{HasStopped, IsOver, IsRunBy, RunsAlong, TakesOn, opened_in}
+use Rattle.kernel_runs.proofs.Course.{over}
+
+-- a call tells why the kernel stopped
+pub told_stop : (T : Type 0) (o : Option Stopped) (why stop : Stopped) → o ≡ Some why → o ≡ Some stop → fault_in T why ≡ fault_in T stop
+told_stop T o why stop is same = let e : why ≡ stop = cc (is, same) in ap (fault_in T) e
+
+-- the next locus of a round
+pub locus_next : (b : Beginning) (made l : ℕ) → 41 ≤ l → l < 64 → before_locus b.script (opened_in b) made (l + 1) ≡ before_locus b.script (opened_in b) made l ++ l ∷ []
+locus_next b made l low high = locus_more b.script (opened_in b) made l low high
+
+pub locus_first : (b : Beginning) (made l : ℕ) → 41 ≤ l → l < 64 → ComeFirst b.script (opened_in b) (before_locus b.script (opened_in b) made l ++ l ∷ [])
+locus_first b made l low high = subst (ComeFirst b.script (opened_in b)) (locus_next b made l low high) (loci_first b.script (opened_in b) made (l + 1))
+
+-- the next pick is a locus of the run
+pub record IsPick (b : Beginning) (es : List Entry) (i : ℕ) (name : Text) : Type 0 where
+  pub locus : ℕ
+  pub named : locus_named (atlas_in ((run_of b es).state 0).cell) name ≡ Some locus
+  pub next : before_pick b.script (opened_in b) (i + 1) ≡ before_pick b.script (opened_in b) i ++ locus ∷ []
+  pub first : ComeFirst b.script (opened_in b) (before_pick b.script (opened_in b) i ++ locus ∷ [])
+
+module _ {D : Type 0} (tells : Type 0) (clock faults : D → ℕ) (reading : D → Image) (may_leave : D → Image → Type 0) (left_since : D → ℕ → Image → Type 0) (supply : Supply) (policy : Policy) where
+  abbrev Along : Beginning → List ℕ → Held D → Type 0
+  Along = RunsAlong tells clock faults reading may_leave left_since
+
+  pub next_pick : (b : Beginning) (i : ℕ) (name : Text) (k : Held D) → IsRunBy supply policy b → slice_get b.script.order i ≡ Some name → Along b (before_pick b.script (opened_in b) i) k
+      → IsPick b k.parts.noted.entries i name
+  next_pick b i name k given here along =
+      let begins = along.lives.live.running.begins in
+      let p = pick_now b.supply b.policy b.script b.state begins.script given.fits begins.sound.sound (before_pick b.script (opened_in b) i) k.parts.noted.entries i name along.looks here in
+      record { locus = p.0; named = p.1; next = p.2; first = subst (ComeFirst b.script (opened_in b)) p.2 (picks_first b.script (opened_in b) (i + 1)) }
+
+  -- a round without an entry ends the run
+  pub ends : (b : Beginning) (n : ℕ) (old new : Held D) → IsRunBy supply policy b → Along b (looks_of b.script (opened_in b) n) old → Along b (looks_of b.script (opened_in b) (n + 1)) new
+      → length new.parts.noted.entries ≤ length old.parts.noted.entries → IsOver tells clock faults reading may_leave left_since b new
+  ends b n old new given was is few =
+      let begins = is.lives.live.running.begins in
+      record {
+        lives = is.lives;
+        whole = over b.supply b.policy b.script b.state begins.script given.fits begins.sound.sound n old.parts.noted.entries new.parts.noted.entries was.looks is.looks few;
+      }
+
+  -- a script that fits the cells' atlas before any entry fits the run's
+  pub run_by : (b : Beginning) (script : Script) (k : Held D) → b.supply ≡ supply → b.policy ≡ policy → b.script ≡ script → k.parts.noted.entries ≡ [] → Fits (atlas_state_in k.parts.cells) script
+      → Lives tells clock faults reading may_leave left_since (with_script b (empty_script b.script.steps)) k → IsRunBy supply policy b
+  run_by b script k s p same none fits lives = record {
+    same_supply = s;
+    same_policy = p;
+    fits =
+        let words = words_on (reading k.parts.store.disk) in
+        let state = lives.live.running.follows.state ∙ ap (state_after (with_script b (empty_script b.script.steps))) none in
+        subst (λ a. Fits a b.script) (sym (same_atlas b.supply words k.parts.cells) ∙ ap (λ w. atlas_in (w 0).cell) state) (subst (Fits (atlas_state_in k.parts.cells)) (sym same) fits);
+  }
+
+  -- behind the births the kernel is along its course
+  pub opens : (b : Beginning) (k : Held D) → Lives tells clock faults reading may_leave left_since b k → k.parts.noted.entries ≡ opening b.supply b.script b.state → Along b [] k
+  opens b k lives same = record { lives = lives; looks = subst (HasLooked b.supply b.policy b.script b.state []) (sym same) (looked_opening b.supply b.policy b.script b.state) }
+
+  -- the births were stopped
+  pub stops_opening : (b : Beginning) (k : Held D) → Lives tells clock faults reading may_leave left_since b k → StopsIn b (opening b.supply b.script b.state) [] k.parts.noted.entries
+      → ((n : TooFewBlocks) → k.stop ≡ Some (TooFew n) → LacksBlocks b k.parts)
+      → HasStopped tells clock faults reading may_leave left_since b k
+  stops_opening b k lives p enough = record {
+    lives = lives;
+    part = subst (IsStopped b.supply b.policy b.script b.state) (sym p.entries) (stopped_opening b.supply b.script b.policy b.state p.part p.is);
+    enough = enough;
+  }
+
+  -- a look at the locus of the pick
+  pub takes_pick : (b : Beginning) (i : ℕ) (name : Text) (old new : Held D) (l : ℕ) {T : Type 0} (r : Result T Stopped) (p : IsPick b old.parts.noted.entries i name) → Some l ≡ Some p.locus
+      → (ComeFirst b.script (opened_in b) (before_pick b.script (opened_in b) i ++ l ∷ []) → TakesOn tells clock faults reading may_leave left_since b (before_pick b.script (opened_in b) i ++ l ∷ []) r new)
+      → TakesOn tells clock faults reading may_leave left_since b (before_pick b.script (opened_in b) (i + 1)) r new
+  takes_pick b i name old new l r p same takes =
+      let is : l ≡ p.locus = cc in
+      let next : before_pick b.script (opened_in b) i ++ l ∷ [] ≡ before_pick b.script (opened_in b) (i + 1) = ap (λ x. before_pick b.script (opened_in b) i ++ x ∷ []) is ∙ sym p.next in
+      subst (λ looked. TakesOn tells clock faults reading may_leave left_since b looked r new) next
+      (takes (subst (λ x. ComeFirst b.script (opened_in b) (before_pick b.script (opened_in b) i ++ x ∷ [])) (sym is) p.first))

@@ -1,0 +1,4 @@
+pub mod Course
+pub mod Called
+pub mod Alongs
+pub mod Born

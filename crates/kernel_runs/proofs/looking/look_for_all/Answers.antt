@@ -1,0 +1,76 @@
+use Rattle.std.proofs.Common.{◌≡◌, ◌+◌, ◌*◌, ◌≤◌, ◌<◌, Some, length, slice_get, refl, sym, ap, subst, ◌∙◌, arith}
+use Rattle.std.specs.Option.{option_map}
+use Rattle.std.specs.Prelude.{string_bytes}
+use Rattle.std.proofs.lemmas.List.{length-map}
+use Rattle.std.proofs.lemmas.Option.{slice_get-map, slice_get_read}
+use Rattle.snapshot_store.proofs.Causes.{Rose-before}
+use Rattle.serial_turns.specs.Turns.{before_pick}
+use Rattle.serial_turns.proofs.Course.{all_picked}
+use Rattle.kernel_runs.specs.Running.{RunsAlong, look_most, opened_in}
+use Rattle.kernel_commits.proofs.Counting.{CountsWithin-fewer, CountsWithin-stay, CountsWithin-then}
+use Rattle.kernel_runs.proofs.looking.look_for_all.Goals as goal
+
+pub loop-i-init : goal.loop-i-init
+loop-i-init g c = record {
+  going = c.requires.going;
+  clean = c.requires.clean;
+  counts = CountsWithin-stay g.D.Disk.clock g.D.Disk.faults 0 c.args.kernel.now.parts.store;
+  run = λ told b given order along. along;
+}
+
+pub loop-i-preserved : goal.loop-i-preserved
+loop-i-preserved g c =
+    let d = g.D.Disk in
+    let i = c.loop-i.i in
+    let xs = c.args.order.now in
+    let low : i < length xs = omega (arith, c.loop-i-test.true) in
+    record {
+      going = c.in_default.ensures.goes;
+      clean = c.look_for.ensures.clean;
+      counts =
+          CountsWithin-fewer d.clock d.faults (i * look_most + look_most) ((i + 1) * look_most) c.args.kernel.now.parts.store c.look_for.new.kernel.parts.store (omega arith)
+          (CountsWithin-then d.clock d.faults (i * look_most) look_most c.args.kernel.now.parts.store c.loop-i.kernel.parts.store c.look_for.new.kernel.parts.store c.loop-i.invariant.counts c.look_for.ensures.counts);
+      run = λ told b given order along.
+          let here : slice_get b.script.order i ≡ Some c.as_str.result.now =
+          ap (λ ns. slice_get ns i) order ∙ slice_get-map string_bytes xs i ∙ ap (option_map string_bytes) (slice_get_read xs (length xs) i c.index-order-i.result refl low c.index-order-i.is) ∙ ap Some (sym c.as_str.ensures.value) in
+          (c.in_default.ensures.run told b i given here (c.loop-i.invariant.run told b given order along)).along;
+    }
+
+pub returns-in-Err-clause-failed : goal.returns-in-Err-clause-failed
+returns-in-Err-clause-failed g c = λ is.
+    let d = g.D.Disk in
+    Rose-before (d.faults c.args.kernel.now.parts.store.disk) (d.faults c.loop-i.kernel.parts.store.disk) (d.faults c.look_for.new.kernel.parts.store.disk) c.loop-i.invariant.counts.later c.look_for.ensures.counts.later (c.in-Err.ensures.failed is)
+
+pub returns-in-Err-clause-counts : goal.returns-in-Err-clause-counts
+returns-in-Err-clause-counts g c =
+    let d = g.D.Disk in
+    let i = c.loop-i.i in
+    let low : i < length c.args.order.now = omega (arith, c.loop-i-test.true) in
+    CountsWithin-fewer d.clock d.faults (i * look_most + look_most) (length c.args.order.now * look_most) c.args.kernel.now.parts.store c.look_for.new.kernel.parts.store (omega (arith, low))
+    (CountsWithin-then d.clock d.faults (i * look_most) look_most c.args.kernel.now.parts.store c.loop-i.kernel.parts.store c.look_for.new.kernel.parts.store c.loop-i.invariant.counts c.look_for.ensures.counts)
+
+pub returns-clause-counts : goal.returns-clause-counts
+returns-clause-counts g c =
+    let d = g.D.Disk in
+    let end : c.loop-i.i ≤ length c.args.order.now = omega (arith, c.loop-i.auto.i-end) in
+    CountsWithin-fewer d.clock d.faults (c.loop-i.i * look_most) (length c.args.order.now * look_most) c.args.kernel.now.parts.store c.loop-i.kernel.parts.store (omega (arith, end)) c.loop-i.invariant.counts
+
+pub returns-in-Err-clause-run : goal.returns-in-Err-clause-run
+returns-in-Err-clause-run g c = λ told b given order along.
+    let xs = c.args.order.now in
+    let i = c.loop-i.i in
+    let low : i < length xs = omega (arith, c.loop-i-test.true) in
+    let here : slice_get b.script.order i ≡ Some c.as_str.result.now =
+    ap (λ ns. slice_get ns i) order ∙ slice_get-map string_bytes xs i ∙ ap (option_map string_bytes) (slice_get_read xs (length xs) i c.index-order-i.result refl low c.index-order-i.is) ∙ ap Some (sym c.as_str.ensures.value) in
+    record { along = tt; stopped = (c.in-Err.ensures.run told b i given here (c.loop-i.invariant.run told b given order along)).stopped }
+
+pub returns-clause-run : goal.returns-clause-run
+returns-clause-run g c = λ told b given order along.
+    let d = g.D.Disk in
+    let xs = c.args.order.now in
+    let done : c.loop-i.i ≡ length b.script.order = (let e = c.loop-i.auto.i-end in let f = c.loop-i-test.false in let same : c.loop-i.i ≡ length xs = omega (arith, e, f) in same ∙ sym (length-map xs string_bytes) ∙ sym (ap length order)) in
+    let all = ap (before_pick b.script (opened_in b)) done ∙ all_picked b.script (opened_in b) in
+    record {
+      along = subst (λ ls. RunsAlong d.tells d.clock d.faults d.reading d.may_leave d.left_since b ls c.loop-i.kernel) all (c.loop-i.invariant.run told b given order along);
+      stopped = tt;
+    }

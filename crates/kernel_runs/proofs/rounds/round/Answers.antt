@@ -1,0 +1,85 @@
+use Rattle.std.proofs.Common.{◌≤◌, ◌<◌, ◌+◌, ◌-◌, ◌*◌, ◌++◌, ◌∷◌, [], sym, ap, subst, ◌∙◌, arith}
+use Rattle.std.proofs.lemmas.List.{append-nil}
+use Rattle.snapshot_store.proofs.Causes.{Rose-before}
+use Rattle.hop_model.specs.Serial.{looks_of}
+use Rattle.serial_turns.specs.Turns.{ComeFirst, before_locus}
+use Rattle.kernel_runs.specs.Running.{RunsAlong, look_most, opened_in}
+use Rattle.kernel_runs.proofs.Alongs.{locus_first, locus_next}
+use Rattle.kernel_runs.proofs.Born.{round_over}
+use Rattle.kernel_commits.proofs.Counting.{CountsWithin-fewer, CountsWithin-stay, CountsWithin-then}
+use Rattle.kernel_runs.proofs.rounds.round.Goals as goal
+
+pub loop-number-init : goal.loop-number-init
+loop-number-init g c = record {
+  low = omega arith;
+  high = omega arith;
+  going = c.requires.going;
+  clean = c.requires.clean;
+  counts = CountsWithin-stay g.D.Disk.clock g.D.Disk.faults 0 c.args.kernel.now.parts.store;
+  run = λ told b made given along. subst (λ ls. RunsAlong g.D.Disk.tells g.D.Disk.clock g.D.Disk.faults g.D.Disk.reading g.D.Disk.may_leave g.D.Disk.left_since b ls c.args.kernel.now) (sym (append-nil (looks_of b.script (opened_in b) made))) along;
+}
+
+pub loop-number-preserved : goal.loop-number-preserved
+loop-number-preserved g c =
+    let d = g.D.Disk in
+    let n = c.loop-number.number in
+    let low : 41 ≤ n = c.loop-number.invariant.low in
+    let high : n < 64 = (let few = c.loci_end.ensures.few in let lt = c.loop-number-test.true in omega (arith, few, lt)) in
+    record {
+      low = omega (arith, low);
+      high = omega (arith, high);
+      going = c.in_default.ensures.goes;
+      clean = c.look_at.ensures.clean;
+      counts =
+          CountsWithin-fewer d.clock d.faults ((n - 41) * look_most + look_most) ((n + 1 - 41) * look_most) c.args.kernel.now.parts.store c.look_at.new.kernel.parts.store (omega (arith, low))
+          (CountsWithin-then d.clock d.faults ((n - 41) * look_most) look_most c.args.kernel.now.parts.store c.loop-number.kernel.parts.store c.look_at.new.kernel.parts.store c.loop-number.invariant.counts c.look_at.ensures.counts);
+      run = λ told b made given along.
+          let first = subst (λ x. ComeFirst b.script (opened_in b) (before_locus b.script (opened_in b) made n ++ x ∷ [])) (sym c.of.ensures) (locus_first b made n low high) in
+          let next = ap (λ x. before_locus b.script (opened_in b) made n ++ x ∷ []) c.of.ensures ∙ sym (locus_next b made n low high) in
+          subst (λ ls. RunsAlong d.tells d.clock d.faults d.reading d.may_leave d.left_since b ls c.look_at.new.kernel) next
+          (c.in_default.ensures.run told b (before_locus b.script (opened_in b) made n) given first (c.loop-number.invariant.run told b made given along)).along;
+    }
+
+pub returns-in-Err-clause-failed : goal.returns-in-Err-clause-failed
+returns-in-Err-clause-failed g c = λ is.
+    let d = g.D.Disk in
+    Rose-before (d.faults c.args.kernel.now.parts.store.disk) (d.faults c.loop-number.kernel.parts.store.disk) (d.faults c.look_at.new.kernel.parts.store.disk) c.loop-number.invariant.counts.later c.look_at.ensures.counts.later (c.in-Err.ensures.failed is)
+
+pub returns-in-Err-clause-counts : goal.returns-in-Err-clause-counts
+returns-in-Err-clause-counts g c =
+    let d = g.D.Disk in
+    let n = c.loop-number.number in
+    let high : n < 64 = (let few = c.loci_end.ensures.few in let lt = c.loop-number-test.true in omega (arith, few, lt)) in
+    CountsWithin-fewer d.clock d.faults ((n - 41) * look_most + look_most) (23 * look_most) c.args.kernel.now.parts.store c.look_at.new.kernel.parts.store (omega (arith, high))
+    (CountsWithin-then d.clock d.faults ((n - 41) * look_most) look_most c.args.kernel.now.parts.store c.loop-number.kernel.parts.store c.look_at.new.kernel.parts.store c.loop-number.invariant.counts c.look_at.ensures.counts)
+
+pub returns-in-Err-clause-run : goal.returns-in-Err-clause-run
+returns-in-Err-clause-run g c = λ told b made given along.
+    let n = c.loop-number.number in
+    let high : n < 64 = (let few = c.loci_end.ensures.few in let lt = c.loop-number-test.true in omega (arith, few, lt)) in
+    let first = subst (λ x. ComeFirst b.script (opened_in b) (before_locus b.script (opened_in b) made n ++ x ∷ [])) (sym c.of.ensures) (locus_first b made n c.loop-number.invariant.low high) in
+    record {
+      along = tt;
+      stopped = (c.in-Err.ensures.run told b (before_locus b.script (opened_in b) made n) given first (c.loop-number.invariant.run told b made given along)).stopped;
+    }
+
+pub returns-clause-counts : goal.returns-clause-counts
+returns-clause-counts g c =
+    let d = g.D.Disk in
+    let high = c.loop-number.invariant.high in
+    CountsWithin-fewer d.clock d.faults ((c.loop-number.number - 41) * look_most) (23 * look_most) c.args.kernel.now.parts.store c.loop-number.kernel.parts.store (omega (arith, high)) c.loop-number.invariant.counts
+
+pub returns-clause-run : goal.returns-clause-run
+returns-clause-run g c = λ told b made given along.
+    let n = c.loop-number.number in
+    let at = c.loop-number.invariant.run told b made given along in
+    let r = at.lives.live.running in
+    let past = c.loci_end.ensures.past told b at.lives in
+    let behind = c.loop-number-test.false in
+    record {
+      along = record {
+        lives = at.lives;
+        looks = round_over b c.loop-number.kernel.parts.noted.entries r.begins r.legal made n c.loop-number.invariant.low c.loop-number.invariant.high (omega (arith, past, behind)) at.looks;
+      };
+      stopped = tt;
+    }

@@ -1,0 +1,61 @@
+-- What takes a kernel along the serial history of its run, and how a run ends.
+use Rattle.std.specs.Prelude.{◌≡◌, ℕ, ◌+◌, ◌*◌, List, length, Some, OnErr, OnOk, Result}
+use Rattle.disk_trait.specs.Image.{Image}
+use Rattle.disk_trait.specs.declared.disk.NoBlocks.{NoBlocks}
+use Rattle.hop_model.specs.Histories.{Policy, Run}
+use Rattle.hop_model.specs.State.{AtlasState, Supply}
+use Rattle.hop_model.specs.Steps.{atlas_in}
+use Rattle.fitting_births.specs.Fitting.{Fits}
+use Rattle.serial_runs.specs.Serial.{IsStopped, IsWhole}
+use Rattle.serial_turns.specs.Turns.{HasLooked, opened}
+use Rattle.kernel_model.specs.Beginnings.{Beginning}
+use Rattle.kernel_core.specs.Kernels.{Held, Lives}
+use Rattle.kernel_commits.specs.Lacking.{LacksBlocks}
+use Rattle.kernel_commits.specs.declared.stopping.Stopped.{Stopped}
+use Rattle.kernel_commits.specs.declared.stopping.Stopped.TheVariants.{TooFew}
+
+-- these managers answer in the run, and its script fits the atlas of its state
+pub record IsRunBy (supply : Supply) (policy : Policy) (b : Beginning) : Type 0 where
+  pub same_supply : b.supply ≡ supply
+  pub same_policy : b.policy ≡ policy
+  pub fits : Fits (atlas_in (b.state 0).cell) b.script
+
+-- the run behind its births
+abbrev pub opened_in : Beginning → Run
+opened_in b = opened b.supply b.script b.state
+
+-- the number behind the last locus that is born
+abbrev pub end_of : AtlasState → ℕ
+end_of a = 41 + length a.loci
+
+-- a look begins so many writes and syncs at most: that of its step, and those of a record of each entity
+abbrev pub look_most : ℕ
+look_most = 1 + 64 * 1556
+
+module _ {D : Type 0} (tells : Type 0) (clock faults : D → ℕ) (reading : D → Image) (may_leave : D → Image → Type 0) (left_since : D → ℕ → Image → Type 0) where
+  -- THE KERNEL IS ALONG ITS COURSE: live, and behind a look at each of these loci
+  pub record RunsAlong (b : Beginning) (looked : List ℕ) (k : Held D) : Type 0 where
+    pub lives : Lives tells clock faults reading may_leave left_since b k
+    pub looks : HasLooked b.supply b.policy b.script b.state looked k.parts.noted.entries
+
+  -- THE RUN WAS STOPPED: the kernel is live, has noted the serial history up to where it stopped, and was short of blocks only where the
+  -- image lacks them
+  pub record HasStopped (b : Beginning) (k : Held D) : Type 0 where
+    pub lives : Lives tells clock faults reading may_leave left_since b k
+    pub part : IsStopped b.supply b.policy b.script b.state k.parts.noted.entries
+    pub enough : (n : NoBlocks) → k.stop ≡ Some (TooFew n) → LacksBlocks b k.parts
+
+  -- THE RUN IS OVER: the kernel is live, and has noted the whole serial history
+  pub record IsOver (b : Beginning) (k : Held D) : Type 0 where
+    pub lives : Lives tells clock faults reading may_leave left_since b k
+    pub whole : IsWhole b.supply b.policy b.script b.state k.parts.noted.entries
+
+  -- WHAT LOOKS LEAVE: the kernel is behind them all, or was stopped in one
+  pub record TakesOn (b : Beginning) (looked : List ℕ) {T : Type 0} (result : Result T Stopped) (new : Held D) : Type 0 where
+    pub along : OnOk result (RunsAlong b looked new)
+    pub stopped : OnErr result (HasStopped b new)
+
+  -- WHAT A RUN LEAVES
+  pub record EndsRun (b : Beginning) {T : Type 0} (result : Result T Stopped) (new : Held D) : Type 0 where
+    pub over : OnOk result (IsOver b new)
+    pub stopped : OnErr result (HasStopped b new)

@@ -1,0 +1,137 @@
+// Looks at loci, by number and by name.
+ghost use Rattle.std.specs.Prelude.{◌≡◌, ◌+◌, ◌*◌, ◌++◌, ◌∷◌, [], ℕ, List, None, Some, Err, IfErr, IfSome, IsErrOf, OnOk, length, map, slice_get, string_bytes};
+ghost use Rattle.disk_trait.specs.Counts.{Rose};
+ghost use Rattle.hop_model.specs.Scripts.{locus_named};
+ghost use Rattle.hop_model.specs.Serial.{looks_of};
+ghost use Rattle.hop_model.specs.Steps.{atlas_in};
+ghost use Rattle.kernel_commits.specs.Pieces.{CountsWithin};
+ghost use Rattle.kernel_commits.specs.declared.stopping.Stopped.{Stopped as AStop};
+ghost use Rattle.kernel_core.specs.Kernels.{Lives, StaysClean};
+ghost use Rattle.kernel_model.specs.Beginnings.{Beginning, run_of};
+ghost use Rattle.kernel_runs.specs.Running.{IsRunBy, RunsAlong, TakesOn, look_most, opened_in};
+ghost use Rattle.serial_turns.specs.Turns.{ComeFirst, before_pick};
+
+use disk_trait::Disk;
+use hop_base::{Entity, Kind};
+use kernel_core::{Kernel, Stopped};
+use manager_gate::{Gate, Policy, Supplier};
+
+/// One look at the locus with this number.
+pub(crate) fn look_at<D: Disk, S: Supplier, P: Policy>(
+    kernel: &mut Kernel<D>,
+    locus: Entity,
+    gate: &Gate<S, P>,
+) -> Result<(), Stopped>
+    requires keeps { S.keeps gate.now.supply }
+    requires wishes { P.keeps gate.now.policy }
+    requires clean { StaysClean D.tells D.reading (S.word gate.now.supply) kernel.old }
+    requires going { kernel.old.stop ≡ None }
+    ensures stops { IfErr result (λ why. kernel.new.stop ≡ Some why) }
+    ensures goes { OnOk result (kernel.new.stop ≡ None) }
+    ensures failed { IsErrOf result AStop.Failed → Rose (D.faults kernel.old.parts.store.disk) (D.faults kernel.new.parts.store.disk) }
+    ensures clean { StaysClean D.tells D.reading (S.word gate.now.supply) kernel.new }
+    ensures counts { CountsWithin D.clock D.faults (look_most) kernel.old.parts.store kernel.new.parts.store }
+    ensures run { D.tells → (b : Beginning) (looked : List ℕ) → IsRunBy (S.word gate.now.supply) (P.wish gate.now.policy) b
+        → ComeFirst b.script (opened_in b) (looked ++ locus ∷ []) → RunsAlong D.tells D.clock D.faults D.reading D.may_leave D.left_since b looked kernel.old
+        → TakesOn D.tells D.clock D.faults D.reading D.may_leave D.left_since b (looked ++ locus ∷ []) result kernel.new }
+{
+    match kernel.step(locus, gate) {
+        Ok(_) => Ok(()),
+        Err(why) => Err(why),
+    }
+}
+
+/// The locus of a name, if it has one.
+fn locus_called<D: Disk>(kernel: &Kernel<D>, name: &str) -> Option<Entity>
+    ensures { D.tells → (b : Beginning) (l : ℕ) → Lives D.tells D.clock D.faults D.reading D.may_leave D.left_since b kernel.now
+        → locus_named (atlas_in ((run_of b kernel.now.parts.noted.entries).state 0).cell) name.now ≡ Some l → result ≡ Some l }
+{
+    let atlas = kernel.atlas();
+    if atlas.named(Kind::Locus) == 0 {
+        return None;
+    }
+    atlas.find(name)
+}
+
+/// A look at the locus of this name; a name that no entity has is passed over.
+fn look_for<D: Disk, S: Supplier, P: Policy>(
+    kernel: &mut Kernel<D>,
+    name: &str,
+    gate: &Gate<S, P>,
+) -> Result<(), Stopped>
+    requires keeps { S.keeps gate.now.supply }
+    requires wishes { P.keeps gate.now.policy }
+    requires clean { StaysClean D.tells D.reading (S.word gate.now.supply) kernel.old }
+    requires going { kernel.old.stop ≡ None }
+    ensures stops { IfErr result (λ why. kernel.new.stop ≡ Some why) }
+    ensures goes { OnOk result (kernel.new.stop ≡ None) }
+    ensures failed { IsErrOf result AStop.Failed → Rose (D.faults kernel.old.parts.store.disk) (D.faults kernel.new.parts.store.disk) }
+    ensures clean { StaysClean D.tells D.reading (S.word gate.now.supply) kernel.new }
+    ensures counts { CountsWithin D.clock D.faults (look_most) kernel.old.parts.store kernel.new.parts.store }
+    ensures run { D.tells → (b : Beginning) (i : ℕ) → IsRunBy (S.word gate.now.supply) (P.wish gate.now.policy) b
+        → slice_get b.script.order i ≡ Some name.now
+        → RunsAlong D.tells D.clock D.faults D.reading D.may_leave D.left_since b (before_pick b.script (opened_in b) i) kernel.old
+        → TakesOn D.tells D.clock D.faults D.reading D.may_leave D.left_since b (before_pick b.script (opened_in b) (i + 1)) result kernel.new }
+{
+    match locus_called(kernel, name) {
+        Some(locus) => look_at(kernel, locus, gate),
+        None => Ok(()),
+    }
+}
+
+/// A look at each pick of an order, by name.
+fn look_for_all<D: Disk, S: Supplier, P: Policy>(
+    kernel: &mut Kernel<D>,
+    order: &[String],
+    gate: &Gate<S, P>,
+) -> Result<(), Stopped>
+    requires keeps { S.keeps gate.now.supply }
+    requires wishes { P.keeps gate.now.policy }
+    requires clean { StaysClean D.tells D.reading (S.word gate.now.supply) kernel.old }
+    requires going { kernel.old.stop ≡ None }
+    ensures stops { IfErr result (λ why. kernel.new.stop ≡ Some why) }
+    ensures goes { OnOk result (kernel.new.stop ≡ None) }
+    ensures failed { IsErrOf result AStop.Failed → Rose (D.faults kernel.old.parts.store.disk) (D.faults kernel.new.parts.store.disk) }
+    ensures clean { StaysClean D.tells D.reading (S.word gate.now.supply) kernel.new }
+    ensures counts { CountsWithin D.clock D.faults (length order.now * look_most) kernel.old.parts.store kernel.new.parts.store }
+    ensures run { D.tells → (b : Beginning) → IsRunBy (S.word gate.now.supply) (P.wish gate.now.policy) b
+        → b.script.order ≡ map string_bytes order.now
+        → RunsAlong D.tells D.clock D.faults D.reading D.may_leave D.left_since b [] kernel.old
+        → TakesOn D.tells D.clock D.faults D.reading D.may_leave D.left_since b (looks_of b.script (opened_in b) 0) result kernel.new }
+{
+    for i in 0..order.len() {
+        if let Err(why) = look_for(kernel, order[i].as_str(), gate) {
+            return Err(why);
+        }
+    }
+    Ok(())
+}
+
+/// Plays the order of a script whose births were made: a look at the locus of each name, one after another. A kernel that has stopped
+/// does nothing, and tells why it stopped; one that a fault meets stops, and looks at no more.
+///
+/// Each look costs a search for the name in the directory, and 99,585 writes and syncs at most.
+pub fn play<D: Disk, S: Supplier, P: Policy>(
+    kernel: &mut Kernel<D>,
+    order: &[String],
+    gate: &Gate<S, P>,
+) -> Result<(), Stopped>
+    requires keeps { S.keeps gate.now.supply }
+    requires wishes { P.keeps gate.now.policy }
+    requires clean { StaysClean D.tells D.reading (S.word gate.now.supply) kernel.old }
+    ensures was_stopped { IfSome kernel.old.stop (λ why. (result ≡ Err why) × (kernel.new ≡ kernel.old)) }
+    ensures stops { IfErr result (λ why. kernel.new.stop ≡ Some why) }
+    ensures goes { OnOk result (kernel.new.stop ≡ None) }
+    ensures failed { kernel.old.stop ≡ None → IsErrOf result AStop.Failed → Rose (D.faults kernel.old.parts.store.disk) (D.faults kernel.new.parts.store.disk) }
+    ensures clean { StaysClean D.tells D.reading (S.word gate.now.supply) kernel.new }
+    ensures counts { CountsWithin D.clock D.faults (length order.now * look_most) kernel.old.parts.store kernel.new.parts.store }
+    ensures run { D.tells → kernel.old.stop ≡ None → (b : Beginning) → IsRunBy (S.word gate.now.supply) (P.wish gate.now.policy) b
+        → b.script.order ≡ map string_bytes order.now
+        → RunsAlong D.tells D.clock D.faults D.reading D.may_leave D.left_since b [] kernel.old
+        → TakesOn D.tells D.clock D.faults D.reading D.may_leave D.left_since b (looks_of b.script (opened_in b) 0) result kernel.new }
+{
+    if let Some(why) = kernel.stopped() {
+        return Err(why);
+    }
+    look_for_all(kernel, order, gate)
+}

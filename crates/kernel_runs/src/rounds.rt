@@ -1,0 +1,118 @@
+// Rounds over all loci, until one makes no entry.
+ghost use Rattle.std.specs.Prelude.{◌≡◌, ◌+◌, ◌*◌, ◌^◌, ◌≤◌, ℕ, None, Some, Err, IfErr, IfSome, IsErrOf, OnOk, length};
+ghost use Rattle.disk_trait.specs.Counts.{Rose};
+ghost use Rattle.hop_model.specs.Serial.{looks_of};
+ghost use Rattle.hop_model.specs.Steps.{atlas_in};
+ghost use Rattle.kernel_commits.specs.Pieces.{CountsWithin};
+ghost use Rattle.kernel_commits.specs.declared.stopping.Stopped.{Stopped as AStop};
+ghost use Rattle.kernel_core.specs.Kernels.{Lives, StaysClean};
+ghost use Rattle.kernel_model.specs.Beginnings.{Beginning, run_of};
+ghost use Rattle.kernel_runs.specs.Running.{EndsRun, IsRunBy, RunsAlong, TakesOn, end_of, look_most, opened_in};
+
+use crate::looking::look_at;
+use disk_trait::Disk;
+use hop_base::{Entity, Kind};
+use kernel_core::{Kernel, Stopped};
+use manager_gate::{Gate, Policy, Supplier};
+
+/// The number behind the last locus that is born.
+fn loci_end<D: Disk>(kernel: &Kernel<D>) -> u8
+    ensures few { result ≤ 64 }
+    ensures past { D.tells → (b : Beginning) → Lives D.tells D.clock D.faults D.reading D.may_leave D.left_since b kernel.now
+        → end_of (atlas_in ((run_of b kernel.now.parts.noted.entries).state 0).cell) ≤ result }
+{
+    41 + kernel.atlas().named(Kind::Locus)
+}
+
+/// A round: one look at each locus that is born, by number, and so at one that is born in the round, too.
+fn round<D: Disk, S: Supplier, P: Policy>(
+    kernel: &mut Kernel<D>,
+    gate: &Gate<S, P>,
+) -> Result<(), Stopped>
+    requires keeps { S.keeps gate.now.supply }
+    requires wishes { P.keeps gate.now.policy }
+    requires clean { StaysClean D.tells D.reading (S.word gate.now.supply) kernel.old }
+    requires going { kernel.old.stop ≡ None }
+    ensures stops { IfErr result (λ why. kernel.new.stop ≡ Some why) }
+    ensures goes { OnOk result (kernel.new.stop ≡ None) }
+    ensures failed { IsErrOf result AStop.Failed → Rose (D.faults kernel.old.parts.store.disk) (D.faults kernel.new.parts.store.disk) }
+    ensures clean { StaysClean D.tells D.reading (S.word gate.now.supply) kernel.new }
+    ensures counts { CountsWithin D.clock D.faults (23 * look_most) kernel.old.parts.store kernel.new.parts.store }
+    ensures run { D.tells → (b : Beginning) (made : ℕ) → IsRunBy (S.word gate.now.supply) (P.wish gate.now.policy) b
+        → RunsAlong D.tells D.clock D.faults D.reading D.may_leave D.left_since b (looks_of b.script (opened_in b) made) kernel.old
+        → TakesOn D.tells D.clock D.faults D.reading D.may_leave D.left_since b (looks_of b.script (opened_in b) (made + 1)) result kernel.new }
+{
+    let mut number = 41;
+    while number < loci_end(kernel) {
+        if let Err(why) = look_at(kernel, Entity::of(number), gate) {
+            return Err(why);
+        }
+        number += 1;
+    }
+    Ok(())
+}
+
+/// How many entries are noted.
+fn entries_noted<D: Disk>(kernel: &Kernel<D>) -> usize
+    ensures count { result ≡ length kernel.now.parts.noted.entries }
+    ensures few { kernel.now.stop ≡ None → result ≤ 2 ^ 22 }
+{
+    kernel.history().len()
+}
+
+/// Rounds over the loci, until one makes no entry.
+fn go_round<D: Disk, S: Supplier, P: Policy>(
+    kernel: &mut Kernel<D>,
+    gate: &Gate<S, P>,
+) -> Result<(), Stopped>
+    requires keeps { S.keeps gate.now.supply }
+    requires wishes { P.keeps gate.now.policy }
+    requires clean { StaysClean D.tells D.reading (S.word gate.now.supply) kernel.old }
+    requires going { kernel.old.stop ≡ None }
+    ensures stops { IfErr result (λ why. kernel.new.stop ≡ Some why) }
+    ensures goes { OnOk result (kernel.new.stop ≡ None) }
+    ensures failed { IsErrOf result AStop.Failed → Rose (D.faults kernel.old.parts.store.disk) (D.faults kernel.new.parts.store.disk) }
+    ensures clean { StaysClean D.tells D.reading (S.word gate.now.supply) kernel.new }
+    ensures counts { CountsWithin D.clock D.faults ((2 ^ 22 + 1) * (23 * look_most)) kernel.old.parts.store kernel.new.parts.store }
+    ensures run { D.tells → (b : Beginning) (made : ℕ) → IsRunBy (S.word gate.now.supply) (P.wish gate.now.policy) b
+        → RunsAlong D.tells D.clock D.faults D.reading D.may_leave D.left_since b (looks_of b.script (opened_in b) made) kernel.old
+        → EndsRun D.tells D.clock D.faults D.reading D.may_leave D.left_since b result kernel.new }
+{
+    loop {
+        let noted = entries_noted(kernel);
+        if let Err(why) = round(kernel, gate) {
+            return Err(why);
+        }
+        if entries_noted(kernel) <= noted {
+            return Ok(());
+        }
+    }
+}
+
+/// Goes on, behind the picks of an order or behind whole rounds, with rounds over the loci until one makes no entry. A kernel that has
+/// stopped does nothing, and tells why it stopped; one that a fault meets stops, and looks at no more.
+///
+/// A round costs a look at each locus that is born. Each round but the last notes an entry, so there are at most as many as the loci have
+/// steps, and one beside.
+pub fn finish<D: Disk, S: Supplier, P: Policy>(
+    kernel: &mut Kernel<D>,
+    gate: &Gate<S, P>,
+) -> Result<(), Stopped>
+    requires keeps { S.keeps gate.now.supply }
+    requires wishes { P.keeps gate.now.policy }
+    requires clean { StaysClean D.tells D.reading (S.word gate.now.supply) kernel.old }
+    ensures was_stopped { IfSome kernel.old.stop (λ why. (result ≡ Err why) × (kernel.new ≡ kernel.old)) }
+    ensures stops { IfErr result (λ why. kernel.new.stop ≡ Some why) }
+    ensures goes { OnOk result (kernel.new.stop ≡ None) }
+    ensures failed { kernel.old.stop ≡ None → IsErrOf result AStop.Failed → Rose (D.faults kernel.old.parts.store.disk) (D.faults kernel.new.parts.store.disk) }
+    ensures clean { StaysClean D.tells D.reading (S.word gate.now.supply) kernel.new }
+    ensures counts { CountsWithin D.clock D.faults ((2 ^ 22 + 1) * (23 * look_most)) kernel.old.parts.store kernel.new.parts.store }
+    ensures run { D.tells → kernel.old.stop ≡ None → (b : Beginning) (made : ℕ) → IsRunBy (S.word gate.now.supply) (P.wish gate.now.policy) b
+        → RunsAlong D.tells D.clock D.faults D.reading D.may_leave D.left_since b (looks_of b.script (opened_in b) made) kernel.old
+        → EndsRun D.tells D.clock D.faults D.reading D.may_leave D.left_since b result kernel.new }
+{
+    if let Some(why) = kernel.stopped() {
+        return Err(why);
+    }
+    go_round(kernel, gate)
+}

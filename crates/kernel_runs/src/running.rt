@@ -1,0 +1,55 @@
+// A whole run of a script.
+ghost use Rattle.std.specs.Prelude.{◌≡◌, ◌+◌, ◌*◌, ◌^◌, [], None, Some, Err, IfErr, IfSome, IsErrOf, OnOk, length};
+ghost use Rattle.disk_trait.specs.Counts.{Rose};
+ghost use Rattle.fitting_births.specs.Fitting.{Fits};
+ghost use Rattle.kernel_commits.specs.Pieces.{CountsWithin};
+ghost use Rattle.kernel_commits.specs.declared.stopping.Stopped.{Stopped as AStop};
+ghost use Rattle.kernel_core.specs.Kernels.{Lives, StaysClean};
+ghost use Rattle.kernel_laws.specs.Opening.{empty_script, with_script};
+ghost use Rattle.kernel_model.specs.Beginnings.{Beginning};
+ghost use Rattle.kernel_runs.specs.Running.{EndsRun, look_most};
+ghost use Rattle.script_form.specs.Rules.{IsScript};
+ghost use Rattle.script_form.specs.Scripts.{tables_of};
+ghost use Rattle.table_births.specs.Births.{atlas_state_in};
+
+use crate::looking::play;
+use crate::rounds::finish;
+use disk_trait::Disk;
+use kernel_core::{Kernel, Stopped};
+use manager_gate::{Gate, Policy, Supplier};
+use script_form::Script;
+
+/// Runs a script: its births, the picks of its order, and rounds over the loci until none can step. A kernel that has stopped does
+/// nothing, and tells why it stopped; one that a fault meets stops there.
+///
+/// `Failed` comes only where the disk's count of faults rose.
+pub fn run<D: Disk, S: Supplier, P: Policy>(
+    kernel: &mut Kernel<D>,
+    script: &Script,
+    gate: &Gate<S, P>,
+) -> Result<(), Stopped>
+    requires keeps { S.keeps gate.now.supply }
+    requires wishes { P.keeps gate.now.policy }
+    requires clean { StaysClean D.tells D.reading (S.word gate.now.supply) kernel.old }
+    requires allowed { IsScript (tables_of script.now) }
+    requires fits { Fits (atlas_state_in kernel.old.parts.cells) (tables_of script.now) }
+    requires first { kernel.old.parts.noted.entries ≡ [] }
+    ensures was_stopped { IfSome kernel.old.stop (λ why. (result ≡ Err why) × (kernel.new ≡ kernel.old)) }
+    ensures stops { IfErr result (λ why. kernel.new.stop ≡ Some why) }
+    ensures goes { OnOk result (kernel.new.stop ≡ None) }
+    ensures failed { kernel.old.stop ≡ None → IsErrOf result AStop.Failed → Rose (D.faults kernel.old.parts.store.disk) (D.faults kernel.new.parts.store.disk) }
+    ensures clean { StaysClean D.tells D.reading (S.word gate.now.supply) kernel.new }
+    ensures counts { CountsWithin D.clock D.faults (64 * 1556 + length script.now.order.items * look_most + (2 ^ 22 + 1) * (23 * look_most)) kernel.old.parts.store kernel.new.parts.store }
+    ensures run { D.tells → kernel.old.stop ≡ None → (b : Beginning) → b.supply ≡ S.word gate.now.supply → b.policy ≡ P.wish gate.now.policy
+        → b.script ≡ tables_of script.now
+        → Lives D.tells D.clock D.faults D.reading D.may_leave D.left_since (with_script b (empty_script b.script.steps)) kernel.old
+        → EndsRun D.tells D.clock D.faults D.reading D.may_leave D.left_since b result kernel.new }
+{
+    if let Err(why) = kernel.births(script) {
+        return Err(why);
+    }
+    if let Err(why) = play(kernel, &script.order, gate) {
+        return Err(why);
+    }
+    finish(kernel, gate)
+}

@@ -1,0 +1,58 @@
+-- What is kept of a run, from what its kernel keeps.
+use Rattle.std.proofs.Common.{◌≡◌, ◌⊎◌, ◌≤◌, ◌<◌, ◌+◌, ◌-◌, ◌^◌, ◌++◌, [], ℕ, List, Option, None, Some, inl, inr, length, take, slice_get, sym, ◌∙◌, arith, length-append, append-nil}
+use Rattle.std.proofs.lemmas.Bool.{cases_lt}
+use Rattle.std.proofs.lemmas.List.{take-append-le, take_all}
+use Rattle.std.specs.Prelude.{option_to_list}
+use Rattle.disk_trait.specs.Image.{Image}
+use Rattle.hop_base.specs.declared.histories.Entry.{Entry}
+use Rattle.hop_model.specs.Histories.{run_after, start_run}
+use Rattle.kernel_model.specs.Beginnings.{Beginning, first_commits}
+use Rattle.kernel_model.specs.Left.{IsCutImage}
+use Rattle.kernel_model.specs.Live.{IsRunning, KernelView}
+use Rattle.command_parts.specs.Seen.{seen_disk}
+use Rattle.command_parts.specs.declared.statuses.Status.{Status}
+use Rattle.run_outcomes.specs.Keeping.{IsKept, IsWholeCut}
+
+module _ {X : Type 0} (cs : List X) where
+  few_more : (o : Option X) → length (option_to_list o) ≤ 1
+  few_more None = omega arith
+  few_more (Some x) = omega arith
+
+  -- so many of a list and at most one more, where they are not fewer than the list: the list, or all
+  list_or_all : (o : Option X) (k : ℕ) → length cs ≤ k → (take k (cs ++ option_to_list o) ≡ cs) ⊎ (take k (cs ++ option_to_list o) ≡ cs ++ option_to_list o)
+  list_or_all o k le = elim (cases_lt (length cs) k) [
+    | inl less ↦ inr (take_all k (cs ++ option_to_list o) (let few = few_more o in let len = length-append cs (option_to_list o) in omega (arith, less, few, len)))
+    | inr whole ↦ inl (take-append-le k cs (option_to_list o) whole ∙ take_all k cs le)
+  ]
+
+-- a cut at a moment by which all marks are acknowledged is one of all records
+pub whole_cut : (b : Beginning) (es : List Entry) (marks : List ℕ) (now : ℕ) (c : Image) → now < 2 ^ 64 - 1
+    → ((i mark : ℕ) → slice_get marks i ≡ Some mark → b.since + mark ≤ now) → IsCutImage b es marks now now c → IsWholeCut b es c
+whole_cut b es marks now c short acked cut =
+    let run = run_after b.supply b.script (start_run b.state) es in
+    let all = cut.holds.acknowledged short es [] (sym (append-nil es)) (λ i mark lt got. acked i mark got) in
+    record {
+      commits = first_commits b es cut.k;
+      all = list_or_all run.commits run.tried cut.k all;
+      state = cut.state;
+      cut = cut.cut;
+      means = cut.means;
+    }
+
+module _ {D : Type 0} (tells : Type 0) (block_count : D → ℕ) (reading : D → Image) (may_leave : D → Image → Type 0) (left_since : D → ℕ → Image → Type 0) (clock faults : D → ℕ) (old new : D)
+    (counts_now : (t : ℕ) (c : Image) → t ≤ clock new → may_leave new c → left_since new t c) where
+  -- a kernel that is running, or has stopped, has kept its run
+  pub kept : (b : Beginning) (k : KernelView) (status : Status) → tells → IsRunning b tells clock reading may_leave left_since k new
+      → ((t : ℕ) (c : Image) → t ≤ clock old → left_since new t c → left_since old t c ⊎ left_since new b.first c)
+      → IsKept b (seen_disk tells block_count reading may_leave left_since clock faults old new) (record { status = status; history = k.history; marks = k.marks })
+  kept b k status told running earlier = record {
+    marks = running.marks.each;
+    begun = running.later;
+    acked = acked;
+    moments = running.moments told;
+    returns = λ short c may. whole_cut b k.history k.marks (clock new) c short (acked short) (running.moments told (clock new) c running.later (counts_now (clock new) c (omega arith) may));
+    earlier = earlier;
+  }
+    where
+      acked : clock new < 2 ^ 64 - 1 → (i mark : ℕ) → slice_get k.marks i ≡ Some mark → b.since + mark ≤ clock new
+      acked short i mark got = (let now = running.time short in let top = running.marks.top i mark got in omega (arith, now, top))
