@@ -1,5 +1,5 @@
 -- How calls end, and what their last puts leave.
-use Rattle.std.proofs.Common.{◌≡◌, ◌⊎◌, inl, inr, Result, Ok, Err, OnErr, refl, sym, ap, subst, ◌∙◌}
+use Rattle.std.proofs.Common.{◌≡◌, inl, inr, Result, Ok, Err, OnErr, refl, sym, ap, subst, ◌∙◌}
 use Rattle.std.specs.Io.KnownBytes.{Appends}
 use Rattle.stream_edge.specs.Streams.{AppendsPart, Puts}
 use Rattle.stream_edge.proofs.Streams.{AppendsPart-whole}

@@ -1,5 +1,5 @@
 -- What is seen of a disk, from the clauses of the calls below.
-use Rattle.std.proofs.Common.{◌⊎◌, ◌≤◌, ℕ, inl, inr}
+use Rattle.std.proofs.Common.{◌⊎◌, ℕ, inl, inr}
 use Rattle.disk_trait.specs.Image.{Image}
 use Rattle.disk_trait.specs.Moments.{LeavesOnly}
 use Rattle.log_reading.specs.Reads.{ReadsOnly}

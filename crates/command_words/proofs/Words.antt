@@ -6,11 +6,12 @@ use Rattle.std.specs.Borrow.{Bor}
 use Rattle.std.specs.Option.{option_map}
 use Rattle.std.specs.Str.Parse.{AllDigits, IsNumeral}
 use Rattle.std.proofs.lemmas.Bool.{false≢true}
+use Rattle.clap.proofs.WalkLemmas.{list_any-map}
 use Rattle.std.proofs.lemmas.Str.Parse.{digit_from_value}
 use Rattle.command_words.specs.Commands.{IsCommand}
 use Rattle.command_words.specs.Forms as form
 use Rattle.command_words.specs.declared.Command.{Command}
-use Rattle.command_words.specs.declared.Command.TheVariants.{Format, Run, Show}
+use Rattle.command_words.specs.declared.Command.TheVariants.{Format, Report, Run, Show}
 
 -- what a getter gave, by its bytes
 pub value_given : (r : Option (Bor (List ℕ))) (name v : List ℕ) (words : List (List ℕ)) → option_map (λ s. s.now) r ≡ Some v → words ≡ name ∷ v ∷ []
@@ -47,22 +48,28 @@ pub commands_stand : (words : List (List ℕ)) (command : Command) → IsCommand
 commands_stand words (Format blocks) (digits, is, number, size) = ap (list_any form.is_refused) is ∙ ap (λ b. b || false) (digits_stand digits number.0)
 commands_stand words Run is = ap (list_any form.is_refused) is
 commands_stand words Show is = ap (list_any form.is_refused) is
+commands_stand words Report is = ap (list_any form.is_refused) is
 
 pub no_command : (words : List (List ℕ)) → list_any form.is_refused words ≡ true → (command : Command) → IsCommand words command → ⊥
 no_command words e command is = true≢false (sym e ∙ commands_stand words command is)
 
 -- words that begin otherwise than with `format`
 other_word : (words : List (List ℕ)) (first : List ℕ) (others : List (List ℕ)) → first ≡ codes "format" → slice_get words 0 ≡ Some first → words ≡ others
-    → (length (unwrap_or (slice_get others 0) []) ≡ 6 → ⊥) → ⊥
-other_word words first others named at is longer =
-    longer (ap (λ ws. length (unwrap_or (slice_get ws 0) [])) (sym is) ∙ ap (λ o. length (unwrap_or o [])) at ∙ ap length named)
+    → (slice_index (unwrap_or (slice_get others 0) []) 0 ≡ 102 → ⊥) → ⊥
+other_word words first others named at is no_f =
+    no_f (ap (λ ws. slice_index (unwrap_or (slice_get ws 0) []) 0) (sym is) ∙ ap (λ o. slice_index (unwrap_or o []) 0) at ∙ ap (λ word. slice_index word 0) named)
 
 -- with no value, or one that begins with a hyphen, `format` is no command
 pub no_format : (words : List (List ℕ)) (first : List ℕ) → first ≡ codes "format" → slice_get words 0 ≡ Some first
     → ((name v : List ℕ) → words ≡ name ∷ v ∷ [] → slice_index v 0 ≡ 45) → (command : Command) → IsCommand words command → ⊥
 no_format words first named at hyphen (Format blocks) (digits, is, number, size) = first_digit digits number.0 (hyphen (codes "format") digits is)
-no_format words first named at hyphen Run is = other_word words first (codes "run" ∷ []) named at is (λ e. let bad : 3 ≡ 6 = e in omega (arith, bad))
-no_format words first named at hyphen Show is = other_word words first (codes "show" ∷ []) named at is (λ e. let bad : 4 ≡ 6 = e in omega (arith, bad))
+no_format words first named at hyphen Run is = other_word words first (codes "run" ∷ []) named at is (λ e. let bad : 114 ≡ 102 = e in omega (arith, bad))
+no_format words first named at hyphen Show is = other_word words first (codes "show" ∷ []) named at is (λ e. let bad : 115 ≡ 102 = e in omega (arith, bad))
+no_format words first named at hyphen Report is = other_word words first (codes "report" ∷ []) named at is (λ e. let bad : 114 ≡ 102 = e in omega (arith, bad))
+
+-- no word is refused, said of the bytes
+pub none_in_bytes : {Z : Type 0} (words : List (String Z)) → list_any (λ word. form.is_refused (string_bytes word)) words ≡ false → list_any form.is_refused (map string_bytes words) ≡ false
+none_in_bytes words none = sym (list_any-map form.is_refused string_bytes words) ∙ none
 
 pub string_front : {Z : Type 0} (words : List (String Z)) (first : String Z) → slice_get words 0 ≡ Some first → slice_get (map string_bytes words) 0 ≡ Some (string_bytes first)
 string_front [] first e = absurd (false≢true (ap is_some e))

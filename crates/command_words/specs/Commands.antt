@@ -2,7 +2,7 @@
 use Rattle.std.specs.Prelude.{◌≡◌, ℕ, ◌≤◌, List, [], ◌∷◌, length, codes}
 use Rattle.std.specs.Str.Parse.{IsNumeral, digits_value}
 use Rattle.command_words.specs.declared.Command.{Command}
-use Rattle.command_words.specs.declared.Command.TheVariants.{Format, Run, Show}
+use Rattle.command_words.specs.declared.Command.TheVariants.{Format, Report, Run, Show}
 
 -- one to twenty decimal digits whose value is n; zeros may lead
 abbrev pub IsNumber : List ℕ → ℕ → Type 0
@@ -16,3 +16,4 @@ abbrev pub IsCommand : List (List ℕ) → Command → Type 0
 IsCommand words (Format blocks) = (digits : List ℕ) × (words ≡ codes "format" ∷ digits ∷ []) × IsNumber digits blocks × IsSize blocks
 IsCommand words Run = words ≡ codes "run" ∷ []
 IsCommand words Show = words ≡ codes "show" ∷ []
+IsCommand words Report = words ≡ codes "report" ∷ []

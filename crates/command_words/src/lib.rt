@@ -18,6 +18,8 @@ pub enum Command {
     Run,
     /// What the image means.
     Show,
+    /// The log of the image, and its cut.
+    Report,
 }
 
 /// The command that the words stand for, None where they are of no known form. The words are the
@@ -39,6 +41,7 @@ pub fn read_command(alloc: Global, words: &[String]) -> Result<Option<Command>, 
         },
         "run" => Ok(forms::has_no_value(alloc, "run", words)?.then_some(Command::Run)),
         "show" => Ok(forms::has_no_value(alloc, "show", words)?.then_some(Command::Show)),
+        "report" => Ok(forms::has_no_value(alloc, "report", words)?.then_some(Command::Report)),
         _ => Ok(None),
     }
 }

@@ -11,7 +11,7 @@ use Rattle.command_parts.specs.Ends.{IsSilent, IsUnrun}
 use Rattle.command_parts.specs.Seen.{Gave, LeavesImages, SeenDisk, SeenSink}
 use Rattle.command_parts.specs.Statuses.{Ending, Stopped, Unput, Whole}
 use Rattle.command_parts.specs.declared.faults.Fault.{Fault}
-use Rattle.command_parts.specs.declared.faults.Fault.TheVariants.{Blocks, Disk, Memory}
+use Rattle.command_parts.specs.declared.faults.Fault.TheVariants.{Blocks, Disk}
 use Rattle.restart.specs.declared.formatting.FormatWhy.{FormatWhy}
 use Rattle.restart.specs.declared.formatting.FormatWhy.TheVariants.{Small, WriteFault}
 
@@ -45,11 +45,10 @@ pub record IsBroken (blocks : ℕ) (disk : SeenDisk) : Type 0 where
   pub rose : disk.rose
   pub moments : disk.tells → LeavesImages disk (IsHalfMade blocks disk)
 
--- STOPPED by this fault
+-- STOPPED by this fault: one of these two
 abbrev pub StopsFormat : ℕ → SeenDisk → SeenSink → Gave → Fault → Type 0
 StopsFormat blocks disk sink gave (Blocks n) = IsUnrun sink gave (Blocks n) × IsTooSmall blocks disk n
 StopsFormat blocks disk sink gave Disk = IsUnrun sink gave Disk × IsBroken blocks disk
-StopsFormat blocks disk sink gave Memory = IsUnrun sink gave Memory × disk.same
 StopsFormat blocks disk sink gave fault = ⊥
 
 -- WHAT `format` LEAVES of so many blocks, by how it ended

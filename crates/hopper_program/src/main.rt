@@ -1,29 +1,34 @@
 //! Carries out a command on an image. The first word is the path of the image's file, which is made where it isn't there;
-//! the others are the command. The source is standard input, and all lines go to standard output, those of faults too. The
-//! program ends with the status's number.
+//! the others are the command. The source is standard input, and all lines go to standard output, those of faults too. Standard
+//! error gets a sentence for people where the status isn't 0. The program ends with the status's number.
 #![tactic(auto)]
 
-use hopper_top::{Fault, hopper, put_fault};
-use manager_gate::{CountedWords, Supplier};
+use command_parts::{Fault, Status, put_fault, status_of};
+use fault_sentences::{put_sentence, put_unopened};
+use hopper_top::hopper;
+use manager_gate::{CountedWords, EveryVersions, Policy, Supplier};
 use std::alloc::Global;
 use std::fs::{Files, OpenOptions};
+use std::io::ErrorKind;
 use std::process::ExitCode;
 use std::rt::Env;
 use std::{env, io};
-use stream_edge::{FileDisk, ReadSource, WriteSink};
+use stream_edge::{FileDisk, ReadSource, Sink, WriteSink};
 
-/// The words of the command, without the program's own name. Words that are no text are none.
-fn words(rt: &(impl Env + Alloc<A = Global>)) -> Vec<String> {
+/// The words of the command line, the program's own name first. Words that are no text are of no known form.
+fn words(rt: &(impl Env + Alloc<A = Global>)) -> Result<Vec<String>, Fault> {
     let mut words = Vec::new(rt.alloc());
-    let Ok(given) = env::args(rt) else {
-        return words;
+    let given = match env::args(rt) {
+        Ok(given) => given,
+        Err(error) if error.kind() == ErrorKind::OutOfMemory => return Err(Fault::Memory),
+        Err(_) => return Err(Fault::Usage),
     };
-    for word in given.skip(1) {
+    for word in given {
         if words.push(word).is_err() {
-            return Vec::new(rt.alloc());
+            return Err(Fault::Memory);
         }
     }
-    words
+    Ok(words)
 }
 
 /// The image's file.
@@ -35,17 +40,29 @@ fn open_file<R: Files>(files: &R, path: &str) -> io::Result<R::File> {
         .open(files, path)
 }
 
+/// Tells a fault that came before any command: its line, and its sentence.
+fn refuse<W: Sink, E: Sink>(sink: &mut W, people: &mut E, fault: Fault) -> ExitCode {
+    let _ = put_fault(sink, &fault);
+    let status = status_of(fault);
+    let _ = put_sentence(people, &status);
+    ExitCode::from(status.number())
+}
+
 fn main(rt: HostRuntime) -> ExitCode {
     let mut source = ReadSource::new(rt.stdin().lock());
     let mut sink = WriteSink::new(rt.stdout().lock());
-    let words = words(&rt);
-    let Some((path, command)) = words.split_first() else {
-        let _ = put_fault(&mut sink, &Fault::Usage);
-        return ExitCode::from(2);
+    let mut people = WriteSink::new(rt.stderr().lock());
+    let words = match words(&rt) {
+        Ok(words) => words,
+        Err(fault) => return refuse(&mut sink, &mut people, fault),
+    };
+    let [_, path, command @ ..] = words.as_slice() else {
+        return refuse(&mut sink, &mut people, Fault::Usage);
     };
     let Ok(file) = open_file(&rt, path.as_str()) else {
         let _ = put_fault(&mut sink, &Fault::Disk);
-        return ExitCode::from(5);
+        let _ = put_unopened(&mut people, path.as_str());
+        return ExitCode::from(Status::DiskFault.number());
     };
     let outcome = hopper(
         rt.alloc(),
@@ -54,6 +71,8 @@ fn main(rt: HostRuntime) -> ExitCode {
         &mut sink,
         FileDisk::new(file),
         &|tag, page, place| CountedWords.word(tag, page, place),
+        &|every, since| EveryVersions.wish(every, since),
     );
+    let _ = put_sentence(&mut people, &outcome.status);
     ExitCode::from(outcome.status.number())
 }

@@ -1,4 +1,2 @@
-mod Beginnings
-pub mod Ends
-mod Leaves
-mod Running
+mod Doing
+mod Worded

@@ -1,10 +1,4 @@
-pub mod Ends
-pub mod Faults
 pub mod Leaving
-pub mod Lines
-pub mod Needs
-pub mod Opening
-pub mod Runs
-pub mod Seen
-pub mod Sources
-pub mod Statuses
+pub use Rattle.run_command.specs.Openings
+pub use Rattle.run_command.specs.Starts
+pub use Rattle.run_command.specs.Leaving as RunLeaving

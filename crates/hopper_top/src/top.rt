@@ -1,108 +1,118 @@
 //! The call that does it all.
-ghost use Rattle.std.specs.Prelude.{◌≡◌, ◌⊎◌, ◌≤◌, ◌<◌, ◌^◌, ℕ, IfSome, List, [], length, map, string_bytes};
-ghost use Rattle.std.specs.Io.KnownBytes.{IsAtEnd};
-ghost use Rattle.command_words.specs.Commands.{IsCommand};
-ghost use Rattle.command_words.specs.declared.Command.TheVariants.{Format as FormatCommand, Run as RunCommand, Show as ShowCommand};
-ghost use Rattle.hop_model.specs.State.{Supply};
-ghost use Rattle.journal.specs.Reads.{ReadsOnly};
+ghost use Rattle.std.specs.Prelude.{◌≡◌, ◌≤◌, ◌<◌, ◌^◌, ℕ, Bool, map, string_bytes};
 ghost use Rattle.disk_trait.specs.Counts.{Rose};
-ghost use Rattle.hopper_top.specs.Leaving.{IsComplete, IsFormatted, IsNoCommand, Leaves, RunLeaves, UsageLeaves};
-ghost use Rattle.hopper_top.specs.Needs.{CanDo, HasRoom, IsFull};
-ghost use Rattle.hopper_top.specs.Seen.{seen};
+ghost use Rattle.disk_trait.specs.declared.disk.NoBlocks.{NoBlocks};
+ghost use Rattle.image_blocks.specs.Layout.{least_blocks, most_blocks};
+ghost use Rattle.command_words.specs.Commands.{IsCommand};
+ghost use Rattle.command_words.specs.declared.Command.TheVariants.{Format as FormatCommand};
+ghost use Rattle.command_parts.specs.Seen.{gave, seen_disk, seen_sink, seen_source};
+ghost use Rattle.command_parts.specs.Statuses.{IsComplete};
+ghost use Rattle.run_command.specs.Openings.{Managers};
+ghost use Rattle.hopper_top.specs.Leaving.{CanDo, CommandLeaves, HasCause, IsNoCommand, Leaves, UsageLeaves};
 
-use crate::faults::Fault;
-use crate::reads::read_source;
-use crate::runs::{end_with, run_read};
-use crate::shows::{format_disk, show_disk};
-use crate::statuses::{Outcome, Status};
+use command_parts::{Fault, Outcome, Status, end_with};
 use command_words::{Command, read_command};
-use disk_trait::{Disk, NoBlocks};
+use disk_trait::Disk;
+use format_command::format_image;
+use reading_commands::{report_image, show_image};
+use run_command::run_script;
 use std::alloc::Global;
 use stream_edge::{Sink, Source};
 
-/// Reads the source and runs its script.
-fn run_source<R: Source, W: Sink, D: Disk, S: Fn(u64, u32, u16) -> u64>(
+// Carries out a command.
+fn do_command<R: Source, W: Sink, D: Disk, S: Fn(u64, u32, u16) -> u64, P: Fn(u32, u64) -> bool>(
     alloc: Global,
+    command: Command,
     source: &mut R,
     sink: &mut W,
     disk: D,
     supply: &S,
+    policy: &P,
 ) -> Outcome<D>
-    ghost s: { Supply }
-    requires callable { (t p a : ℕ) → t < 2 ^ 64 → p < 256 → a < 128 → S.pre supply.now t p a }
-    requires answers { (t p a r : ℕ) → t < 2 ^ 64 → p < 256 → a < 128 → S.post supply.now t p a r → r ≡ s t p a }
-    ensures leaves { RunLeaves s (R.left source.old) (seen s D.tells D.reading D.may_leave D.left_since D.clock disk result.disk) result.status result.history.items result.marks.items
-        (W.held sink.old) (W.held sink.new) (Rose (W.faults sink.old) (W.faults sink.new)) }
-    ensures end { result.status ≡ Status.Done → IfSome (R.left source.old) (λ _. IsAtEnd (R.left source.new)) }
-    ensures source_cause { result.status ≡ Status.SourceFault → Rose (R.faults source.old) (R.faults source.new) }
-    ensures blocks { (n : NoBlocks) → result.status ≡ Status.BlocksFull n → IsFull RunCommand D.tells (R.left source.old) (D.reading disk) (D.block_count disk) n }
-    ensures fits { 0 < length result.marks.items → HasRoom D.tells (R.left source.old) (D.reading disk) }
-    ensures disk_cause { result.status ≡ Status.DiskFault → Rose (D.faults disk) (D.faults result.disk) }
-    ensures sink_cause { result.status ≡ Status.SinkFault → Rose (W.faults sink.old) (W.faults sink.new) }
-    ensures complete { CanDo RunCommand s D.tells (R.left source.old) (D.reading disk) (D.block_count disk) → (Rose (R.faults source.old) (R.faults source.new) → ⊥)
-        → (Rose (D.faults disk) (D.faults result.disk) → ⊥) → (Rose (W.faults sink.old) (W.faults sink.new) → ⊥) → IsComplete result.status }
+    ghost m: { Managers }
+    // The managers give one answer for each question, and may be asked each.
+    requires supplies { (t p a : ℕ) → t < 2 ^ 64 → p < 256 → a < 128 → S.pre supply.now t p a }
+    requires supplied { (t p a r : ℕ) → t < 2 ^ 64 → p < 256 → a < 128 → S.post supply.now t p a r → r ≡ m.supply t p a }
+    requires wishes { (e n : ℕ) → e < 2 ^ 32 → n < 2 ^ 64 → P.pre policy.now e n }
+    requires wished { (e n : ℕ) (r : Bool) → e < 2 ^ 32 → n < 2 ^ 64 → P.post policy.now e n r → r ≡ m.policy e n }
+    requires sized { (blocks : ℕ) → command ≡ FormatCommand blocks → (least_blocks ≤ blocks) × (blocks ≤ most_blocks) }
+    ensures leaves { CommandLeaves m command (record {
+      source = seen_source R.left R.faults source.old source.new;
+      sink = seen_sink W.held W.faults sink.old sink.new;
+      disk = seen_disk D.tells D.block_count D.reading D.may_leave D.left_since D.clock D.faults disk result.disk;
+    }) (gave result) }
+    ensures blocks { D.block_count result.disk ≡ D.block_count disk }
+    ensures complete { CanDo m command (record {
+      source = seen_source R.left R.faults source.old source.new;
+      sink = seen_sink W.held W.faults sink.old sink.new;
+      disk = seen_disk D.tells D.block_count D.reading D.may_leave D.left_since D.clock D.faults disk result.disk;
+    }) → (Rose (R.faults source.old) (R.faults source.new) → ⊥) → (Rose (D.faults disk) (D.faults result.disk) → ⊥)
+        → (Rose (W.faults sink.old) (W.faults sink.new) → ⊥) → ((n : NoBlocks) → result.status ≡ Status.BlocksFull n → ⊥) → IsComplete result.status }
 {
-    match read_source(alloc, source) {
-        Ok(read) => run_read(alloc, read, sink, disk, supply),
-        Err(fault) => end_with(alloc, sink, disk, fault),
+    match command {
+        Command::Format(blocks) => format_image(alloc, blocks, sink, disk),
+        Command::Run => run_script(alloc, source, sink, disk, supply, policy),
+        Command::Show => show_image(alloc, sink, disk, supply),
+        Command::Report => report_image(alloc, sink, disk, supply),
     }
 }
 
-/// Carries out a command on a disk. The words are `format N`, which makes an empty image of N blocks, 2,600 to 65,536; `run`,
-/// which runs the script that the source stands for, from the state that the disk's image means, and keeps it up to each
-/// Stable; or `show`, which shows that state. A run puts what its loci print into the sink. A call that came to no good end
-/// leaves a line that tells why, behind the lines of its run. What stops the call first decides: the words, the source, the
-/// opening's sync, the image, the script against it, the run, the output; a sink that fails at the last line changes no
-/// status. A run begins with a sync, and writes are told by [`Outcome`]'s marks. After a fault of the disk the image has to be
-/// opened again. An image whose epoch is past 2^61 is not run, and told as want of memory.
-pub fn hopper<R: Source, W: Sink, D: Disk, S: Fn(u64, u32, u16) -> u64>(
+/// Carries out the command that the words stand for on a disk: `format N` makes an empty image of N blocks, 2,600 to 65,536; `run` runs the
+/// script that the source stands for, from the state that the disk's image means, and keeps it up to each record; `show` puts that state,
+/// `report` the log with the cut.
+///
+/// What stops the call first decides: the words, the source, the image, the script against it, the run, the output; a sink that fails at the
+/// last line changes no status. After a fault of the disk the image has to be opened again.
+pub fn hopper<R: Source, W: Sink, D: Disk, S: Fn(u64, u32, u16) -> u64, P: Fn(u32, u64) -> bool>(
     alloc: Global,
     words: &[String],
     source: &mut R,
     sink: &mut W,
     disk: D,
     supply: &S,
+    policy: &P,
 ) -> Outcome<D>
-    ghost s: { Supply }
-    // The supplier gives one answer for each question, and may be asked each.
-    requires callable { (t p a : ℕ) → t < 2 ^ 64 → p < 256 → a < 128 → S.pre supply.now t p a }
-    requires answers { (t p a r : ℕ) → t < 2 ^ 64 → p < 256 → a < 128 → S.post supply.now t p a r → r ≡ s t p a }
+    ghost m: { Managers }
+    // The managers give one answer for each question, and may be asked each.
+    requires supplies { (t p a : ℕ) → t < 2 ^ 64 → p < 256 → a < 128 → S.pre supply.now t p a }
+    requires supplied { (t p a r : ℕ) → t < 2 ^ 64 → p < 256 → a < 128 → S.post supply.now t p a r → r ≡ m.supply t p a }
+    requires wishes { (e n : ℕ) → e < 2 ^ 32 → n < 2 ^ 64 → P.pre policy.now e n }
+    requires wished { (e n : ℕ) (r : Bool) → e < 2 ^ 32 → n < 2 ^ 64 → P.post policy.now e n r → r ≡ m.policy e n }
 
-    // The history of a run is a legal run of the abstract kernel from the opened state, on Done the whole serial one, and
-    // the sink holds its lines. Whenever the machine stopped, the image means the state after the greatest consistent cut of
-    // the records that were completed, which hold all that was acknowledged by then.
-    ensures leaves { (c : Command) → IsCommand (map string_bytes words.now) c
-        → Leaves c s (R.left source.old) (seen s D.tells D.reading D.may_leave D.left_since D.clock disk result.disk) result.status result.history.items result.marks.items
-        (W.held sink.old) (W.held sink.new) (Rose (W.faults sink.old) (W.faults sink.new)) }
+    // What each command leaves, by how it ended.
+    ensures leaves { (c : Command) → IsCommand (map string_bytes words.now) c → Leaves m c (record {
+      source = seen_source R.left R.faults source.old source.new;
+      sink = seen_sink W.held W.faults sink.old sink.new;
+      disk = seen_disk D.tells D.block_count D.reading D.may_leave D.left_since D.clock D.faults disk result.disk;
+    }) (gave result) }
 
     // Words of no known form.
+    ensures no_command { IsNoCommand (map string_bytes words.now) → UsageLeaves (record {
+      source = seen_source R.left R.faults source.old source.new;
+      sink = seen_sink W.held W.faults sink.old sink.new;
+      disk = seen_disk D.tells D.block_count D.reading D.may_leave D.left_since D.clock D.faults disk result.disk;
+    }) (gave result) }
     ensures usage { result.status ≡ Status.Usage → IsNoCommand (map string_bytes words.now) }
-    ensures no_command { IsNoCommand (map string_bytes words.now) → UsageLeaves result.status result.history.items result.marks.items
-        (W.held sink.old) (W.held sink.new) (Rose (W.faults sink.old) (W.faults sink.new)) × (result.disk ≡ disk) × (source.new ≡ source.old) }
 
-    // What else the commands leave of the source and the disk.
-    ensures end { IsCommand (map string_bytes words.now) RunCommand → result.status ≡ Status.Done → IfSome (R.left source.old) (λ _. IsAtEnd (R.left source.new)) }
-    ensures shown { IsCommand (map string_bytes words.now) ShowCommand → (source.new ≡ source.old) × ReadsOnly D.tells D.block_count D.reading D.may_leave D.left_since D.clock D.faults disk result.disk }
-    ensures made { (blocks : ℕ) → IsCommand (map string_bytes words.now) (FormatCommand blocks) → (source.new ≡ source.old)
-        × (result.status ≡ Status.Done → D.tells → IsFormatted blocks (D.reading result.disk) (D.may_leave result.disk)) }
-    ensures untouched { (blocks : ℕ) (n : NoBlocks) → IsCommand (map string_bytes words.now) (FormatCommand blocks) → result.status ≡ Status.BlocksFull n → result.disk ≡ disk }
+    // Whatever the words: a fault of source, sink or disk is told only where its count rose, and the disk keeps its size.
+    ensures causes { HasCause (record {
+      source = seen_source R.left R.faults source.old source.new;
+      sink = seen_sink W.held W.faults sink.old sink.new;
+      disk = seen_disk D.tells D.block_count D.reading D.may_leave D.left_since D.clock D.faults disk result.disk;
+    }) result.status }
+    ensures blocks { D.block_count result.disk ≡ D.block_count disk }
 
-    // When each status comes.
-    ensures source_fault { result.status ≡ Status.SourceFault → Rose (R.faults source.old) (R.faults source.new) }
-    ensures disk_fault { result.status ≡ Status.DiskFault → Rose (D.faults disk) (D.faults result.disk) }
-    ensures sink_fault { result.status ≡ Status.SinkFault → Rose (W.faults sink.old) (W.faults sink.new) }
-    ensures blocks { (c : Command) (n : NoBlocks) → IsCommand (map string_bytes words.now) c → result.status ≡ Status.BlocksFull n
-        → IsFull c D.tells (R.left source.old) (D.reading disk) (D.block_count disk) n }
-    ensures fits { 0 < length result.marks.items → HasRoom D.tells (R.left source.old) (D.reading disk) }
-    ensures complete { (c : Command) → IsCommand (map string_bytes words.now) c → CanDo c s D.tells (R.left source.old) (D.reading disk) (D.block_count disk)
-        → (Rose (R.faults source.old) (R.faults source.new) → ⊥) → (Rose (D.faults disk) (D.faults result.disk) → ⊥) → (Rose (W.faults sink.old) (W.faults sink.new) → ⊥)
-        → IsComplete result.status }
+    // What can be done is done, but for want of memory.
+    ensures complete { (c : Command) → IsCommand (map string_bytes words.now) c → CanDo m c (record {
+      source = seen_source R.left R.faults source.old source.new;
+      sink = seen_sink W.held W.faults sink.old sink.new;
+      disk = seen_disk D.tells D.block_count D.reading D.may_leave D.left_since D.clock D.faults disk result.disk;
+    }) → (Rose (R.faults source.old) (R.faults source.new) → ⊥) → (Rose (D.faults disk) (D.faults result.disk) → ⊥)
+        → (Rose (W.faults sink.old) (W.faults sink.new) → ⊥) → ((n : NoBlocks) → result.status ≡ Status.BlocksFull n → ⊥) → IsComplete result.status }
 {
     match read_command(alloc, words) {
         Err(_) => end_with(alloc, sink, disk, Fault::Memory),
         Ok(None) => end_with(alloc, sink, disk, Fault::Usage),
-        Ok(Some(Command::Format(blocks))) => format_disk(alloc, blocks, sink, disk),
-        Ok(Some(Command::Run)) => run_source(alloc, source, sink, disk, supply),
-        Ok(Some(Command::Show)) => show_disk(alloc, sink, disk, supply),
+        Ok(Some(command)) => do_command(alloc, command, source, sink, disk, supply, policy),
     }
 }

@@ -1,1 +1,2 @@
 pub mod Starts
+pub use Rattle.kernel_core.specs.Kernels

@@ -3,4 +3,5 @@
 
 mod opening;
 
+pub use kernel_core::{Ended, Kernel, Stopped};
 pub use opening::open_image;

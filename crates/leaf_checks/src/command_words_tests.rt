@@ -17,6 +17,7 @@ fn words_are_read_as_commands(rt: HostRuntime) -> Result<(), Fail> {
     let cases = [
         ("run", Some(Command::Run)),
         ("show", Some(Command::Show)),
+        ("report", Some(Command::Report)),
         ("format 2600", Some(Command::Format(2600))),
         ("format 65536", Some(Command::Format(65_536))),
         ("format 02600", Some(Command::Format(2600))),
@@ -39,6 +40,10 @@ fn words_are_read_as_commands(rt: HostRuntime) -> Result<(), Fail> {
         ("run --workers", None),
         ("run --trace", None),
         ("show --", None),
+        ("report x", None),
+        ("report show", None),
+        ("reports", None),
+        ("Report", None),
         ("", None),
         ("2600", None),
     ];

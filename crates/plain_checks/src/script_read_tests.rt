@@ -34,7 +34,7 @@ fn the_first_refusal_is_told(rt: HostRuntime) -> Result<(), Fail> {
         row("frames = 257", Why::Range, "frames"),
         row("program = 1", Why::Kind, "program"),
         row(
-            "program.p = [\"halt\", \"snap r0\"]\nprogram.q = 1",
+            "program.p = [\"snap r0\", \"snap r8\"]\nprogram.q = 1",
             Why::BadCode,
             "program.p.1",
         ),
@@ -62,8 +62,18 @@ fn the_first_refusal_is_told(rt: HostRuntime) -> Result<(), Fail> {
             "container.0.name",
         ),
         row(
-            "[[container]]\nname = \"a\"\npages = 1\nevery = 1",
+            "[[container]]\nname = \"a\"\npages = 1\nevery = 1000001\nentry = 128",
             Why::Range,
+            "container.0.every",
+        ),
+        row(
+            "[[container]]\nname = \"a\"\npages = 1\n[[container]]\nname = \"b\"\npages = 1\nevery = -1",
+            Why::Range,
+            "container.1.every",
+        ),
+        row(
+            "[[container]]\nname = \"a\"\npages = 1\nevery = \"5\"",
+            Why::Kind,
             "container.0.every",
         ),
         row(
@@ -110,6 +120,16 @@ fn the_first_refusal_is_told(rt: HostRuntime) -> Result<(), Fail> {
             "[[container]]\nname = \"a\"\npages = 1\n[[locus]]\nname = \"a\"\nhost = \"a\"",
             Why::Name,
             "locus.0.name",
+        ),
+        row(
+            "[[container]]\nname = \"a\"\npages = 1\n[[locus]]\nname = \"l\"\nhost = \"a\"\nevery = 1000001\ncaps = [1]",
+            Why::Range,
+            "locus.0.every",
+        ),
+        row(
+            "[[container]]\nname = \"a\"\npages = 1\n[[locus]]\nname = \"l\"\nhost = \"a\"\nat = 128\nevery = 1000001",
+            Why::Range,
+            "locus.0.at",
         ),
         row("order = [\"l\"]", Why::Unknown, "order.0"),
         row(
@@ -202,6 +222,24 @@ fn a_whole_script_is_read(rt: HostRuntime) -> Result<(), Fail> {
     let l = &script.loci[0];
     assert_eq!(rt; l.host.as_str(), "a");
     assert_eq!(rt; (l.at, l.every), (127, 0));
+    Ok(())
+}
+
+/// Container `a` and locus `l` have wishes, the greatest and one between; `b` and `m` have none.
+const WISHES: &str = "program.p = [\"snap r3\", \"halt\"]
+container = [{ name = \"a\", pages = 1, every = 1000000, program = \"p\" }, { name = \"b\", pages = 1 }]
+locus = [{ name = \"m\", host = \"b\", every = 0 }, { name = \"l\", host = \"a\", every = 5 }]
+";
+
+#[test]
+fn wishes_and_snaps_are_read(rt: HostRuntime) -> Result<(), Fail> {
+    let script = read_script(rt.alloc(), WISHES.as_bytes())?;
+    assert!(rt; script.containers.len() == 2 && script.loci.len() == 2);
+    let (a, b) = (&script.containers[0], &script.containers[1]);
+    assert_eq!(rt; (a.every, b.every), (1_000_000, 0));
+    assert_eq!(rt; a.code.as_slice(), [Instr::Snap(3), Instr::Halt].as_slice());
+    let (m, l) = (&script.loci[0], &script.loci[1]);
+    assert_eq!(rt; (m.every, l.every), (0, 5));
     Ok(())
 }
 

@@ -23,7 +23,7 @@ use Rattle.script_read.specs.Ordered.{in_order}
 use Rattle.script_read.specs.Reading.{Reading, Reads, ◌>>=◌, refused, or_refused, optional, dotted}
 use Rattle.script_read.specs.Strings.{RegionForm, cut, number_of, name_form, access_of, region_form, named_form, placed_form, sized_form, cap_form}
 use Rattle.script_read.specs.Fields.{a_string, a_table, a_list, a_number, a_name, only, text_at, number_at, number_or, name_at, item_key, each}
-use Rattle.script_read.specs.Meaning.{Program, Source, a_line, a_program, more_programs, programs_in, programs_at, carried_out, is_carried_out, code_named, overlap, is_within, fits, table_of_region, placed_region, a_region, regions_at, known_cap, a_cap, caps_at, names_of, known_names, every_at, sized_container, code_at, entry_at, coded_container, whole_container, container_keys, a_container, containers_at, host_at, whole_locus, locus_keys, a_locus, loci_at, a_pick, order_at, top_keys, entities_at, tree_meaning, script_meaning}
+use Rattle.script_read.specs.Meaning.{Program, Source, a_line, a_program, more_programs, programs_in, programs_at, code_named, overlap, is_within, fits, table_of_region, placed_region, a_region, regions_at, known_cap, a_cap, caps_at, names_of, known_names, every_at, sized_container, code_at, entry_at, coded_container, whole_container, container_keys, a_container, containers_at, host_at, whole_locus, locus_keys, a_locus, loci_at, a_pick, order_at, top_keys, entities_at, tree_meaning, script_meaning}
 use Rattle.script_form.specs.Rules.{is_among, AreDifferent, IsRegionTable, AreApart, AreAllApart, IsCapTable, IsContainerTable, IsLocusTable, container_names, locus_names, AreContainerTables, AreLocusTables, IsScript}
 use Rattle.script_form.specs.declared.refusals.Why.TheVariants.{NotToml, Name, Unknown, Range, BadCode, Long}
 use Rattle.script_form.specs.Scripts.{tables_of}
@@ -85,15 +85,10 @@ Sound p = IsSoundCode p.code
 
 line_ok : (key : Text) (done : List Instr) (d : Data) (i : Instr) → a_line instr_of key done d ≡ Ok i → IsInstruction i
 line_ok key done d i h =
-    let p = then_ok (a_string (item_key key (length done)) d) (λ line. or_refused BadCode (item_key key (length done)) (carried_out (instr_of line))) i h in
-    by p.0 (instr_of p.0) refl (or_ok BadCode (item_key key (length done)) (carried_out (instr_of p.0)) i p.2)
-  where
-    by : (line : Text) (o : Option Instr) → instr_of line ≡ o → carried_out o ≡ Some i → IsInstruction i
-    by line None is f = absurd (none_is_not_some i f)
-    by line (Some j) is f =
-        let M : Option Instr → Type 0 = λ o. MatchOption o (¬ (IsSpelling line)) (λ k. IsInstruction k × (spelling k ≡ line)) in
-        let valid : M (Some j) = subst M is (IsReader-instr_of line) in
-        subst IsInstruction (some_if (is_carried_out j) j i f).1 valid.0
+    let p = then_ok (a_string (item_key key (length done)) d) (λ line. or_refused BadCode (item_key key (length done)) (instr_of line)) i h in
+    let M : Option Instr → Type 0 = λ o. MatchOption o (¬ (IsSpelling p.0)) (λ k. IsInstruction k × (spelling k ≡ p.0)) in
+    let valid : M (Some i) = subst M (or_ok BadCode (item_key key (length done)) (instr_of p.0) i p.2) (IsReader-instr_of p.0) in
+    valid.0
 
 program_ok : (name : Text) (d : Data) (code : List Instr) → a_program instr_of name d ≡ Ok code → IsSoundCode code
 program_ok name d code h =
@@ -266,7 +261,7 @@ record Sized (done : List ContainerTable) (t : ContainerTable) : Type 0 where
   pub every : t.every ≤ 1000000
 
 every_ok : (key : Text) (ms : Members) (n : ℕ) → every_at key ms ≡ Ok n → n ≤ 1000000
-every_ok key ms n h = let p = number_or_ok 0 0 0 key (codes "every") ms n (omega arith) (omega arith) h in omega (arith, p.1)
+every_ok key ms n h = let p = number_or_ok 0 0 1000000 key (codes "every") ms n (omega arith) (omega arith) h in omega (arith, p.1)
 
 sized_container_ok : (done : List ContainerTable) (key : Text) (ms : Members) (t : ContainerTable) → sized_container done key ms ≡ Ok t → Sized done t
 sized_container_ok done key ms t h =

@@ -2,5 +2,4 @@ pub mod Lists
 pub mod Each
 pub mod Readings
 pub mod Allowed
-pub mod Carried
 pub mod Orders

@@ -3,5 +3,4 @@ pub mod Strings
 pub mod Fields
 pub mod Meaning
 pub mod Views
-pub mod Carried
 pub mod Ordered

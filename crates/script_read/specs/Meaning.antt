@@ -3,7 +3,6 @@ use Rattle.std.specs.Prelude.{ℕ, ◌+◌, Bool, true, false, not, ◌&&◌, na
 use Rattle.std.specs.List.{list_all}
 use Rattle.std.specs.Str.{is_utf8}
 use Rattle.hop_base.specs.declared.instructions.Instr.{Instr}
-use Rattle.hop_base.specs.declared.instructions.Instr.TheVariants.{Snap}
 use Rattle.hop_model.specs.State.{Text}
 use Rattle.hop_model.specs.Scripts.{RegionTable, CapTable, ContainerTable, LocusTable, Script as Tables, text_eq, atlas_name}
 use Rattle.toml.specs.Data.{Data, Members, no_members, member, get_member}
@@ -22,21 +21,12 @@ pub record Program : Type 0 where
   pub name : Text
   pub code : List Instr
 
--- snapshots at will are not carried out yet
-abbrev pub is_carried_out : Instr → Bool
-is_carried_out (Snap c) = false
-is_carried_out _ = true
-
-abbrev pub carried_out : Option Instr → Option Instr
-carried_out None = None
-carried_out (Some i) = if is_carried_out i then Some i else None
-
 -- `spelled` is the instruction that a line spells
 module _ (spelled : Text → Option Instr) where
   abbrev pub a_line : Text → List Instr → Data → Reading Instr
   a_line key done d =
       let at = item_key key (length done) in
-      a_string at d >>= (λ line. or_refused BadCode at (carried_out (spelled line)))
+      a_string at d >>= (λ line. or_refused BadCode at (spelled line))
 
   abbrev pub a_program : Text → Data → Reading (List Instr)
   a_program name d =
@@ -109,9 +99,9 @@ known_names own containers loci = atlas_name ∷ own ∷ names_of containers loc
 
 -- CONTAINERS
 
--- snapshots by themselves are not carried out yet, and so each `every` is 0
+-- what the policy of snapshots is asked with
 abbrev pub every_at : Text → Members → Reading ℕ
-every_at key ms = number_or 0 0 0 key (codes "every") ms
+every_at key ms = number_or 0 0 1000000 key (codes "every") ms
 
 -- the name and the numbers of a container, without the rest
 abbrev pub sized_container : List ContainerTable → Text → Members → Reading ContainerTable

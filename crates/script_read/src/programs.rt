@@ -4,7 +4,7 @@ ghost use Rattle.hop_base.specs.declared.instructions.Instr.{Instr as AnInstr};
 ghost use Rattle.hop_model.specs.State.{Text};
 ghost use Rattle.toml.specs.View.{view, table_view};
 ghost use Rattle.instr_set.specs.Reader.{IsReader};
-ghost use Rattle.script_read.specs.Meaning.{is_carried_out, carried_out, a_line, a_program, programs_in, programs_at, code_named};
+ghost use Rattle.script_read.specs.Meaning.{a_line, a_program, programs_in, programs_at, code_named};
 ghost use Rattle.script_read.specs.Reading.{Reads};
 ghost use Rattle.script_read.specs.Views.{program_of};
 
@@ -27,23 +27,6 @@ pub(crate) struct Program {
     pub code: Vec<Instr>,
 }
 
-/// Whether a run carries the instruction out.
-fn is_carried_out(instr: &Instr) -> bool
-    ensures { result ≡ is_carried_out instr.now }
-{
-    !matches!(instr, Instr::Snap(_))
-}
-
-/// The instruction that the text spells, if a run carries it out.
-fn carried_out(text: &str) -> Option<Instr>
-    ensures { (spelled : Text → Option AnInstr) → IsReader spelled → result ≡ carried_out (spelled text.now) }
-{
-    match read_line(text) {
-        Ok(instr) if is_carried_out(&instr) => Some(instr),
-        _ => None,
-    }
-}
-
 /// The line at a place of the program with this key.
 fn read_program_line(
     alloc: Global,
@@ -54,9 +37,9 @@ fn read_program_line(
     ensures { (spelled : Text → Option AnInstr) → IsReader spelled → (done : List AnInstr) → length done ≡ place → Reads (λ i. i) (a_line spelled key.now done (view value.now)) result }
 {
     let text = string_item(alloc, value, key, place)?;
-    match carried_out(text) {
-        Some(instr) => Ok(instr),
-        None => Err(refuse_item(alloc, Why::BadCode, key, place)),
+    match read_line(text) {
+        Ok(instr) => Ok(instr),
+        Err(_) => Err(refuse_item(alloc, Why::BadCode, key, place)),
     }
 }
 

@@ -5,7 +5,6 @@ ghost use Rattle.hop_model.specs.State.{Text};
 ghost use Rattle.toml.specs.Parse.{parse_document};
 ghost use Rattle.toml.specs.View.{view, table_view};
 ghost use Rattle.instr_set.specs.Reader.{IsReader};
-ghost use Rattle.script_read.specs.Carried.{HasCarriedCode};
 ghost use Rattle.script_read.specs.Meaning.{a_pick, order_at, entities_at, top_keys, tree_meaning, meaning_by, script_meaning};
 ghost use Rattle.script_read.specs.Fields.{only};
 ghost use Rattle.script_read.specs.Reading.{or_refused, Reads};
@@ -138,7 +137,6 @@ pub fn read_script(alloc: Global, bytes: &[u8]) -> Result<Script, ScriptFault>
     ensures meaning { Reads source_of (script_meaning bytes.now) result }
     ensures rules { IfOk result (λ script. IsScript (tables_of script)) }
     ensures frames { IfOk result (λ script. (1 ≤ script.frames) × (script.frames ≤ 256)) }
-    ensures carried_out { IfOk result (λ script. HasCarriedCode (tables_of script)) }
 {
     read_source(alloc, bytes)
 }

@@ -27,8 +27,11 @@ const TAG: Limits = Limits {
     high: 9_223_372_036_854_775_807,
 };
 
-/// No snapshots are made yet, and so no other number is taken.
-const EVERY: Limits = Limits { low: 0, high: 0 };
+/// What the policy of snapshots is asked with.
+const EVERY: Limits = Limits {
+    low: 0,
+    high: 1_000_000,
+};
 
 /// The places of a program.
 const PLACE: Limits = Limits { low: 0, high: 127 };

@@ -1,12 +1,16 @@
 //! What the tests call.
-use disk_trait::MemoryDisk;
-use hopper_top::{Outcome, hopper};
-use manager_gate::{CountedWords, Supplier};
+use command_parts::Outcome;
+use disk_trait::{MemoryDisk, Torn};
+use hopper_top::hopper;
+use manager_gate::{CountedWords, EveryVersions, Policy, Supplier};
 use std::alloc::{AllocError, Global};
 use std::test::Fail;
 use stream_edge::{MemorySink, MemorySource};
 
-/// Calls `hopper` with a supplier whose words count up from the tag.
+/// Calls that `format` makes of a disk, all of them writes and syncs.
+pub(crate) const FORMAT_CALLS: u64 = 10;
+
+/// Calls `hopper` with the program's managers: words count up from the tag, and a snapshot is wished every so many versions.
 fn call(
     alloc: Global,
     words: &[&str],
@@ -18,8 +22,9 @@ fn call(
     for word in words {
         given.push(String::from_str(alloc, word)?)?;
     }
-    let words = |tag, page, place| CountedWords.word(tag, page, place);
-    Ok(hopper(alloc, &given, source, sink, disk, &words))
+    let supply = |tag, page, place| CountedWords.word(tag, page, place);
+    let policy = |every, since| EveryVersions.wish(every, since);
+    Ok(hopper(alloc, &given, source, sink, disk, &supply, &policy))
 }
 
 /// A disk of zero blocks with room for 3,000 writes and syncs.
@@ -53,8 +58,15 @@ pub(crate) fn put(
     put_failing(alloc, words, text, (&[], &[]), disk)
 }
 
-/// A disk of 2,700 blocks with an empty image, which took its first five calls.
+/// A disk of 4,096 blocks with an empty image on all of them.
 pub(crate) fn formatted(alloc: Global, fails: &[u64]) -> Result<MemoryDisk, Fail> {
+    let disk = disk_of(alloc, 4096, fails)?;
+    let (_, outcome) = put(alloc, &["format", "4096"], b"", disk)?;
+    Ok(outcome.disk)
+}
+
+/// A disk of 2,700 blocks with an empty image on 2,600 of them.
+pub(crate) fn small(alloc: Global, fails: &[u64]) -> Result<MemoryDisk, Fail> {
     let disk = disk_of(alloc, 2700, fails)?;
     let (_, outcome) = put(alloc, &["format", "2600"], b"", disk)?;
     Ok(outcome.disk)
@@ -63,4 +75,18 @@ pub(crate) fn formatted(alloc: Global, fails: &[u64]) -> Result<MemoryDisk, Fail
 /// A run on an empty image.
 pub(crate) fn run(alloc: Global, script: &[u8]) -> Result<(String, Outcome<MemoryDisk>), Fail> {
     put(alloc, &["run"], script, formatted(alloc, &[])?)
+}
+
+/// What the image of a disk shows.
+pub(crate) fn shown(alloc: Global, disk: MemoryDisk) -> Result<String, Fail> {
+    let (text, outcome) = put(alloc, &["show"], b"", disk)?;
+    if outcome.status.number() != 0 {
+        return Err(Fail::from("an image"));
+    }
+    Ok(text)
+}
+
+/// A disk with the same blocks, if none of them is pending.
+pub(crate) fn copy_of(disk: &MemoryDisk) -> Result<MemoryDisk, AllocError> {
+    disk.crash(disk.moments(), Torn::New)
 }

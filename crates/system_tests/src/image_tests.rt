@@ -1,22 +1,31 @@
 //! Images that runs leave.
-use crate::calls::{disk_of, formatted, put, run};
-use crate::scripts::{COUNTS_ON, FIVE, STABILISES, STABLE};
-use disk_trait::{Disk, MemoryDisk, NoBlocks};
-use hopper_top::Status;
-use journal::{Item, put_items, read_journal};
-use std::alloc::Global;
+ghost use Rattle.std.specs.Prelude.{◌≡◌, IfOk};
+
+use crate::calls::{FORMAT_CALLS, formatted, put, run, shown, small};
+use crate::scripts::{
+    ALL_PAGES, ALWAYS_STABLE, BORN_WISHED, COUNTS_ON, FIVE, STABILISES, STABLE, WISHED,
+    WISHED_BY_TWO, WISHED_BY_TWO_KEPT, WISHES, WISHES_KEPT,
+};
+use command_parts::Status;
+use disk_trait::MemoryDisk;
+use hop_base::{Entity, Event, Touch, Touched};
 use std::test::Fail;
 
 #[test]
 fn a_state_is_shown_as_it_was_made_stable(rt: HostRuntime) -> Result<(), Fail> {
     let alloc = rt.alloc();
-    for script in [STABILISES, COUNTS_ON] {
+    // What no snapshot holds is gone, and a record that needs one of another entity is not taken without it.
+    let runs = [
+        (STABILISES, STABLE),
+        (COUNTS_ON, STABLE),
+        (WISHED, BORN_WISHED),
+        (WISHES, WISHES_KEPT),
+    ];
+    for (script, kept) in runs {
         let (lines, outcome) = run(alloc, script)?;
         assert_eq!(rt; lines.as_str(), "");
-        assert_eq!(rt; outcome.status.number(), 0);
-        let (shown, outcome) = put(alloc, &["show"], b"", outcome.disk)?;
-        assert_eq!(rt; shown.as_str(), STABLE);
         assert!(rt; matches!(outcome.status, Status::Done));
+        assert_eq!(rt; shown(alloc, outcome.disk)?.as_str(), kept);
     }
     Ok(())
 }
@@ -35,80 +44,94 @@ fn runs_go_on_from_the_image(rt: HostRuntime) -> Result<(), Fail> {
     Ok(())
 }
 
+fn write(number: u8, version: u64) -> Result<Touch, Fail>
+    ensures { IfOk result (λ touch. touch.entity ≡ number) }
+{
+    Ok(Touch {
+        version,
+        entity: Entity::new(number).ok_or("an entity")?,
+        wrote: true,
+    })
+}
+
 #[test]
-fn a_disk_of_zeros_is_foreign(rt: HostRuntime) -> Result<(), Fail> {
+fn an_abandoned_record_is_not_taken(rt: HostRuntime) -> Result<(), Fail> {
     let alloc = rt.alloc();
-    for blocks in [0, 8, 2700] {
-        for words in [["show"], ["run"]] {
-            let (lines, outcome) = put(alloc, &words, FIVE, disk_of(alloc, blocks, &[])?)?;
-            assert_eq!(rt; lines.as_str(), "fault 4 0 0\n");
-            assert_eq!(rt; outcome.status.number(), 4);
-        }
-    }
+    let (_, outcome) = run(alloc, WISHED)?;
+    let (lines, outcome) = put(alloc, &["run"], WISHED_BY_TWO, outcome.disk)?;
+    assert_eq!(rt; lines.as_str(), "");
+    let birth = outcome.history.first().ok_or("a birth")?;
+    let touched = Touched::three(write(0, 3)?, write(1, 3)?, write(42, 1)?);
+    assert_eq!(rt; birth.event, Event::Birth);
+    assert_eq!(rt; birth.touched, touched);
+    assert_eq!(rt; shown(alloc, outcome.disk)?.as_str(), WISHED_BY_TWO_KEPT);
     Ok(())
 }
 
 #[test]
-fn a_journal_has_no_room_for_two_mebibytes(rt: HostRuntime) -> Result<(), Fail> {
+fn a_report_tells_the_log_and_the_cut(rt: HostRuntime) -> Result<(), Fail> {
     let alloc = rt.alloc();
-    let mut script = FIVE.to_vec(alloc)?;
-    script.resize(1_048_576, b'\n')?;
-    let (lines, outcome) = run(alloc, &script)?;
-    assert_eq!(rt; lines.as_str(), "l 5\n");
-    // The second run needs its own source too where it makes a Stable.
-    let stabilises = b"locus = [{ name = 'm', host = 'b' }]
-container = [{ name = 'b', pages = 1 }]
+    let (_, outcome) = run(alloc, FIVE)?;
+    let (text, outcome) = put(alloc, &["report"], b"", outcome.disk)?;
+    let report = "area B epoch 2 used 3
+rec 0 0 2 chosen
+rec 1 1 2 chosen
+rec 2 41 1 chosen
+cut 0 2
+cut 1 2
+cut 41 1
 ";
-    script.truncate(0);
-    script.extend_from_slice(stabilises)?;
-    script.resize(1_048_576, b'\n')?;
-    let (lines, outcome) = put(alloc, &["run"], &script, outcome.disk)?;
-    assert_eq!(rt; lines.as_str(), "fault 9 2049 1281\n");
-    assert!(rt;
-        matches!(
-            outcome.status,
-            Status::BlocksFull(NoBlocks {
-                need: 2049,
-                free: 1281
-            })
-        )
-    );
-    assert_eq!(rt; outcome.history.len(), 2);
-    Ok(())
-}
-
-// Puts one run into the journal of an image.
-fn keep(alloc: Global, disk: &mut MemoryDisk, entries: u64, source: &[u8]) -> Result<(), Fail> {
-    disk.sync().ok().ok_or("a sync")?;
-    let mut journal = read_journal(alloc, disk).ok().ok_or("a journal")?;
-    if journal.place.epoch > 7 || source.len() > 1000 {
-        return Err(Fail::from("a small journal"));
-    }
-    let items = [Item {
-        entries,
-        source: source.to_vec(alloc)?,
-    }];
-    put_items(alloc, disk, &mut journal.place, &items)
-        .ok()
-        .ok_or("items")?;
+    assert_eq!(rt; text.as_str(), report);
+    assert!(rt; matches!(outcome.status, Status::Done));
     Ok(())
 }
 
 #[test]
-fn an_image_with_a_run_that_can_not_be_made_is_foreign(rt: HostRuntime) -> Result<(), Fail> {
+fn a_full_log_is_turned(rt: HostRuntime) -> Result<(), Fail> {
     let alloc = rt.alloc();
-    // The run of five instructions has eight entries.
-    let runs: [(u64, &[u8], u8); 4] = [
-        (8, FIVE, 0),
-        (9, FIVE, 4),
-        (0, b"steps = 0", 4),
-        (0, b"set r0 5\n", 4),
-    ];
-    for (entries, source, status) in runs {
-        let mut disk = formatted(alloc, &[])?;
-        keep(alloc, &mut disk, entries, source)?;
-        let (_, outcome) = put(alloc, &["show"], b"", disk)?;
-        assert_eq!(rt; outcome.status.number(), status);
-    }
+    let disk = MemoryDisk::new(alloc, 4096, 6000, Vec::new(alloc))?;
+    let (_, outcome) = put(alloc, &["format", "4096"], b"", disk)?;
+    let (_, outcome) = put(alloc, &["run"], ALWAYS_STABLE, outcome.disk)?;
+    assert_eq!(rt; outcome.marks.len(), 701);
+    let (text, _) = put(alloc, &["report"], b"", outcome.disk)?;
+    let front = "area A epoch 3 used 66
+rec 0 0 2 chosen
+rec 1 1 2 chosen
+rec 2 41 1274 earlier
+";
+    let rest = "rec 65 41 1400 chosen
+cut 0 2
+cut 1 2
+cut 41 1400
+";
+    assert!(rt; text.as_bytes().starts_with(front.as_bytes()));
+    assert!(rt; text.as_bytes().ends_with(rest.as_bytes()));
+    Ok(())
+}
+
+#[test]
+fn too_few_blocks_stop_a_run_and_keep_its_births(rt: HostRuntime) -> Result<(), Fail> {
+    let alloc = rt.alloc();
+    // With 35 blocks for pages and records, and one page in memory.
+    let disk = small(alloc, &[])?;
+    let mut script = b"frames = 1\n".to_vec(alloc)?;
+    script.extend_from_slice(ALL_PAGES)?;
+    let (lines, outcome) = put(alloc, &["run"], &script, disk)?;
+    assert_eq!(rt; lines.as_str(), "fault 9 1 0\n");
+    assert_eq!(rt; outcome.status.number(), 9);
+    let born = "container a 256 0 0 -\nlocus l a 0 running 0 0 0 0 0 0 0 0 0\n";
+    assert_eq!(rt; shown(alloc, outcome.disk)?.as_str(), born);
+    Ok(())
+}
+
+#[test]
+fn an_image_that_is_made_anew_is_empty(rt: HostRuntime) -> Result<(), Fail> {
+    let alloc = rt.alloc();
+    let (_, outcome) = run(alloc, STABILISES)?;
+    let before = outcome.disk.moments();
+    let (lines, outcome) = put(alloc, &["format", "4096"], b"", outcome.disk)?;
+    assert_eq!(rt; lines.as_str(), "");
+    assert_eq!(rt; outcome.disk.moments(), before.saturating_add(FORMAT_CALLS));
+    assert_eq!(rt; shown(alloc, outcome.disk)?.as_str(), "");
     Ok(())
 }

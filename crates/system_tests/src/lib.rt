@@ -6,6 +6,8 @@ mod calls;
 #[cfg(test)]
 mod edge_tests;
 #[cfg(test)]
+mod foreign_tests;
+#[cfg(test)]
 mod image_tests;
 #[cfg(test)]
 mod line_tests;

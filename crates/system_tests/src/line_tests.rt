@@ -1,67 +1,10 @@
-//! The lines of printed values and of faults.
-ghost use Rattle.std.specs.Prelude.{IfOk};
-ghost use Rattle.history_model.specs.Plains.{atlas_of};
-ghost use Rattle.hopper_top.specs.Lines.{HasShortNames};
-
+//! The line of each fault.
+use command_parts::{Fault, put_fault};
 use disk_trait::NoBlocks;
-use history_model::PlainAtlas;
-use hop_base::{Answer, Entity, Entry, Event, Reply, Touched};
-use hopper_top::{Fault, put_fault, put_output};
-use script_read::{Refusal, Why};
+use script_form::{Refusal, Why};
 use std::alloc::{AllocError, Global};
 use std::test::Fail;
 use stream_edge::{MemorySink, SinkFault};
-
-fn atlas_with(alloc: Global) -> Result<PlainAtlas, AllocError>
-    ensures { IfOk result (λ atlas. HasShortNames (atlas_of atlas)) }
-{
-    let mut loci = Vec::new(alloc);
-    loci.push(String::from_str(alloc, "l")?)?;
-    loci.push(String::from_str(alloc, "second")?)?;
-    Ok(PlainAtlas {
-        containers: Vec::new(alloc),
-        loci,
-        edges: Vec::new(alloc),
-    })
-}
-
-fn step(actor: Entity, answer: Answer) -> Entry {
-    Entry {
-        event: Event::Step,
-        actor,
-        touched: Touched::none(),
-        version: 0,
-        answer,
-    }
-}
-
-#[test]
-fn each_printed_value_has_a_line_with_the_name_of_its_locus(rt: HostRuntime) -> Result<(), Fail> {
-    let alloc = rt.alloc();
-    let atlas = atlas_with(alloc)?;
-    let first = Entity::new(41).ok_or("a locus")?;
-    let second = Entity::new(42).ok_or("a locus")?;
-    let history = [
-        step(first, Answer::Print(5)),
-        step(second, Answer::Read(7)),
-        step(second, Answer::Print(u64::MAX)),
-        step(first, Answer::Reply(Reply::NoSlot)),
-        step(first, Answer::Quiet),
-        step(first, Answer::Print(0)),
-    ];
-    let lines = b"l 5\nsecond 18446744073709551615\nl 0\n";
-    let mut sink = MemorySink::new(alloc, 100, Vec::new(alloc))?;
-    assert_eq!(rt; put_output(&mut sink, &atlas, &history), Ok(()));
-    assert_eq!(rt; sink.held(), lines.as_slice());
-
-    // The room runs out within the second line, and then within the third.
-    for (room, held) in [(30, 4), (33, 32)] {
-        let mut sink = MemorySink::new(alloc, room, Vec::new(alloc))?;
-        assert_eq!(rt; put_output(&mut sink, &atlas, &history), Err(SinkFault));
-        assert_eq!(rt; sink.held(), &lines[..held], "room for {room}");
-    }
-    Ok(())
-}
 
 fn refused(alloc: Global, why: Why, key: &str) -> Result<Fault, AllocError> {
     Ok(Fault::Script(Refusal {

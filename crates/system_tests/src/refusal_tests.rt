@@ -1,14 +1,14 @@
 //! Words and scripts that are refused.
 use crate::calls::{disk_of, formatted, put, run};
 use crate::scripts::FIVE;
+use command_parts::Status;
 use disk_trait::Disk;
-use hopper_top::Status;
 use std::test::Fail;
 
 #[test]
 fn other_words_are_refused(rt: HostRuntime) -> Result<(), Fail> {
     let alloc = rt.alloc();
-    let commands: [&[&str]; 9] = [
+    let commands: [&[&str]; 12] = [
         &["run", "run"],
         &[],
         &["walk"],
@@ -18,6 +18,9 @@ fn other_words_are_refused(rt: HostRuntime) -> Result<(), Fail> {
         &["run", "--trace", "--trace"],
         &["format"],
         &["show", "--"],
+        &["report", "report"],
+        &["format", "4096", "run"],
+        &["run", "show"],
     ];
     for words in commands {
         let (lines, outcome) = put(alloc, words, FIVE, formatted(alloc, &[])?)?;

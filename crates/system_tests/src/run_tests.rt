@@ -4,33 +4,39 @@ ghost use Rattle.std.specs.Prelude.{◌≡◌, IfOk};
 use crate::calls::run;
 use crate::scripts::{
     ALL_PAGES, CIRCLES, COUNTS_ON, DENIED_OVER_A_MAPPING, FIVE, FULL_CHAIN, LAST_NUMBER, NO_ENTRY,
-    ORDERED, PAST_THE_PAGE, PRIVATE_FIRST, PRIVATE_IN_ONE_HOST, STOPS_ITSELF, TAGGED, TAKES,
-    UNSTABLE,
+    NO_SNAP, ORDERED, PAST_THE_PAGE, PRIVATE_FIRST, PRIVATE_IN_ONE_HOST, SNAP, STOPS_ITSELF,
+    TAGGED, TAKES, UNSTABLE, WISHED, WISHES,
 };
+use command_parts::Status;
 use hop_base::{Answer, Entity, Entry, Event, Reply, Touch, Touched};
-use hopper_top::Status;
 use std::test::Fail;
 
 #[test]
 fn a_run_prints_its_lines_and_ends(rt: HostRuntime) -> Result<(), Fail> {
-    let runs: [(&[u8], &[u8], usize); 17] = [
+    let runs: [(&[u8], &[u8], usize); 21] = [
         (FIVE, b"l 5\n", 8),
         (PAST_THE_PAGE, b"l 3\nl 0\n", 10),
         (b"", b"", 0),
         (TAGGED, b"l 137\n", 7),
         (PRIVATE_FIRST, b"l 1000\nl 2000\nl 1000\n", 19),
         (PRIVATE_IN_ONE_HOST, b"l 2000\nl 3000\nl 2000\n", 17),
-        (CIRCLES, b"l 0\nl 0\nl 4\nl 4\n", 18),
+        // Each call of `map` writes the atlas, which is wished; the fourth time it has four records already.
+        (CIRCLES, b"l 0\nl 0\nl 4\nl 4\n", 21),
         (DENIED_OVER_A_MAPPING, b"l 17\n", 9),
         (NO_ENTRY, b"l 18\nl 8\n", 10),
         (FULL_CHAIN, b"m 7\nl 6\n", 74),
         (ALL_PAGES, b"l 32896\n", 2824),
-        (LAST_NUMBER, b"l 10\n", 73),
+        // So does each `spawn`.
+        (LAST_NUMBER, b"l 10\n", 76),
         (STOPS_ITSELF, b"", 4),
         (TAKES, b"l 1\nl 0\nl 1\n", 10),
         (COUNTS_ON, b"", 107),
         (ORDERED, b"m 0\nl 0\n", 8),
         (UNSTABLE, b"l 23\n", 6),
+        (NO_SNAP, b"l 21\n", 6),
+        (SNAP, b"l 0\n", 7),
+        (WISHED, b"", 7),
+        (WISHES, b"", 8),
     ];
     for (text, lines, entries) in runs {
         let (put, outcome) = run(rt.alloc(), text)?;
@@ -38,6 +44,21 @@ fn a_run_prints_its_lines_and_ends(rt: HostRuntime) -> Result<(), Fail> {
         assert!(rt; matches!(outcome.status, Status::Done));
         assert_eq!(rt; outcome.history.len(), entries);
     }
+    Ok(())
+}
+
+#[test]
+fn frames_change_no_history(rt: HostRuntime) -> Result<(), Fail> {
+    let alloc = rt.alloc();
+    let mut few = b"frames = 1\n".to_vec(alloc)?;
+    few.extend_from_slice(ALL_PAGES)?;
+    let mut many = b"frames = 256\n".to_vec(alloc)?;
+    many.extend_from_slice(ALL_PAGES)?;
+    let (lines, with_few) = run(alloc, &few)?;
+    assert_eq!(rt; lines.as_str(), "l 32896\n");
+    let (lines, with_many) = run(alloc, &many)?;
+    assert_eq!(rt; lines.as_str(), "l 32896\n");
+    assert!(rt; with_few.history.as_slice() == with_many.history.as_slice());
     Ok(())
 }
 
@@ -78,6 +99,16 @@ fn read(entity: Entity, version: u64) -> Touch
     }
 }
 
+fn snap(entity: Entity, version: u64) -> Entry {
+    Entry {
+        event: Event::Snap,
+        actor: entity,
+        touched: Touched::none(),
+        version,
+        answer: Answer::Quiet,
+    }
+}
+
 #[test]
 fn a_history_has_births_a_stable_and_the_steps(rt: HostRuntime) -> Result<(), Fail> {
     let (_, outcome) = run(rt.alloc(), FIVE)?;
@@ -99,5 +130,24 @@ fn a_history_has_births_a_stable_and_the_steps(rt: HostRuntime) -> Result<(), Fa
         entry(Event::Step, l, Touched::one(write(l, 6)), Answer::Quiet),
     ];
     assert_eq!(rt; outcome.history.as_slice(), history.as_slice());
+    Ok(())
+}
+
+#[test]
+fn a_wish_is_met_behind_the_step_that_left_it(rt: HostRuntime) -> Result<(), Fail> {
+    let (_, outcome) = run(rt.alloc(), WISHES)?;
+    let a = entity(1)?;
+    let l = entity(41)?;
+    let stored = Touched::two(write(a, 3), write(l, 3));
+    let steps = [
+        entry(Event::Step, l, Touched::one(write(l, 2)), Answer::Quiet),
+        entry(Event::Step, l, stored, Answer::Reply(Reply::Ok)),
+        snap(a, 3),
+        snap(l, 3),
+        entry(Event::Step, l, Touched::one(write(l, 4)), Answer::Quiet),
+    ];
+    // Behind the births and their Stable.
+    assert!(rt; outcome.history.as_slice().ends_with(&steps));
+    assert_eq!(rt; outcome.history.len(), 8);
     Ok(())
 }

@@ -78,8 +78,9 @@ locus = [
 ]
 ";
 
-pub(crate) const ALL_PAGES: &[u8] = b"frames = 1
-program.p = ['set r1 128', 'set r2 256', 'set r3 1', 'store r0 r2', 'add r0 r1', 'sub r2 r3', 'jz r2 @8', 'jump @3', 'set r0 0', 'set r2 256', 'load r4 r0', 'add r5 r4', 'add r0 r1', 'sub r2 r3', 'jz r2 @16', 'jump @10', 'print r5', 'halt']
+// Every page is stored to and loaded from again.
+pub(crate) const ALL_PAGES: &[u8] =
+    b"program.p = ['set r1 128', 'set r2 256', 'set r3 1', 'store r0 r2', 'add r0 r1', 'sub r2 r3', 'jz r2 @8', 'jump @3', 'set r0 0', 'set r2 256', 'load r4 r0', 'add r5 r4', 'add r0 r1', 'sub r2 r3', 'jz r2 @16', 'jump @10', 'print r5', 'halt']
 container = [{ name = 'a', pages = 256, program = 'p' }]
 locus = [{ name = 'l', host = 'a' }]
 ";
@@ -130,9 +131,75 @@ container = [{ name = 'a', pages = 1, program = 'p' }]
 locus = [{ name = 'l', host = 'a', caps = ['atlas t'] }]
 ";
 
-// What an image shows of the last Stable of `STABILISES` and of `COUNTS_ON`.
+// What an image shows of the births of `STABILISES`.
+pub(crate) const BORN_WITH_A_RIGHT: &str = "container a 1 0 0 -
+locus l a 0 running 0 0 0 0 0 0 0 0 0
+cap l 0 atlas t
+";
+
+// What it shows of the last Stable of `STABILISES` and of `COUNTS_ON`.
 pub(crate) const STABLE: &str = "container a 1 0 0 -
 word a 0 7
 locus l a 3 running 0 7 0 0 0 0 0 0 0
 cap l 0 atlas t
+";
+
+// The container is wished at each version, and no locus.
+pub(crate) const WISHED: &[u8] =
+    b"program.p = ['set r0 5', 'store r1 r0', 'halt', 'set r0 9', 'store r1 r0', 'halt']
+container = [{ name = 'a', pages = 1, every = 1, program = 'p' }]
+locus = [{ name = 'l', host = 'a' }]
+";
+
+// The same with one more locus, whose picks come first.
+pub(crate) const WISHED_BY_TWO: &[u8] = b"order = ['m', 'm']
+program.p = ['set r0 5', 'store r1 r0', 'halt', 'set r0 9', 'store r1 r0', 'halt']
+container = [{ name = 'a', pages = 1, every = 1, program = 'p' }]
+locus = [{ name = 'l', host = 'a' }, { name = 'm', host = 'a', at = 3, every = 2 }]
+";
+
+pub(crate) const WISHED_BY_TWO_KEPT: &str = "container a 1 0 1 -
+word a 0 9
+locus l a 0 running 0 0 0 0 0 0 0 0 0
+locus m a 5 running 2 9 0 0 0 0 0 0 0
+";
+
+// The locus is wished too, after two versions.
+pub(crate) const WISHES: &[u8] =
+    b"program.p = ['set r0 5', 'store r1 r0', 'halt', 'set r0 9', 'store r1 r0', 'halt']
+container = [{ name = 'a', pages = 1, every = 1, program = 'p' }]
+locus = [{ name = 'l', host = 'a', every = 2 }]
+";
+
+// What an image shows of the births of `WISHES`, and of `WISHED`.
+pub(crate) const BORN_WITH_WISHES: &str = "container a 1 0 1 -
+locus l a 0 running 2 0 0 0 0 0 0 0 0
+";
+
+pub(crate) const BORN_WISHED: &str = "container a 1 0 1 -
+locus l a 0 running 0 0 0 0 0 0 0 0 0
+";
+
+// What it shows once both records are there.
+pub(crate) const WISHES_KEPT: &str = "container a 1 0 1 -
+word a 0 5
+locus l a 2 running 2 5 0 0 0 0 0 0 0
+";
+
+// A Stable at each second step.
+pub(crate) const ALWAYS_STABLE: &[u8] = b"steps = 1400
+program.p = ['stabilise r0', 'jump @0']
+container = [{ name = 'a', pages = 1, program = 'p' }]
+locus = [{ name = 'l', host = 'a', caps = ['atlas t'] }]
+";
+
+// A snapshot is asked for without the right to it, and with it.
+pub(crate) const NO_SNAP: &[u8] = b"program.p = ['snap r0', 'print r7', 'halt']
+container = [{ name = 'a', pages = 1, program = 'p' }]
+locus = [{ name = 'l', host = 'a', caps = ['a r'] }]
+";
+
+pub(crate) const SNAP: &[u8] = b"program.p = ['snap r0', 'print r7', 'halt']
+container = [{ name = 'a', pages = 1, program = 'p' }]
+locus = [{ name = 'l', host = 'a', caps = ['a s'] }]
 ";

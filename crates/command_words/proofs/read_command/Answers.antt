@@ -1,9 +1,9 @@
-use Rattle.std.proofs.Common.{rules, ◌≡◌, ◌∙◌, sym, string_bytes, true, false, codes, Some}
+use Rattle.std.proofs.Common.{rules, ◌≡◌, ◌∙◌, sym, string_bytes, true, codes, Some}
 use Rattle.std.specs.Prelude.{slice_get}
 use Rattle.std.specs.List.{list_any}
 use Rattle.clap.proofs.WalkLemmas.{list_any-map}
 use Rattle.command_words.specs.Forms as form
-use Rattle.command_words.proofs.Words.{no_command, no_format, string_front}
+use Rattle.command_words.proofs.Words.{no_command, no_format, none_in_bytes, string_front}
 use Rattle.command_words.proofs.read_command.Goals as goal
 
 pub returns-then-any_is_refused-clause-none : goal.returns-then-any_is_refused-clause-none
@@ -12,19 +12,16 @@ returns-then-any_is_refused-clause-none c =
     no_command _ (sym (list_any-map form.is_refused string_bytes c.args.words.now) ∙ refused)
 
 pub one_value-requires : goal.one_value-requires
-one_value-requires c =
-    let stand : list_any (λ word. form.is_refused (string_bytes word)) c.args.words.now ≡ false = search rules in
-    sym (list_any-map form.is_refused string_bytes c.args.words.now) ∙ stand
+one_value-requires c = none_in_bytes c.args.words.now (search rules)
 
 pub has_no_value-requires : goal.has_no_value-requires
-has_no_value-requires c =
-    let stand : list_any (λ word. form.is_refused (string_bytes word)) c.args.words.now ≡ false = search rules in
-    sym (list_any-map form.is_refused string_bytes c.args.words.now) ∙ stand
+has_no_value-requires c = none_in_bytes c.args.words.now (search rules)
 
 pub has_no_value-requires-in-show : goal.has_no_value-requires-in-show
-has_no_value-requires-in-show c =
-    let stand : list_any (λ word. form.is_refused (string_bytes word)) c.args.words.now ≡ false = search rules in
-    sym (list_any-map form.is_refused string_bytes c.args.words.now) ∙ stand
+has_no_value-requires-in-show c = none_in_bytes c.args.words.now (search rules)
+
+pub has_no_value-requires-in-report : goal.has_no_value-requires-in-report
+has_no_value-requires-in-report c = none_in_bytes c.args.words.now (search rules)
 
 pub returns-in-None-clause-none : goal.returns-in-None-clause-none
 returns-in-None-clause-none c =

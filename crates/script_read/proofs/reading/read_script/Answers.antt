@@ -2,7 +2,6 @@
 use Rattle.instr_set.specs.Reader.{instr_of}
 use Rattle.instr_set.proofs.Reader.{IsReader-instr_of}
 use Rattle.script_read.proofs.Allowed.{rules_of, frames_of}
-use Rattle.script_read.proofs.Carried.{carried_of}
 use Rattle.script_read.proofs.reading.read_script.Goals as goal
 
 pub returns-clause-meaning : goal.returns-clause-meaning
@@ -13,6 +12,3 @@ returns-clause-rules c = rules_of c.args.bytes.now c.read_source.result (c.read_
 
 pub returns-clause-frames : goal.returns-clause-frames
 returns-clause-frames c = frames_of c.args.bytes.now c.read_source.result (c.read_source.ensures instr_of IsReader-instr_of)
-
-pub returns-clause-carried_out : goal.returns-clause-carried_out
-returns-clause-carried_out c = carried_of c.args.bytes.now c.read_source.result (c.read_source.ensures instr_of IsReader-instr_of)

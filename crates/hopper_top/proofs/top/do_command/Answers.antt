@@ -1,0 +1,21 @@
+use Rattle.std.proofs.Common.{rules, ◌≡◌}
+use Rattle.command_words.specs.declared.Command.TheVariants.{Report, Run, Show}
+use Rattle.hopper_top.proofs.Doing.{can_report, can_run, can_show}
+use Rattle.hopper_top.proofs.top.do_command.Goals as goal
+
+pub returns-in-Run-clause-complete : goal.returns-in-Run-clause-complete
+returns-in-Run-clause-complete g c can source disk sink room =
+    let is : c.args.command ≡ Run = search rules in
+    c.run_script.ensures.complete (can_run g.m _ _ is can) source disk sink room
+
+pub returns-in-Show-clause-complete : goal.returns-in-Show-clause-complete
+returns-in-Show-clause-complete g c can source disk sink room =
+    let is : c.args.command ≡ Show = search rules in
+    let both = can_show g.m _ _ is can in
+    c.show_image.ensures.complete both.0 both.1 disk sink
+
+pub returns-in-Report-clause-complete : goal.returns-in-Report-clause-complete
+returns-in-Report-clause-complete g c can source disk sink room =
+    let is : c.args.command ≡ Report = search rules in
+    let both = can_report g.m _ _ is can in
+    c.report_image.ensures.complete both.0 both.1 disk sink

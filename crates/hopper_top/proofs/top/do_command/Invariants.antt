@@ -1,0 +1,10 @@
+use Rattle.hopper_top.proofs.top.do_command.Given as goal
+
+abbrev pub ghost-run_script : goal.ghost-run_script
+ghost-run_script g a = g.m
+
+abbrev pub ghost-show_image : goal.ghost-show_image
+ghost-show_image g a = g.m.supply
+
+abbrev pub ghost-report_image : goal.ghost-report_image
+ghost-report_image g a = g.m.supply

@@ -1,9 +1,0 @@
-pub mod Empties
-pub mod Filled
-pub mod Firsts
-pub mod Lengths
-pub mod Meaning
-pub mod ReadSoFar
-pub mod Replacing
-pub mod Stretches
-pub mod Texts

@@ -1,5 +1,0 @@
-mod Beginnings
-pub mod Chains
-mod Reaching
-mod Stamping
-mod Wholes

@@ -1,0 +1,31 @@
+-- What the command `report` leaves.
+use Rattle.std.specs.Prelude.{◌≡◌, ℕ, List, length, slice_index}
+use Rattle.hop_model.specs.State.{Text}
+use Rattle.image_meaning.specs.Meaning.{Accepted}
+use Rattle.image_meaning.specs.Parts.{cut_of}
+use Rattle.log_reading.specs.Logs.{IsLogOf}
+use Rattle.log_reading.specs.declared.log.ImageLog.{ImageLog}
+use Rattle.report_lines.specs.Reports.{report_text}
+use Rattle.command_parts.specs.Ends.{IsEmpty}
+use Rattle.command_parts.specs.Seen.{Gave, SeenDisk, SeenSink}
+use Rattle.command_parts.specs.Statuses.{Ending}
+use Rattle.reading_commands.specs.Readings.{ReadingLeaves}
+
+-- the image is accepted, and has this log
+pub record HasLog (disk : SeenDisk) (log : ImageLog) : Type 0 where
+  pub accepted : Accepted disk.before.reading
+  pub is : IsLogOf disk.before.reading log
+
+-- WHOLE: nothing was run, and the report of the image's log was put, with the greatest closed choice over its records
+pub record IsReported (disk : SeenDisk) (gave : Gave) (Puts : Text → Type 0) : Type 0 where
+  pub empty : IsEmpty gave
+  pub log : ImageLog
+  pub cut : List ℕ
+  pub has : disk.tells → HasLog disk log
+  pub whole : length cut ≡ 64
+  pub is_cut : slice_index cut ≡ cut_of log.recs.items
+  pub output : Puts (report_text log.area log.epoch log.recs.items cut)
+
+-- WHAT `report` LEAVES, by how it ended
+abbrev pub ReportLeaves : SeenDisk → SeenSink → Gave → Ending → Type 0
+ReportLeaves disk sink gave = ReadingLeaves disk sink gave (IsReported disk gave)

@@ -1,0 +1,4 @@
+pub mod Complete
+pub mod Leavings
+pub mod Lines
+pub mod Played

@@ -1,0 +1,96 @@
+-- What a kernel leaves of a run, from what it made and what was put.
+use Rattle.std.proofs.Common.{◌≡◌, ◌++◌, ℕ, List, Result, Ok, Err, refl, sym, ap, subst, ◌∙◌}
+use Rattle.std.specs.Option.{option_map}
+use Rattle.std.specs.Prelude.{IsErrOf, ⊤}
+use Rattle.disk_trait.specs.Image.{Image}
+use Rattle.hop_base.specs.declared.histories.Entry.{Entry}
+use Rattle.hop_model.specs.Output.{output_of}
+use Rattle.hop_model.specs.State.{AtlasState, KernelState, Text}
+use Rattle.hop_model.specs.Steps.{atlas_in}
+use Rattle.kernel_commits.specs.Parts.{stop_of}
+use Rattle.kernel_commits.specs.declared.stopping.Stopped.{Stopped}
+use Rattle.kernel_commits.specs.declared.stopping.Stopped.TheVariants.{Failed, TooFew}
+use Rattle.run_opening.specs.Kernels.{Held, Lives}
+use Rattle.kernel_model.specs.Beginnings.{Beginning, state_after}
+use Rattle.kernel_model.specs.Live.{IsRunning, KernelView}
+use Rattle.kernel_runs.specs.Running.{EndsRun, HasStopped, IsOver}
+use Rattle.kernel_views.specs.Views.{view_of}
+use Rattle.record_laws.specs.Cells.{words_on}
+use Rattle.serial_runs.specs.Serial.{IsStopped, IsWhole}
+use Rattle.table_births.specs.Births.{atlas_state_in}
+use Rattle.table_births.proofs.AtlasStates.{same_atlas}
+use Rattle.command_parts.specs.Ends.{Gains}
+use Rattle.command_parts.specs.Faults.{fault_line}
+use Rattle.command_parts.specs.Seen.{Gave, SeenSink}
+use Rattle.command_parts.specs.Statuses.{ending, status_by}
+use Rattle.command_parts.specs.declared.faults.Fault.{Fault}
+use Rattle.command_parts.specs.declared.faults.Fault.TheVariants.{Blocks, Disk}
+use Rattle.command_parts.specs.declared.statuses.Status.{Status}
+use Rattle.command_parts.proofs.Endings.{fault_ends, put_ends}
+use Rattle.run_outcomes.specs.Runs.{printed}
+use Rattle.run_command.specs.Playing.{HasRun, HasServed, InEach, IsPutBy, PlayLeaves, StopsPlay, WasCutShort, fault_of_stop}
+
+-- a run that was stopped was told so
+pub put_stopped : (ended : Result ⊤ Stopped) (why : Stopped) (fault : Fault) (sink : SeenSink) (bytes : Text) (status : Status) → ended ≡ Err why → fault ≡ fault_of_stop why → status ≡ status_by fault
+    → Gains sink (bytes ++ fault_line fault) → IsPutBy ended sink bytes status
+put_stopped ended why fault sink bytes status is same by put =
+    subst (λ (r : Result ⊤ Stopped). IsPutBy r sink bytes status) (sym is) (by ∙ ap status_by same, subst (λ (f : Fault). Gains sink (bytes ++ fault_line f)) same put)
+
+module _ {D : Type 0} (tells : Type 0) (clock faults : D → ℕ) (reading : D → Image) (may_leave : D → Image → Type 0) (left_since : D → ℕ → Image → Type 0) (new : Held D) (sink : SeenSink) (gave : Gave) (disk : D)
+    (history : gave.history ≡ new.parts.noted.entries) (marks : gave.marks ≡ new.parts.noted.marks) (same : disk ≡ new.parts.store.disk) where
+  -- the lines by the names that are left
+  abbrev lines : Text
+  lines = output_of (atlas_state_in new.parts.cells) new.parts.noted.entries
+
+  -- IN ONE RUN
+  module _ (b : Beginning) where
+    abbrev LivesNow : Type 0
+    LivesNow = Lives tells clock faults reading may_leave left_since b new
+
+    has_run : LivesNow → HasRun tells clock reading may_leave left_since b gave disk
+    has_run lives =
+        let view : KernelView = view_of reading b new.parts.cells new.parts.store new.parts.noted.entries new.parts.noted.marks (option_map stop_of new.stop) in
+        record { view = view; running = subst (λ (d : D). IsRunning b tells clock reading may_leave left_since view d) (sym same) lives.live.running; history = sym history; marks = sym marks }
+
+    -- they are the run's own
+    lines_same : LivesNow → lines ≡ printed b gave.history
+    lines_same lives =
+        let names : atlas_state_in new.parts.cells ≡ atlas_in (state_after b new.parts.noted.entries 0).cell = sym (same_atlas b.supply (words_on (reading new.parts.store.disk)) new.parts.cells) ∙ ap (λ (w : KernelState). atlas_in (w 0).cell) lives.live.running.follows.state in
+        ap (λ (a : AtlasState). output_of a new.parts.noted.entries) names ∙ ap (printed b) (sym history)
+
+    served : IsOver tells clock faults reading may_leave left_since b new → (Puts : Text → Type 0) → Puts (lines) → HasServed tells clock reading may_leave left_since b gave disk Puts
+    served over Puts put = record {
+      run = has_run over.lives;
+      whole = subst (λ (es : List Entry). IsWhole b.supply b.policy b.script b.state es) (sym history) over.whole;
+      output = subst Puts (lines_same over.lives) put;
+    }
+
+    cut : HasStopped tells clock faults reading may_leave left_since b new → (f : Fault) → Gains sink (lines ++ fault_line f) → WasCutShort tells clock reading may_leave left_since b sink gave disk f
+    cut stopped f put = record {
+      run = has_run stopped.lives;
+      part = subst (λ (es : List Entry). IsStopped b.supply b.policy b.script b.state es) (sym history) stopped.part;
+      output = subst (λ (text : Text). Gains sink (text ++ fault_line f)) (lines_same stopped.lives) put;
+    }
+
+  -- WHAT IT LEAVES
+  module _ (starts : Beginning → Type 0) (rose : Type 0) where
+    abbrev Ends : Result ⊤ Stopped → Type 0
+    Ends result = tells → (b : Beginning) → starts b → EndsRun tells clock faults reading may_leave left_since b result new
+
+    abbrev Each : (Beginning → Type 0) → Type 0
+    Each P = InEach tells clock reading may_leave left_since starts rose sink gave disk P
+
+    abbrev Whole : (Text → Type 0) → Type 0
+    Whole Puts = Each (λ b. HasServed tells clock reading may_leave left_since b gave disk Puts)
+
+    abbrev Stops : Fault → Type 0
+    Stops f = StopsPlay tells clock reading may_leave left_since starts rose sink gave disk f
+
+    pub play_leaves : (result : Result ⊤ Stopped) → Ends result → (IsErrOf result Failed → rose) → IsPutBy result sink (lines) gave.status
+        → PlayLeaves tells clock reading may_leave left_since starts rose sink gave disk (ending gave.status)
+    play_leaves (Ok x) ends failed put =
+        put_ends sink Whole Stops gave.status (lines) put (λ Puts all told b start. served b (ends told b start).over Puts all)
+    play_leaves (Err Failed) ends failed put =
+        fault_ends sink Whole Stops gave.status Disk put.0 (failed refl, λ told b start. cut b (ends told b start).stopped Disk put.1)
+    play_leaves (Err (TooFew n)) ends failed put =
+        fault_ends sink Whole Stops gave.status (Blocks n) put.0 (λ told b start. cut b (ends told b start).stopped (Blocks n) put.1)

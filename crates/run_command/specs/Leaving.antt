@@ -1,0 +1,61 @@
+-- What the command `run` leaves.
+use Rattle.std.specs.Prelude.{◌≡◌, ◌⊎◌, Some}
+use Rattle.fitting_births.specs.Fitting.{Fits}
+use Rattle.hop_model.specs.Scripts.{Script as Tables}
+use Rattle.hop_model.specs.State.{KernelState, Text}
+use Rattle.hop_model.specs.Steps.{atlas_in}
+use Rattle.image_meaning.specs.Foreign.{IsForeign}
+use Rattle.image_meaning.specs.Meaning.{Means}
+use Rattle.kernel_model.specs.Beginnings.{Beginning}
+use Rattle.script_form.specs.declared.refusals.Refusal.{Refusal}
+use Rattle.script_source.specs.Sources.{HasRead, IsAccepted, IsRefusalOf}
+use Rattle.command_parts.specs.Ends.{IsUnrun, LeavesBy}
+use Rattle.command_parts.specs.Seen.{Call, Gave, SeenSource}
+use Rattle.command_parts.specs.Statuses.{Ending}
+use Rattle.command_parts.specs.declared.faults.Fault.{Fault}
+use Rattle.command_parts.specs.declared.faults.Fault.TheVariants.{Script, Foreign, Disk, Source, Memory, Blocks}
+use Rattle.run_opening.specs.Openings.{HasOpened, IsKeptImage, Managers, StaysAsRead}
+use Rattle.run_opening.specs.Ready.{HasMisfit}
+use Rattle.run_command.specs.OfScript.{IsLeftUnopened}
+use Rattle.run_outcomes.specs.Runs.{IsCutShort, IsServed}
+
+-- this holds of the run of the script that the source stands for, on a disk that tells its content
+pub record OfRun (m : Managers) (call : Call) (P : Beginning → Type 0) : Type 0 where
+  pub script : Tables
+  pub read : HasRead call.source script
+  pub opened : call.disk.tells → HasOpened m script call.disk.before.reading call.disk.before.clock P
+
+-- the source was read, and stands for some script
+abbrev pub IsReadOne : SeenSource → Type 0
+IsReadOne source = (script : Tables) × HasRead source script
+
+-- refused: the source, before any call of the disk; or its script, which doesn't fit the image
+abbrev pub IsRefused : Call → Refusal → Type 0
+IsRefused call refusal = (IsRefusalOf call.source.before refusal × call.disk.same) ⊎ ((script : Tables) × HasRead call.source script × HasMisfit script call.disk refusal)
+
+-- STOPPED by this fault. What stops first decides: the source, the image, the script against it, the run.
+abbrev pub StopsRun : Managers → Call → Gave → Fault → Type 0
+StopsRun m call gave (Script refusal) = IsUnrun call.sink gave (Script refusal) × IsRefused call refusal
+StopsRun m call gave (Foreign block place) =
+    IsUnrun call.sink gave (Foreign block place) × IsReadOne call.source × (call.disk.tells → IsForeign call.disk.before.reading (record { block = block; place = place }) × StaysAsRead call.disk)
+StopsRun m call gave Disk =
+    call.disk.rose × ((IsUnrun call.sink gave Disk × IsReadOne call.source × IsLeftUnopened call.disk) ⊎ OfRun m call (λ b. IsCutShort b call.disk call.sink gave Disk))
+StopsRun m call gave Source = call.source.rose × IsUnrun call.sink gave Source × call.disk.same
+StopsRun m call gave Memory = IsUnrun call.sink gave Memory × (call.disk.same ⊎ (IsReadOne call.source × IsKeptImage call.disk))
+StopsRun m call gave (Blocks n) = OfRun m call (λ b. IsCutShort b call.disk call.sink gave (Blocks n))
+StopsRun m call gave fault = ⊥
+
+-- WHAT `run` LEAVES, by how it ended
+abbrev pub RunLeaves : Managers → Call → Gave → Ending → Type 0
+RunLeaves m call gave ending = LeavesBy call.sink (λ Puts. OfRun m call (λ b. IsServed b call.disk gave Puts)) (StopsRun m call gave) ending
+
+-- IT CAN BE DONE: the source is known and accepted, and the image means a state, which the script fits
+pub record CanRun (m : Managers) (call : Call) : Type 0 where
+  pub told : call.disk.tells
+  pub bytes : Text
+  pub known : call.source.before ≡ Some bytes
+  pub script : Tables
+  pub accepted : IsAccepted bytes script
+  pub state : KernelState
+  pub means : Means m.supply call.disk.before.reading state
+  pub fits : Fits (atlas_in (state 0).cell) script

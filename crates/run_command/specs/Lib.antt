@@ -1,0 +1,5 @@
+pub mod Leaving
+pub mod OfScript
+pub mod Playing
+pub use Rattle.run_opening.specs.Openings
+pub use Rattle.run_opening.specs.Starts

@@ -1,0 +1,56 @@
+// The run of a script by a kernel that was opened for it.
+ghost use Rattle.std.specs.Prelude.{◌≡◌, ◌≤◌, [], None};
+ghost use Rattle.disk_trait.specs.Counts.{Rose};
+ghost use Rattle.fitting_births.specs.Fitting.{Fits};
+ghost use Rattle.run_opening.specs.Kernels.{StaysClean};
+ghost use Rattle.script_form.specs.Rules.{IsScript};
+ghost use Rattle.script_form.specs.Scripts.{tables_of};
+ghost use Rattle.table_births.specs.Births.{atlas_state_in};
+ghost use Rattle.command_parts.specs.Seen.{gave, seen_sink};
+ghost use Rattle.command_parts.specs.Statuses.{ending};
+ghost use Rattle.run_command.specs.Playing.{PlayLeaves, StartsRun};
+
+use crate::putting::put_run;
+use command_parts::Outcome;
+use disk_trait::Disk;
+use kernel_runs::run;
+use manager_gate::{Gate, Policy, Supplier};
+use run_opening::{Ended, Kernel};
+use script_form::Script;
+use stream_edge::Sink;
+
+/// Runs a script on a kernel that was opened for it, and puts the lines.
+pub(crate) fn run_opened<W: Sink, D: Disk, S: Supplier, P: Policy>(
+    mut kernel: Kernel<D>,
+    script: &Script,
+    sink: &mut W,
+    gate: &Gate<S, P>,
+) -> Outcome<D>
+    requires keeps { S.keeps gate.now.supply }
+    requires wishes { P.keeps gate.now.policy }
+    requires clean { StaysClean D.tells D.reading (S.word gate.now.supply) kernel }
+    requires allowed { IsScript (tables_of script.now) }
+    requires fits { Fits (atlas_state_in kernel.parts.cells) (tables_of script.now) }
+    requires nothing { kernel.parts.noted.entries ≡ [] }
+    requires going { kernel.stop ≡ None }
+    ensures leaves { PlayLeaves D.tells D.clock D.reading D.may_leave D.left_since
+        (StartsRun D.tells D.clock D.faults D.reading D.may_leave D.left_since (S.word gate.now.supply) (P.wish gate.now.policy) (tables_of script.now) kernel)
+        (Rose (D.faults kernel.parts.store.disk) (D.faults result.disk))
+        (seen_sink W.held W.faults sink.old sink.new) (gave result) result.disk (ending result.status) }
+    ensures later { D.faults kernel.parts.store.disk ≤ D.faults result.disk }
+{
+    let ended = run(&mut kernel, script, gate);
+    let status = put_run(sink, kernel.cells(), kernel.history(), ended);
+    let Ended {
+        disk,
+        history,
+        marks,
+        ..
+    } = kernel.into_ended();
+    Outcome {
+        status,
+        history,
+        marks,
+        disk,
+    }
+}

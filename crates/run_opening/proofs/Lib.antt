@@ -1,0 +1,4 @@
+mod Fitted
+pub mod Kept
+mod Readied
+mod Unmade

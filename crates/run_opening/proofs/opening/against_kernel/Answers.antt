@@ -1,0 +1,16 @@
+use Rattle.std.proofs.Common.{sym, subst}
+use Rattle.std.specs.Prelude.{IfErr, OnOk}
+use Rattle.fitting_births.specs.Fitting.{Fits}
+use Rattle.hop_model.specs.State.{AtlasState}
+use Rattle.script_against.specs.Misfits.{IsMisfit}
+use Rattle.script_form.specs.Scripts.{tables_of}
+use Rattle.run_opening.proofs.Readied.{lent_atlas}
+use Rattle.run_opening.proofs.opening.against_kernel.Goals as goal
+
+pub returns-clause-ok : goal.returns-clause-ok
+returns-clause-ok g c =
+    subst (λ (a : AtlasState). OnOk c.against.result (Fits a (tables_of c.args.script.now))) (sym (lent_atlas c.args.kernel.now.parts.cells c.atlas.result.now c.requires.whole c.atlas.ensures)) c.against.ensures.ok
+
+pub returns-clause-refused : goal.returns-clause-refused
+returns-clause-refused g c =
+    subst (λ (a : AtlasState). IfErr c.against.result (IsMisfit a (tables_of c.args.script.now))) (sym (lent_atlas c.args.kernel.now.parts.cells c.atlas.result.now c.requires.whole c.atlas.ensures)) c.against.ensures.refused

@@ -1,0 +1,56 @@
+//! Reading a source to a script that may run.
+ghost use Rattle.std.specs.Prelude.{◌≡◌, ◌≤◌, IfOk, IfErr, IfSome, codes, string_bytes};
+ghost use Rattle.script_form.specs.Rules.{IsScript};
+ghost use Rattle.script_form.specs.Scripts.{tables_of};
+ghost use Rattle.command_parts.specs.Seen.{seen_source};
+ghost use Rattle.script_source.specs.Sources.{HasRead, IsFaultOfStop, MeansScript, StopsSource};
+
+use command_parts::Fault;
+use hop_base::MOST_SCRIPT_BYTES;
+use script_form::{Refusal, Script, Why};
+use script_read::read_script;
+use std::alloc::{AllocError, Global};
+use stream_edge::{ReadStop, Source, read_all};
+
+// The refusal of a source that is too long.
+fn too_long(alloc: Global) -> Result<Refusal, AllocError>
+    ensures why { IfOk result (λ refusal. refusal.why ≡ Why.Long) }
+    ensures key { IfOk result (λ refusal. string_bytes refusal.key ≡ codes "-") }
+{
+    Ok(Refusal {
+        why: Why::Long,
+        key: String::from_str(alloc, "-")?,
+    })
+}
+
+// The fault of a source whose reading stopped.
+fn fault_of_stop(alloc: Global, stop: ReadStop) -> Fault
+    ensures { IsFaultOfStop stop result }
+{
+    match stop {
+        ReadStop::Source(_) => Fault::Source,
+        ReadStop::Memory => Fault::Memory,
+        ReadStop::Long => match too_long(alloc) {
+            Ok(refusal) => Fault::Script(refusal),
+            Err(_) => Fault::Memory,
+        },
+    }
+}
+
+/// Reads a source to its end, and the script that it stands for. A source of more than 1,048,576 bytes is refused as too long, and reading
+/// stops there.
+pub fn read_source<R: Source>(alloc: Global, source: &mut R) -> Result<Script, Fault>
+    ensures read { IfOk result (λ script. HasRead (seen_source R.left R.faults source.old source.new) (tables_of script)) }
+    ensures meaning { IfOk result (λ script. IfSome (R.left source.old) (λ bytes. MeansScript bytes (tables_of script) script.frames)) }
+    ensures rules { IfOk result (λ script. IsScript (tables_of script)) }
+    ensures frames { IfOk result (λ script. (1 ≤ script.frames) × (script.frames ≤ 256)) }
+    ensures fault { IfErr result (StopsSource (seen_source R.left R.faults source.old source.new)) }
+    ensures count { R.faults source.old ≤ R.faults source.new }
+{
+    let bytes = match read_all(alloc, source, MOST_SCRIPT_BYTES) {
+        Ok(bytes) => bytes,
+        Err(stop) => return Err(fault_of_stop(alloc, stop)),
+    };
+    let script = read_script(alloc, &bytes)?;
+    Ok(script)
+}

@@ -1,0 +1,4 @@
+pub mod Carried
+pub mod Fresh
+pub mod Keeping
+pub mod Reading

@@ -1,0 +1,63 @@
+// Commands on a disk in memory.
+ghost use Rattle.std.specs.Prelude.{◌≡◌, [], ◌∷◌, IfOk, map, string_bytes};
+ghost use Rattle.command_words.specs.Commands.{IsCommand};
+ghost use Rattle.command_words.specs.declared.Command.{Command};
+ghost use Rattle.stopped_client.specs.Calls.{IsCalled};
+
+use command_parts::Outcome;
+use disk_trait::MemoryDisk;
+use hopper_top::hopper;
+use manager_gate::{CountedWords, EveryVersions, Policy, Supplier};
+use std::alloc::{AllocError, Global};
+use stream_edge::{MemorySink, MemorySource};
+
+/// How many bytes a call may put.
+const TEXT: u32 = 65_536;
+
+/// How a command ended, and the text that it put.
+#[derive(Drop)]
+pub(crate) struct Called {
+    pub outcome: Outcome<MemoryDisk>,
+    pub text: Vec<u8>,
+}
+
+/// The words of a command that has one.
+pub(crate) fn one_word(alloc: Global, word: &str) -> Result<Vec<String>, AllocError>
+    ensures { IfOk result (λ words. map string_bytes words.items ≡ word.now ∷ []) }
+{
+    Ok(vec![in alloc; String::from_str(alloc, word)?]?)
+}
+
+/// The words of a command that has two.
+pub(crate) fn two_words(alloc: Global, first: &str, second: &str) -> Result<Vec<String>, AllocError>
+    ensures { IfOk result (λ words. map string_bytes words.items ≡ first.now ∷ second.now ∷ []) }
+{
+    Ok(vec![in alloc;
+        String::from_str(alloc, first)?,
+        String::from_str(alloc, second)?,
+    ]?)
+}
+
+/// Carries out a command on a disk, with a text as its source, and with the managers that the program has.
+pub(crate) fn call(
+    alloc: Global,
+    words: &[String],
+    script: &str,
+    disk: MemoryDisk,
+) -> Result<Called, AllocError>
+    ensures { IfOk result (λ called. (c : Command) → IsCommand (map string_bytes words.now) c → IsCalled c script.now disk called) }
+{
+    let mut source = MemorySource::new(script.as_bytes().to_vec(alloc)?, Vec::new(alloc));
+    let mut sink = MemorySink::new(alloc, TEXT, Vec::new(alloc))?;
+    let outcome = hopper(
+        alloc,
+        words,
+        &mut source,
+        &mut sink,
+        disk,
+        &|tag, page, place| CountedWords.word(tag, page, place),
+        &|every, since| EveryVersions.wish(every, since),
+    );
+    let text = sink.held().to_vec(alloc)?;
+    Ok(Called { outcome, text })
+}

@@ -1,0 +1,85 @@
+//! A script that runs until the machine stops.
+ghost use Rattle.std.specs.Prelude.{◌≡◌, ◌<◌, ◌+◌, IfOk, min};
+ghost use Rattle.disk_trait.specs.MemoryDisk.{moments_of};
+ghost use Rattle.stopped_client.specs.Promise.{KeepsPromise};
+
+use crate::calling::{Called, call, one_word, two_words};
+use command_parts::Status;
+use disk_trait::{MemoryDisk, Torn};
+use hop_base::Entry;
+use std::alloc::{AllocError, Global};
+
+/// How many blocks the disk has, all of which the image takes.
+const BLOCKS: u32 = 4096;
+
+/// How many writes and syncs the disk keeps; those beyond fail.
+const ROOM: u32 = 4096;
+
+/// What became of a script on a machine that stopped.
+#[derive(Drop)]
+pub struct Shown {
+    /// How `format`, `run` and `show` ended.
+    pub formatted: Status,
+    pub ran: Status,
+    pub shown: Status,
+    /// The run's entries in order, and for each Snap and Stable its mark.
+    pub history: Vec<Entry>,
+    pub marks: Vec<u64>,
+    /// The lines that the run put.
+    pub lines: Vec<u8>,
+    /// The disk as the run left it at its return.
+    pub disk: MemoryDisk,
+    /// The disk's clock where the run began, from which marks count, and where the machine stopped.
+    pub since: u64,
+    pub stopped: u64,
+    /// What was shown of the image that the stop left.
+    pub text: Vec<u8>,
+}
+
+/// The moment so many moments behind one, or the present one where that is earlier.
+fn stop_at(since: u64, after: u64, now: u64) -> u64
+    ensures { result ≡ min (since + after) now }
+{
+    since.saturating_add(after).min(now)
+}
+
+/// Runs a script on a new image, lets the machine stop once `after` writes and syncs of the run were begun, or at its return where that
+/// is earlier, and shows what the image means that the stop leaves. `torn` says what becomes of blocks that were pending then.
+pub fn run_and_stop(
+    alloc: Global,
+    script: &str,
+    after: u64,
+    torn: Torn,
+) -> Result<Shown, AllocError>
+    ensures stopped { IfOk result (λ s. s.stopped ≡ min (s.since + after) (moments_of s.disk)) }
+    ensures kept { IfOk result (λ s. s.formatted ≡ Status.Done → 0 < after → KeepsPromise script.now torn s) }
+{
+    let new = MemoryDisk::new(alloc, BLOCKS, ROOM, Vec::new(alloc))?;
+    let Called {
+        outcome: formatted,
+        ..
+    } = call(alloc, &two_words(alloc, "format", "4096")?, "", new)?;
+    let since = formatted.disk.moments();
+    let Called {
+        outcome: ran,
+        text: lines,
+    } = call(alloc, &one_word(alloc, "run")?, script, formatted.disk)?;
+    let stopped = stop_at(since, after, ran.disk.moments());
+    let left = ran.disk.crash(stopped, torn)?;
+    let Called {
+        outcome: showed,
+        text,
+    } = call(alloc, &one_word(alloc, "show")?, "", left)?;
+    Ok(Shown {
+        formatted: formatted.status,
+        ran: ran.status,
+        shown: showed.status,
+        history: ran.history,
+        marks: ran.marks,
+        lines,
+        disk: ran.disk,
+        since,
+        stopped,
+        text,
+    })
+}
