@@ -5,7 +5,7 @@ use Rattle.stream_edge.specs.Streams.{AppendsPart}
 use Rattle.hop_model.specs.State.{Text}
 use Rattle.command_parts.specs.Faults.{fault_line}
 use Rattle.command_parts.specs.Seen.{Gave, SeenSink}
-use Rattle.command_parts.specs.Statuses.{Ending, Stopped, Unput, Whole}
+use Rattle.command_parts.specs.Statuses.{Ending, Stopped, Unput, Whole, Wrong}
 use Rattle.command_parts.specs.declared.faults.Fault.{Fault}
 use Rattle.command_parts.specs.declared.statuses.Status.{Status}
 use Rattle.command_parts.specs.declared.statuses.Status.TheVariants.{Done, SinkFault}
@@ -35,8 +35,9 @@ pub record IsSilent (sink : SeenSink) (gave : Gave) : Type 0 where
   pub output : Appends sink.before sink.after []
 
 -- WHAT A COMMAND LEAVES, by how it ended. Whole, `all` holds, which says what was put: all of it, or, where the sink failed, a front. And
--- else what holds where it was stopped by this fault.
+-- else what holds where it was stopped by this fault. No trace was checked.
 abbrev pub LeavesBy : SeenSink → ((Text → Type 0) → Type 0) → (Fault → Type 0) → Ending → Type 0
 LeavesBy sink all stops Whole = all (Appends sink.before sink.after)
 LeavesBy sink all stops Unput = all (AppendsPart sink.before sink.after) × sink.rose
 LeavesBy sink all stops (Stopped fault) = stops fault
+LeavesBy sink all stops (Wrong line want) = ⊥

@@ -36,6 +36,10 @@ fault_line Source = line (codes "fault 6 source")
 fault_line Memory = line (codes "fault 8 memory")
 fault_line (Blocks n) = numbers_line (codes "fault 9 ") n.need n.free
 
+-- the last line where a trace goes wrong in the line of this number: the line of the entry that it wants, or `none`
+abbrev pub wrong_line : ℕ → Text → Text
+wrong_line number want = line (codes "fault 10 " ++ decimal number ++ codes " want " ++ want)
+
 -- THE FAULTS OF THE CALLS BELOW
 
 abbrev pub fault_of_script : ScriptFault → Fault

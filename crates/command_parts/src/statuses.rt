@@ -28,6 +28,9 @@ pub enum Status {
     Memory,
     /// Too few blocks: how many are needed, and how many there are. Number 9.
     BlocksFull(NoBlocks),
+    /// A trace that is that of no legal history goes wrong in this line, from 1 on: the birth or step that the line names, where it may be
+    /// next. Number 10.
+    TraceWrong { line: u64, want: Option<Entry> },
 }
 
 impl Status {
@@ -45,6 +48,7 @@ impl Status {
             Status::SinkFault => 7,
             Status::Memory => 8,
             Status::BlocksFull(_) => 9,
+            Status::TraceWrong { .. } => 10,
         }
     }
 }

@@ -8,7 +8,7 @@ use Rattle.script_form.specs.declared.refusals.Why.{Why}
 use Rattle.script_form.specs.declared.refusals.Why.TheVariants.{NotToml, Missing, Kind, Name, Unknown, Range, TooMany, BadCode, Long, NoRoom, Clash}
 use Rattle.command_parts.specs.Faults.{line}
 use Rattle.command_parts.specs.declared.statuses.Status.{Status}
-use Rattle.command_parts.specs.declared.statuses.Status.TheVariants.{Done, Usage, Script, Foreign, DiskFault, SourceFault, SinkFault, Memory, BlocksFull}
+use Rattle.command_parts.specs.declared.statuses.Status.TheVariants.{Done, Usage, Script, Foreign, DiskFault, SourceFault, SinkFault, Memory, BlocksFull, TraceWrong}
 
 -- WHERE A SCRIPT IS REFUSED: at its key, or as a whole
 abbrev pub subject_by : Text → Why → Text
@@ -60,6 +60,13 @@ foreign_sentence place = line (codes "image refused: " ++ place ++ codes " is no
 abbrev pub blocks_sentence : Text → Text
 blocks_sentence blocks = line (codes "too few blocks: " ++ blocks ++ codes "; what was made stable stays, and format N makes a larger image, an empty one")
 
+-- a line of a trace
+abbrev pub trace_text : ℕ → Text
+trace_text number = codes "line " ++ decimal number
+
+abbrev pub trace_sentence : Text → Text
+trace_sentence place = line (codes "trace refused: " ++ place ++ codes " is that of no entry that may come next in a run of the script; the output tells the birth or step that it may have been (README.md)")
+
 -- THE SENTENCE on a status
 abbrev pub sentence : Status → Text
 sentence Done = []
@@ -71,6 +78,7 @@ sentence SourceFault = line (codes "source fault: standard input could not be re
 sentence SinkFault = line (codes "output fault: standard output did not take all lines; what the command did to the image stands")
 sentence Memory = line (codes "out of memory: nothing was run, and the image means what it meant; a script with fewer steps takes less (docs/SCRIPTS.md)")
 sentence (BlocksFull n) = blocks_sentence (blocks_text n)
+sentence (TraceWrong number want) = trace_sentence (trace_text number)
 
 -- on a file that can't be opened or made
 abbrev pub unopened : Text → Text

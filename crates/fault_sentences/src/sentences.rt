@@ -3,7 +3,7 @@ ghost use Rattle.std.specs.Prelude.{◌≡◌, ◌≤◌, ◌++◌, OnErr};
 ghost use Rattle.disk_trait.specs.Counts.{Rose};
 ghost use Rattle.stream_edge.specs.Streams.{Puts};
 ghost use Rattle.command_parts.specs.Faults.{line};
-ghost use Rattle.fault_sentences.specs.Sentences.{blocks_text, is_of_program, misspelling, place_text, reason, sentence, subject, unopened};
+ghost use Rattle.fault_sentences.specs.Sentences.{blocks_text, is_of_program, misspelling, place_text, reason, sentence, subject, trace_text, unopened};
 
 use arrayvec::ArrayString;
 use command_parts::Status;
@@ -89,6 +89,17 @@ fn blocks_text(blocks: NoBlocks) -> ArrayString<NUMBERS>
     text
 }
 
+/// A line of a trace.
+fn trace_text(number: u64) -> ArrayString<NUMBERS>
+    ensures { result.bytes ≡ trace_text number }
+{
+    let mut digits = Buffer::new();
+    let mut text = ArrayString::new();
+    text.push_str("line ");
+    text.push_str(digits.format(number));
+    text
+}
+
 /// Puts a line in three pieces.
 #[tactic(auto, using(stream_edge::proofs::Streams::puts))]
 fn put_line<W: Sink>(sink: &mut W, front: &str, middle: &str, rest: &str) -> Result<(), SinkFault>
@@ -145,6 +156,12 @@ pub fn put_sentence<W: Sink>(sink: &mut W, status: &Status) -> Result<(), SinkFa
             "too few blocks: ",
             blocks_text(*blocks).as_str(),
             "; what was made stable stays, and format N makes a larger image, an empty one",
+        ),
+        Status::TraceWrong { line, .. } => put_line(
+            sink,
+            "trace refused: ",
+            trace_text(*line).as_str(),
+            " is that of no entry that may come next in a run of the script; the output tells the birth or step that it may have been (README.md)",
         ),
     }
 }

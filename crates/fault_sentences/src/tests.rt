@@ -69,6 +69,13 @@ fn numbers_stand_in_their_sentences(rt: HostRuntime) -> Result<(), Fail> {
     let sentence =
         "too few blocks: 5 are needed and 3 are free; what was made stable stays, and format N makes a larger image, an empty one\n";
     assert!(rt; says(alloc, &few, sentence)?);
+    let wrong = Status::TraceWrong {
+        line: 6,
+        want: None,
+    };
+    let sentence =
+        "trace refused: line 6 is that of no entry that may come next in a run of the script; the output tells the birth or step that it may have been (README.md)\n";
+    assert!(rt; says(alloc, &wrong, sentence)?);
     assert!(rt; says(alloc, &Status::Done, "")?);
     Ok(())
 }

@@ -9,7 +9,7 @@ use Rattle.image_meaning.specs.Meaning.{Means}
 use Rattle.restart.specs.Formats.{IsAreaGate, IsClosed, IsMade}
 use Rattle.command_parts.specs.Ends.{IsSilent, IsUnrun}
 use Rattle.command_parts.specs.Seen.{Gave, LeavesImages, SeenDisk, SeenSink}
-use Rattle.command_parts.specs.Statuses.{Ending, Stopped, Unput, Whole}
+use Rattle.command_parts.specs.Statuses.{Ending, Stopped, Unput, Whole, Wrong}
 use Rattle.command_parts.specs.declared.faults.Fault.{Fault}
 use Rattle.command_parts.specs.declared.faults.Fault.TheVariants.{Blocks, Disk}
 use Rattle.restart.specs.declared.formatting.FormatWhy.{FormatWhy}
@@ -56,3 +56,4 @@ abbrev pub FormatLeaves : ℕ → SeenDisk → SeenSink → Gave → Ending → 
 FormatLeaves blocks disk sink gave Whole = HasFormatted blocks disk sink gave
 FormatLeaves blocks disk sink gave Unput = ⊥
 FormatLeaves blocks disk sink gave (Stopped fault) = StopsFormat blocks disk sink gave fault
+FormatLeaves blocks disk sink gave (Wrong line want) = ⊥

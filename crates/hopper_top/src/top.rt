@@ -59,7 +59,8 @@ fn do_command<R: Source, W: Sink, D: Disk, S: Fn(u64, u32, u16) -> u64, P: Fn(u3
 
 /// Carries out the command that the words stand for on a disk: `format N` makes an empty image of N blocks, 2,600 to 65,536; `run` runs the
 /// script that the source stands for, from the state that the disk's image means, and keeps it up to each record; `show` puts that state,
-/// `report` the log with the cut.
+/// `report` the log with the cut. In a run the managers that the script brings answer for their numbers before the handed-in ones; `show`
+/// asks the handed-in ones alone.
 ///
 /// What stops the call first decides: the words, the source, the image, the script against it, the run, the output; a sink that fails at the
 /// last line changes no status. After a fault of the disk the image has to be opened again.

@@ -102,6 +102,7 @@ module _ {D : Type 0} (log : ImageLog) (parts : ImageParts) (tables : List Shado
     area = log.area;
     active = of.has.active ∙ ap Some of.area;
     epoch = ap (λ (p : Place). p.epoch) kept.place ∙ (ap (λ (p : Place). p.epoch + 1) is.over.place ∙ ap (λ (n : ℕ). n + 1) of.epoch);
+    count = kept.same_count ∙ (is.over.count ∙ of.blocks);
     keeps = rows_chosen log parts tables st is image w new kept;
     books_true = right;
     stable = stable;

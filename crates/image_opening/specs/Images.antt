@@ -5,7 +5,7 @@ use Rattle.disk_trait.specs.Disk.{LeavesNoMore, Only, Ticks}
 use Rattle.disk_tally.specs.Counts.{Begins, shown}
 use Rattle.disk_trait.specs.Image.{Image, SameOutside}
 use Rattle.hop_model.specs.State.{KernelState, Supply}
-use Rattle.image_blocks.specs.Checks.{active_area}
+use Rattle.image_blocks.specs.Checks.{active_area, count_in}
 use Rattle.image_blocks.specs.Layout.{epoch_in, last_number}
 use Rattle.image_blocks.specs.declared.areas.Area.{Area}
 use Rattle.image_meaning.specs.Foreign.{IsBadMeaning, IsForeign}
@@ -82,8 +82,8 @@ pub record IsOpened {D : Type 0} (st : State D) (parts : ImageParts) : Type 0 wh
 abbrev pub HasTurnLeft : Image → Type 0
 HasTurnLeft image = (area : Area) → active_area image ≡ Some area → epoch_in image area < last_number
 
--- and where it does: the image is accepted with these parts, the store keeps its chosen records, and its books are true; what reads is the same in
--- the pool, while an epoch isn't too large; the blocks have one owner each, with working tables that have the parts' blocks
+-- and where it does: the image is accepted with these parts, the store has as many blocks, keeps its chosen records, and its books are true; what
+-- reads is the same in the pool, while an epoch isn't too large; the blocks have one owner each, with working tables that have the parts' blocks
 pub record HoldsImage {D : Type 0} (reading : D → Image) (may_leave : D → Image → Type 0) (image : Image) (st : State D) (parts : ImageParts) : Type 0 where
   pub log : ImageLog
   pub parts_are : ArePartsOf log parts
@@ -91,6 +91,7 @@ pub record HoldsImage {D : Type 0} (reading : D → Image) (may_leave : D → Im
   pub area : Area
   pub active : active_area image ≡ Some area
   pub epoch : (books st).place.epoch ≡ epoch_in image area + 1
+  pub count : (books st).count ≡ count_in image
   pub keeps : KeepsChosen image accepted.whole (books st)
   pub books_true : AreTrue reading may_leave (books st) st.disk
   pub stable : Only (reading st.disk) (may_leave st.disk)
@@ -141,9 +142,11 @@ pub record IsOpenedTable {D : Type 0} (frames steps : ℕ) (st : State D) (cs : 
   pub wishes : (s : Supply) (words : ℕ → List ℕ) → HasTableWishes steps (start_run (state_in s words cs)) cs
   pub clean : (s : Supply) (words : ℕ → List ℕ) → AreClean s words cs
 
--- THEY ARE THE IMAGE'S: it is accepted, its chosen records alone are in the log, ascending by entity, and with each supply the cells are what it means
+-- THEY ARE THE IMAGE'S: it is accepted, the store has as many blocks as it, its chosen records alone are in the log, ascending by entity, and with
+-- each supply the cells are what it means
 pub record AreOfImage {D : Type 0} (image : Image) (st : State D) (cs : List Cell) : Type 0 where
   pub accepted : Accepted image
+  pub count : (books st).count ≡ count_in image
   pub recs : recs_in (books st) ≡ chosen_recs accepted.recs
   pub means : (s : Supply) → Means s image (state_in s (words_on image) cs)
 

@@ -1,5 +1,6 @@
 pub mod Aside
 pub mod Keeping
 pub mod Listing
+pub mod Low
 pub mod Making
 pub mod Reading

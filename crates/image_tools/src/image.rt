@@ -1,6 +1,7 @@
 //! An image, read whole.
-ghost use Rattle.std.specs.Prelude.{◌≡◌, ◌<◌, ◌^◌, ℕ, All, IfOk, IsErrOf, slice_index};
+ghost use Rattle.std.specs.Prelude.{◌≡◌, ◌<◌, ◌≤◌, ◌^◌, ℕ, All, IfOk, IsErrOf, slice_index};
 ghost use Rattle.disk_trait.specs.Counts.{Rose};
+ghost use Rattle.history_model.specs.Born.{AreEdges};
 ghost use Rattle.history_model.specs.Plains.{cells_of};
 ghost use Rattle.hop_model.specs.Soundness.{IsSound};
 ghost use Rattle.hop_model.specs.State.{Supply};
@@ -48,6 +49,8 @@ pub fn read_image<D: Disk, S: Fn(u64, u32, u16) -> u64>(
     ensures cut { IfOk result (λ facts. slice_index facts.cut.0 ≡ cut_of facts.log.recs.items) }
     ensures meaning { D.tells → IfOk result (λ facts. MeansState s (D.reading disk.old) facts.state facts.cut.0) }
     ensures sound { IfOk result (λ facts. IsSound (cells_of s facts.state)) }
+    ensures edges { IfOk result (λ facts. AreEdges facts.state.atlas.edges.items) }
+    ensures low { IfOk result (λ facts. All (λ v. v ≤ 2 ^ 62) facts.cut.0) }
     ensures sparse { IfOk result (λ facts. All (IsSparseContainer s) facts.state.containers.items) }
     ensures foreign { D.tells → (bad : BadPlace) → IsErrOf result (ReadingFault.Foreign bad) → IsForeign (D.reading disk.old) bad }
     ensures cause { IsErrOf result ReadingFault.Disk → Rose (D.faults disk.old) (D.faults disk.new) }

@@ -1,5 +1,6 @@
 //! The atlas and the loci of an image in ordinary lists.
 ghost use Rattle.std.specs.Prelude.{◌≡◌, ◌<◌, ◌≤◌, ◌+◌, ℕ, IfOk, length, slice_get};
+ghost use Rattle.history_model.specs.Born.{AreEdges};
 ghost use Rattle.history_model.specs.Plains.{atlas_of, locus_cell, locus_of};
 ghost use Rattle.hop_model.specs.State.{LocusCell, no_atlas};
 ghost use Rattle.part_checks.specs.Chosen.{part_in, parts_of};
@@ -13,7 +14,8 @@ use std::alloc::{AllocError, Global};
 
 // An atlas that names nobody.
 fn empty_atlas(alloc: Global) -> PlainAtlas
-    ensures { atlas_of result ≡ no_atlas }
+    ensures atlas { atlas_of result ≡ no_atlas }
+    ensures edges { AreEdges result.edges.items }
 {
     PlainAtlas {
         containers: Vec::new(alloc),
@@ -27,7 +29,8 @@ pub(crate) fn atlas_at(
     alloc: Global,
     entity: &Option<ChosenEntity>,
 ) -> Result<PlainAtlas, AllocError>
-    ensures { IfOk result (λ plain. atlas_of plain ≡ atlas_by (part_in entity.now)) }
+    ensures atlas { IfOk result (λ plain. atlas_of plain ≡ atlas_by (part_in entity.now)) }
+    ensures edges { IfOk result (λ plain. AreEdges plain.edges.items) }
 {
     let Some(entity) = entity else {
         return Ok(empty_atlas(alloc));

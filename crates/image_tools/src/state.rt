@@ -2,6 +2,7 @@
 ghost use Rattle.std.specs.Prelude.{◌≡◌, ◌<◌, ◌^◌, ℕ, All, IfOk, IsErrOf};
 ghost use Rattle.disk_trait.specs.Counts.{Rose};
 ghost use Rattle.disk_trait.specs.Image.{block_at};
+ghost use Rattle.history_model.specs.Born.{AreEdges};
 ghost use Rattle.history_model.specs.Plains.{cells_of};
 ghost use Rattle.hop_model.specs.State.{Supply};
 ghost use Rattle.image_parts.specs.Parts.{ArePartsOf};
@@ -32,6 +33,7 @@ pub(crate) fn state_of<D: Disk, S: Fn(u64, u32, u16) -> u64>(
     requires parts { (log : ImageLog) × IsKnown (D.block_count disk.old) log × ArePartsOf log parts.now }
     ensures cells { IfOk result (λ plain. (x : ℕ) → IsCellOf D.tells s (block_at (D.reading disk.old)) x (parts_of parts.now.entities.items x) (cells_of s plain x)) }
     ensures sparse { IfOk result (λ plain. All (IsSparseContainer s) plain.containers.items) }
+    ensures edges { IfOk result (λ plain. AreEdges plain.atlas.edges.items) }
     ensures cause { IsErrOf result PagesFault.Disk → Rose (D.faults disk.old) (D.faults disk.new) }
     ensures same { ReadsOnly D.tells D.block_count D.reading D.may_leave D.left_since D.clock D.faults disk.old disk.new }
 {

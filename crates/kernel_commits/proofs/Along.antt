@@ -15,9 +15,11 @@ use Rattle.serial_runs.proofs.Calm.{snap_next, without}
 use Rattle.serial_turns.specs.Turns.{IsStoppedIn}
 use Rattle.serial_turns.proofs.Stops.{stopped_behind, stopped_longer}
 use Rattle.kernel_model.specs.Beginnings.{Beginning, run_of}
+use Rattle.kernel_commits.specs.Lacking.{LacksIn}
 use Rattle.kernel_commits.specs.Parts.{Parts}
 use Rattle.kernel_commits.specs.Pieces.{StopsIn}
 use Rattle.kernel_commits.specs.Snapping.{RunsFree, SnapsAll, SnapsOne, wants_in}
+use Rattle.kernel_commits.proofs.Dues.{lacks_behind}
 
 module _ {D : Type 0} (tells : Type 0) (clock faults : D → ℕ) (reading : D → Image) (may_leave : D → Image → Type 0) (left_since : D → ℕ → Image → Type 0) (b : Beginning) (policy : Policy) where
   abbrev later_snaps : Run → List Touch → List Entry
@@ -77,6 +79,10 @@ module _ {D : Type 0} (tells : Type 0) (clock faults : D → ℕ) (reading : D �
           is = stopped_behind b.supply b.script (run_of b old.noted.entries) (later_snaps (run_of b old.noted.entries) ts) a.made (snaps ++ later) p.part (with_snaps wrote)
               (subst (λ (q : Run). IsStoppedIn b.supply b.script q (snaps ++ later) p.part) behind (stopped_longer b.supply b.script rn snaps p.part later p.is));
         }
+
+    -- where blocks were wanting for one, it was due among them
+    pub lacks_along : t.wrote ≡ true → (next : Parts D) → LacksIn b snaps now.noted.entries next → LacksIn b (later_snaps (run_of b old.noted.entries) ts) old.noted.entries next
+    lacks_along wrote next l = lacks_behind b (later_snaps (run_of b old.noted.entries) ts) a.made snaps later old.noted.entries now.noted.entries next (with_snaps wrote) a.entries l
 
     module _ (wrote : t.wrote ≡ true) (v : Bool) (next : Parts D) (s : SnapsOne tells clock faults reading may_leave left_since b policy t.entity {T = Bool} (Ok v) now next) where
       run_is : run_of b next.noted.entries ≡ run_after b.supply b.script rn snaps

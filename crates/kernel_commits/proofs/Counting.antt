@@ -1,5 +1,5 @@
 -- How a store counts on over several records.
-use Rattle.std.proofs.Common.{◌≡◌, inl, inr, ℕ, suc, ◌+◌, ◌*◌, ◌≤◌, Bool, sym, subst, arith}
+use Rattle.std.proofs.Common.{◌≡◌, inl, inr, ℕ, suc, ◌+◌, ◌*◌, ◌≤◌, Bool, refl, sym, ◌∙◌, subst, arith}
 use Rattle.std.proofs.lemmas.Bool.{cases_lt}
 use Rattle.std.proofs.lemmas.Option.{slice_get_within}
 use Rattle.disk_tally.proofs.Counting.{CountsOn-stay, CountsOn-then}
@@ -17,16 +17,17 @@ past_cells policy x p t numbers past s words c at = absurd (let lt = slice_get_w
 
 module _ {D : Type 0} (clock faults : D → ℕ) where
   pub CountsWithin-stay : (most : ℕ) (st : State D) → CountsWithin clock faults most st st
-  CountsWithin-stay most st = record { few = omega arith; counts = CountsOn-stay (clock st.disk) (books st).begun; later = omega arith }
+  CountsWithin-stay most st = record { few = omega arith; counts = CountsOn-stay (clock st.disk) (books st).begun; later = omega arith; same_count = refl }
 
   pub CountsWithin-fewer : (m n : ℕ) (old new : State D) → m ≤ n → CountsWithin clock faults m old new → CountsWithin clock faults n old new
-  CountsWithin-fewer m n old new le w = record { few = (let few = w.few in omega (arith, le, few)); counts = w.counts; later = w.later }
+  CountsWithin-fewer m n old new le w = record { few = (let few = w.few in omega (arith, le, few)); counts = w.counts; later = w.later; same_count = w.same_count }
 
   pub CountsWithin-then : (m n : ℕ) (old mid new : State D) → CountsWithin clock faults m old mid → CountsWithin clock faults n mid new → CountsWithin clock faults (m + n) old new
   CountsWithin-then m n old mid new p q = record {
     few = (let one = p.few in let two = q.few in omega (arith, one, two));
     counts = CountsOn-then (clock old.disk) (clock mid.disk) (clock new.disk) (books old).begun (books mid).begun (books new).begun p.counts q.counts;
     later = (let one = p.later in let two = q.later in omega (arith, one, two));
+    same_count = q.same_count ∙ p.same_count;
   }
 
   -- a record more
@@ -35,6 +36,7 @@ module _ {D : Type 0} (clock faults : D → ℕ) where
     few = (let few = w.few in let more = k.few in omega (arith, few, more));
     counts = CountsOn-then (clock old.disk) (clock mid.disk) (clock new.disk) (books old).begun (books mid).begun (books new).begun w.counts k.counts;
     later = (let was = w.later in let more = k.later in omega (arith, was, more));
+    same_count = k.same_count ∙ w.same_count;
   }
 
   -- over the Snaps of these many touches: a record for each at most, and for each entity

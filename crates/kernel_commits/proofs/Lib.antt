@@ -18,3 +18,4 @@ pub mod BlobSizes
 pub mod Needs
 pub mod Fitting
 pub mod Enough
+pub mod Dues

@@ -33,6 +33,8 @@ use Rattle.kernel_commits.specs.Pieces.{StopsIn}
 use Rattle.kernel_commits.specs.Recording.{HasRecorded, HasTried, MayRecord}
 use Rattle.kernel_commits.specs.Snapping.{RunsFree, Snaps, SnapsOne}
 use Rattle.kernel_commits.specs.declared.stopping.Stopped.{Stopped}
+use Rattle.kernel_commits.specs.Lacking.{LacksBlocks, LacksIn}
+use Rattle.kernel_commits.proofs.Dues.{lacks_first}
 use Rattle.kernel_commits.proofs.Parting.{none_came}
 use Rattle.kernel_commits.specs.declared.stopping.Stopped.TheVariants.{Failed, TooFew}
 
@@ -148,6 +150,10 @@ module _ {D : Type 0} (tells : Type 0) (clock faults : D → ℕ) (reading : D �
     entries = (tried err).entries ∙ ap (λ v. old.noted.entries ++ mark Tried x v ∷ []) (sym version_is);
     is = subst (λ (all : List Entry). IsStoppedIn b.supply b.script r all (mark Tried x (version_of r x) ∷ [])) (sym (ap snap_by is)) (cut_tried b.supply b.script r (snap_by true) [] [] x (version_of r x) refl);
   }
+
+  -- for want of blocks: it was due
+  pub one_lacks : test ≡ true → (new : Parts D) → new ≡ old → LacksBlocks b old → LacksIn b (wished_snap policy r x) old.noted.entries new
+  one_lacks is new same lacks = lacks_first b (mark Snap x (version_of r x)) [] (wished_snap policy r x) old new (sym (ap snap_by is)) tt same lacks
 
   pub one_failed : (new : Parts D) → {T : Type 0} → (res : Result T Stopped) → (why : Stopped) → res ≡ Err why → LivesAs tells clock faults reading may_leave left_since b new (Some (stop_of why))
       → SnapsOne tells clock faults reading may_leave left_since b policy x res old new

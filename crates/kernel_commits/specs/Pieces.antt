@@ -12,8 +12,9 @@ pub record StopsIn (b : Beginning) (all old new : List Entry) : Type 0 where
   pub entries : new ≡ old ++ part
   pub is : IsStoppedIn b.supply b.script (run_of b old) all part
 
--- HOW A STORE COUNTS ON: so many writes and syncs at most, the disk's clock with them, and faults don't fall
+-- HOW A STORE COUNTS ON: so many writes and syncs at most, the disk's clock with them; faults don't fall, and the image has as many blocks
 pub record CountsWithin {D : Type 0} (clock faults : D → ℕ) (most : ℕ) (old new : State D) : Type 0 where
   pub few : (books new).begun ≤ (books old).begun + most
   pub counts : CountsOn (clock old.disk) (clock new.disk) (books old).begun (books new).begun
   pub later : faults old.disk ≤ faults new.disk
+  pub same_count : (books new).count ≡ (books old).count

@@ -9,7 +9,7 @@ ghost use Rattle.kernel_cells.specs.declared.cells.Cell.{Cell as ACell};
 ghost use Rattle.kernel_model.specs.Beginnings.{run_of};
 ghost use Rattle.wish_laws.specs.Founded.{IsFoundedCell};
 ghost use Rattle.disk_trait.specs.declared.disk.NoBlocks.{NoBlocks as TooFewBlocks};
-ghost use Rattle.kernel_commits.specs.Lacking.{LacksBlocks};
+ghost use Rattle.kernel_commits.specs.Lacking.{LacksIn};
 ghost use Rattle.kernel_commits.specs.Recording.{HasRecorded, HasTried, IsShort};
 ghost use Rattle.kernel_commits.specs.Snapping.{CanSnap, RunsFree, Snaps, SnapsAll, SnapsOne, wants_in};
 ghost use Rattle.kernel_commits.specs.Steady.{IsSteady};
@@ -87,7 +87,7 @@ pub fn snap_one<D: Disk, S: Supplier, P: Policy>(
     ensures clean { D.tells → (s : Supply) → AreClean s (words_on (D.reading core.old.store.disk)) core.old.cells
         → OnOk result (AreClean s (words_on (D.reading core.new.store.disk)) core.new.cells) }
     ensures enough { D.tells → (b : Beginning) → RunsFree D.tells D.clock D.faults D.reading D.may_leave D.left_since b (P.wish gate.now.policy) core.old
-        → (n : TooFewBlocks) → IsErrOf result (AStop.TooFew n) → LacksBlocks b core.old }
+        → (n : TooFewBlocks) → IsErrOf result (AStop.TooFew n) → LacksIn b (wished_snap (P.wish gate.now.policy) (run_of b core.old.noted.entries) entity) core.old.noted.entries core.new }
     ensures counts { CommitCounts D.clock D.faults core.old.store core.new.store }
 {
     if !wants_snap(core, entity, gate) {
@@ -114,7 +114,8 @@ fn snap_touched<D: Disk, S: Supplier, P: Policy>(
     ensures part { D.tells → (b : Beginning) → RunsFree D.tells D.clock D.faults D.reading D.may_leave D.left_since b (P.wish gate.now.policy) core.old
         → OnErr result (StopsIn b (wished_snaps b.supply (P.wish gate.now.policy) b.script (run_of b core.old.noted.entries) (written_in touches.now)) core.old.noted.entries core.new.noted.entries) }
     ensures enough { D.tells → (b : Beginning) → RunsFree D.tells D.clock D.faults D.reading D.may_leave D.left_since b (P.wish gate.now.policy) core.old
-        → (n : TooFewBlocks) → IsErrOf result (AStop.TooFew n) → LacksBlocks b core.new }
+        → (n : TooFewBlocks) → IsErrOf result (AStop.TooFew n)
+        → LacksIn b (wished_snaps b.supply (P.wish gate.now.policy) b.script (run_of b core.old.noted.entries) (written_in touches.now)) core.old.noted.entries core.new }
     ensures stopped { IfErr result (LeavesStopped D.faults core.old core.new) }
     ensures clean { D.tells → (s : Supply) → AreClean s (words_on (D.reading core.old.store.disk)) core.old.cells
         → OnOk result (AreClean s (words_on (D.reading core.new.store.disk)) core.new.cells) }
@@ -146,7 +147,8 @@ pub fn snap_written<D: Disk, S: Supplier, P: Policy>(
     ensures part { D.tells → (b : Beginning) → RunsFree D.tells D.clock D.faults D.reading D.may_leave D.left_since b (P.wish gate.now.policy) core.old
         → OnErr result (StopsIn b (wished_snaps b.supply (P.wish gate.now.policy) b.script (run_of b core.old.noted.entries) (written_in entry.now.touched)) core.old.noted.entries core.new.noted.entries) }
     ensures enough { D.tells → (b : Beginning) → RunsFree D.tells D.clock D.faults D.reading D.may_leave D.left_since b (P.wish gate.now.policy) core.old
-        → (n : TooFewBlocks) → IsErrOf result (AStop.TooFew n) → LacksBlocks b core.new }
+        → (n : TooFewBlocks) → IsErrOf result (AStop.TooFew n)
+        → LacksIn b (wished_snaps b.supply (P.wish gate.now.policy) b.script (run_of b core.old.noted.entries) (written_in entry.now.touched)) core.old.noted.entries core.new }
     ensures stopped { IfErr result (LeavesStopped D.faults core.old core.new) }
     ensures clean { D.tells → (s : Supply) → AreClean s (words_on (D.reading core.old.store.disk)) core.old.cells
         → OnOk result (AreClean s (words_on (D.reading core.new.store.disk)) core.new.cells) }

@@ -1,7 +1,7 @@
 // The records of a Stable.
 ghost use Rattle.std.specs.Prelude.{◌≡◌, ◌↔◌, ◌==◌, ◌*◌, ◌+◌, ◌<◌, ◌≤◌, ◌++◌, ◌∷◌, [], ℕ, None, Some, IfErr, IsErrOf, OnErr, OnOk, length, take};
 ghost use Rattle.cell_books.specs.Matching.{newest_of, version_of};
-ghost use Rattle.kernel_commits.specs.Lacking.{LacksBlocks};
+ghost use Rattle.kernel_commits.specs.Lacking.{LacksIn};
 ghost use Rattle.kernel_commits.specs.Parts.{LivesAs, stop_of};
 ghost use Rattle.hop_base.specs.declared.histories.Event.TheVariants as AnEvent;
 ghost use Rattle.hop_model.specs.Histories.{mark};
@@ -126,7 +126,7 @@ pub fn settle<D: Disk>(core: &mut Core<D>, actor: Entity) -> Result<(), Stopped>
     ensures too_few { (n : TooFewBlocks) → IsErrOf result (AStop.TooFew n) ↔ AreTooFew core.old n }
     ensures untouched { (n : TooFewBlocks) → IsErrOf result (AStop.TooFew n) → core.new ≡ core.old }
     ensures enough { D.tells → (b : Beginning) → OwesStable D.tells D.clock D.faults D.reading D.may_leave D.left_since b actor core.old
-        → (n : TooFewBlocks) → IsErrOf result (AStop.TooFew n) → LacksBlocks b core.old }
+        → (n : TooFewBlocks) → IsErrOf result (AStop.TooFew n) → LacksIn b (mark AnEvent.Stable actor 0 ∷ []) core.old.noted.entries core.new }
     ensures stopped { IfErr result (LeavesStopped D.faults core.old core.new) }
     ensures clean { D.tells → (s : Supply) → AreClean s (words_on (D.reading core.old.store.disk)) core.old.cells
         → OnOk result (AreClean s (words_on (D.reading core.new.store.disk)) core.new.cells) }

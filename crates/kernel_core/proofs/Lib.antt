@@ -3,7 +3,7 @@ pub mod StepRoom
 pub mod Idling
 pub mod Stepped
 pub mod StableOwed
-pub mod Looked
+pub mod LookMade
 pub mod LookKept
 pub mod Paired
 pub mod Births

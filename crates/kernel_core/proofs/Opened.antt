@@ -23,7 +23,7 @@ use Rattle.kernel_views.proofs.Following.{cells_follow}
 use Rattle.kernel_views.proofs.Legal.{run_next}
 use Rattle.table_births.specs.Births.{NoBirthLeft}
 use Rattle.kernel_commits.specs.Parts.{Parts}
-use Rattle.kernel_commits.specs.Lacking.{LacksBlocks}
+use Rattle.kernel_commits.specs.Lacking.{LacksIn}
 use Rattle.kernel_commits.specs.Pieces.{CountsWithin, StopsIn}
 use Rattle.kernel_commits.specs.Stabilising.{AreTooFew, HasStabilised, OwesStable, Stabilises}
 use Rattle.kernel_commits.specs.Steady.{entries_taken, steps_to_come}
@@ -31,6 +31,7 @@ use Rattle.kernel_commits.specs.Stops.{LeavesStopped}
 use Rattle.kernel_commits.specs.declared.stopping.Stopped.{Stopped}
 use Rattle.kernel_commits.specs.declared.stopping.Stopped.TheVariants.{Failed, TooFew}
 use Rattle.kernel_commits.proofs.Counting.{CountsWithin-stay}
+use Rattle.kernel_commits.proofs.Dues.{lacks_behind}
 use Rattle.kernel_commits.proofs.Room.{steps_within}
 use Rattle.kernel_core.specs.Bearing.{AwaitsStable, HasBorneAll, HasOpened, IsInBirths, IsShortBehind, OpensRun, RunsInBirths}
 use Rattle.kernel_core.proofs.Births.{births_clean}
@@ -157,8 +158,8 @@ module _ {D : Type 0} (tells : Type 0) (clock faults : D → ℕ) (reading : D �
 
     pub opens_settled : (result : Result ⊤ Stopped) (new : Parts D) → OnOk result (HasStabilised 0 p new) → Stabilises tells clock faults reading may_leave left_since b result new
         → OnErr result (StopsIn b (mark Stable 0 0 ∷ []) es new.noted.entries)
-        → ((n : NoBlocks) → IsErrOf result (TooFew n) → LacksBlocks b p) → ((n : NoBlocks) → IsErrOf result (TooFew n) → new ≡ p) → OpensRun tells clock faults reading may_leave left_since b result new
-    opens_settled (Ok u) new st s part lacks same = record {
+        → ((n : NoBlocks) → IsErrOf result (TooFew n) → LacksIn b (mark Stable 0 0 ∷ []) es new) → OpensRun tells clock faults reading may_leave left_since b result new
+    opens_settled (Ok u) new st s part lacks = record {
       stands = s.stands;
       calm = record { births_made = born_still new st.entries; nothing_owed = s.calm.owed; not_tried = s.calm.tried; nothing_due = s.calm.due };
       complete = st.entries ∙ awaits.complete;
@@ -166,11 +167,11 @@ module _ {D : Type 0} (tells : Type 0) (clock faults : D → ℕ) (reading : D �
       enough = λ n failed. absurd (cc failed);
       lives = tt;
     }
-    opens_settled (Err why) new st s part lacks same = record {
+    opens_settled (Err why) new st s part lacks = record {
       stands = tt;
       calm = tt;
       complete = tt;
       part = part_behind new.noted.entries part;
-      enough = λ n failed. subst (LacksBlocks b) (sym (same n failed)) (lacks n failed);
+      enough = λ n failed. lacks_behind b (opening b.supply b.script b.state) es (mark Stable 0 0 ∷ []) [] [] es new awaits.complete refl (lacks n failed);
       lives = s.lives;
     }

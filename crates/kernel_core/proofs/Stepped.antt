@@ -1,11 +1,13 @@
 -- A step over a kernel's parts: what it leaves of them, whatever the disk tells, and of a run.
 use Rattle.std.proofs.Common.{◌≡◌, ◌⊎◌, ◌↔◌, inl, inr, ℕ, ◌+◌, ◌<◌, ◌≤◌, Bool, true, false, not, ◌&&◌, nat_lt, List, [], ◌∷◌, ◌++◌, length, slice_get, Option, Some, None, is_some, Ok, Err, refl, sym, ap, subst, ◌∙◌, arith, length-append}
 use Rattle.std.specs.Prelude.{IsErrOf, Result}
+use Rattle.std.proofs.lemmas.Bool.{and_parts}
 use Rattle.std.proofs.lemmas.Option.{slice_get_within}
 use Rattle.disk_trait.specs.Image.{Image}
 use Rattle.disk_trait.specs.declared.disk.NoBlocks.{NoBlocks as TooFewBlocks}
 use Rattle.hop_base.specs.declared.histories.Entry.{Entry}
-use Rattle.hop_model.specs.Histories.{May, Run}
+use Rattle.hop_base.specs.declared.histories.Event.{Event}
+use Rattle.hop_model.specs.Histories.{May, Run, goes_on}
 use Rattle.hop_model.specs.Serial.{can_step}
 use Rattle.hop_model.specs.State.{KernelState, Supply, empty_state}
 use Rattle.hop_model.specs.Steps.{running, step}
@@ -21,6 +23,7 @@ use Rattle.step_plans.specs.declared.idle.Idle.TheVariants.{Absent}
 use Rattle.cell_table.specs.Steps.{EntersStep}
 use Rattle.cell_table.specs.Tables.{AreClean, IsOrderly, entity_in, left_of, state_in}
 use Rattle.record_laws.specs.Cells.{words_on}
+use Rattle.table_steps.specs.Wanting.{WantsWord}
 use Rattle.table_steps.specs.declared.stepping.StepFault.{StepFault}
 use Rattle.table_steps.specs.declared.stepping.StepFault.TheVariants.{Idle, Paging}
 use Rattle.kernel_model.specs.Beginnings.{Beginning, run_of, state_after}
@@ -34,18 +37,24 @@ use Rattle.kernel_views.proofs.Following.{cells_follow}
 use Rattle.kernel_views.proofs.Legal.{run_next}
 use Rattle.kernel_views.proofs.Stepping.{clean_on, made_event}
 use Rattle.kernel_views.proofs.Stopping.{stops}
-use Rattle.serial_runs.specs.Serial.{IsBehind, IsCalm as IsQuiet, written_in}
+use Rattle.look_steps.specs.Looking.{IsWordStep}
+use Rattle.serial_runs.specs.Serial.{IsBehind, IsCalm as IsQuiet, kept_behind, look, written_in}
 use Rattle.serial_runs.proofs.Calm.{step_behind, step_entry, step_may}
+use Rattle.serial_runs.proofs.Rounds.{step_some}
+use Rattle.serial_turns.proofs.Looks.{look_made}
 use Rattle.store_steps.specs.Leaving.{LeavesInOrder}
 use Rattle.cell_books.specs.Matching.{Rises, newest_of, version_at, version_of}
 use Rattle.cell_books.proofs.Keeping.{rises}
 use Rattle.kernel_commits.specs.Parts.{Noted, Parts, StandsAs, parts_of, stop_of}
-use Rattle.kernel_commits.specs.Lacking.{LacksBlocks}
+use Rattle.kernel_commits.specs.Lacking.{IsDueIn, LacksBlocks, MayWant}
 use Rattle.kernel_commits.specs.Pieces.{CountsWithin}
 use Rattle.kernel_commits.specs.Steady.{IsSteady, entries_taken, steps_to_come}
 use Rattle.kernel_core.specs.Stepping.{HasCause, StepsInRun, StepsOnce, idle_at, stop_by}
+use Rattle.kernel_core.specs.declared.stepping.Stepping.{Stepping}
+use Rattle.kernel_core.specs.declared.stepping.Stepping.TheVariants.{Idle as IdleFor, Made}
 use Rattle.kernel_commits.specs.declared.stopping.Stopped.{Stopped}
 use Rattle.kernel_commits.specs.declared.stopping.Stopped.TheVariants.{TooFew}
+use Rattle.kernel_commits.proofs.Dues.{due_first}
 use Rattle.kernel_commits.proofs.Enough.{none_lacks}
 use Rattle.kernel_commits.proofs.Room.{steps_within, taken_next}
 use Rattle.kernel_core.proofs.Idling.{can_by, empty_idle, empty_stays, high_by}
@@ -68,10 +77,6 @@ none_by (Some why) h = absurd (h why refl)
 absent_none : Some Absent ≡ None → ⊥
 absent_none e = cc
 
-some_by : (o : Option AnIdle) → is_some o ≡ true → (why : AnIdle) × (o ≡ Some why)
-some_by None is = absurd (cc is)
-some_by (Some why) is = (why, refl)
-
 abbrev err_of : StepFault → Result Entry StepFault
 err_of f = Err f
 
@@ -92,20 +97,26 @@ not_false : (t : Bool) → false ≡ not t → t ≡ true
 not_false true is = refl
 not_false false is = absurd (cc is)
 
-abbrev ok_some : Entry → Result (Option Entry) Stopped
-ok_some e = Ok (Some e)
+abbrev ok_made : Entry → Result Stepping Stopped
+ok_made e = Ok (Made e)
 
-abbrev ok_none : Result (Option Entry) Stopped
-ok_none = Ok None
+abbrev ok_idle : AnIdle → Result Stepping Stopped
+ok_idle why = Ok (IdleFor why)
 
-abbrev err_why : Stopped → Result (Option Entry) Stopped
+abbrev err_why : Stopped → Result Stepping Stopped
 err_why why = Err why
 
-some_not : (e : Entry) → ok_some e ≡ ok_none → ⊥
-some_not e is = cc is
+made_not : (e : Entry) (why : AnIdle) → ok_made e ≡ ok_idle why → ⊥
+made_not e why is = cc is
 
-err_not : (why : Stopped) → err_why why ≡ ok_none → ⊥
-err_not why is = cc is
+err_not : (stop : Stopped) (why : AnIdle) → err_why stop ≡ ok_idle why → ⊥
+err_not stop why is = cc is
+
+idle_for : (why w : AnIdle) → IsErrOf {T = Entry} {E = StepFault} (Err (Idle why)) (Idle w) → ok_idle why ≡ ok_idle w
+idle_for why w is = let e : why ≡ w = cc in ap ok_idle e
+
+idle_by : (why w : AnIdle) → ok_idle why ≡ ok_idle w → IsErrOf {T = Entry} {E = StepFault} (Err (Idle why)) (Idle w)
+idle_by why w is = let e : why ≡ w = cc in ap (λ (v : AnIdle). err_of (Idle v)) e
 
 module _ {D : Type 0} (tells : Type 0) (clock faults : D → ℕ) (reading : D → Image) (may_leave : D → Image → Type 0) (left_since : D → ℕ → Image → Type 0)
     (counts_later : (disk : D) (s t : ℕ) (c : Image) → tells → s ≤ t → left_since disk t c → left_since disk s c)
@@ -121,7 +132,7 @@ module _ {D : Type 0} (tells : Type 0) (clock faults : D → ℕ) (reading : D �
   before = k.sound.matches.orderly
 
   counts_on : CountsWithin clock faults 1 st st'
-  counts_on = record { few = leaves.one_write; counts = leaves.pages.only.counts; later = leaves.pages.later }
+  counts_on = record { few = leaves.one_write; counts = leaves.pages.only.counts; later = leaves.pages.later; same_count = leaves.pages.only.same_count }
 
   -- idle in a run
   module _ (b : Beginning) (stands : StandsAs tells clock faults reading may_leave left_since b old) where
@@ -278,32 +289,32 @@ module _ {D : Type 0} (tells : Type 0) (clock faults : D → ℕ) (reading : D �
             (step_behind b.supply b.policy b.script (r b stands) e quiet (step_entry b.supply b.policy b.script (r b stands) me (e, state_in b.supply (words_on (reading st'.disk)) cs') made).0 may);
       }
 
-    pub once_made : StepsOnce tells clock faults reading may_leave left_since s me old new (Ok (Some e))
+    pub once_made : StepsOnce tells clock faults reading may_leave left_since s me old new (Ok (Made e))
     once_made = record {
-      idle = λ z ws. ((λ is. absurd (let h = some_by (idle_at z ws me cs) is in no_fault e (Idle h.0) ((idle z ws h.0).1 h.1))), (λ is. absurd (some_not e is)));
-      still = λ is. absurd (some_not e is);
+      idle = λ z ws why. ((λ is. absurd (no_fault e (Idle why) ((idle z ws why).1 is))), (λ is. absurd (made_not e why is)));
+      still = λ why is. absurd (made_not e why is);
       made = record { enters = enters; entries = refl; marks = refl; room = refl; spare = spare };
       failed = tt;
       steady = steady_on;
       clean = clean';
       counts = counts_on;
       run = runs_on;
-      enough = λ told b stands calm n is. absurd (cc is);
+      enough = λ told b same stands calm n is. absurd (cc is);
     }
 
   -- NONE, where the locus is idle
   idle_once : (why : AnIdle) → ((z : Supply) (ws : ℕ → List ℕ) (w : AnIdle) → IsErrOf {T = Entry} {E = StepFault} (Err (Idle why)) (Idle w) ↔ (idle_at z ws me cs ≡ Some w)) → cs' ≡ cs → st' ≡ st
-      → StepsOnce tells clock faults reading may_leave left_since s me old (parts_of st' cs' noted) (Ok None)
+      → StepsOnce tells clock faults reading may_leave left_since s me old (parts_of st' cs' noted) (Ok (IdleFor why))
   idle_once why idle same_cells same_store = record {
-    idle = λ z ws. ((λ is. refl), (λ is. ap is_some ((idle z ws why).0 refl)));
-    still = λ is. same_parts;
+    idle = λ z ws w. ((λ is. idle_for why w ((idle z ws w).1 is)), (λ is. (idle z ws w).0 (idle_by why w is)));
+    still = λ w is. same_parts;
     made = tt;
     failed = tt;
     steady = subst (IsSteady tells reading may_leave) (sym same_parts) k;
     clean = clean';
     counts = counts_on;
     run = λ told b same stands calm. not_true (can_step b.script (r b stands) me) (sym (ap is_some ((idle b.supply (words b stands) why).0 refl)) ∙ can_is b stands);
-    enough = λ told b stands calm n is. absurd (cc is);
+    enough = λ told b same stands calm n is. absurd (cc is);
   }
     where
       same_parts : parts_of st' cs' noted ≡ old
@@ -311,7 +322,7 @@ module _ {D : Type 0} (tells : Type 0) (clock faults : D → ℕ) (reading : D �
 
   pub once_idle : (f : StepFault) (why : AnIdle) → f ≡ Idle why → ((z : Supply) (ws : ℕ → List ℕ) (w : AnIdle) → IsErrOf {T = Entry} {E = StepFault} (Err f) (Idle w) ↔ (idle_at z ws me cs ≡ Some w))
       → ((w : AnIdle) → IsErrOf {T = Entry} {E = StepFault} (Err f) (Idle w) → (cs' ≡ cs) × (st' ≡ st))
-      → StepsOnce tells clock faults reading may_leave left_since s me old (parts_of st' cs' noted) (Ok None)
+      → StepsOnce tells clock faults reading may_leave left_since s me old (parts_of st' cs' noted) (Ok (IdleFor why))
   once_idle f why is idle still =
       idle_once why (subst (λ f. (z : Supply) (ws : ℕ → List ℕ) (w : AnIdle) → IsErrOf {T = Entry} {E = StepFault} (Err f) (Idle w) ↔ (idle_at z ws me cs ≡ Some w)) is idle)
       (still why (fault_is f (Idle why) is)).0 (still why (fault_is f (Idle why) is)).1
@@ -335,13 +346,37 @@ module _ {D : Type 0} (tells : Type 0) (clock faults : D → ℕ) (reading : D �
   short_by page.WriteFault c told b stands calm n is = absurd (cc is)
   short_by page.Shut c told b stands calm n is = absurd (cc is)
 
+  -- the step is defined, and reads or writes a word
+  module _ (none : (z : Supply) (ws : ℕ → List ℕ) → idle_at z ws me cs ≡ None) (at_word : WantsWord me cs)
+      (b : Beginning) (stands : StandsAs tells clock faults reading may_leave left_since b old) where
+    abbrev all : List Entry
+    all = look b.supply b.policy b.script (r b stands) me
+
+    can_step_here : can_step b.script (r b stands) me ≡ true
+    can_step_here = not_false (can_step b.script (r b stands) me) (sym (ap is_some (none b.supply (words b stands))) ∙ can_is b stands)
+
+    steps_here : (made : Entry × KernelState) × (step b.supply me (r b stands).state ≡ Some made)
+    steps_here = step_some b.supply b.policy b.script me (r b stands).state (and_parts (is_some (running ((r b stands).state me).cell)) (nat_lt ((r b stands).steps me) b.script.steps) can_step_here).0
+
+    word_step : IsWordStep (state_after b noted.entries) steps_here.0.0
+    word_step = subst (λ (w : KernelState). IsWordStep w steps_here.0.0) stands.runs.follows.state
+        (at_word b.supply (words b stands) steps_here.0 (ap (step b.supply me) (follow b stands).state ∙ steps_here.1))
+
+    step_due : IsDueIn b all noted.entries noted.entries
+    step_due =
+        let made = steps_here.0 in
+        let behind : Run = goes_on b.supply b.script (r b stands) made.0 in
+        due_first b made.0 (kept_behind b.supply b.policy b.script behind (written_in made.0.touched) behind.owed) all noted.entries noted.entries
+        (sym (look_made b.supply b.policy b.script (r b stands) me made.0 made.1 behind.owed can_step_here steps_here.1 refl))
+        (subst (λ (v : Event). MayWant b noted.entries made.0 v) (sym (step_entry b.supply b.policy b.script (r b stands) me made steps_here.1).0) word_step) refl
+
   failed_once : (f : PageFault) → ((z : Supply) (ws : ℕ → List ℕ) (w : AnIdle) → IsErrOf {T = Entry} {E = StepFault} (Err (Paging f)) (Idle w) ↔ (idle_at z ws me cs ≡ Some w))
       → IsCausedBy (free_in (books st)) (faults st.disk) (faults st'.disk) (books st).shut (books st').shut f
-      → ((b : Beginning) → tells → b.supply ≡ s → StopsOver tells clock faults reading may_leave left_since b cs cs' st st')
+      → ((b : Beginning) → tells → b.supply ≡ s → StopsOver tells clock faults reading may_leave left_since b cs cs' st st') → WantsWord me cs
       → StepsOnce tells clock faults reading may_leave left_since s me old (parts_of st' cs' noted) (Err (stop_by f))
-  failed_once f idle cause over = record {
-    idle = λ z ws. ((λ is. absurd (let h = some_by (idle_at z ws me cs) is in no_idle f h.0 ((idle z ws h.0).1 h.1))), (λ is. absurd (err_not (stop_by f) is)));
-    still = λ is. absurd (err_not (stop_by f) is);
+  failed_once f idle cause over at_word = record {
+    idle = λ z ws w. ((λ is. absurd (no_idle f w ((idle z ws w).1 is))), (λ is. absurd (err_not (stop_by f) w is)));
+    still = λ w is. absurd (err_not (stop_by f) w is);
     made = tt;
     failed = record { noted = refl; orderly = leaves.orderly; cause = cause_by f cause };
     steady = tt;
@@ -350,13 +385,16 @@ module _ {D : Type 0} (tells : Type 0) (clock faults : D → ℕ) (reading : D �
     run = λ told b same stands calm.
         stop_lives b tells clock reading may_leave left_since counts_later only_now (view_of reading b cs st noted.entries noted.marks None) _ st.disk st'.disk stands.runs
         (stops tells clock faults reading may_leave left_since b cs cs' st st' noted.entries noted.marks (stop_of (stop_by f)) stands (over b told same));
-    enough = short_by f cause;
+    enough = λ told b same stands calm n is.
+        let none : (z : Supply) (ws : ℕ → List ℕ) → idle_at z ws me cs ≡ None = λ z ws. none_by (idle_at z ws me cs) (λ why here. no_idle f why ((idle z ws why).1 here)) in
+        record { lacks = short_by f cause told b stands calm n is; due = step_due none at_word b stands };
   }
 
   pub once_failed : (g : StepFault) (f : PageFault) → g ≡ Paging f → ((z : Supply) (ws : ℕ → List ℕ) (w : AnIdle) → IsErrOf {T = Entry} {E = StepFault} (Err g) (Idle w) ↔ (idle_at z ws me cs ≡ Some w))
       → ((q : PageFault) → IsErrOf {T = Entry} {E = StepFault} (Err g) (Paging q) → IsCausedBy (free_in (books st)) (faults st.disk) (faults st'.disk) (books st).shut (books st').shut q)
       → ((b : Beginning) (q : PageFault) → tells → b.supply ≡ s → IsErrOf {T = Entry} {E = StepFault} (Err g) (Paging q) → StopsOver tells clock faults reading may_leave left_since b cs cs' st st')
+      → ((q : PageFault) → IsErrOf {T = Entry} {E = StepFault} (Err g) (Paging q) → WantsWord me cs)
       → StepsOnce tells clock faults reading may_leave left_since s me old (parts_of st' cs' noted) (Err (stop_by f))
-  once_failed g f is idle cause over =
+  once_failed g f is idle cause over at_word =
       failed_once f (subst (λ f. (z : Supply) (ws : ℕ → List ℕ) (w : AnIdle) → IsErrOf {T = Entry} {E = StepFault} (Err f) (Idle w) ↔ (idle_at z ws me cs ≡ Some w)) is idle)
-      (cause f (fault_is g (Paging f) is)) (λ b told same. over b f told same (fault_is g (Paging f) is))
+      (cause f (fault_is g (Paging f) is)) (λ b told same. over b f told same (fault_is g (Paging f) is)) (at_word f (fault_is g (Paging f) is))

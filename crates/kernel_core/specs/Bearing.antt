@@ -15,7 +15,7 @@ use Rattle.kernel_model.specs.Beginnings.{Beginning, run_of}
 use Rattle.kernel_model.specs.Live.{IsCalm}
 use Rattle.table_births.specs.Births.{BearsQuietly, NoBirthLeft, atlas_state_in, count_born}
 use Rattle.kernel_commits.specs.Parts.{LivesAs, Noted, Parts, StandsAs, stop_of}
-use Rattle.kernel_commits.specs.Lacking.{LacksBlocks}
+use Rattle.kernel_commits.specs.Lacking.{LacksIn}
 use Rattle.kernel_commits.specs.Pieces.{StopsIn}
 use Rattle.kernel_commits.specs.Stabilising.{AreTooFew, HasStabilised}
 use Rattle.kernel_commits.specs.Steady.{IsSteady, entries_to_come}
@@ -92,5 +92,5 @@ module _ {D : Type 0} (tells : Type 0) (clock faults : D → ℕ) (reading : D �
     pub calm : OnOk result (IsCalm b new.noted.entries)
     pub complete : OnOk result (new.noted.entries ≡ opening b.supply b.script b.state)
     pub part : OnErr result (StopsIn b (opening b.supply b.script b.state) [] new.noted.entries)
-    pub enough : (n : NoBlocks) → IsErrOf result (TooFew n) → LacksBlocks b new
+    pub enough : (n : NoBlocks) → IsErrOf result (TooFew n) → LacksIn b (opening b.supply b.script b.state) [] new
     pub lives : IfErr result (λ why. LivesAs tells clock faults reading may_leave left_since b new (Some (stop_of why)))

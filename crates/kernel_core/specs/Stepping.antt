@@ -1,5 +1,5 @@
 -- One look at a locus: its step, and what comes behind it.
-use Rattle.std.specs.Prelude.{◌≡◌, ◌↔◌, ℕ, ◌+◌, ◌<◌, ◌≤◌, Bool, true, false, List, [], ◌∷◌, ◌++◌, Option, None, Some, is_some, IfErr, IfOk, IfSome, IsErrOf, Ok, Err, OnOk, Result, slice_get}
+use Rattle.std.specs.Prelude.{◌≡◌, ◌↔◌, ℕ, ◌+◌, ◌<◌, ◌≤◌, Bool, true, false, List, [], ◌∷◌, ◌++◌, Option, Some, IfErr, IfOk, IsErrOf, Ok, Err, OnOk, Result, slice_get}
 use Rattle.disk_trait.specs.Counts.{Rose}
 use Rattle.disk_trait.specs.Image.{Image}
 use Rattle.disk_trait.specs.declared.disk.NoBlocks.{NoBlocks}
@@ -22,13 +22,15 @@ use Rattle.cell_table.specs.Tables.{AreClean, IsOrderly, left_of, state_in}
 use Rattle.record_laws.specs.Cells.{words_on}
 use Rattle.kernel_model.specs.Beginnings.{Beginning, run_of}
 use Rattle.kernel_model.specs.Live.{IsCalm}
-use Rattle.serial_runs.specs.Serial.{IsBehind, written_in}
-use Rattle.kernel_commits.specs.Lacking.{LacksBlocks}
+use Rattle.serial_runs.specs.Serial.{IsBehind, look, written_in}
+use Rattle.kernel_commits.specs.Lacking.{LacksIn}
 use Rattle.kernel_commits.specs.Pieces.{CountsWithin}
 use Rattle.kernel_commits.specs.Parts.{LivesAs, Parts, StandsAs, stop_of}
 use Rattle.kernel_commits.specs.Steady.{IsSteady, entries_taken, steps_to_come}
 use Rattle.kernel_commits.specs.declared.stopping.Stopped.{Stopped}
 use Rattle.kernel_commits.specs.declared.stopping.Stopped.TheVariants.{Failed, TooFew}
+use Rattle.kernel_core.specs.declared.stepping.Stepping.{Stepping}
+use Rattle.kernel_core.specs.declared.stepping.Stepping.TheVariants.{Idle as IdleFor, Made}
 
 -- why a locus can't step, if it can't, whatever the blocks hold
 abbrev pub idle_at : Supply → (ℕ → List ℕ) → ℕ → List Cell → Option Idle
@@ -38,6 +40,11 @@ idle_at s words me cs = idle_of (left_of (slice_get cs me)) (state_in s words cs
 abbrev pub is_ok : Answer → Bool
 is_ok (Replied AnsweredOk) = true
 is_ok answer = false
+
+-- of a step that was made
+abbrev pub IfMade : Stepping → (Entry → Type 0) → Type 0
+IfMade (Made e) P = P e
+IfMade (IdleFor why) P = Unit {0}
 
 -- why a fault of paging stops the kernel
 abbrev pub stop_by : PageFault → Stopped
@@ -74,22 +81,22 @@ module _ {D : Type 0} (tells : Type 0) (clock faults : D → ℕ) (reading : D �
     pub can : can_step b.script (run_of b old.noted.entries) me ≡ true
     pub behind : IsBehind b.policy (run_of b new.noted.entries) (written_in e.touched)
 
-  abbrev pub RunsStep : Beginning → ℕ → Parts D → Parts D → Result (Option Entry) Stopped → Type 0
-  RunsStep b me old new (Ok (Some e)) = StepsInRun b me e old new
-  RunsStep b me old new (Ok None) = can_step b.script (run_of b old.noted.entries) me ≡ false
+  abbrev pub RunsStep : Beginning → ℕ → Parts D → Parts D → Result Stepping Stopped → Type 0
+  RunsStep b me old new (Ok (Made e)) = StepsInRun b me e old new
+  RunsStep b me old new (Ok (IdleFor why)) = can_step b.script (run_of b old.noted.entries) me ≡ false
   RunsStep b me old new (Err why) = LivesAs tells clock faults reading may_leave left_since b new (Some (stop_of why))
 
   -- WHAT A STEP LEAVES of the parts
-  pub record StepsOnce (supply : Supply) (me : ℕ) (old new : Parts D) (result : Result (Option Entry) Stopped) : Type 0 where
-    pub idle : (s : Supply) (words : ℕ → List ℕ) → (is_some (idle_at s words me old.cells) ≡ true) ↔ (result ≡ Ok None)
-    pub still : result ≡ Ok None → new ≡ old
-    pub made : IfOk result (λ o. IfSome o (HasStepped me old new))
+  pub record StepsOnce (supply : Supply) (me : ℕ) (old new : Parts D) (result : Result Stepping Stopped) : Type 0 where
+    pub idle : (s : Supply) (words : ℕ → List ℕ) (why : Idle) → (idle_at s words me old.cells ≡ Some why) ↔ (result ≡ Ok (IdleFor why))
+    pub still : (why : Idle) → result ≡ Ok (IdleFor why) → new ≡ old
+    pub made : IfOk result (λ o. IfMade o (HasStepped me old new))
     pub failed : IfErr result (StopsStep old new)
     pub steady : OnOk result (IsSteady tells reading may_leave new)
     pub clean : tells → AreClean supply (words_on (reading new.store.disk)) new.cells
     pub counts : CountsWithin clock faults 1 old.store new.store
     pub run : tells → (b : Beginning) → b.supply ≡ supply → StandsAs tells clock faults reading may_leave left_since b old → IsCalm b old.noted.entries
         → RunsStep b me old new result
-    -- short of a block only where the image lacks them
-    pub enough : tells → (b : Beginning) → StandsAs tells clock faults reading may_leave left_since b old → IsCalm b old.noted.entries
-        → (n : NoBlocks) → IsErrOf result (TooFew n) → LacksBlocks b new
+    -- short of a block only where the image lacks them, and the step reads or writes a word
+    pub enough : tells → (b : Beginning) → b.supply ≡ supply → StandsAs tells clock faults reading may_leave left_since b old → IsCalm b old.noted.entries
+        → (n : NoBlocks) → IsErrOf result (TooFew n) → LacksIn b (look b.supply b.policy b.script (run_of b old.noted.entries) me) old.noted.entries new

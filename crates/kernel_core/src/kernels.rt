@@ -1,5 +1,5 @@
 // A running kernel.
-ghost use Rattle.std.specs.Prelude.{◌≡◌, ◌↔◌, ◌⊎◌, ◌+◌, ◌*◌, ◌^◌, ◌≤◌, ◌++◌, ℕ, List, [], true, false, None, Some, is_some, Ok, Err, IfErr, IfOk, IfSome, IsErrOf, OnErr, OnOk, length, slice_get};
+ghost use Rattle.std.specs.Prelude.{◌≡◌, ◌↔◌, ◌⊎◌, ◌+◌, ◌*◌, ◌^◌, ◌≤◌, ◌++◌, ℕ, List, [], true, false, None, Some, Ok, Err, IfErr, IfOk, IfSome, IsErrOf, OnErr, OnOk, length, slice_get};
 ghost use Rattle.hop_model.specs.State.{Supply};
 ghost use Rattle.disk_trait.specs.declared.disk.NoBlocks.{NoBlocks as TooFewBlocks};
 ghost use Rattle.kernel_cells.specs.declared.cells.Cell.{Cell as ACell};
@@ -11,20 +11,22 @@ ghost use Rattle.table_births.specs.Births.{atlas_state_in};
 ghost use Rattle.kernel_laws.specs.Opening.{empty_script, with_script};
 ghost use Rattle.kernel_core.specs.Bearing.{HasOpened, IsShortBehind};
 ghost use Rattle.kernel_core.specs.Kernels.{Lives, MayBegin, StaysClean};
-ghost use Rattle.kernel_commits.specs.Lacking.{LacksBlocks};
+ghost use Rattle.kernel_commits.specs.Lacking.{LacksIn};
 ghost use Rattle.kernel_commits.specs.Pieces.{CountsWithin, StopsIn};
 ghost use Rattle.disk_trait.specs.Counts.{Rose};
 ghost use Rattle.kernel_core.specs.Looking.{StopsLook};
 ghost use Rattle.kernel_commits.specs.Recording.{HasRecorded, HasTried, IsShort};
 ghost use Rattle.kernel_commits.specs.Snapping.{Snaps};
 ghost use Rattle.kernel_core.specs.Stepping.{idle_at};
+ghost use Rattle.kernel_core.specs.declared.looking.Looked.TheVariants as ALook;
+ghost use Rattle.step_plans.specs.declared.idle.Idle.{Idle as AnIdle};
 ghost use Rattle.kernel_commits.specs.declared.stopping.Stopped.{Stopped as AStop};
 ghost use Rattle.kernel_model.specs.Beginnings.{Beginning, run_of};
 ghost use Rattle.kernel_records.specs.Committing.{CommitCounts};
 ghost use Rattle.serial_runs.specs.Serial.{look, opening, wished_snap};
 
 use crate::bearing::open_core;
-use crate::looking::look_core;
+use crate::looking::{Looked, look_core};
 use atlas_dir::Atlas;
 use block_code::Blob;
 use disk_trait::Disk;
@@ -203,7 +205,7 @@ impl<D: Disk> Kernel<D> {
         ensures part { D.tells → (b : Beginning) → b.policy ≡ P.wish gate.now.policy → Lives D.tells D.clock D.faults D.reading D.may_leave D.left_since b self.old → self.old.stop ≡ None
             → OnErr result (StopsIn b (wished_snap b.policy (run_of b self.old.parts.noted.entries) entity) self.old.parts.noted.entries self.new.parts.noted.entries) }
         ensures enough { D.tells → (b : Beginning) → b.policy ≡ P.wish gate.now.policy → Lives D.tells D.clock D.faults D.reading D.may_leave D.left_since b self.old → self.old.stop ≡ None
-            → (n : TooFewBlocks) → IsErrOf result (AStop.TooFew n) → LacksBlocks b self.old.parts }
+            → (n : TooFewBlocks) → IsErrOf result (AStop.TooFew n) → LacksIn b (wished_snap b.policy (run_of b self.old.parts.noted.entries) entity) self.old.parts.noted.entries self.new.parts }
         ensures clean { (s : Supply) → StaysClean D.tells D.reading s self.old → StaysClean D.tells D.reading s self.new }
         ensures counts { CommitCounts D.clock D.faults self.old.parts.store self.new.parts.store }
     {
@@ -246,7 +248,7 @@ impl<D: Disk> Kernel<D> {
             → OnErr result (StopsIn b (opening b.supply b.script b.state) [] self.new.parts.noted.entries) }
         ensures enough { D.tells → (b : Beginning) → b.script ≡ tables_of script.now
             → Lives D.tells D.clock D.faults D.reading D.may_leave D.left_since (with_script b (empty_script b.script.steps)) self.old → self.old.stop ≡ None
-            → (n : TooFewBlocks) → IsErrOf result (AStop.TooFew n) → LacksBlocks b self.new.parts }
+            → (n : TooFewBlocks) → IsErrOf result (AStop.TooFew n) → LacksIn b (opening b.supply b.script b.state) [] self.new.parts }
         ensures clean { (s : Supply) → StaysClean D.tells D.reading s self.old → StaysClean D.tells D.reading s self.new }
         ensures counts { CountsWithin D.clock D.faults (64 * 1556) self.old.parts.store self.new.parts.store }
     {
@@ -259,8 +261,8 @@ impl<D: Disk> Kernel<D> {
     }
 
     /// One look at the locus with this number: its step, and behind it the Stable that it owes, or a Snap of each entity that it wrote
-    /// whose wish is open and of which fewer than four kept records are. Tells whether a step was made; none is made where the locus
-    /// can't step. A kernel that has stopped does nothing, and tells why it stopped; one that a fault meets stops.
+    /// whose wish is open and of which fewer than four kept records are. None is made exactly where the locus can't step: it isn't born or
+    /// no locus, it is halted or stopped, or it has no step left, in this order; that is told, and nothing is changed. A kernel that has stopped does nothing, and tells why it stopped; one that a fault meets stops.
     ///
     /// `TooFew` comes only where fewer blocks are free than are needed, for a page of the step or for a record behind it, with both
     /// numbers, and in a run only where the image has fewer than are enough for the state. `Failed` comes only where the disk's count of
@@ -272,15 +274,15 @@ impl<D: Disk> Kernel<D> {
         &mut self,
         me: Entity,
         gate: &Gate<S, P>,
-    ) -> Result<bool, Stopped>
+    ) -> Result<Looked, Stopped>
         requires keeps { S.keeps gate.now.supply }
         requires wishes { P.keeps gate.now.policy }
         requires clean { StaysClean D.tells D.reading (S.word gate.now.supply) self.old }
         ensures was_stopped { IfSome self.old.stop (λ why. (result ≡ Err why) × (self.new ≡ self.old)) }
         ensures stops { IfErr result (λ why. self.new.stop ≡ Some why) }
         ensures goes { OnOk result (self.new.stop ≡ None) }
-        ensures idle { (s : Supply) (words : ℕ → List ℕ) → self.old.stop ≡ None → (is_some (idle_at s words me self.old.parts.cells) ≡ true) ↔ (result ≡ Ok false) }
-        ensures still { result ≡ Ok false → self.new ≡ self.old }
+        ensures idle { (s : Supply) (words : ℕ → List ℕ) (why : AnIdle) → self.old.stop ≡ None → (idle_at s words me self.old.parts.cells ≡ Some why) ↔ (result ≡ Ok (ALook.Idle why)) }
+        ensures still { (why : AnIdle) → result ≡ Ok (ALook.Idle why) → self.new ≡ self.old }
         ensures stopped { self.old.stop ≡ None → IfErr result (StopsLook D.tells D.clock D.faults D.reading D.may_leave D.left_since me self.old.parts self.new.parts) }
         ensures looks { D.tells → (b : Beginning) → b.supply ≡ S.word gate.now.supply → b.policy ≡ P.wish gate.now.policy
             → Lives D.tells D.clock D.faults D.reading D.may_leave D.left_since b self.old → self.old.stop ≡ None
@@ -293,7 +295,7 @@ impl<D: Disk> Kernel<D> {
         ensures failed { self.old.stop ≡ None → IsErrOf result AStop.Failed → Rose (D.faults self.old.parts.store.disk) (D.faults self.new.parts.store.disk) }
         ensures enough { D.tells → (b : Beginning) → b.supply ≡ S.word gate.now.supply → b.policy ≡ P.wish gate.now.policy
             → Lives D.tells D.clock D.faults D.reading D.may_leave D.left_since b self.old → self.old.stop ≡ None
-            → (n : TooFewBlocks) → IsErrOf result (AStop.TooFew n) → LacksBlocks b self.new.parts }
+            → (n : TooFewBlocks) → IsErrOf result (AStop.TooFew n) → LacksIn b (look b.supply b.policy b.script (run_of b self.old.parts.noted.entries) me) self.old.parts.noted.entries self.new.parts }
         ensures clean { StaysClean D.tells D.reading (S.word gate.now.supply) self.new }
         ensures counts { CountsWithin D.clock D.faults (1 + 64 * 1556) self.old.parts.store self.new.parts.store }
     {

@@ -9,3 +9,5 @@ mod stepping;
 
 pub use kernel_commits::Stopped;
 pub use kernels::{Ended, Kernel};
+pub use looking::Looked;
+pub use step_plans::Idle;

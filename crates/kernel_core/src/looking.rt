@@ -1,5 +1,5 @@
 // One look at a locus.
-ghost use Rattle.std.specs.Prelude.{◌≡◌, ◌↔◌, ◌<◌, ◌*◌, ◌+◌, ◌∷◌, [], ℕ, List, true, false, is_some, IfErr, IsErrOf, Ok, OnErr, OnOk};
+ghost use Rattle.std.specs.Prelude.{◌≡◌, ◌↔◌, ◌<◌, ◌*◌, ◌+◌, ◌∷◌, [], ℕ, List, true, false, if◌then◌else◌, None, Some, IfErr, IsErrOf, Ok, OnErr, OnOk};
 ghost use Rattle.disk_trait.specs.Counts.{Rose};
 ghost use Rattle.disk_trait.specs.declared.disk.NoBlocks.{NoBlocks as TooFewBlocks};
 ghost use Rattle.hop_base.specs.declared.histories.Event.TheVariants as AnEvent;
@@ -7,7 +7,7 @@ ghost use Rattle.hop_model.specs.Histories.{mark};
 ghost use Rattle.hop_model.specs.State.{Supply};
 ghost use Rattle.cell_table.specs.Tables.{AreClean};
 ghost use Rattle.kernel_core.specs.Looking.{LooksInRun, StopsLook};
-ghost use Rattle.kernel_commits.specs.Lacking.{LacksBlocks};
+ghost use Rattle.kernel_commits.specs.Lacking.{LacksIn};
 ghost use Rattle.kernel_commits.specs.Parts.{StandsAs};
 ghost use Rattle.kernel_commits.specs.Pieces.{CountsWithin, StopsIn};
 ghost use Rattle.kernel_commits.specs.Snapping.{RunsFree, SnapsAll};
@@ -16,17 +16,29 @@ ghost use Rattle.kernel_commits.specs.Steady.{IsSteady, entries_taken, steps_to_
 ghost use Rattle.kernel_commits.specs.Stops.{LeavesStopped};
 ghost use Rattle.kernel_commits.specs.declared.stopping.Stopped.{Stopped as AStop};
 ghost use Rattle.kernel_core.specs.Stepping.{idle_at};
+ghost use Rattle.kernel_core.specs.declared.looking.Looked.TheVariants as ALook;
+ghost use Rattle.step_plans.specs.declared.idle.Idle.{Idle as AnIdle};
 ghost use Rattle.kernel_model.specs.Beginnings.{Beginning, run_of};
 ghost use Rattle.kernel_model.specs.Live.{IsCalm};
 ghost use Rattle.record_laws.specs.Cells.{words_on};
-ghost use Rattle.serial_runs.specs.Serial.{look, wished_snaps, written_in};
+ghost use Rattle.serial_runs.specs.Serial.{kept_behind, look, wished_snaps, written_in};
 
 use crate::owing::{owes_stable, stabilises_at};
-use crate::stepping::step_core;
+use crate::stepping::{Stepping, step_core};
 use disk_trait::Disk;
 use hop_base::{Entity, Entry};
 use kernel_commits::{Core, Stopped, settle, snap_written};
 use manager_gate::{Gate, Policy, Supplier};
+use step_plans::Idle;
+
+/// What a look at a locus came to.
+#[derive(Clone, Copy, Debug, PartialEq, Eq)]
+pub enum Looked {
+    /// Its step was made.
+    Stepped,
+    /// None was made: it can't step.
+    Idle(Idle),
+}
 
 /// Behind a step: the Stable that it owes, or the Snaps of what it wrote whose wishes are open.
 fn keep_behind<D: Disk, S: Supplier, P: Policy>(
@@ -52,7 +64,8 @@ fn keep_behind<D: Disk, S: Supplier, P: Policy>(
     ensures enough { D.tells → (b : Beginning)
         → (owes ≡ true → OwesStable D.tells D.clock D.faults D.reading D.may_leave D.left_since b entry.now.actor core.old)
         → (owes ≡ false → RunsFree D.tells D.clock D.faults D.reading D.may_leave D.left_since b (P.wish gate.now.policy) core.old)
-        → (n : TooFewBlocks) → IsErrOf result (AStop.TooFew n) → LacksBlocks b core.new }
+        → (n : TooFewBlocks) → IsErrOf result (AStop.TooFew n)
+        → LacksIn b (kept_behind b.supply (P.wish gate.now.policy) b.script (run_of b core.old.noted.entries) (written_in entry.now.touched) (if owes then Some entry.now.actor else None)) core.old.noted.entries core.new }
     ensures clean { D.tells → (s : Supply) → AreClean s (words_on (D.reading core.old.store.disk)) core.old.cells
         → OnOk result (AreClean s (words_on (D.reading core.new.store.disk)) core.new.cells) }
     ensures counts { CountsWithin D.clock D.faults (64 * 1556) core.old.store core.new.store }
@@ -63,18 +76,18 @@ fn keep_behind<D: Disk, S: Supplier, P: Policy>(
     snap_written(core, entry, gate)
 }
 
-/// One look at the locus: its step, and behind it the Stable that it owes, or the Snaps that are wished. Tells whether a step was made.
+/// One look at the locus: its step, and behind it the Stable that it owes, or the Snaps that are wished. Where none is made it tells why.
 pub(crate) fn look_core<D: Disk, S: Supplier, P: Policy>(
     core: &mut Core<D>,
     me: Entity,
     gate: &Gate<S, P>,
-) -> Result<bool, Stopped>
+) -> Result<Looked, Stopped>
     requires keeps { S.keeps gate.now.supply }
     requires wishes { P.keeps gate.now.policy }
     requires steady { IsSteady D.tells D.reading D.may_leave core.old }
     requires clean { D.tells → AreClean (S.word gate.now.supply) (words_on (D.reading core.old.store.disk)) core.old.cells }
-    ensures idle { (s : Supply) (words : ℕ → List ℕ) → (is_some (idle_at s words me core.old.cells) ≡ true) ↔ (result ≡ Ok false) }
-    ensures still { result ≡ Ok false → core.new ≡ core.old }
+    ensures idle { (s : Supply) (words : ℕ → List ℕ) (why : AnIdle) → (idle_at s words me core.old.cells ≡ Some why) ↔ (result ≡ Ok (ALook.Idle why)) }
+    ensures still { (why : AnIdle) → result ≡ Ok (ALook.Idle why) → core.new ≡ core.old }
     ensures steady { OnOk result (IsSteady D.tells D.reading D.may_leave core.new) }
     ensures stopped { IfErr result (StopsLook D.tells D.clock D.faults D.reading D.may_leave D.left_since me core.old core.new) }
     ensures run { D.tells → (b : Beginning) → b.supply ≡ S.word gate.now.supply → b.policy ≡ P.wish gate.now.policy
@@ -85,21 +98,21 @@ pub(crate) fn look_core<D: Disk, S: Supplier, P: Policy>(
         → OnErr result (StopsIn b (look b.supply b.policy b.script (run_of b core.old.noted.entries) me) core.old.noted.entries core.new.noted.entries) }
     ensures enough { D.tells → (b : Beginning) → b.supply ≡ S.word gate.now.supply → b.policy ≡ P.wish gate.now.policy
         → StandsAs D.tells D.clock D.faults D.reading D.may_leave D.left_since b core.old → IsCalm b core.old.noted.entries
-        → (n : TooFewBlocks) → IsErrOf result (AStop.TooFew n) → LacksBlocks b core.new }
+        → (n : TooFewBlocks) → IsErrOf result (AStop.TooFew n) → LacksIn b (look b.supply b.policy b.script (run_of b core.old.noted.entries) me) core.old.noted.entries core.new }
     ensures failed { IsErrOf result AStop.Failed → Rose (D.faults core.old.store.disk) (D.faults core.new.store.disk) }
     ensures clean { D.tells → OnOk result (AreClean (S.word gate.now.supply) (words_on (D.reading core.new.store.disk)) core.new.cells) }
     ensures counts { CountsWithin D.clock D.faults (1 + 64 * 1556) core.old.store core.new.store }
 {
     let stabilises = stabilises_at(&core.cells, me);
     match step_core(core, me, gate) {
-        Ok(Some(entry)) => {
+        Ok(Stepping::Made(entry)) => {
             let owes = owes_stable(stabilises, entry.answer);
             match keep_behind(core, &entry, owes, gate) {
-                Ok(()) => Ok(true),
+                Ok(()) => Ok(Looked::Stepped),
                 Err(why) => Err(why),
             }
         }
-        Ok(None) => Ok(false),
+        Ok(Stepping::Idle(why)) => Ok(Looked::Idle(why)),
         Err(why) => Err(why),
     }
 }

@@ -13,8 +13,18 @@ use kernel_commits::{Core, Notes, Stopped};
 use manager_gate::{Gate, Policy, Supplier};
 use page_store::PageFault;
 use snapshot_store::Store;
+use step_plans::Idle;
 use store_steps::step_over;
 use table_steps::StepFault;
+
+/// What came of a step.
+#[derive(Clone, Copy)]
+pub(crate) enum Stepping {
+    /// It was made, with this entry.
+    Made(Entry),
+    /// None was made: the locus can't step.
+    Idle(Idle),
+}
 
 /// Why a fault of paging stops the kernel.
 fn page_stop(fault: PageFault) -> Stopped
@@ -34,14 +44,14 @@ fn note_entry(notes: &mut Notes, entry: &Entry)
     notes.push_entry(*entry);
 }
 
-/// One step of the locus with this number over a kernel's parts, with its entry noted; none where it can't step.
+/// One step of the locus with this number over a kernel's parts, with its entry noted; none where it can't step, and then why.
 fn step_among<D: Disk, S: Supplier, P: Policy>(
     cells: &mut [Cell],
     store: &mut Store<D>,
     notes: &mut Notes,
     me: Entity,
     gate: &Gate<S, P>,
-) -> Result<Option<Entry>, Stopped>
+) -> Result<Stepping, Stopped>
     requires keeps { S.keeps gate.now.supply }
     requires steady { IsSteady D.tells D.reading D.may_leave (parts_of store.old cells.old notes.old) }
     requires clean { D.tells → AreClean (S.word gate.now.supply) (words_on (D.reading store.old.disk)) cells.old }
@@ -51,19 +61,19 @@ fn step_among<D: Disk, S: Supplier, P: Policy>(
     match step_over(cells, me, store, gate) {
         Ok(entry) => {
             note_entry(notes, &entry);
-            Ok(Some(entry))
+            Ok(Stepping::Made(entry))
         }
-        Err(StepFault::Idle(_)) => Ok(None),
+        Err(StepFault::Idle(why)) => Ok(Stepping::Idle(why)),
         Err(StepFault::Paging(fault)) => Err(page_stop(fault)),
     }
 }
 
-/// One step of the locus with this number, with its entry noted; none where it can't step.
+/// One step of the locus with this number, with its entry noted; none where it can't step, and then why.
 pub(crate) fn step_core<D: Disk, S: Supplier, P: Policy>(
     core: &mut Core<D>,
     me: Entity,
     gate: &Gate<S, P>,
-) -> Result<Option<Entry>, Stopped>
+) -> Result<Stepping, Stopped>
     requires keeps { S.keeps gate.now.supply }
     requires steady { IsSteady D.tells D.reading D.may_leave core.old }
     requires clean { D.tells → AreClean (S.word gate.now.supply) (words_on (D.reading core.old.store.disk)) core.old.cells }

@@ -110,11 +110,12 @@ module _ {D : Type 0} (tells : Type 0) (clock : D → ℕ) (reading : D → Imag
   abbrev pub StoresKeptOrCell : Cell → Cell → State D → Image → Type 0
   StoresKeptOrCell c d old image = Stores (books old).count (kept_of (reading old.disk) (books old)) image ⊎ StoresCell c d old image
 
--- how a commit counts: so many writes and syncs at most
+-- how a commit counts: so many writes and syncs at most, and the image has as many blocks as before
 pub record CommitCounts {D : Type 0} (clock faults : D → ℕ) (old new : State D) : Type 0 where
   pub few : (books new).begun ≤ (books old).begun + 1556
   pub counts : CountsOn (clock old.disk) (clock new.disk) (books old).begun (books new).begun
   pub later : faults old.disk ≤ faults new.disk
+  pub same_count : (books new).count ≡ (books old).count
 
 -- fewer blocks are free in a store that works than a record of the cell needs; both numbers
 pub record IsTooFew (c : Cell) (b : Books) (n : TooFew) : Type 0 where

@@ -22,10 +22,11 @@ use Rattle.record_laws.specs.Cells.{words_on}
 use Rattle.kernel_laws.specs.Opening.{empty_script, with_script}
 use Rattle.kernel_model.specs.Beginnings.{Beginning, run_of, state_after}
 use Rattle.kernel_core.specs.Kernels.{Held, Lives}
-use Rattle.kernel_commits.specs.Lacking.{LacksBlocks}
+use Rattle.kernel_commits.specs.Lacking.{LacksIn}
 use Rattle.kernel_commits.specs.Pieces.{StopsIn}
 use Rattle.kernel_commits.specs.declared.stopping.Stopped.{Stopped}
 use Rattle.kernel_commits.specs.declared.stopping.Stopped.TheVariants.{TooFew}
+use Rattle.kernel_commits.proofs.Dues.{due_opening}
 use Rattle.kernel_commits.proofs.Wishing.{fault_in}
 use Rattle.kernel_runs.specs.Running.{HasStopped, IsOver, IsRunBy, RunsAlong, TakesOn, opened_in}
 use Rattle.kernel_runs.proofs.Course.{over}
@@ -87,12 +88,13 @@ module _ {D : Type 0} (tells : Type 0) (clock faults : D → ℕ) (reading : D �
 
   -- the births were stopped
   pub stops_opening : (b : Beginning) (k : Held D) → Lives tells clock faults reading may_leave left_since b k → StopsIn b (opening b.supply b.script b.state) [] k.parts.noted.entries
-      → ((n : TooFewBlocks) → k.stop ≡ Some (TooFew n) → LacksBlocks b k.parts)
+      → ((n : TooFewBlocks) → k.stop ≡ Some (TooFew n) → LacksIn b (opening b.supply b.script b.state) [] k.parts)
       → HasStopped tells clock faults reading may_leave left_since b k
   stops_opening b k lives p enough = record {
     lives = lives;
     part = subst (IsStopped b.supply b.policy b.script b.state) (sym p.entries) (stopped_opening b.supply b.script b.policy b.state p.part p.is);
-    enough = enough;
+    enough = λ n is. (enough n is).lacks;
+    due = λ n is. due_opening b k.parts.noted.entries (enough n is).due;
   }
 
   -- a look at the locus of the pick

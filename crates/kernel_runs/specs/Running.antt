@@ -10,7 +10,7 @@ use Rattle.serial_runs.specs.Serial.{IsStopped, IsWhole}
 use Rattle.serial_turns.specs.Turns.{HasLooked, opened}
 use Rattle.kernel_model.specs.Beginnings.{Beginning}
 use Rattle.kernel_core.specs.Kernels.{Held, Lives}
-use Rattle.kernel_commits.specs.Lacking.{LacksBlocks}
+use Rattle.kernel_commits.specs.Lacking.{IsDue, LacksBlocks}
 use Rattle.kernel_commits.specs.declared.stopping.Stopped.{Stopped}
 use Rattle.kernel_commits.specs.declared.stopping.Stopped.TheVariants.{TooFew}
 
@@ -38,12 +38,13 @@ module _ {D : Type 0} (tells : Type 0) (clock faults : D → ℕ) (reading : D �
     pub lives : Lives tells clock faults reading may_leave left_since b k
     pub looks : HasLooked b.supply b.policy b.script b.state looked k.parts.noted.entries
 
-  -- THE RUN WAS STOPPED: the kernel is live, has noted the serial history up to where it stopped, and was short of blocks only where the
-  -- image lacks them
+  -- THE RUN WAS STOPPED: the kernel is live, and has noted the serial history up to where it stopped. It was short of blocks only where the
+  -- image lacks them, and where the next entry of the serial history is a record, or a step that reads or writes a word
   pub record HasStopped (b : Beginning) (k : Held D) : Type 0 where
     pub lives : Lives tells clock faults reading may_leave left_since b k
     pub part : IsStopped b.supply b.policy b.script b.state k.parts.noted.entries
     pub enough : (n : NoBlocks) → k.stop ≡ Some (TooFew n) → LacksBlocks b k.parts
+    pub due : (n : NoBlocks) → k.stop ≡ Some (TooFew n) → IsDue b k.parts.noted.entries
 
   -- THE RUN IS OVER: the kernel is live, and has noted the whole serial history
   pub record IsOver (b : Beginning) (k : Held D) : Type 0 where

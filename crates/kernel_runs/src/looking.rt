@@ -1,11 +1,10 @@
 // Looks at loci, by number and by name.
-ghost use Rattle.std.specs.Prelude.{◌≡◌, ◌+◌, ◌*◌, ◌++◌, ◌∷◌, [], ℕ, List, None, Some, Err, IfErr, IfSome, IsErrOf, OnOk, length, map, slice_get, string_bytes};
-ghost use Rattle.disk_trait.specs.Counts.{Rose};
+ghost use Rattle.std.specs.Prelude.{◌≡◌, ◌+◌, ◌*◌, ◌++◌, ◌∷◌, [], ℕ, List, None, Some, Err, IfErr, IfSome, OnOk, length, map, slice_get, string_bytes};
 ghost use Rattle.hop_model.specs.Scripts.{locus_named};
 ghost use Rattle.hop_model.specs.Serial.{looks_of};
 ghost use Rattle.hop_model.specs.Steps.{atlas_in};
 ghost use Rattle.kernel_commits.specs.Pieces.{CountsWithin};
-ghost use Rattle.kernel_commits.specs.declared.stopping.Stopped.{Stopped as AStop};
+ghost use Rattle.kernel_commits.specs.Stops.{IsCause};
 ghost use Rattle.kernel_core.specs.Kernels.{Lives, StaysClean};
 ghost use Rattle.kernel_model.specs.Beginnings.{Beginning, run_of};
 ghost use Rattle.kernel_runs.specs.Running.{IsRunBy, RunsAlong, TakesOn, look_most, opened_in};
@@ -28,7 +27,7 @@ pub(crate) fn look_at<D: Disk, S: Supplier, P: Policy>(
     requires going { kernel.old.stop ≡ None }
     ensures stops { IfErr result (λ why. kernel.new.stop ≡ Some why) }
     ensures goes { OnOk result (kernel.new.stop ≡ None) }
-    ensures failed { IsErrOf result AStop.Failed → Rose (D.faults kernel.old.parts.store.disk) (D.faults kernel.new.parts.store.disk) }
+    ensures caused { IfErr result (IsCause D.faults kernel.old.parts kernel.new.parts) }
     ensures clean { StaysClean D.tells D.reading (S.word gate.now.supply) kernel.new }
     ensures counts { CountsWithin D.clock D.faults (look_most) kernel.old.parts.store kernel.new.parts.store }
     ensures run { D.tells → (b : Beginning) (looked : List ℕ) → IsRunBy (S.word gate.now.supply) (P.wish gate.now.policy) b
@@ -65,7 +64,7 @@ fn look_for<D: Disk, S: Supplier, P: Policy>(
     requires going { kernel.old.stop ≡ None }
     ensures stops { IfErr result (λ why. kernel.new.stop ≡ Some why) }
     ensures goes { OnOk result (kernel.new.stop ≡ None) }
-    ensures failed { IsErrOf result AStop.Failed → Rose (D.faults kernel.old.parts.store.disk) (D.faults kernel.new.parts.store.disk) }
+    ensures caused { IfErr result (IsCause D.faults kernel.old.parts kernel.new.parts) }
     ensures clean { StaysClean D.tells D.reading (S.word gate.now.supply) kernel.new }
     ensures counts { CountsWithin D.clock D.faults (look_most) kernel.old.parts.store kernel.new.parts.store }
     ensures run { D.tells → (b : Beginning) (i : ℕ) → IsRunBy (S.word gate.now.supply) (P.wish gate.now.policy) b
@@ -91,7 +90,7 @@ fn look_for_all<D: Disk, S: Supplier, P: Policy>(
     requires going { kernel.old.stop ≡ None }
     ensures stops { IfErr result (λ why. kernel.new.stop ≡ Some why) }
     ensures goes { OnOk result (kernel.new.stop ≡ None) }
-    ensures failed { IsErrOf result AStop.Failed → Rose (D.faults kernel.old.parts.store.disk) (D.faults kernel.new.parts.store.disk) }
+    ensures caused { IfErr result (IsCause D.faults kernel.old.parts kernel.new.parts) }
     ensures clean { StaysClean D.tells D.reading (S.word gate.now.supply) kernel.new }
     ensures counts { CountsWithin D.clock D.faults (length order.now * look_most) kernel.old.parts.store kernel.new.parts.store }
     ensures run { D.tells → (b : Beginning) → IsRunBy (S.word gate.now.supply) (P.wish gate.now.policy) b
@@ -122,7 +121,7 @@ pub fn play<D: Disk, S: Supplier, P: Policy>(
     ensures was_stopped { IfSome kernel.old.stop (λ why. (result ≡ Err why) × (kernel.new ≡ kernel.old)) }
     ensures stops { IfErr result (λ why. kernel.new.stop ≡ Some why) }
     ensures goes { OnOk result (kernel.new.stop ≡ None) }
-    ensures failed { kernel.old.stop ≡ None → IsErrOf result AStop.Failed → Rose (D.faults kernel.old.parts.store.disk) (D.faults kernel.new.parts.store.disk) }
+    ensures caused { kernel.old.stop ≡ None → IfErr result (IsCause D.faults kernel.old.parts kernel.new.parts) }
     ensures clean { StaysClean D.tells D.reading (S.word gate.now.supply) kernel.new }
     ensures counts { CountsWithin D.clock D.faults (length order.now * look_most) kernel.old.parts.store kernel.new.parts.store }
     ensures run { D.tells → kernel.old.stop ≡ None → (b : Beginning) → IsRunBy (S.word gate.now.supply) (P.wish gate.now.policy) b

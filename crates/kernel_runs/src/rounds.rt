@@ -1,10 +1,9 @@
 // Rounds over all loci, until one makes no entry.
-ghost use Rattle.std.specs.Prelude.{◌≡◌, ◌+◌, ◌*◌, ◌^◌, ◌≤◌, ℕ, None, Some, Err, IfErr, IfSome, IsErrOf, OnOk, length};
-ghost use Rattle.disk_trait.specs.Counts.{Rose};
+ghost use Rattle.std.specs.Prelude.{◌≡◌, ◌+◌, ◌*◌, ◌^◌, ◌≤◌, ℕ, None, Some, Err, IfErr, IfSome, OnOk, length};
 ghost use Rattle.hop_model.specs.Serial.{looks_of};
 ghost use Rattle.hop_model.specs.Steps.{atlas_in};
 ghost use Rattle.kernel_commits.specs.Pieces.{CountsWithin};
-ghost use Rattle.kernel_commits.specs.declared.stopping.Stopped.{Stopped as AStop};
+ghost use Rattle.kernel_commits.specs.Stops.{IsCause};
 ghost use Rattle.kernel_core.specs.Kernels.{Lives, StaysClean};
 ghost use Rattle.kernel_model.specs.Beginnings.{Beginning, run_of};
 ghost use Rattle.kernel_runs.specs.Running.{EndsRun, IsRunBy, RunsAlong, TakesOn, end_of, look_most, opened_in};
@@ -35,7 +34,7 @@ fn round<D: Disk, S: Supplier, P: Policy>(
     requires going { kernel.old.stop ≡ None }
     ensures stops { IfErr result (λ why. kernel.new.stop ≡ Some why) }
     ensures goes { OnOk result (kernel.new.stop ≡ None) }
-    ensures failed { IsErrOf result AStop.Failed → Rose (D.faults kernel.old.parts.store.disk) (D.faults kernel.new.parts.store.disk) }
+    ensures caused { IfErr result (IsCause D.faults kernel.old.parts kernel.new.parts) }
     ensures clean { StaysClean D.tells D.reading (S.word gate.now.supply) kernel.new }
     ensures counts { CountsWithin D.clock D.faults (23 * look_most) kernel.old.parts.store kernel.new.parts.store }
     ensures run { D.tells → (b : Beginning) (made : ℕ) → IsRunBy (S.word gate.now.supply) (P.wish gate.now.policy) b
@@ -71,7 +70,7 @@ fn go_round<D: Disk, S: Supplier, P: Policy>(
     requires going { kernel.old.stop ≡ None }
     ensures stops { IfErr result (λ why. kernel.new.stop ≡ Some why) }
     ensures goes { OnOk result (kernel.new.stop ≡ None) }
-    ensures failed { IsErrOf result AStop.Failed → Rose (D.faults kernel.old.parts.store.disk) (D.faults kernel.new.parts.store.disk) }
+    ensures caused { IfErr result (IsCause D.faults kernel.old.parts kernel.new.parts) }
     ensures clean { StaysClean D.tells D.reading (S.word gate.now.supply) kernel.new }
     ensures counts { CountsWithin D.clock D.faults ((2 ^ 22 + 1) * (23 * look_most)) kernel.old.parts.store kernel.new.parts.store }
     ensures run { D.tells → (b : Beginning) (made : ℕ) → IsRunBy (S.word gate.now.supply) (P.wish gate.now.policy) b
@@ -104,7 +103,7 @@ pub fn finish<D: Disk, S: Supplier, P: Policy>(
     ensures was_stopped { IfSome kernel.old.stop (λ why. (result ≡ Err why) × (kernel.new ≡ kernel.old)) }
     ensures stops { IfErr result (λ why. kernel.new.stop ≡ Some why) }
     ensures goes { OnOk result (kernel.new.stop ≡ None) }
-    ensures failed { kernel.old.stop ≡ None → IsErrOf result AStop.Failed → Rose (D.faults kernel.old.parts.store.disk) (D.faults kernel.new.parts.store.disk) }
+    ensures caused { kernel.old.stop ≡ None → IfErr result (IsCause D.faults kernel.old.parts kernel.new.parts) }
     ensures clean { StaysClean D.tells D.reading (S.word gate.now.supply) kernel.new }
     ensures counts { CountsWithin D.clock D.faults ((2 ^ 22 + 1) * (23 * look_most)) kernel.old.parts.store kernel.new.parts.store }
     ensures run { D.tells → kernel.old.stop ≡ None → (b : Beginning) (made : ℕ) → IsRunBy (S.word gate.now.supply) (P.wish gate.now.policy) b

@@ -1,9 +1,8 @@
 // A whole run of a script.
-ghost use Rattle.std.specs.Prelude.{◌≡◌, ◌+◌, ◌*◌, ◌^◌, [], None, Some, Err, IfErr, IfSome, IsErrOf, OnOk, length};
-ghost use Rattle.disk_trait.specs.Counts.{Rose};
+ghost use Rattle.std.specs.Prelude.{◌≡◌, ◌+◌, ◌*◌, ◌^◌, [], None, Some, Err, IfErr, IfSome, OnOk, length};
 ghost use Rattle.fitting_births.specs.Fitting.{Fits};
 ghost use Rattle.kernel_commits.specs.Pieces.{CountsWithin};
-ghost use Rattle.kernel_commits.specs.declared.stopping.Stopped.{Stopped as AStop};
+ghost use Rattle.kernel_commits.specs.Stops.{IsCause};
 ghost use Rattle.kernel_core.specs.Kernels.{Lives, StaysClean};
 ghost use Rattle.kernel_laws.specs.Opening.{empty_script, with_script};
 ghost use Rattle.kernel_model.specs.Beginnings.{Beginning};
@@ -22,7 +21,7 @@ use script_form::Script;
 /// Runs a script: its births, the picks of its order, and rounds over the loci until none can step. A kernel that has stopped does
 /// nothing, and tells why it stopped; one that a fault meets stops there.
 ///
-/// `Failed` comes only where the disk's count of faults rose.
+/// `Failed` comes only where the disk's count of faults rose, and `TooFew` only where fewer blocks were free than were needed, with both numbers.
 pub fn run<D: Disk, S: Supplier, P: Policy>(
     kernel: &mut Kernel<D>,
     script: &Script,
@@ -37,7 +36,7 @@ pub fn run<D: Disk, S: Supplier, P: Policy>(
     ensures was_stopped { IfSome kernel.old.stop (λ why. (result ≡ Err why) × (kernel.new ≡ kernel.old)) }
     ensures stops { IfErr result (λ why. kernel.new.stop ≡ Some why) }
     ensures goes { OnOk result (kernel.new.stop ≡ None) }
-    ensures failed { kernel.old.stop ≡ None → IsErrOf result AStop.Failed → Rose (D.faults kernel.old.parts.store.disk) (D.faults kernel.new.parts.store.disk) }
+    ensures caused { kernel.old.stop ≡ None → IfErr result (IsCause D.faults kernel.old.parts kernel.new.parts) }
     ensures clean { StaysClean D.tells D.reading (S.word gate.now.supply) kernel.new }
     ensures counts { CountsWithin D.clock D.faults (64 * 1556 + length script.now.order.items * look_most + (2 ^ 22 + 1) * (23 * look_most)) kernel.old.parts.store kernel.new.parts.store }
     ensures run { D.tells → kernel.old.stop ≡ None → (b : Beginning) → b.supply ≡ S.word gate.now.supply → b.policy ≡ P.wish gate.now.policy

@@ -1,20 +1,21 @@
 -- Looks over the cells of a locus and a container.
 use Rattle.std.specs.Prelude.{◌≡◌, ◌≤◌, ℕ, ◌*◌, Bool, true, false, List, Option, Some, None, unwrap_or}
 use Rattle.hop_base.specs.declared.histories.Answer.{Answer}
-use Rattle.hop_base.specs.declared.histories.Answer.TheVariants.{Reply as Replied}
+use Rattle.hop_base.specs.declared.histories.Answer.TheVariants.{Read, Reply as Replied}
 use Rattle.hop_base.specs.declared.histories.Entry.{Entry}
 use Rattle.hop_base.specs.declared.instructions.Reply.TheVariants.{Ok}
 use Rattle.hop_model.specs.Changes.{Access}
 use Rattle.hop_model.specs.Acts.{wanted}
 use Rattle.hop_model.specs.Outcomes.{Outcome, outcome}
 use Rattle.hop_model.specs.State.{Supply, AtlasState, Cell, LocusState, NotBorn, AtlasCell, ContainerCell, LocusCell, KernelState}
+use Rattle.hop_model.specs.Steps.{running, step}
 use Rattle.locus_machine.specs.Loci.{container_with}
 use Rattle.locus_machine.specs.declared.loci.Head.{Head}
 use Rattle.kernel_calls.specs.Calls.{atlas_state}
 use Rattle.fault_paging.specs.declared.paged.PagedMemory.{PagedMemory}
 use Rattle.fault_paging.specs.Words.{AreCleanTrue, IsSoundTable}
 use Rattle.fault_paging.specs.Calls.{Keeps, KeepsBlocks}
-use Rattle.address_resolve.specs.Looks.{IsMemoryOf}
+use Rattle.address_resolve.specs.Looks.{IsMemoryOf, is_look}
 use Rattle.event_clocks.specs.Clocks.{HasClock}
 use Rattle.kernel_cells.specs.Cells.{HasCell, locus_cell, part_of}
 use Rattle.kernel_cells.specs.Steps.{Steps}
@@ -104,3 +105,26 @@ pub record StepsSomehow (c c' d d' : KernelCell) (e : Entry) : Type 0 where
   pub past : (own : ℕ → ℕ) (at : ℕ) → pages_in d.part * 128 ≤ at → (before own at ≡ own at) × (after own at ≡ own at)
   pub step : (own : ℕ → ℕ) (s : Supply) (words : ℕ → List ℕ) (w : KernelState) → HasCell s words w c → HasCellWith (before own) w d
       → Steps s c.clock.entity w e (λ v. HasCell s words v c' × HasCellWith (after own) v d')
+
+-- AT A WORD
+
+-- a word was read or written
+abbrev pub IsAnswerOfWord : Answer → Type 0
+IsAnswerOfWord (Read value) = Unit {0}
+IsAnswerOfWord (Replied Ok) = Unit {0}
+IsAnswerOfWord answer = ⊥
+
+-- the entry is of a step in this state that reads or writes a word: a load or a store that comes to it
+pub record IsWordStep (w : KernelState) (e : Entry) : Type 0 where
+  pub locus : LocusState
+  pub runs : running (w e.actor).cell ≡ Some locus
+  pub instr : is_look (wanted e.actor locus).instr ≡ true
+  pub answer : IsAnswerOfWord e.answer
+
+-- the look of the locus at the part comes to a word, whatever the words are
+abbrev pub ComesToWord : LocusState → Part → Type 0
+ComesToWord l p = (me : ℕ) (s : Supply) (words : ℕ → List ℕ) (a : AtlasState) → IsAnswerOfWord (outcome s l (wanted me l) a (part_of s words p)).answer
+
+-- in each state that has the locus c and the container d the step of the locus reads or writes a word
+abbrev pub LooksAtWord : KernelCell → KernelCell → Type 0
+LooksAtWord c d = (s : Supply) (words : ℕ → List ℕ) (w : KernelState) (made : Entry × KernelState) → HasCell s words w c → HasCell s words w d → step s c.clock.entity w ≡ Some made → IsWordStep w made.0

@@ -10,7 +10,7 @@ ghost use Rattle.address_resolve.specs.Looks.{is_look};
 ghost use Rattle.event_clocks.specs.Clocks.{writing, CarriesTwo, HasClock};
 ghost use Rattle.kernel_cells.specs.Cells.{part_of, HasCell, IsRunning};
 ghost use Rattle.kernel_cells.specs.Steps.{Steps};
-ghost use Rattle.look_steps.specs.Looking.{is_stored, looking, LeavesMemory, MayLook, StepsSomehow};
+ghost use Rattle.look_steps.specs.Looking.{is_stored, looking, LeavesMemory, LooksAtWord, MayLook, StepsSomehow};
 
 use crate::parts::look_in_parts;
 use event_clocks::{Clock, read_and_write, write_two};
@@ -46,7 +46,7 @@ fn write_look(locus: &mut Clock, other: &mut Clock, answer: Answer) -> Entry
 }
 
 /// The step of a running locus that makes one look of a load or a store at a container. On a fault of paging no cell has
-/// changed in the model, so that the same look can be tried again. Wishes and steps left are as before.
+/// changed in the model, so that the same look can be tried again; it comes only of a look that reads or writes a word. Wishes and steps left are as before.
 pub fn step_look<B: PageStore, S: Supplier, P: Policy>(
     locus: &mut Cell,
     other: &mut Cell,
@@ -62,6 +62,7 @@ pub fn step_look<B: PageStore, S: Supplier, P: Policy>(
         → HasCell (S.word gate.now.supply) (B.words store.old) w locus.old → HasCell (S.word gate.now.supply) (B.words store.old) w other.old
         → Steps (S.word gate.now.supply) locus.old.clock.entity w e (λ v. HasCell (S.word gate.now.supply) (B.words store.new) v locus.new × HasCell (S.word gate.now.supply) (B.words store.new) v other.new)) }
     ensures somehow { IfOk result (StepsSomehow locus.old locus.new other.old other.new) }
+    ensures at_word { OnErr result (LooksAtWord locus.old other.old) }
     ensures locus_stays { OnErr result (locus.new ≡ locus.old) }
     ensures other_stays { OnErr result ((other.new.clock ≡ other.old.clock) × (B.tells → part_of (S.word gate.now.supply) (B.words store.new) other.new.part ≡ part_of (S.word gate.now.supply) (B.words store.old) other.old.part)) }
     ensures memory { LeavesMemory (S.word gate.now.supply) B.tells B.held B.kept_names B.words other.old.part other.new.part store.old store.new }

@@ -10,7 +10,7 @@ ghost use Rattle.invocation.specs.Entries.{WantsBeside};
 ghost use Rattle.fault_paging.specs.Calls.{IsCausedBy};
 ghost use Rattle.address_resolve.specs.Looks.{is_look};
 ghost use Rattle.kernel_cells.specs.Cells.{part_of, IsRunning};
-ghost use Rattle.look_steps.specs.Looking.{LeavesMemory, MakesLook, MakesSomehow, MayLook};
+ghost use Rattle.look_steps.specs.Looking.{ComesToWord, LeavesMemory, MakesLook, MakesSomehow, MayLook};
 
 use address_resolve::look;
 use fault_paging::PageFault;
@@ -35,6 +35,7 @@ fn look_at_storage<B: PageStore, S: Supplier, P: Policy>(
         → MakesLook (outcome s (locus_of locus.old) (wanted me (locus_of locus.old)) a (part_of (S.word gate.now.supply) (B.words store.old) (Part.Container storage.old)))
         (LocusCell (locus_of locus.new)) (part_of (S.word gate.now.supply) (B.words store.old) (Part.Container storage.old)) (part_of (S.word gate.now.supply) (B.words store.new) (Part.Container storage.new)) answer) }
     ensures somehow { IfOk result (MakesSomehow (Part.Locus (Some locus.old)) (Part.Locus (Some locus.new)) (Part.Container storage.old) (Part.Container storage.new)) }
+    ensures at_word { OnErr result (ComesToWord (locus_of locus.old) (Part.Container storage.old)) }
     ensures locus_stays { OnErr result (locus.new ≡ locus.old) }
     ensures other_stays { B.tells → OnErr result (part_of (S.word gate.now.supply) (B.words store.new) (Part.Container storage.new) ≡ part_of (S.word gate.now.supply) (B.words store.old) (Part.Container storage.old)) }
     ensures memory { LeavesMemory (S.word gate.now.supply) B.tells B.held B.kept_names B.words (Part.Container storage.old) (Part.Container storage.new) store.old store.new }
@@ -64,6 +65,7 @@ fn look_at_part<B: PageStore, S: Supplier, P: Policy>(
         → MakesLook (outcome s (locus_of locus.old) (wanted me (locus_of locus.old)) a (part_of (S.word gate.now.supply) (B.words store.old) other.old))
         (LocusCell (locus_of locus.new)) (part_of (S.word gate.now.supply) (B.words store.old) other.old) (part_of (S.word gate.now.supply) (B.words store.new) other.new) answer) }
     ensures somehow { IfOk result (MakesSomehow (Part.Locus (Some locus.old)) (Part.Locus (Some locus.new)) other.old other.new) }
+    ensures at_word { OnErr result (ComesToWord (locus_of locus.old) other.old) }
     ensures locus_stays { OnErr result (locus.new ≡ locus.old) }
     ensures other_stays { B.tells → OnErr result (part_of (S.word gate.now.supply) (B.words store.new) other.new ≡ part_of (S.word gate.now.supply) (B.words store.old) other.old) }
     ensures memory { LeavesMemory (S.word gate.now.supply) B.tells B.held B.kept_names B.words other.old other.new store.old store.new }
@@ -93,6 +95,7 @@ pub(crate) fn look_in_parts<B: PageStore, S: Supplier, P: Policy>(
         → MakesLook (outcome s l (wanted me l) a (part_of (S.word gate.now.supply) (B.words store.old) other.old))
         (part_of s words part.new) (part_of (S.word gate.now.supply) (B.words store.old) other.old) (part_of (S.word gate.now.supply) (B.words store.new) other.new) answer) }
     ensures somehow { IfOk result (MakesSomehow part.old part.new other.old other.new) }
+    ensures at_word { OnErr result ((s : Supply) → (words : ℕ → List ℕ) → (l : LocusState) → part_of s words part.old ≡ LocusCell l → ComesToWord l other.old) }
     ensures locus_stays { OnErr result (part.new ≡ part.old) }
     ensures other_stays { B.tells → OnErr result (part_of (S.word gate.now.supply) (B.words store.new) other.new ≡ part_of (S.word gate.now.supply) (B.words store.old) other.old) }
     ensures memory { LeavesMemory (S.word gate.now.supply) B.tells B.held B.kept_names B.words other.old other.new store.old store.new }

@@ -6,8 +6,7 @@ use Rattle.hop_base.specs.declared.instructions.Instr.{Instr}
 use Rattle.hop_model.specs.State.{LocusState, Supply}
 use Rattle.hop_model.specs.Refusals.{instr_at, reg}
 use Rattle.hop_model.specs.Outcomes.{local_act}
-use Rattle.manager_form.specs.Managing.{IsManagerCode}
-use Rattle.manager_form.specs.declared.ScriptManager.{ScriptManager}
+use Rattle.manager_form.specs.Managing.{IsManagerCode, ManagerTable}
 
 abbrev pub goes : Condition → Bool
 goes Running = true
@@ -43,25 +42,25 @@ unfoldable pub manager_answer : List Instr → List ℕ → ℕ
 manager_answer code registers = reg (after_acts 1000 (beginning code registers)) 3
 
 -- the first manager of this number
-abbrev pub manager_of : List ScriptManager → ℕ → Option ScriptManager
-manager_of managers number = find (λ (m : ScriptManager). m.number == number) managers
+abbrev pub manager_named : List ManagerTable → ℕ → Option ManagerTable
+manager_named managers number = find (λ (m : ManagerTable). m.number == number) managers
 
-abbrev pub word_by : Option ScriptManager → Supply → Supply
-word_by (Some m) outer tag page place = manager_answer m.code.items (tag ∷ page ∷ place ∷ 0 ∷ 0 ∷ 0 ∷ 0 ∷ 0 ∷ [])
+abbrev pub word_by : Option ManagerTable → Supply → Supply
+word_by (Some m) outer tag page place = manager_answer m.code (tag ∷ page ∷ place ∷ 0 ∷ 0 ∷ 0 ∷ 0 ∷ 0 ∷ [])
 word_by None outer tag page place = outer tag page place
 
 -- a word by the script's suppliers: the one of this tag answers; for any other tag the outer supplier does
-abbrev pub book_word : List ScriptManager → Supply → Supply
-book_word suppliers outer tag page place = word_by (manager_of suppliers tag) outer tag page place
+abbrev pub book_word : List ManagerTable → Supply → Supply
+book_word suppliers outer tag page place = word_by (manager_named suppliers tag) outer tag page place
 
-abbrev pub wish_by : Option ScriptManager → (ℕ → ℕ → Bool) → ℕ → ℕ → Bool
-wish_by (Some m) outer every since = not (manager_answer m.code.items (every ∷ since ∷ 0 ∷ 0 ∷ 0 ∷ 0 ∷ 0 ∷ 0 ∷ []) == 0)
+abbrev pub wish_by : Option ManagerTable → (ℕ → ℕ → Bool) → ℕ → ℕ → Bool
+wish_by (Some m) outer every since = not (manager_answer m.code (every ∷ since ∷ 0 ∷ 0 ∷ 0 ∷ 0 ∷ 0 ∷ 0 ∷ []) == 0)
 wish_by None outer every since = outer every since
 
 -- a wish by the script's policies: the one of this `every` answers; for any other the outer policy does
-abbrev pub book_wish : List ScriptManager → (ℕ → ℕ → Bool) → ℕ → ℕ → Bool
-book_wish policies outer every since = wish_by (manager_of policies every) outer every since
+abbrev pub book_wish : List ManagerTable → (ℕ → ℕ → Bool) → ℕ → ℕ → Bool
+book_wish policies outer every since = wish_by (manager_named policies every) outer every since
 
--- each is a manager's program
-abbrev pub AreManagers : List ScriptManager → Type 0
-AreManagers managers = All (λ (m : ScriptManager). IsManagerCode m.code.items) managers
+-- each has a manager's program
+abbrev pub CanAnswer : List ManagerTable → Type 0
+CanAnswer managers = All (λ (m : ManagerTable). IsManagerCode m.code) managers

@@ -1,7 +1,7 @@
 //! Managers as programs, asked through a gate.
 use super::*;
 use hop_base::Instr;
-use manager_form::ScriptManager;
+use manager_form::{ScriptManager, ScriptManagers};
 use manager_gate::{CountedWords, EveryVersions, Gate, Supplier};
 
 /// The word at a place is the place and the page.
@@ -21,18 +21,21 @@ fn a_program_answers_register_three(rt: HostRuntime) {
 fn a_book_asks_its_programs_first(rt: HostRuntime) {
     let sum = Vec::from_array(rt.alloc(), SUM).expect(&rt, "memory");
     let yes = Vec::from_array(rt.alloc(), [Instr::Set(3, 1)]).expect(&rt, "memory");
-    let suppliers = [ScriptManager {
+    let supplier = ScriptManager {
         number: 7,
         code: sum,
-    }];
-    let policies = [ScriptManager {
+    };
+    let policy = ScriptManager {
         number: 5,
         code: yes,
-    }];
+    };
+    let managers = ScriptManagers {
+        supply: Vec::from_array(rt.alloc(), [supplier]).expect(&rt, "memory"),
+        policy: Vec::from_array(rt.alloc(), [policy]).expect(&rt, "memory"),
+    };
     let outer = Gate::new(CountedWords, EveryVersions);
     let book = Book {
-        suppliers: &suppliers,
-        policies: &policies,
+        managers: &managers,
         outer: &outer,
     };
     let gate = Gate::new(&book, &book);

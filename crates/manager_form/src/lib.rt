@@ -24,6 +24,13 @@ pub struct ScriptManager {
     pub code: Vec<Instr>,
 }
 
+/// The managers of a script, in the script's order. Each list has at most 16, and each number once: `AreScriptManagers` in specs/.
+#[derive(Drop, Debug)]
+pub struct ScriptManagers {
+    pub supply: Vec<ScriptManager>,
+    pub policy: Vec<ScriptManager>,
+}
+
 /// Whether a manager's program may have the instruction: one of those that change nothing but registers and the place, and `halt`.
 pub fn manages(instr: Instr) -> bool
     ensures { result ≡ is_managing instr }

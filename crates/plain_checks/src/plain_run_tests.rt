@@ -34,7 +34,7 @@ fn picks_come_before_rounds(rt: HostRuntime) -> Result<(), Fail> {
 #[test]
 fn a_name_of_the_other_kind_clashes(rt: HostRuntime) -> Result<(), Fail> {
     let alloc = rt.alloc();
-    let script = read_script(alloc, TWO_OF_EACH.as_bytes())?;
+    let script = read_script(alloc, TWO_OF_EACH.as_bytes())?.script;
     for (name, key) in [("m", "locus.1.name"), ("a", ""), ("x", "")] {
         let atlas = PlainAtlas {
             containers: vec![in alloc; String::from_str(alloc, name)?]?,

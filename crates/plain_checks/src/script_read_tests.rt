@@ -198,7 +198,8 @@ caps = [\"l k\"]
 
 #[test]
 fn a_whole_script_is_read(rt: HostRuntime) -> Result<(), Fail> {
-    let script = read_script(rt.alloc(), WHOLE.as_bytes())?;
+    let read = read_script(rt.alloc(), WHOLE.as_bytes())?;
+    let script = &read.script;
     assert_eq!(rt; (script.steps, script.frames), (103, 32));
     assert!(rt; script.order.len() == 1 && script.containers.len() == 2 && script.loci.len() == 1);
     let a = &script.containers[1];
@@ -233,7 +234,8 @@ locus = [{ name = \"m\", host = \"b\", every = 0 }, { name = \"l\", host = \"a\"
 
 #[test]
 fn wishes_and_snaps_are_read(rt: HostRuntime) -> Result<(), Fail> {
-    let script = read_script(rt.alloc(), WISHES.as_bytes())?;
+    let read = read_script(rt.alloc(), WISHES.as_bytes())?;
+    let script = &read.script;
     assert!(rt; script.containers.len() == 2 && script.loci.len() == 2);
     let (a, b) = (&script.containers[0], &script.containers[1]);
     assert_eq!(rt; (a.every, b.every), (1_000_000, 0));
@@ -245,8 +247,96 @@ fn wishes_and_snaps_are_read(rt: HostRuntime) -> Result<(), Fail> {
 
 #[test]
 fn an_empty_source_names_nothing(rt: HostRuntime) -> Result<(), Fail> {
-    let script = read_script(rt.alloc(), b"")?;
+    let read = read_script(rt.alloc(), b"")?;
+    let (script, managers) = (&read.script, &read.managers);
     assert_eq!(rt; (script.steps, script.frames), (10_000, 32));
     assert!(rt; script.containers.is_empty() && script.loci.is_empty() && script.order.is_empty());
+    assert!(rt; managers.supply.is_empty() && managers.policy.is_empty());
+    Ok(())
+}
+
+/// The programs of managers: `p` may answer, `q` prints, `two words` has a blank in its name.
+const PROGRAMS: &str = "program.p = ['copy r3 r2', 'add r3 r1', 'halt']
+program.q = ['print r0']
+program.'two words' = ['set r3 1']
+";
+
+/// The first refusal of a source with these programs.
+fn refusal_behind(alloc: Global, line: &str) -> Result<Refusal, Fail> {
+    let mut source = String::from_str(alloc, line)?;
+    source.push_str("\n")?;
+    source.push_str(PROGRAMS)?;
+    refusal(alloc, source.as_bytes())
+}
+
+#[test]
+fn the_first_refusal_of_managers_is_told(rt: HostRuntime) -> Result<(), Fail> {
+    let rows = [
+        row("supply = '7 p'", Why::Kind, "supply"),
+        row("supply = [7, '0 x']", Why::Kind, "supply.0"),
+        row("supply = ['7']", Why::BadCode, "supply.0"),
+        row("supply = ['07 p']", Why::BadCode, "supply.0"),
+        row("supply = ['+7 p']", Why::BadCode, "supply.0"),
+        row("supply = ['0 x']", Why::Range, "supply.0"),
+        row("supply = ['9223372036854775808 p']", Why::Range, "supply.0"),
+        row(
+            "supply = ['99999999999999999999999 p']",
+            Why::Range,
+            "supply.0",
+        ),
+        row("policy = ['1000001 p']", Why::Range, "policy.0"),
+        row("supply = ['7 p', '7 x']", Why::Unknown, "supply.1"),
+        row("supply = ['7 p ']", Why::Unknown, "supply.0"),
+        row("supply = ['7 q']", Why::BadCode, "supply.0"),
+        row("supply = ['7 p', '7 q']", Why::BadCode, "supply.1"),
+        row("supply = ['7 p', '8 p', '7 p']", Why::Clash, "supply.2"),
+        row(
+            "policy = ['x p']\nsupply = ['7 q']",
+            Why::BadCode,
+            "supply.0",
+        ),
+        row("policy = ['x p']\norder = ['l']", Why::Unknown, "order.0"),
+    ];
+    for refused in &rows {
+        let line = refused.source;
+        let told = refusal_behind(rt.alloc(), line)?;
+        assert!(rt; told.why == refused.why, "at {line}");
+        assert_eq!(rt; told.key.as_str(), refused.key, "at {line}");
+    }
+    Ok(())
+}
+
+#[test]
+fn seventeen_managers_are_refused(rt: HostRuntime) -> Result<(), Fail> {
+    let mut line = String::from_str(rt.alloc(), "policy = [")?;
+    for _ in 0..17 {
+        line.push_str("1, ")?;
+    }
+    line.push_str("]")?;
+    let told = refusal_behind(rt.alloc(), line.as_str())?;
+    assert!(rt; told.why == Why::TooMany);
+    assert_eq!(rt; told.key.as_str(), "policy");
+    Ok(())
+}
+
+#[test]
+fn managers_are_read(rt: HostRuntime) -> Result<(), Fail> {
+    let mut source = String::from_str(
+        rt.alloc(),
+        "supply = ['7 p', '9223372036854775807 two words']\npolicy = ['1000000 two words']\n",
+    )?;
+    source.push_str(PROGRAMS)?;
+    let read = read_script(rt.alloc(), source.as_bytes())?;
+    let (supply, policy) = (&read.managers.supply, &read.managers.policy);
+    assert!(rt; supply.len() == 2 && policy.len() == 1);
+    assert_eq!(rt;
+        (supply[0].number, supply[1].number, policy[0].number),
+        (7, 9_223_372_036_854_775_807, 1_000_000)
+    );
+    assert_eq!(rt;
+        supply[0].code.as_slice(),
+        [Instr::Copy(3, 2), Instr::Add(3, 1), Instr::Halt].as_slice()
+    );
+    assert_eq!(rt; policy[0].code.as_slice(), [Instr::Set(3, 1)].as_slice());
     Ok(())
 }

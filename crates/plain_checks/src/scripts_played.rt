@@ -43,7 +43,7 @@ fn can_play(script: &Script) -> bool
 pub(crate) fn played(alloc: Global, text: &str) -> Result<Played, Fail>
     ensures { IfOk result (λ played. IsSound (cells_of (λ tag page place. tag) played.state)) }
 {
-    let script = read_script(alloc, text.as_bytes())?;
+    let script = read_script(alloc, text.as_bytes())?.script;
     if !can_play(&script) {
         return Err(Fail::from("a plain run makes no snapshot"));
     }

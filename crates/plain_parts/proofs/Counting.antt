@@ -1,9 +1,11 @@
 -- Counted edges in a list, pair by pair.
-use Rattle.std.proofs.Common.{◌≡◌, ℕ, ◌+◌, ◌*◌, ◌<◌, ◌≤◌, Bool, true, false, ◌&&◌, ◌==◌, if◌then◌else◌, List, [], ◌∷◌, ◌++◌, refl, sym, ap, ◌∙◌, ⊎_elim, arith}
+use Rattle.std.proofs.Common.{◌≡◌, ℕ, ◌+◌, ◌*◌, ◌<◌, ◌≤◌, Bool, true, false, ◌&&◌, ◌||◌, ◌==◌, nat_lt, if◌then◌else◌, List, [], ◌∷◌, ◌++◌, refl, sym, ap, ◌∙◌, ⊎_elim, arith}
 use Rattle.std.proofs.lemmas.Bool.{cases_eq, cases_lt}
 use Rattle.std.proofs.lemmas.Bool.Decides.{nat_tests}
+use Rattle.std.proofs.lemmas.List.Elements.{All-nil, All-push}
 use Rattle.circle_law.specs.Containers.{IsAmongContainers}
 use Rattle.hop_base.specs.Edges.{Edges}
+use Rattle.history_model.specs.Born.{AreAscending, AreEdges, is_before}
 use Rattle.history_model.specs.Plains.{edges_of}
 use Rattle.history_model.specs.declared.plain.Edge.{Edge}
 
@@ -56,21 +58,40 @@ before_push : (es : List Edge) (e : Edge) (n m : ℕ) → n ≤ m → 41 * e.fro
 before_push [] e n m le here to before = (here, to, tt)
 before_push (x ∷ es) e n m le here to (low, also, rest) = (omega (arith, low, le), also, before_push es e n m le here to rest)
 
+-- ORDER
+
+-- an earlier pair is before a later one
+pair_before : (a b c d n : ℕ) → 41 * a + b < n → 41 * c + d ≡ n → d < 41 → (nat_lt a c || a == c && nat_lt b d) ≡ true
+pair_before a b c d n low is to = grind (arith, nat_tests)
+
+all_are_before : (es : List Edge) (e : Edge) (n : ℕ) → AreBefore n es → 41 * e.from + e.to ≡ n → e.to < 41 → AreAscending es → AreAscending (es ++ e ∷ [])
+all_are_before [] e n before is small up = (All-nil (λ f. is_before e f ≡ true), tt)
+all_are_before (x ∷ es) e n (low, to, rest) is small up =
+    (All-push (λ f. is_before x f ≡ true) es e up.0 (pair_before x.from x.to e.from e.to n low is small), all_are_before es e n rest is small up.1)
+
+edges_push : (es : List Edge) (e : Edge) (n : ℕ) → AreBefore n es → 41 * e.from + e.to ≡ n → e.to < 41 → 1 ≤ e.count → AreEdges es → AreEdges (es ++ e ∷ [])
+edges_push es e n before is small some are = record {
+  ascending = all_are_before es e n before is small are.ascending;
+  counts = All-push (λ (f : Edge). 1 ≤ f.count) es e are.counts some;
+}
+
 -- THE EDGES THAT ARE COUNTED SO FAR
 pub record AreCountedTo (f : Edges) (es : List Edge) (n : ℕ) : Type 0 where
   pub before : AreBefore n es
+  pub listed : AreEdges es
   pub same : (c d : ℕ) → d < 41 → 41 * c + d < n → edges_of es c d ≡ f c d
   pub inside : 0 < n → IsAmongContainers f
 
 pub none_counted : (f : Edges) → AreCountedTo f [] 0
-none_counted f = record { before = tt; same = λ c d to lt. absurd (omega (arith, lt)); inside = λ some. absurd (omega (arith, some)) }
+none_counted f = record { before = tt; listed = record { ascending = tt; counts = All-nil (λ (e : Edge). 1 ≤ e.count) }; same = λ c d to lt. absurd (omega (arith, lt)); inside = λ some. absurd (omega (arith, some)) }
 
 module _ (f : Edges) (es : List Edge) (n a b : ℕ) (so_far : AreCountedTo f es n) (inside : IsAmongContainers f) (pair : 41 * a + b ≡ n) (to : b < 41) where
-  pub counted_more : (count : ℕ) → count ≡ f a b → AreCountedTo f (es ++ record { from = a; to = b; count = count } ∷ []) (n + 1)
-  counted_more count is =
+  pub counted_more : (count : ℕ) → 1 ≤ count → count ≡ f a b → AreCountedTo f (es ++ record { from = a; to = b; count = count } ∷ []) (n + 1)
+  counted_more count some is =
       let e : Edge = record { from = a; to = b; count = count } in
       record {
         before = before_push es e n (n + 1) (omega arith) (omega (arith, pair)) to so_far.before;
+        listed = edges_push es e n so_far.before pair to some so_far.listed;
         same = λ c d small lt. ⊎_elim
             (λ (less : 41 * c + d < n). last_other es e c d (other_pair a b c d n pair less) ∙ so_far.same c d small less)
             (λ (high : n ≤ 41 * c + d).
@@ -84,6 +105,7 @@ module _ (f : Edges) (es : List Edge) (n a b : ℕ) (so_far : AreCountedTo f es 
   pub counted_none : f a b ≡ 0 → AreCountedTo f es (n + 1)
   counted_none zero = record {
     before = before_more es n (n + 1) (omega arith) so_far.before;
+    listed = so_far.listed;
     same = λ c d small lt. ⊎_elim
         (λ (less : 41 * c + d < n). so_far.same c d small less)
         (λ (high : n ≤ 41 * c + d).

@@ -1,6 +1,7 @@
 //! The atlas.
 ghost use Rattle.std.specs.Prelude.{◌≡◌, ◌≤◌, ◌+◌, IfOk, map, string_bytes};
 ghost use Rattle.atlas_dir.specs.Directory.{edges_of as counts_of};
+ghost use Rattle.history_model.specs.Born.{AreEdges};
 ghost use Rattle.history_model.specs.Plains.{atlas_of, edges_of};
 ghost use Rattle.kernel_calls.specs.Calls.{atlas_state};
 ghost use Rattle.plain_parts.specs.Names.{AreNames};
@@ -36,7 +37,8 @@ fn names_from(alloc: Global, atlas: &Atlas, first: u8, many: u8) -> Result<Vec<S
 
 // The counts that aren't 0, ascending by both numbers.
 fn counted(alloc: Global, atlas: &Atlas) -> Result<Vec<Edge>, AllocError>
-    ensures { IfOk result (λ edges. edges_of edges.items ≡ counts_of atlas.now) }
+    ensures counts { IfOk result (λ edges. edges_of edges.items ≡ counts_of atlas.now) }
+    ensures listed { IfOk result (λ edges. AreEdges edges.items) }
 {
     let mut edges = Vec::new(alloc);
     for pair in 0..SIDE * SIDE {
@@ -52,7 +54,8 @@ fn counted(alloc: Global, atlas: &Atlas) -> Result<Vec<Edge>, AllocError>
 
 /// The same atlas in ordinary lists. It takes memory for them, and looks at the count of each pair of containers.
 pub fn plain_atlas(alloc: Global, atlas: &Atlas) -> Result<PlainAtlas, AllocError>
-    ensures { IfOk result (λ plain. atlas_of plain ≡ atlas_state atlas.now) }
+    ensures atlas { IfOk result (λ plain. atlas_of plain ≡ atlas_state atlas.now) }
+    ensures edges { IfOk result (λ plain. AreEdges plain.edges.items) }
 {
     let containers = names_from(alloc, atlas, FIRST_CONTAINER, atlas.named(Kind::Container))?;
     let loci = names_from(alloc, atlas, FIRST_LOCUS, atlas.named(Kind::Locus))?;

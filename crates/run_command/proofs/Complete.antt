@@ -8,6 +8,7 @@ use Rattle.hop_model.specs.State.{KernelState, Text}
 use Rattle.hop_model.specs.Steps.{atlas_in}
 use Rattle.image_meaning.proofs.Firsts.{not_both}
 use Rattle.image_meaning.proofs.Ones.{one_meaning}
+use Rattle.manager_form.specs.Managing.{ManagerTables}
 use Rattle.script_form.specs.declared.refusals.Refusal.{Refusal}
 use Rattle.script_read.specs.Meaning.{Source}
 use Rattle.script_read.specs.Reading.{Reading}
@@ -17,6 +18,7 @@ use Rattle.command_parts.specs.Statuses.{IsComplete, ending}
 use Rattle.command_parts.specs.declared.statuses.Status.{Status}
 use Rattle.command_parts.specs.declared.statuses.Status.TheVariants as status
 use Rattle.run_opening.specs.Openings.{Managers}
+use Rattle.run_command.specs.Booked.{over}
 use Rattle.run_command.specs.Leaving.{CanRun, IsRefused, RunLeaves}
 
 -- what holds of bytes that may be known holds of the known ones
@@ -24,24 +26,25 @@ of_known : (left : Option Text) (bytes : Text) (P : Text → Type 0) → left �
 of_known left bytes P is h = subst (λ (o : Option Text). IfSome o P) is h
 
 abbrev script_in : Tables → Reading Source → Tables
-script_in other (Ok source) = source.tables
+script_in other (Ok source) = source.script.tables
 script_in other (Err blame) = other
 
 -- a source stands for one script
-one_script : (bytes : Text) (script other : Tables) → IsAccepted bytes script → IsAccepted bytes other → script ≡ other
-one_script bytes script other a b = ap (script_in script) (sym a.1 ∙ b.1)
+one_script : (bytes : Text) (script other : Tables) (brought others : ManagerTables) → IsAccepted bytes script brought → IsAccepted bytes other others → script ≡ other
+one_script bytes script other brought others a b = ap (script_in script) (sym a.1 ∙ b.1)
 
 -- and for none if it is refused
-not_refused : (bytes : Text) (script : Tables) (refusal : Refusal) → IsAccepted bytes script → IsRefusal bytes refusal.why (string_bytes refusal.key) → ⊥
-not_refused bytes script refusal accepted refuses = (let same = sym accepted.1 ∙ refuses in absurd (cc))
+not_refused : (bytes : Text) (script : Tables) (brought : ManagerTables) (refusal : Refusal) → IsAccepted bytes script brought → IsRefusal bytes refusal.why (string_bytes refusal.key) → ⊥
+not_refused bytes script brought refusal accepted refuses = (let same = sym accepted.1 ∙ refuses in absurd (cc))
 
 module _ (m : Managers) (call : Call) (gave : Gave) (can : CanRun m call) where
   not_misfit : (refusal : Refusal) → IsRefused call refusal → ⊥
-  not_misfit refusal (inl source) = not_refused can.bytes can.script refusal can.accepted (of_known call.source.before can.bytes (λ bytes. IsRefusal bytes refusal.why (string_bytes refusal.key)) can.known source.0)
-  not_misfit refusal (inr (other, read, misfit)) =
-      let same : can.script ≡ other = one_script can.bytes can.script other can.accepted (of_known call.source.before can.bytes (λ b. IsAccepted b other) can.known read.accepted) in
-      let means = misfit.state can.told m.supply in
-      let one : can.state ≡ means.0 = one_meaning m.supply call.disk.before.reading can.state means.0 can.means means.1 in
+  not_misfit refusal (inl source) = not_refused can.bytes can.script can.brought refusal can.accepted (of_known call.source.before can.bytes (λ bytes. IsRefusal bytes refusal.why (string_bytes refusal.key)) can.known source.0)
+  not_misfit refusal (inr (other, others, read, misfit)) =
+      let same : can.script ≡ other = one_script can.bytes can.script other can.brought others can.accepted (of_known call.source.before can.bytes (λ b. IsAccepted b other others) can.known read.accepted) in
+      let supply = (over can.brought m).supply in
+      let means = misfit.state can.told supply in
+      let one : can.state ≡ means.0 = one_meaning supply call.disk.before.reading can.state means.0 can.means means.1 in
       means.2.unfit (subst (λ (t : Tables). Fits (atlas_in (means.0 0).cell) t) same (subst (λ (v : KernelState). Fits (atlas_in (v 0).cell) can.script) one can.fits))
 
   pub complete : (s : Status) → RunLeaves m call gave (ending s) → (call.source.rose → ⊥) → (call.disk.rose → ⊥) → (call.sink.rose → ⊥) → ((n : NoBlocks) → s ≡ status.BlocksFull n → ⊥) → IsComplete s
@@ -54,3 +57,4 @@ module _ (m : Managers) (call : Call) (gave : Gave) (can : CanRun m call) where
   complete (status.Script refusal) leaves source disk sink blocks = absurd (not_misfit refusal leaves.1)
   complete (status.Foreign block place) leaves source disk sink blocks = absurd (not_both call.disk.before.reading _ can.means.accepted (leaves.2 can.told).0)
   complete status.Usage leaves source disk sink blocks = absurd leaves
+  complete (status.TraceWrong line want) leaves source disk sink blocks = absurd leaves

@@ -3,18 +3,22 @@ use Rattle.std.proofs.Common.{◌≡◌, ◌⊎◌, inl, inr, ℕ, ◌-◌, ◌<
 use Rattle.std.proofs.lemmas.Bool.{cases_lt}
 use Rattle.disk_trait.specs.Counts.{Rose}
 use Rattle.disk_trait.specs.Image.{Image}
+use Rattle.disk_trait.specs.declared.disk.NoBlocks.{NoBlocks}
 use Rattle.hop_base.specs.declared.histories.Entry.{Entry}
 use Rattle.hop_model.specs.Scripts.{Script as Tables}
 use Rattle.hop_model.specs.State.{Text}
+use Rattle.image_blocks.specs.Checks.{count_in}
 use Rattle.run_opening.specs.Kernels.{Held}
 use Rattle.kernel_model.specs.Beginnings.{Beginning, IsLegal}
+use Rattle.manager_form.specs.Managing.{ManagerTables}
 use Rattle.script_source.specs.Sources.{HasRead, StopsSource}
+use Rattle.snapshot_store.specs.State.{books}
 use Rattle.watched_disk.specs.Handing.{next_moment}
 use Rattle.watched_disk.specs.Watching.{HasGoneOn, Start, start_of}
 use Rattle.watched_disk.proofs.Going.{is_start}
 use Rattle.command_parts.specs.Ends.{IsUnrun}
 use Rattle.command_parts.specs.Seen.{Call, Gave, SeenDisk, SeenSink, seen_disk}
-use Rattle.command_parts.specs.Statuses.{Ending, Stopped, Unput, Whole, ending, status_by}
+use Rattle.command_parts.specs.Statuses.{Ending, Stopped, Unput, Whole, Wrong, ending, status_by}
 use Rattle.command_parts.specs.declared.faults.Fault.{Fault}
 use Rattle.command_parts.specs.declared.faults.Fault.TheVariants as fault
 use Rattle.command_parts.specs.declared.statuses.Status.{Status}
@@ -25,9 +29,11 @@ use Rattle.run_opening.proofs.Kept.{fails_at_sync}
 use Rattle.run_outcomes.specs.Keeping.{IsKept}
 use Rattle.run_outcomes.specs.Runs.{IsCutShort, IsRun, IsServed}
 use Rattle.run_outcomes.proofs.Returning.{kept}
+use Rattle.run_command.specs.Booked.{over}
 use Rattle.run_command.specs.Leaving.{IsReadOne, OfRun, RunLeaves, StopsRun}
 use Rattle.run_command.specs.OfScript.{InRun, IsLeftUnopened, ScriptLeaves, StopsScript}
-use Rattle.run_command.specs.Playing.{HasRun, HasServed, IsHandedIn, PlayLeaves, StartsRun, WasCutShort}
+use Rattle.run_command.specs.Playing.{HasRun, HasServed, IsHandedIn, PlayLeaves, StartsRun, WasCutForBlocks, WasCutShort}
+use Rattle.run_command.specs.Short.{IsCutForBlocks, IsShortOfBlocks}
 
 -- a count that rose in the second of two stretches rose in both
 pub rose_later : (a b c : ℕ) → a ≤ b → b ≤ c → Rose b c → Rose a c
@@ -109,6 +115,9 @@ module _ {D : Type 0} (tells : Type 0) (block_count : D → ℕ) (reading : D �
     cut : (sink : SeenSink) (f : Fault) → WasCutShort tells clock reading may_leave left_since b sink gave new f → IsCutShort b seen sink gave f
     cut sink f h = record { run = kept_run h.run; part = h.part; output = h.output }
 
+    cut_for : (sink : SeenSink) (count : ℕ) (n : NoBlocks) → count ≡ count_in (reading old) → WasCutForBlocks tells clock reading may_leave left_since b count sink gave new n → IsCutForBlocks b seen sink gave n
+    cut_for sink count n same h = record { cut = cut sink (fault.Blocks n) h.cut; short = subst (λ (blocks : ℕ). IsShortOfBlocks b blocks gave.history n) same h.short }
+
   module _ (m : Managers) (sink : SeenSink) (script : Tables) (gave : Gave) where
     -- THE RUN was made, by a kernel that was ready for it
     module _ (k : Held D) (ready : tells → IsReady tells clock faults reading may_leave left_since script old k) (rose : Type 0) (risen : rose → Rose (faults old) (faults new)) where
@@ -126,16 +135,17 @@ module _ {D : Type 0} (tells : Type 0) (block_count : D → ℕ) (reading : D �
             run = λ low. turn told b refl (each told b (record { same_supply = refl; same_policy = refl; same_script = refl; lives = o.run low }));
           }
 
-      pub run_leaves : (e : Ending) → PlayLeaves tells clock reading may_leave left_since Starts rose sink gave new e → ScriptLeaves m script sink seen gave e
+      pub run_leaves : (e : Ending) → PlayLeaves tells clock reading may_leave left_since Starts rose (books k.parts.store).count sink gave new e → ScriptLeaves m script sink seen gave e
       run_leaves Whole h = in_run _ _ (λ told b first. served told b first gave _) h
       run_leaves Unput h = (in_run _ _ (λ told b first. served told b first gave _) h.0, h.1)
       run_leaves (Stopped fault.Disk) h = (risen h.0, inr (in_run _ _ (λ told b first. cut told b first gave sink fault.Disk) h.1))
-      run_leaves (Stopped (fault.Blocks n)) h = in_run _ _ (λ told b first. cut told b first gave sink (fault.Blocks n)) h
+      run_leaves (Stopped (fault.Blocks n)) h = in_run _ _ (λ told b first. cut_for told b first gave sink (books k.parts.store).count n (ready told).count) h
       run_leaves (Stopped fault.Usage) h = absurd h
       run_leaves (Stopped (fault.Script refusal)) h = absurd h
       run_leaves (Stopped (fault.Foreign block place)) h = absurd h
       run_leaves (Stopped fault.Source) h = absurd h
       run_leaves (Stopped fault.Memory) h = absurd h
+      run_leaves (Wrong line want) h = absurd h
 
     -- THE IMAGE WAS NOT OPENED for the script
     module _ (only_now : (disk : D) (c : Image) → tells → left_since disk (clock disk) c → may_leave disk c) where
@@ -156,22 +166,26 @@ module _ {D : Type 0} (tells : Type 0) (block_count : D → ℕ) (reading : D �
       opening_stops (fault.Blocks n) why unrun = absurd why
 
 -- BEHIND A SOURCE that was read
-module _ (m : Managers) (call : Call) (script : Tables) (read : HasRead call.source script) (gave : Gave) where
-  of_run : (P : Beginning → Type 0) → InRun m script call.sink call.disk gave P → OfRun m call P
-  of_run P h = record { script = script; read = read; opened = h }
+module _ (m : Managers) (call : Call) (script : Tables) (brought : ManagerTables) (read : HasRead call.source script brought) (gave : Gave) where
+  abbrev answering : Managers
+  answering = over brought m
 
-  disk_fails : (IsUnrun call.sink gave fault.Disk × IsLeftUnopened call.disk) ⊎ InRun m script call.sink call.disk gave (λ b. IsCutShort b call.disk call.sink gave fault.Disk)
+  of_run : (P : Beginning → Type 0) → InRun answering script call.sink call.disk gave P → OfRun m call P
+  of_run P h = record { script = script; brought = brought; read = read; opened = h }
+
+  disk_fails : (IsUnrun call.sink gave fault.Disk × IsLeftUnopened call.disk) ⊎ InRun answering script call.sink call.disk gave (λ b. IsCutShort b call.disk call.sink gave fault.Disk)
       → (IsUnrun call.sink gave fault.Disk × IsReadOne call.source × IsLeftUnopened call.disk) ⊎ OfRun m call (λ b. IsCutShort b call.disk call.sink gave fault.Disk)
-  disk_fails (inl (unrun, unopened)) = inl (unrun, (script, read), unopened)
+  disk_fails (inl (unrun, unopened)) = inl (unrun, (script, brought, read), unopened)
   disk_fails (inr run) = inr (of_run _ run)
 
-  pub behind_source : (e : Ending) → ScriptLeaves m script call.sink call.disk gave e → RunLeaves m call gave e
+  pub behind_source : (e : Ending) → ScriptLeaves answering script call.sink call.disk gave e → RunLeaves m call gave e
   behind_source Whole h = of_run _ h
   behind_source Unput h = (of_run _ h.0, h.1)
-  behind_source (Stopped (fault.Script refusal)) h = (h.0, inr (script, read, h.1))
-  behind_source (Stopped (fault.Foreign block place)) h = (h.0, (script, read), h.1)
+  behind_source (Stopped (fault.Script refusal)) h = (h.0, inr (script, brought, read, h.1))
+  behind_source (Stopped (fault.Foreign block place)) h = (h.0, (script, brought, read), h.1)
   behind_source (Stopped fault.Disk) h = (h.0, disk_fails h.1)
-  behind_source (Stopped fault.Memory) h = (h.0, inr ((script, read), h.1))
+  behind_source (Stopped fault.Memory) h = (h.0, inr ((script, brought, read), h.1))
   behind_source (Stopped (fault.Blocks n)) h = of_run _ h
   behind_source (Stopped fault.Usage) h = absurd h
   behind_source (Stopped fault.Source) h = absurd h
+  behind_source (Wrong line want) h = absurd h

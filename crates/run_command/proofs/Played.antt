@@ -1,22 +1,26 @@
 -- What a kernel leaves of a run, from what it made and what was put.
-use Rattle.std.proofs.Common.{◌≡◌, ◌++◌, ℕ, List, Result, Ok, Err, refl, sym, ap, subst, ◌∙◌}
+use Rattle.std.proofs.Common.{◌≡◌, ◌++◌, ◌<◌, ℕ, List, Option, Some, Result, Ok, Err, refl, sym, ap, subst, ◌∙◌}
 use Rattle.std.specs.Option.{option_map}
-use Rattle.std.specs.Prelude.{IsErrOf, ⊤}
+use Rattle.std.specs.Prelude.{IfErr, IsErrOf, ⊤}
 use Rattle.disk_trait.specs.Image.{Image}
+use Rattle.disk_trait.specs.declared.disk.NoBlocks.{NoBlocks}
 use Rattle.hop_base.specs.declared.histories.Entry.{Entry}
 use Rattle.hop_model.specs.Output.{output_of}
 use Rattle.hop_model.specs.State.{AtlasState, KernelState, Text}
 use Rattle.hop_model.specs.Steps.{atlas_in}
+use Rattle.kernel_commits.specs.Lacking.{IsDue}
 use Rattle.kernel_commits.specs.Parts.{stop_of}
 use Rattle.kernel_commits.specs.declared.stopping.Stopped.{Stopped}
 use Rattle.kernel_commits.specs.declared.stopping.Stopped.TheVariants.{Failed, TooFew}
 use Rattle.run_opening.specs.Kernels.{Held, Lives}
 use Rattle.kernel_model.specs.Beginnings.{Beginning, state_after}
 use Rattle.kernel_model.specs.Live.{IsRunning, KernelView}
+use Rattle.kernel_room.specs.Room.{enough_blocks}
 use Rattle.kernel_runs.specs.Running.{EndsRun, HasStopped, IsOver}
 use Rattle.kernel_views.specs.Views.{view_of}
 use Rattle.record_laws.specs.Cells.{words_on}
 use Rattle.serial_runs.specs.Serial.{IsStopped, IsWhole}
+use Rattle.snapshot_store.specs.State.{books}
 use Rattle.table_births.specs.Births.{atlas_state_in}
 use Rattle.table_births.proofs.AtlasStates.{same_atlas}
 use Rattle.command_parts.specs.Ends.{Gains}
@@ -28,7 +32,12 @@ use Rattle.command_parts.specs.declared.faults.Fault.TheVariants.{Blocks, Disk}
 use Rattle.command_parts.specs.declared.statuses.Status.{Status}
 use Rattle.command_parts.proofs.Endings.{fault_ends, put_ends}
 use Rattle.run_outcomes.specs.Runs.{printed}
-use Rattle.run_command.specs.Playing.{HasRun, HasServed, InEach, IsPutBy, PlayLeaves, StopsPlay, WasCutShort, fault_of_stop}
+use Rattle.run_command.specs.Playing.{HasRun, HasServed, InEach, IsPutBy, PlayLeaves, StopsPlay, WasCutForBlocks, WasCutShort, fault_of_stop}
+
+-- what holds of why a call failed holds of this reason
+pub of_err : (r : Result ⊤ Stopped) (P : Stopped → Type 0) (why : Stopped) → IfErr r P → IsErrOf r why → P why
+of_err (Ok x) P why h is = absurd (cc is)
+of_err (Err e) P why h is = (let same : e ≡ why = cc in subst P same h)
 
 -- a run that was stopped was told so
 pub put_stopped : (ended : Result ⊤ Stopped) (why : Stopped) (fault : Fault) (sink : SeenSink) (bytes : Text) (status : Status) → ended ≡ Err why → fault ≡ fault_of_stop why → status ≡ status_by fault
@@ -72,25 +81,40 @@ module _ {D : Type 0} (tells : Type 0) (clock faults : D → ℕ) (reading : D �
       output = subst (λ (text : Text). Gains sink (text ++ fault_line f)) (lines_same stopped.lives) put;
     }
 
+    -- for want of blocks
+    cut_for : (count : ℕ) (n : NoBlocks) → HasStopped tells clock faults reading may_leave left_since b new → new.stop ≡ Some (TooFew n) → n.free < n.need → (books new.parts.store).count ≡ count
+        → Gains sink (lines ++ fault_line (Blocks n)) → WasCutForBlocks tells clock reading may_leave left_since b count sink gave disk n
+    cut_for count n stopped at fewer same_count put = record {
+      cut = cut stopped (Blocks n) put;
+      short = record {
+        few =
+            subst (λ (blocks : ℕ). blocks < enough_blocks (state_after b gave.history)) same_count
+            (subst (λ (es : List Entry). (books new.parts.store).count < enough_blocks (state_after b es)) (sym history) (stopped.enough n at));
+        fewer = fewer;
+        due = subst (IsDue b) (sym history) (stopped.due n at);
+      };
+    }
+
   -- WHAT IT LEAVES
-  module _ (starts : Beginning → Type 0) (rose : Type 0) where
+  module _ (starts : Beginning → Type 0) (rose : Type 0) (count : ℕ) (same_count : (books new.parts.store).count ≡ count) where
     abbrev Ends : Result ⊤ Stopped → Type 0
     Ends result = tells → (b : Beginning) → starts b → EndsRun tells clock faults reading may_leave left_since b result new
 
     abbrev Each : (Beginning → Type 0) → Type 0
-    Each P = InEach tells clock reading may_leave left_since starts rose sink gave disk P
+    Each P = InEach tells clock reading may_leave left_since starts rose count sink gave disk P
 
     abbrev Whole : (Text → Type 0) → Type 0
     Whole Puts = Each (λ b. HasServed tells clock reading may_leave left_since b gave disk Puts)
 
     abbrev Stops : Fault → Type 0
-    Stops f = StopsPlay tells clock reading may_leave left_since starts rose sink gave disk f
+    Stops f = StopsPlay tells clock reading may_leave left_since starts rose count sink gave disk f
 
-    pub play_leaves : (result : Result ⊤ Stopped) → Ends result → (IsErrOf result Failed → rose) → IsPutBy result sink (lines) gave.status
-        → PlayLeaves tells clock reading may_leave left_since starts rose sink gave disk (ending gave.status)
-    play_leaves (Ok x) ends failed put =
+    pub play_leaves : (result : Result ⊤ Stopped) → Ends result → (IsErrOf result Failed → rose) → ((n : NoBlocks) → IsErrOf result (TooFew n) → (new.stop ≡ Some (TooFew n)) × (n.free < n.need))
+        → IsPutBy result sink (lines) gave.status → PlayLeaves tells clock reading may_leave left_since starts rose count sink gave disk (ending gave.status)
+    play_leaves (Ok x) ends failed short put =
         put_ends sink Whole Stops gave.status (lines) put (λ Puts all told b start. served b (ends told b start).over Puts all)
-    play_leaves (Err Failed) ends failed put =
+    play_leaves (Err Failed) ends failed short put =
         fault_ends sink Whole Stops gave.status Disk put.0 (failed refl, λ told b start. cut b (ends told b start).stopped Disk put.1)
-    play_leaves (Err (TooFew n)) ends failed put =
-        fault_ends sink Whole Stops gave.status (Blocks n) put.0 (λ told b start. cut b (ends told b start).stopped (Blocks n) put.1)
+    play_leaves (Err (TooFew n)) ends failed short put =
+        let why = short n refl in
+        fault_ends sink Whole Stops gave.status (Blocks n) put.0 (λ told b start. cut_for b count n (ends told b start).stopped why.0 why.1 same_count put.1)

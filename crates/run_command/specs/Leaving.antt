@@ -7,6 +7,7 @@ use Rattle.hop_model.specs.Steps.{atlas_in}
 use Rattle.image_meaning.specs.Foreign.{IsForeign}
 use Rattle.image_meaning.specs.Meaning.{Means}
 use Rattle.kernel_model.specs.Beginnings.{Beginning}
+use Rattle.manager_form.specs.Managing.{ManagerTables}
 use Rattle.script_form.specs.declared.refusals.Refusal.{Refusal}
 use Rattle.script_source.specs.Sources.{HasRead, IsAccepted, IsRefusalOf}
 use Rattle.command_parts.specs.Ends.{IsUnrun, LeavesBy}
@@ -16,22 +17,26 @@ use Rattle.command_parts.specs.declared.faults.Fault.{Fault}
 use Rattle.command_parts.specs.declared.faults.Fault.TheVariants.{Script, Foreign, Disk, Source, Memory, Blocks}
 use Rattle.run_opening.specs.Openings.{HasOpened, IsKeptImage, Managers, StaysAsRead}
 use Rattle.run_opening.specs.Ready.{HasMisfit}
+use Rattle.run_command.specs.Booked.{over}
 use Rattle.run_command.specs.OfScript.{IsLeftUnopened}
+use Rattle.run_command.specs.Short.{IsCutForBlocks}
 use Rattle.run_outcomes.specs.Runs.{IsCutShort, IsServed}
 
--- this holds of the run of the script that the source stands for, on a disk that tells its content
+-- this holds of the run of the script that the source stands for, by the managers that it brings over those that were handed in, on a disk
+-- that tells its content
 pub record OfRun (m : Managers) (call : Call) (P : Beginning → Type 0) : Type 0 where
   pub script : Tables
-  pub read : HasRead call.source script
-  pub opened : call.disk.tells → HasOpened m script call.disk.before.reading call.disk.before.clock P
+  pub brought : ManagerTables
+  pub read : HasRead call.source script brought
+  pub opened : call.disk.tells → HasOpened (over brought m) script call.disk.before.reading call.disk.before.clock P
 
 -- the source was read, and stands for some script
 abbrev pub IsReadOne : SeenSource → Type 0
-IsReadOne source = (script : Tables) × HasRead source script
+IsReadOne source = (script : Tables) × (brought : ManagerTables) × HasRead source script brought
 
 -- refused: the source, before any call of the disk; or its script, which doesn't fit the image
 abbrev pub IsRefused : Call → Refusal → Type 0
-IsRefused call refusal = (IsRefusalOf call.source.before refusal × call.disk.same) ⊎ ((script : Tables) × HasRead call.source script × HasMisfit script call.disk refusal)
+IsRefused call refusal = (IsRefusalOf call.source.before refusal × call.disk.same) ⊎ ((script : Tables) × (brought : ManagerTables) × HasRead call.source script brought × HasMisfit script call.disk refusal)
 
 -- STOPPED by this fault. What stops first decides: the source, the image, the script against it, the run.
 abbrev pub StopsRun : Managers → Call → Gave → Fault → Type 0
@@ -42,7 +47,7 @@ StopsRun m call gave Disk =
     call.disk.rose × ((IsUnrun call.sink gave Disk × IsReadOne call.source × IsLeftUnopened call.disk) ⊎ OfRun m call (λ b. IsCutShort b call.disk call.sink gave Disk))
 StopsRun m call gave Source = call.source.rose × IsUnrun call.sink gave Source × call.disk.same
 StopsRun m call gave Memory = IsUnrun call.sink gave Memory × (call.disk.same ⊎ (IsReadOne call.source × IsKeptImage call.disk))
-StopsRun m call gave (Blocks n) = OfRun m call (λ b. IsCutShort b call.disk call.sink gave (Blocks n))
+StopsRun m call gave (Blocks n) = OfRun m call (λ b. IsCutForBlocks b call.disk call.sink gave n)
 StopsRun m call gave fault = ⊥
 
 -- WHAT `run` LEAVES, by how it ended
@@ -55,7 +60,8 @@ pub record CanRun (m : Managers) (call : Call) : Type 0 where
   pub bytes : Text
   pub known : call.source.before ≡ Some bytes
   pub script : Tables
-  pub accepted : IsAccepted bytes script
+  pub brought : ManagerTables
+  pub accepted : IsAccepted bytes script brought
   pub state : KernelState
-  pub means : Means m.supply call.disk.before.reading state
+  pub means : Means (over brought m).supply call.disk.before.reading state
   pub fits : Fits (atlas_in (state 0).cell) script

@@ -12,6 +12,7 @@ use Rattle.command_parts.specs.declared.faults.Fault.TheVariants.{Script, Foreig
 use Rattle.run_opening.specs.Openings.{FailsAtSync, HasOpened, IsKeptImage, KeepsMeaning, Managers, StaysAsRead}
 use Rattle.run_opening.specs.Ready.{HasMisfit}
 use Rattle.run_outcomes.specs.Runs.{IsCutShort, IsServed}
+use Rattle.run_command.specs.Short.{IsCutForBlocks}
 
 -- the image could not be opened, for a call of the disk that failed: its sync, or a later one, behind which the image means what it meant
 abbrev pub IsLeftUnopened : SeenDisk → Type 0
@@ -28,7 +29,7 @@ module _ (m : Managers) (script : Tables) (sink : SeenSink) (disk : SeenDisk) (g
   StopsScript (Foreign block place) = IsUnrun sink gave (Foreign block place) × (disk.tells → IsForeign disk.before.reading (record { block = block; place = place }) × StaysAsRead disk)
   StopsScript Disk = disk.rose × ((IsUnrun sink gave Disk × IsLeftUnopened disk) ⊎ InRun (λ b. IsCutShort b disk sink gave Disk))
   StopsScript Memory = IsUnrun sink gave Memory × IsKeptImage disk
-  StopsScript (Blocks n) = InRun (λ b. IsCutShort b disk sink gave (Blocks n))
+  StopsScript (Blocks n) = InRun (λ b. IsCutForBlocks b disk sink gave n)
   StopsScript fault = ⊥
 
   -- WHAT IT LEAVES, by how it ended

@@ -1,6 +1,7 @@
 -- What the run of a script by an opened kernel leaves, in the words of the disk's trait.
 use Rattle.std.specs.Prelude.{◌≡◌, ℕ, ◌++◌, Result, Ok, Err}
 use Rattle.disk_trait.specs.Image.{Image}
+use Rattle.disk_trait.specs.declared.disk.NoBlocks.{NoBlocks}
 use Rattle.hop_model.specs.Histories.{Policy}
 use Rattle.hop_model.specs.Scripts.{Script as Tables}
 use Rattle.hop_model.specs.State.{Supply, Text}
@@ -19,6 +20,7 @@ use Rattle.command_parts.specs.declared.faults.Fault.{Fault}
 use Rattle.command_parts.specs.declared.faults.Fault.TheVariants.{Disk, Blocks}
 use Rattle.command_parts.specs.declared.statuses.Status.{Status}
 use Rattle.run_outcomes.specs.Runs.{printed}
+use Rattle.run_command.specs.Short.{IsShortOfBlocks}
 use Rattle.watched_disk.specs.Watching.{IsAsAtStart, Start}
 
 -- what a run that was stopped tells
@@ -65,7 +67,12 @@ module _ {D : Type 0} (tells : Type 0) (clock : D → ℕ) (reading : D → Imag
     pub part : IsStopped b.supply b.policy b.script b.state gave.history
     pub output : Gains sink (printed b gave.history ++ fault_line fault)
 
-  module _ (starts : Beginning → Type 0) (rose : Type 0) (sink : SeenSink) (gave : Gave) (disk : D) where
+  -- CUT SHORT for want of blocks, of which the image has so many
+  pub record WasCutForBlocks (b : Beginning) (count : ℕ) (sink : SeenSink) (gave : Gave) (disk : D) (n : NoBlocks) : Type 0 where
+    pub cut : WasCutShort b sink gave disk (Blocks n)
+    pub short : IsShortOfBlocks b count gave.history n
+
+  module _ (starts : Beginning → Type 0) (rose : Type 0) (count : ℕ) (sink : SeenSink) (gave : Gave) (disk : D) where
     -- in each run that starts so, where the disk tells its content
     abbrev pub InEach : (Beginning → Type 0) → Type 0
     InEach P = tells → (b : Beginning) → starts b → P b
@@ -73,7 +80,7 @@ module _ {D : Type 0} (tells : Type 0) (clock : D → ℕ) (reading : D → Imag
     -- STOPPED by this fault
     abbrev pub StopsPlay : Fault → Type 0
     StopsPlay Disk = rose × InEach (λ b. WasCutShort b sink gave disk Disk)
-    StopsPlay (Blocks n) = InEach (λ b. WasCutShort b sink gave disk (Blocks n))
+    StopsPlay (Blocks n) = InEach (λ b. WasCutForBlocks b count sink gave disk n)
     StopsPlay fault = ⊥
 
     -- WHAT IT LEAVES, by how it ended

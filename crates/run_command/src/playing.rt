@@ -5,6 +5,7 @@ ghost use Rattle.fitting_births.specs.Fitting.{Fits};
 ghost use Rattle.run_opening.specs.Kernels.{StaysClean};
 ghost use Rattle.script_form.specs.Rules.{IsScript};
 ghost use Rattle.script_form.specs.Scripts.{tables_of};
+ghost use Rattle.snapshot_store.specs.State.{books};
 ghost use Rattle.table_births.specs.Births.{atlas_state_in};
 ghost use Rattle.command_parts.specs.Seen.{gave, seen_sink};
 ghost use Rattle.command_parts.specs.Statuses.{ending};
@@ -35,7 +36,7 @@ pub(crate) fn run_opened<W: Sink, D: Disk, S: Supplier, P: Policy>(
     requires going { kernel.stop ≡ None }
     ensures leaves { PlayLeaves D.tells D.clock D.reading D.may_leave D.left_since
         (StartsRun D.tells D.clock D.faults D.reading D.may_leave D.left_since (S.word gate.now.supply) (P.wish gate.now.policy) (tables_of script.now) kernel)
-        (Rose (D.faults kernel.parts.store.disk) (D.faults result.disk))
+        (Rose (D.faults kernel.parts.store.disk) (D.faults result.disk)) (books kernel.parts.store).count
         (seen_sink W.held W.faults sink.old sink.new) (gave result) result.disk (ending result.status) }
     ensures later { D.faults kernel.parts.store.disk ≤ D.faults result.disk }
 {

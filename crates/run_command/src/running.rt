@@ -15,8 +15,8 @@ use std::alloc::Global;
 use std::marker::Brand;
 use stream_edge::{Sink, Source};
 
-/// Runs the script that a source stands for, from the state that the disk's image means, and puts its lines. The source is read to its end
-/// first, then the image is opened; the kernel makes the births, the picks of the order and rounds to the end, and makes records as the
+/// Runs the script that a source stands for, from the state that the disk's image means, and puts its lines. The managers that the script
+/// brings answer for their numbers, and the handed-in ones for all others. The source is read to its end first, then the image is opened; the kernel makes the births, the picks of the order and rounds to the end, and makes records as the
 /// policy wishes and the loci ask. What stops the call first decides how it ends: the source, the image, the script against it, the
 /// run, the output.
 ///
@@ -49,7 +49,7 @@ pub fn run_script<
         → ((n : NoBlocks) → result.status ≡ Status.BlocksFull n → ⊥) → IsComplete result.status }
 {
     match read_source(alloc, source) {
-        Ok(script) => run_read::<W, D, S, P, Brand>(alloc, &script, sink, disk, supply, policy),
+        Ok(read) => run_read::<W, D, S, P, Brand>(alloc, &read, sink, disk, supply, policy),
         Err(fault) => end_with(alloc, sink, disk, fault),
     }
 }

@@ -26,6 +26,7 @@ module _ {D : Type 0} (tells : Type 0) (block_count : D → ℕ) (reading : D �
   -- the image means the same
   pub keeps_meaning : MeansSince reading left_since clock old new → LeavesOnly clock left_since old new (λ c. may_leave old c ⊎ MeansSame (reading old) c) → KeepsMeaning seen
   keeps_meaning since leaves = record {
+    later = leaves.later;
     since = λ t c le left. since (next_moment (clock old)) t c (ticks_next (clock old)) le left;
     earlier = λ t c le left. before t c le (leaves.before t c le left);
   }
@@ -47,6 +48,7 @@ module _ {D : Type 0} (tells : Type 0) (block_count : D → ℕ) (reading : D �
     -- a refused image stays as it is read
     pub stays_as_read : ((disk : D) (s t : ℕ) (c : Image) → tells → s ≤ t → left_since disk t c → left_since disk s c) → WasRefused tells block_count reading may_leave left_since clock faults old new → StaysAsRead seen
     stays_as_read counts_later refused = record {
+      later = (refused.synced.moments told).later;
       reading = refused.synced.same_reading told;
       since = λ t c le left. refused.stable told c (at_tick c refused.synced.one (counts_later new (next_moment (clock old)) t c told le left)) ∙ refused.synced.same_reading told;
       earlier = λ t c le left. still t c le ((refused.synced.moments told).before t c le left);

@@ -33,7 +33,7 @@ lent_atlas cs d len lent = by (slice_get_cases cs 0).1
 module _ {D : Type 0} (tells : Type 0) (clock faults : D → ℕ) (reading : D → Image) (may_leave : D → Image → Type 0) (left_since : D → ℕ → Image → Type 0) (script : Tables) (old : D) (k : Held D) where
   -- it is ready for the script
   pub is_ready : IsScript script → Fits (atlas_state_in k.parts.cells) script → Opens tells clock faults reading may_leave left_since script.steps old k → IsReady tells clock faults reading may_leave left_since script old k
-  is_ready rules fits opens = record { opened = opened; synced = synced }
+  is_ready rules fits opens = record { opened = opened; count = opens.image.count; synced = synced }
     where
       next : ℕ
       next = next_moment (clock old)

@@ -37,9 +37,10 @@ pub record HasOpened (m : Managers) (script : Tables) (image : Image) (clock : �
 abbrev pub first_moment : SeenDisk → ℕ
 first_moment disk = next_moment disk.before.clock
 
--- from the end of the opening's sync on each image that a stop leaves means what the handed-in one meant; before it, or where it failed,
--- what it could leave before
+-- the clock doesn't fall; from the end of the opening's sync on each image that a stop leaves means what the handed-in one meant; before it, or
+-- where it failed, what it could leave before
 pub record KeepsMeaning (disk : SeenDisk) : Type 0 where
+  pub later : disk.before.clock ≤ disk.after.clock
   pub since : (t : ℕ) (c : Image) → first_moment disk ≤ t → disk.after.left t c → MeansSame disk.before.reading c
   pub earlier : (t : ℕ) (c : Image) → t ≤ disk.before.clock → disk.after.left t c → disk.before.left t c ⊎ MeansSame disk.before.reading c
 
@@ -53,8 +54,9 @@ pub record FailsAtSync (disk : SeenDisk) : Type 0 where
   pub failed : HasFailedSync disk
   pub earlier : (t : ℕ) (c : Image) → t ≤ disk.before.clock → disk.after.left t c → disk.before.left t c
 
--- the blocks are as they read, from the end of the opening's sync on a stop leaves just them, and before it nothing new
+-- the blocks are as they read, and the clock doesn't fall; from the end of the opening's sync on a stop leaves just them, and before it nothing new
 pub record StaysAsRead (disk : SeenDisk) : Type 0 where
+  pub later : disk.before.clock ≤ disk.after.clock
   pub reading : disk.after.reading ≡ disk.before.reading
   pub since : (t : ℕ) (c : Image) → first_moment disk ≤ t → disk.after.left t c → c ≡ disk.before.reading
   pub earlier : (t : ℕ) (c : Image) → t ≤ disk.before.clock → disk.after.left t c → disk.before.left t c

@@ -5,6 +5,7 @@ use Rattle.fitting_births.specs.Fitting.{Fits}
 use Rattle.hop_model.specs.Scripts.{Script as Tables}
 use Rattle.hop_model.specs.State.{AtlasState, KernelState, Supply}
 use Rattle.hop_model.specs.Steps.{atlas_in}
+use Rattle.image_blocks.specs.Checks.{count_in}
 use Rattle.image_meaning.specs.Foreign.{IsForeign}
 use Rattle.image_meaning.specs.Meaning.{Means}
 use Rattle.image_opening.specs.Images.{HasTurnLeft}
@@ -12,6 +13,7 @@ use Rattle.kernel_opening.specs.Kernels.{Held, Lives}
 use Rattle.kernel_laws.specs.Opening.{empty_script, with_script}
 use Rattle.script_against.specs.Misfits.{misfit}
 use Rattle.script_form.specs.declared.refusals.Refusal.{Refusal}
+use Rattle.snapshot_store.specs.State.{books}
 use Rattle.snapshot_store.specs.declared.opening.OpenWhy.{OpenWhy}
 use Rattle.snapshot_store.specs.declared.opening.OpenWhy.TheVariants as why
 use Rattle.command_parts.specs.Seen.{SeenDisk}
@@ -21,9 +23,11 @@ use Rattle.watched_disk.specs.Handing.{next_moment}
 use Rattle.run_opening.specs.Openings.{HasFailedSync, HasOpened, IsKeptImage, KeepsMeaning, Managers, StaysAsRead}
 
 -- THE KERNEL IS READY for the script, whoever the managers are: the image means a state, which the script fits, and while its numbers are
--- low the kernel is live in the run of the script from there, before its births. The opening's sync has ended.
+-- low the kernel is live in the run of the script from there, before its births. It has as many blocks as the image, and the opening's sync has
+-- ended.
 pub record IsReady {D : Type 0} (tells : Type 0) (clock faults : D → ℕ) (reading : D → Image) (may_leave : D → Image → Type 0) (left_since : D → ℕ → Image → Type 0) (script : Tables) (old : D) (k : Held D) : Type 0 where
   pub opened : (m : Managers) → HasOpened m script (reading old) (clock old) (λ b. Lives tells clock faults reading may_leave left_since (with_script b (empty_script b.script.steps)) k)
+  pub count : (books k.parts.store).count ≡ count_in (reading old)
   pub synced : next_moment (clock old) ≤ clock k.parts.store.disk
 
 -- WHY THERE IS NONE

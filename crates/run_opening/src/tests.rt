@@ -30,8 +30,8 @@ fn script_of(alloc: Global, text: &str) -> Result<Script, Fail>
     ensures rules { IfOk result (λ script. IsScript (tables_of script)) }
     ensures frames { IfOk result (λ script. (1 ≤ script.frames) × (script.frames ≤ 256)) }
 {
-    let script = read_script(alloc, text.as_bytes())?;
-    Ok(script)
+    let read = read_script(alloc, text.as_bytes())?;
+    Ok(read.script)
 }
 
 // A disk with an empty image, made by its first ten calls.

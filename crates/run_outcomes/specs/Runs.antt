@@ -1,12 +1,10 @@
 -- A run on one thread: the serial history, its lines, and where it was stopped.
-use Rattle.std.specs.Prelude.{◌<◌, ℕ, List, ◌++◌}
-use Rattle.disk_trait.specs.declared.disk.NoBlocks.{NoBlocks}
+use Rattle.std.specs.Prelude.{List, ◌++◌}
 use Rattle.hop_base.specs.declared.histories.Entry.{Entry}
 use Rattle.hop_model.specs.Output.{output_of}
 use Rattle.hop_model.specs.State.{Text}
 use Rattle.hop_model.specs.Steps.{atlas_in}
 use Rattle.kernel_model.specs.Beginnings.{Beginning, IsLegal, state_after}
-use Rattle.kernel_room.specs.Room.{enough_blocks}
 use Rattle.serial_runs.specs.Serial.{IsStopped, IsWhole}
 use Rattle.command_parts.specs.Ends.{Gains}
 use Rattle.command_parts.specs.Faults.{fault_line}
@@ -34,7 +32,3 @@ pub record IsCutShort (b : Beginning) (disk : SeenDisk) (sink : SeenSink) (gave 
   pub run : IsRun b disk gave
   pub part : IsStopped b.supply b.policy b.script b.state gave.history
   pub output : Gains sink (printed b gave.history ++ fault_line fault)
-
--- TOO FEW BLOCKS: the image has fewer than are enough for what is there at the stop
-pub record IsShortOfBlocks (b : Beginning) (es : List Entry) (count : ℕ) (n : NoBlocks) : Type 0 where
-  pub few : count < enough_blocks (state_after b es)

@@ -1,5 +1,5 @@
--- A source that means a script means an allowed one.
-use Rattle.std.proofs.Common.{◌≡◌, ℕ, suc, ◌+◌, ◌<◌, ◌≤◌, ◌^◌, Bool, true, false, not, ◌&&◌, ◌||◌, nat_lt, nat_le, if◌then◌else◌, List, [], ◌∷◌, ◌++◌, length, Result, Ok, Err, IfOk, Option, Some, None, MatchOption, option_and_then, get_or, ◌==◌, All, IsTrue, codes, refl, sym, ap, ◌∙◌, subst, arith, append_assoc}
+-- The containers, loci and order that a source means are allowed ones.
+use Rattle.std.proofs.Common.{◌≡◌, ℕ, suc, ◌+◌, ◌<◌, ◌≤◌, ◌^◌, Bool, true, false, not, ◌&&◌, ◌||◌, nat_lt, nat_le, if◌then◌else◌, List, [], ◌∷◌, ◌++◌, length, Ok, Option, Some, None, MatchOption, option_and_then, get_or, ◌==◌, All, IsTrue, codes, refl, sym, ap, ◌∙◌, subst, arith, append_assoc}
 use Rattle.std.specs.Option.{ForSome}
 use Rattle.std.specs.List.{list_all}
 use Rattle.std.proofs.lemmas.Bool.{and_parts, false≢true}
@@ -8,7 +8,6 @@ use Rattle.std.proofs.lemmas.Option.{same_Some}
 use Rattle.std.proofs.lemmas.List.{map_push}
 use Rattle.std.proofs.lemmas.List.Elements.{All-nil, All-push}
 use Rattle.std.proofs.lemmas.List.Folds.{list_all-append}
-use Rattle.std.specs.Str.{is_utf8}
 use Rattle.hop_base.specs.declared.instructions.Instr.{Instr}
 use Rattle.hop_base.specs.Instructions.{IsInstruction, IsPlace, IsAccess}
 use Rattle.hop_model.specs.Scripts.{RegionTable, CapTable, ContainerTable, LocusTable, text_eq, atlas_name}
@@ -18,18 +17,13 @@ use Rattle.instr_set.specs.Spelling.{spelling, IsSpelling}
 use Rattle.instr_set.specs.Reader.{instr_of, rights_of}
 use Rattle.instr_set.proofs.Reader.{IsReader-instr_of}
 use Rattle.toml.specs.Data.{Data, Members, no_members, member, get_member}
-use Rattle.toml.specs.Parse.{parse_document}
 use Rattle.script_read.specs.Ordered.{in_order}
-use Rattle.script_read.specs.Reading.{Reading, Reads, ◌>>=◌, refused, or_refused, optional, dotted}
-use Rattle.script_read.specs.Strings.{RegionForm, cut, number_of, name_form, access_of, region_form, named_form, placed_form, sized_form, cap_form}
+use Rattle.script_read.specs.Reading.{◌>>=◌, refused, or_refused, optional, dotted}
+use Rattle.script_read.specs.Strings.{RegionForm, cut, region_number, name_form, access_of, region_form, named_form, placed_form, sized_form, cap_form}
 use Rattle.script_read.specs.Fields.{a_string, a_table, a_list, a_number, a_name, only, text_at, number_at, number_or, name_at, item_key, each}
-use Rattle.script_read.specs.Meaning.{Program, Source, a_line, a_program, more_programs, programs_in, programs_at, code_named, overlap, is_within, fits, table_of_region, placed_region, a_region, regions_at, known_cap, a_cap, caps_at, names_of, known_names, every_at, sized_container, code_at, entry_at, coded_container, whole_container, container_keys, a_container, containers_at, host_at, whole_locus, locus_keys, a_locus, loci_at, a_pick, order_at, top_keys, entities_at, tree_meaning, script_meaning}
+use Rattle.script_read.specs.Meaning.{Program, FramedTables, a_line, a_program, more_programs, programs_in, programs_at, code_named, overlap, is_within, fits, table_of_region, placed_region, a_region, regions_at, known_cap, a_cap, caps_at, names_of, known_names, every_at, sized_container, code_at, entry_at, coded_container, whole_container, container_keys, a_container, containers_at, host_at, whole_locus, locus_keys, a_locus, loci_at, a_pick, order_at, entities_at}
 use Rattle.script_form.specs.Rules.{is_among, AreDifferent, IsRegionTable, AreApart, AreAllApart, IsCapTable, IsContainerTable, IsLocusTable, container_names, locus_names, AreContainerTables, AreLocusTables, IsScript}
-use Rattle.script_form.specs.declared.refusals.Why.TheVariants.{NotToml, Name, Unknown, Range, BadCode, Long}
-use Rattle.script_form.specs.Scripts.{tables_of}
-use Rattle.script_read.specs.Views.{source_of}
-use Rattle.script_form.specs.declared.Script.{Script}
-use Rattle.script_form.specs.declared.refusals.ScriptFault.{ScriptFault}
+use Rattle.script_form.specs.declared.refusals.Why.TheVariants.{Name, Unknown, Range, BadCode}
 use Rattle.script_read.proofs.Lists.{any_of_append}
 use Rattle.script_read.proofs.Readings.{then_ok, or_ok, same_ok, test_ok, err_is_not_ok, a_number_ok, number_at_ok, number_or_ok, a_list_ok, list_keeps, each_keeps, each_length}
 
@@ -39,11 +33,11 @@ or_false : (b : Bool) → (b || false) ≡ b
 or_false true = refl
 or_false false = refl
 
-or_parts : (a b : Bool) → (a || b) ≡ false → (a ≡ false) × (b ≡ false)
+pub or_parts : (a b : Bool) → (a || b) ≡ false → (a ≡ false) × (b ≡ false)
 or_parts true b h = absurd (false≢true (sym h))
 or_parts false b h = (refl, h)
 
-not_true : (b : Bool) → not b ≡ true → b ≡ false
+pub not_true : (b : Bool) → not b ≡ true → b ≡ false
 not_true true h = absurd (false≢true h)
 not_true false h = refl
 
@@ -58,7 +52,7 @@ some_then : {A B : Type 0} (f : A → Option B) (o : Option A) (y : B) → optio
 some_then f None y h = absurd (none_is_not_some y h)
 some_then f (Some x) y h = (x, refl, h)
 
-eq_sym : (x y : ℕ) → (x == y) ≡ (y == x)
+pub eq_sym : (x y : ℕ) → (x == y) ≡ (y == x)
 eq_sym x y = grind (arith, nat_tests)
 
 text_eq_sym : (a b : Text) → text_eq a b ≡ text_eq b a
@@ -107,14 +101,14 @@ more_ok (member name d ms) done xs all h =
     let p = then_ok (a_program instr_of name d) (λ code. more_programs instr_of (done ++ record { name = name; code = code } ∷ []) ms) xs h in
     more_ok ms (done ++ record { name = name; code = p.0 } ∷ []) xs (All-push Sound done (record { name = name; code = p.0 }) all (program_ok name d p.0 p.1)) p.2
 
-programs_ok : (ms : Members) (xs : List Program) → programs_at instr_of ms ≡ Ok xs → All Sound xs
+pub programs_ok : (ms : Members) (xs : List Program) → programs_at instr_of ms ≡ Ok xs → All Sound xs
 programs_ok ms xs h = by (get_member (codes "program") ms) h
   where
     by : (o : Option Data) → optional [] (λ d. a_table (codes "program") d >>= programs_in instr_of) o ≡ Ok xs → All Sound xs
     by None f = subst (All Sound) (same_ok [] xs f) (All-nil Sound)
     by (Some d) f = let p = then_ok (a_table (codes "program") d) (programs_in instr_of) xs f in more_ok (in_order p.0) [] xs (All-nil Sound) p.2
 
-named_ok : (name : Text) (ps : List Program) (code : List Instr) → All Sound ps → code_named name ps ≡ Some code → IsSoundCode code
+pub named_ok : (name : Text) (ps : List Program) (code : List Instr) → All Sound ps → code_named name ps ≡ Some code → IsSoundCode code
 named_ok name [] code all h = absurd (none_is_not_some code h)
 named_ok name (p ∷ ps) code all h = by (named_ok name ps code (λ k d lt. all (suc k) d (omega arith))) (text_eq name p.name) h
   where
@@ -147,19 +141,19 @@ access_ok text s h =
 
 form_ok : (text : Text) (r : RegionForm) → region_form text ≡ Some r → IsAccess r.rights
 form_ok text r h =
-    let a = some_then (λ parts. option_and_then (λ at. named_form at parts.1) (number_of parts.0)) (cut text) r h in
-    let b = some_then (λ at. named_form at a.0.1) (number_of a.0.0) r a.2 in
+    let a = some_then (λ parts. option_and_then (λ at. named_form at parts.1) (region_number parts.0)) (cut text) r h in
+    let b = some_then (λ at. named_form at a.0.1) (region_number a.0.0) r a.2 in
     let c = some_then (λ parts. option_and_then (λ target. placed_form b.0 target parts.1) (name_form parts.0)) (cut a.0.1) r b.2 in
     let d = some_then (λ target. placed_form b.0 target c.0.1) (name_form c.0.0) r c.2 in
-    let e = some_then (λ parts. option_and_then (λ from. sized_form b.0 d.0 from parts.1) (number_of parts.0)) (cut c.0.1) r d.2 in
-    let f = some_then (λ from. sized_form b.0 d.0 from e.0.1) (number_of e.0.0) r e.2 in
+    let e = some_then (λ parts. option_and_then (λ from. sized_form b.0 d.0 from parts.1) (region_number parts.0)) (cut c.0.1) r d.2 in
+    let f = some_then (λ from. sized_form b.0 d.0 from e.0.1) (region_number e.0.0) r e.2 in
     sized_ok b.0 d.0 f.0 e.0.1 r f.2
   where
     sized_ok : (at : ℕ) (target : Text) (from : ℕ) (text : Text) (r : RegionForm) → sized_form at target from text ≡ Some r → IsAccess r.rights
     sized_ok at target from text r h =
         let whole : ℕ → ℕ → RegionForm = λ count rights. record { at = at; target = target; from = from; count = count; rights = rights } in
-        let a = some_then (λ parts. option_and_then (λ count. option_and_then (λ rights. Some (whole count rights)) (access_of parts.1)) (number_of parts.0)) (cut text) r h in
-        let b = some_then (λ count. option_and_then (λ rights. Some (whole count rights)) (access_of a.0.1)) (number_of a.0.0) r a.2 in
+        let a = some_then (λ parts. option_and_then (λ count. option_and_then (λ rights. Some (whole count rights)) (access_of parts.1)) (region_number parts.0)) (cut text) r h in
+        let b = some_then (λ count. option_and_then (λ rights. Some (whole count rights)) (access_of a.0.1)) (region_number a.0.0) r a.2 in
         let c = some_then (λ rights. Some (whole b.0 rights)) (access_of a.0.1) r b.2 in
         subst IsAccess (ap (λ (x : RegionForm). x.rights) (same_Some (whole b.0 c.0) r c.2)) (access_ok a.0.1 c.0 c.1)
 
@@ -465,12 +459,12 @@ order_ok names ms xs h =
 
 -- THE WHOLE
 
-abbrev pub IsAllowed : Source → Type 0
+abbrev pub IsAllowed : FramedTables → Type 0
 IsAllowed s = IsScript s.tables × (1 ≤ s.frames) × (s.frames ≤ 256)
 
-entities_ok : (steps frames : ℕ) (programs : List Program) (ms : Members) (s : Source) → (1 ≤ steps) × (steps ≤ 40000) → (1 ≤ frames) × (frames ≤ 256) → All Sound programs → entities_at steps frames programs ms ≡ Ok s → IsAllowed s
+pub entities_ok : (steps frames : ℕ) (programs : List Program) (ms : Members) (s : FramedTables) → (1 ≤ steps) × (steps ≤ 40000) → (1 ≤ frames) × (frames ≤ 256) → All Sound programs → entities_at steps frames programs ms ≡ Ok s → IsAllowed s
 entities_ok steps frames programs ms s st fr all h =
-    let made : List ContainerTable → List LocusTable → List Text → Source = λ containers loci order. record { tables = record { steps = steps; order = order; containers = containers; loci = loci }; frames = frames } in
+    let made : List ContainerTable → List LocusTable → List Text → FramedTables = λ containers loci order. record { tables = record { steps = steps; order = order; containers = containers; loci = loci }; frames = frames } in
     let a = then_ok (containers_at programs ms) (λ containers. loci_at containers ms >>= (λ loci. order_at (locus_names loci) ms >>= (λ order. Ok (made containers loci order)))) s h in
     let b = then_ok (loci_at a.0 ms) (λ loci. order_at (locus_names loci) ms >>= (λ order. Ok (made a.0 loci order))) s a.2 in
     let c = then_ok (order_at (locus_names b.0) ms) (λ order. Ok (made a.0 b.0 order)) s b.2 in
@@ -482,32 +476,3 @@ entities_ok steps frames programs ms s st fr all h =
     told : (cs : List ContainerTable) (ls : List LocusTable) (os : List Text) → AllContainers cs × (length cs ≤ 40) → AllLoci cs ls × (length ls ≤ 23) → IsTrue (list_all (is_among (locus_names ls)) os) × (length os ≤ 4096)
         → IsAllowed (record { tables = record { steps = steps; order = os; containers = cs; loci = ls }; frames = frames })
     told cs ls os c l o = (record { steps = st; few_containers = c.1; few_loci = l.1; containers = c.0.0; loci = l.0.0; different = l.0.1; few_picks = o.1; order = o.0 }, fr.0, fr.1)
-
-tree_ok : (ms : Members) (s : Source) → tree_meaning instr_of ms ≡ Ok s → IsAllowed s
-tree_ok ms s h =
-    let a = then_ok (only top_keys [] ms) (λ _. number_or 10000 1 40000 [] (codes "steps") ms >>= (λ steps. number_or 32 1 256 [] (codes "frames") ms >>= (λ frames. programs_at instr_of ms >>= (λ programs. entities_at steps frames programs ms)))) s h in
-    let b = then_ok (number_or 10000 1 40000 [] (codes "steps") ms) (λ steps. number_or 32 1 256 [] (codes "frames") ms >>= (λ frames. programs_at instr_of ms >>= (λ programs. entities_at steps frames programs ms))) s a.2 in
-    let c = then_ok (number_or 32 1 256 [] (codes "frames") ms) (λ frames. programs_at instr_of ms >>= (λ programs. entities_at b.0 frames programs ms)) s b.2 in
-    let d = then_ok (programs_at instr_of ms) (λ programs. entities_at b.0 c.0 programs ms) s c.2 in
-    let steps = number_or_ok 10000 1 40000 [] (codes "steps") ms b.0 (omega arith) (omega arith) b.1 in
-    let frames = number_or_ok 32 1 256 [] (codes "frames") ms c.0 (omega arith) (omega arith) c.1 in
-    entities_ok b.0 c.0 d.0 ms s steps frames (programs_ok ms d.0 d.1) d.2
-
-pub allowed : (bytes : Text) (s : Source) → script_meaning bytes ≡ Ok s → IsAllowed s
-allowed bytes s h = by (nat_le (length bytes) 1048576) h
-  where
-    read : Reading Members
-    read = if is_utf8 bytes then or_refused NotToml (codes "-") (parse_document bytes) else refused NotToml (codes "-")
-
-    by : (b : Bool) → (if b then read >>= tree_meaning instr_of else refused Long (codes "-")) ≡ Ok s → IsAllowed s
-    by true f = let p = then_ok read (tree_meaning instr_of) s f in tree_ok p.0 s p.2
-    by false f = absurd (err_is_not_ok _ s f)
-
--- what a call may say of the script that it answers
-pub rules_of : (bytes : Text) (result : Result Script ScriptFault) → Reads source_of (script_meaning bytes) result → IfOk result (λ s. IsScript (tables_of s))
-rules_of bytes (Ok s) h = (allowed bytes (source_of s) h).0
-rules_of bytes (Err e) h = tt
-
-pub frames_of : (bytes : Text) (result : Result Script ScriptFault) → Reads source_of (script_meaning bytes) result → IfOk result (λ s. (1 ≤ s.frames) × (s.frames ≤ 256))
-frames_of bytes (Ok s) h = let a = allowed bytes (source_of s) h in (a.1, a.2)
-frames_of bytes (Err e) h = tt

@@ -3,3 +3,5 @@ pub mod Each
 pub mod Readings
 pub mod Allowed
 pub mod Orders
+pub mod Managed
+pub mod Whole

@@ -1,5 +1,5 @@
 -- What a source means: its script, or the first refusal of a walk through it.
-use Rattle.std.specs.Prelude.{ℕ, ◌+◌, Bool, true, false, not, ◌&&◌, nat_lt, nat_le, if◌then◌else◌, List, [], ◌∷◌, ◌++◌, length, Ok, Option, Some, None, codes}
+use Rattle.std.specs.Prelude.{ℕ, pos, ◌+◌, Bool, true, false, not, ◌&&◌, nat_lt, nat_le, if◌then◌else◌, List, [], ◌∷◌, ◌++◌, length, Ok, Option, Some, None, codes}
 use Rattle.std.specs.List.{list_all}
 use Rattle.std.specs.Str.{is_utf8}
 use Rattle.hop_base.specs.declared.instructions.Instr.{Instr}
@@ -8,12 +8,13 @@ use Rattle.hop_model.specs.Scripts.{RegionTable, CapTable, ContainerTable, Locus
 use Rattle.toml.specs.Data.{Data, Members, no_members, member, get_member}
 use Rattle.toml.specs.Parse.{parse_document}
 use Rattle.instr_set.specs.Reader.{instr_of}
+use Rattle.manager_form.specs.Managing.{ManagerTable, ManagerTables, has_number, is_managing}
 use Rattle.script_read.specs.Ordered.{in_order}
 use Rattle.script_read.specs.Reading.{Reading, ◌>>=◌, refused, or_refused, optional, dotted}
-use Rattle.script_read.specs.Strings.{RegionForm, CapForm, region_form, cap_form}
-use Rattle.script_read.specs.Fields.{a_string, a_table, a_list, a_number, only, text_at, number_at, number_or, list_at, name_at, item_key, each}
+use Rattle.script_read.specs.Strings.{RegionForm, CapForm, ManagerForm, region_form, cap_form, manager_form}
+use Rattle.script_read.specs.Fields.{a_string, a_table, a_list, in_range, a_number, only, text_at, number_at, number_or, list_at, name_at, item_key, each}
 use Rattle.script_form.specs.Rules.{is_among, container_names, locus_names}
-use Rattle.script_form.specs.declared.refusals.Why.TheVariants.{NotToml, Unknown, Range, BadCode, Long}
+use Rattle.script_form.specs.declared.refusals.Why.TheVariants.{NotToml, Unknown, Range, BadCode, Long, Clash}
 
 -- PROGRAMS
 
@@ -186,18 +187,56 @@ a_pick names done d =
 abbrev pub order_at : List Text → Members → Reading (List Text)
 order_at names ms = list_at 4096 [] (codes "order") ms >>= each (a_pick names) []
 
+-- MANAGERS
+
+-- the code of the program with this name, where a manager may have it
+abbrev pub managing_code : List Program → Text → Text → Reading (List Instr)
+managing_code programs at name =
+    or_refused Unknown at (code_named name programs)
+    >>= (λ code. if list_all is_managing code then Ok code else refused BadCode at)
+
+-- a manager of this number, which no manager before has
+abbrev pub new_manager : List ManagerTable → Text → ℕ → List Instr → Reading ManagerTable
+new_manager done at number code = if not (has_number done number) then Ok (record { number = number; code = code }) else refused Clash at
+
+abbrev pub formed_manager : ℕ → List Program → Text → List ManagerTable → ManagerForm → Reading ManagerTable
+formed_manager greatest programs at done m =
+    in_range 1 greatest at (pos m.number)
+    >>= (λ number. managing_code programs at m.program >>= new_manager done at number)
+
+abbrev pub a_manager : ℕ → List Program → Text → List ManagerTable → Data → Reading ManagerTable
+a_manager greatest programs key done d =
+    let at = item_key key (length done) in
+    a_string at d >>= (λ text. or_refused BadCode at (manager_form text) >>= formed_manager greatest programs at done)
+
+-- the managers of one kind, which stand at this key of the top table
+abbrev pub managers_at : ℕ → List Program → Text → Members → Reading (List ManagerTable)
+managers_at greatest programs key ms = list_at 16 [] key ms >>= each (a_manager greatest programs key) []
+
+-- the number of a supplier is a tag, and that of a policy an `every`
+abbrev pub both_kinds : List Program → Members → Reading ManagerTables
+both_kinds programs ms =
+    managers_at 9223372036854775807 programs (codes "supply") ms
+    >>= (λ supply. managers_at 1000000 programs (codes "policy") ms
+    >>= (λ policy. Ok (record { supply = supply; policy = policy })))
+
 -- THE WHOLE
 
 abbrev pub top_keys : List Text
-top_keys = codes "steps" ∷ codes "frames" ∷ codes "program" ∷ codes "container" ∷ codes "locus" ∷ codes "order" ∷ []
+top_keys = codes "steps" ∷ codes "frames" ∷ codes "program" ∷ codes "container" ∷ codes "locus" ∷ codes "order" ∷ codes "supply" ∷ codes "policy" ∷ []
 
--- a script, and the frames of each container, which are no part of the abstract kernel
-pub record Source : Type 0 where
+-- a script's tables, and the frames of each container, which are no part of the abstract kernel
+pub record FramedTables : Type 0 where
   pub tables : Tables
   pub frames : ℕ
 
+-- a script and the managers that it brings
+pub record Source : Type 0 where
+  pub script : FramedTables
+  pub managers : ManagerTables
+
 -- containers, loci and order, behind the numbers and the programs
-abbrev pub entities_at : ℕ → ℕ → List Program → Members → Reading Source
+abbrev pub entities_at : ℕ → ℕ → List Program → Members → Reading FramedTables
 entities_at steps frames programs ms =
     containers_at programs ms
     >>= (λ containers. loci_at containers ms
@@ -211,7 +250,9 @@ module _ (spelled : Text → Option Instr) where
       >>= (λ _. number_or 10000 1 40000 [] (codes "steps") ms
       >>= (λ steps. number_or 32 1 256 [] (codes "frames") ms
       >>= (λ frames. programs_at spelled ms
-      >>= (λ programs. entities_at steps frames programs ms))))
+      >>= (λ programs. entities_at steps frames programs ms
+      >>= (λ script. both_kinds programs ms
+      >>= (λ managers. Ok (record { script = script; managers = managers })))))))
 
   -- what the bytes mean, of at most 1,048,576
   abbrev pub meaning_by : Text → Reading Source

@@ -10,14 +10,17 @@ ghost use Rattle.script_read.specs.Fields.{only};
 ghost use Rattle.script_read.specs.Reading.{or_refused, Reads};
 ghost use Rattle.script_form.specs.Rules.{IsScript, locus_names};
 ghost use Rattle.script_form.specs.Scripts.{tables_of, locus_of};
-ghost use Rattle.script_read.specs.Views.{source_of, program_of};
+ghost use Rattle.script_read.specs.Views.{framed_of, source_of, program_of};
+ghost use Rattle.manager_form.specs.Managing.{AreScriptManagers, managers_of};
 
 use crate::fields::{Limits, list_at, number_or, only, string_item};
 use crate::keys::{refuse, refuse_item};
 use crate::links::has_locus;
+use crate::managers::read_managers;
 use crate::programs::{Program, read_programs};
 use crate::tables::{read_containers, read_loci};
 use hop_base::MOST_SCRIPT_BYTES;
+use manager_form::ScriptManagers;
 use script_form::{Script, ScriptFault, ScriptLocus, Why};
 use std::alloc::Global;
 use std::str;
@@ -32,6 +35,13 @@ const STEPS: Limits = Limits {
 };
 
 const FRAMES: Limits = Limits { low: 1, high: 256 };
+
+/// A script and the managers that it brings.
+#[derive(Drop, Debug)]
+pub struct ManagedScript {
+    pub script: Script,
+    pub managers: ScriptManagers,
+}
 
 /// The name at a place of the order.
 fn read_pick(
@@ -75,7 +85,7 @@ fn read_entities(
     frames: u16,
     programs: &[Program],
 ) -> Result<Script, ScriptFault>
-    ensures { Reads source_of (entities_at steps frames (map program_of programs.now) (table_view table.now)) result }
+    ensures { Reads framed_of (entities_at steps frames (map program_of programs.now) (table_view table.now)) result }
 {
     let containers = read_containers(alloc, table, programs)?;
     let loci = read_loci(alloc, table, containers.as_slice())?;
@@ -92,18 +102,29 @@ fn read_entities(
 fn only_top_keys(alloc: Global, table: &Table) -> Result<(), ScriptFault>
     ensures { Reads (λ _. tt) (only top_keys [] (table_view table.now)) result }
 {
-    let keys = ["steps", "frames", "program", "container", "locus", "order"];
+    let keys = [
+        "steps",
+        "frames",
+        "program",
+        "container",
+        "locus",
+        "order",
+        "supply",
+        "policy",
+    ];
     only(alloc, table, "", &keys)
 }
 
-fn read_tree(alloc: Global, table: &Table) -> Result<Script, ScriptFault>
+fn read_tree(alloc: Global, table: &Table) -> Result<ManagedScript, ScriptFault>
     ensures { (spelled : Text → Option AnInstr) → IsReader spelled → Reads source_of (tree_meaning spelled (table_view table.now)) result }
 {
     only_top_keys(alloc, table)?;
     let steps = number_or(alloc, table, "", "steps", STEPS, 10_000)? as u32;
     let frames = number_or(alloc, table, "", "frames", FRAMES, 32)? as u16;
     let programs = read_programs(alloc, table)?;
-    read_entities(alloc, table, steps, frames, programs.as_slice())
+    let script = read_entities(alloc, table, steps, frames, programs.as_slice())?;
+    let managers = read_managers(alloc, table, programs.as_slice())?;
+    Ok(ManagedScript { script, managers })
 }
 
 /// The table that the text is.
@@ -118,7 +139,7 @@ fn parse(alloc: Global, text: &str) -> Result<Table, ScriptFault>
 }
 
 /// The walk, which goes by any reader of lines: all of them answer the same.
-fn read_source(alloc: Global, bytes: &[u8]) -> Result<Script, ScriptFault>
+fn read_source(alloc: Global, bytes: &[u8]) -> Result<ManagedScript, ScriptFault>
     ensures { (spelled : Text → Option AnInstr) → IsReader spelled → Reads source_of (meaning_by spelled bytes.now) result }
 {
     if bytes.len() > MOST_SCRIPT_BYTES {
@@ -131,12 +152,13 @@ fn read_source(alloc: Global, bytes: &[u8]) -> Result<Script, ScriptFault>
     read_tree(alloc, &table)
 }
 
-/// The script that a source means. A refusal is the first one of a walk through the source: its length, its form as
-/// TOML, its keys, `steps`, `frames`, `program`, `container`, `locus` and `order`.
-pub fn read_script(alloc: Global, bytes: &[u8]) -> Result<Script, ScriptFault>
+/// The script that a source means, and its managers. A refusal is the first one of a walk through the source: its length,
+/// its form as TOML, its keys, `steps`, `frames`, `program`, `container`, `locus`, `order`, `supply` and `policy`.
+pub fn read_script(alloc: Global, bytes: &[u8]) -> Result<ManagedScript, ScriptFault>
     ensures meaning { Reads source_of (script_meaning bytes.now) result }
-    ensures rules { IfOk result (λ script. IsScript (tables_of script)) }
-    ensures frames { IfOk result (λ script. (1 ≤ script.frames) × (script.frames ≤ 256)) }
+    ensures rules { IfOk result (λ read. IsScript (tables_of read.script)) }
+    ensures frames { IfOk result (λ read. (1 ≤ read.script.frames) × (read.script.frames ≤ 256)) }
+    ensures managers { IfOk result (λ read. AreScriptManagers (managers_of read.managers)) }
 {
     read_source(alloc, bytes)
 }

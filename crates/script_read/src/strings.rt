@@ -1,17 +1,21 @@
-//! Strings of a source: names, numbers, rights, and the strings of regions and capabilities.
+//! Strings of a source: names, numbers, rights, and the strings of regions, capabilities and managers.
 ghost use Rattle.std.specs.Prelude.{◌≡◌, ◌+◌, ◌*◌, ◌<◌, ◌≤◌, ◌&&◌, ◌∷◌, option_map, IfSome, codes};
 ghost use Rattle.std.specs.List.{list_all};
 ghost use Rattle.hop_model.specs.State.{Text};
 ghost use Rattle.hop_model.specs.Scripts.{text_eq};
 ghost use Rattle.hop_model.specs.Soundness.{is_letter, is_name_byte, begins_with_letter, is_given_name};
 ghost use Rattle.instr_set.specs.Reader.{letters_set, rights_of};
-ghost use Rattle.script_read.specs.Strings.{is_name, is_digit, is_decimal, with_digit, decimal_value, number_of, access_of, cut, region_form, cap_form, sized_form, placed_form, named_form};
-ghost use Rattle.script_read.specs.Views.{region_form_of, AreSmall, cap_form_of};
+ghost use Rattle.script_read.specs.Strings.{is_name, is_digit, is_decimal, with_digit, decimal_value, number_of, region_number, access_of, cut, region_form, cap_form, manager_form, sized_form, placed_form, named_form};
+ghost use Rattle.script_read.specs.Views.{region_form_of, AreSmall, cap_form_of, manager_form_of};
 
 use hop_base::Rights;
+use manager_form::GREATEST_TAG;
 
-/// Numbers in strings that are greater count as this one.
-const GREATEST: u16 = 1000;
+/// Numbers of regions that are greater count as this one.
+const PAST_PAGES: u64 = 1000;
+
+/// Numbers of managers that are greater count as this one.
+const PAST_TAGS: u64 = GREATEST_TAG + 1;
 
 pub(crate) fn is_same(a: &str, b: &str) -> bool
     ensures { result ≡ text_eq a.now b.now }
@@ -94,36 +98,44 @@ fn is_decimal(bytes: &[u8]) -> bool
     }
 }
 
-fn with_digit(number: u16, byte: u8) -> u16
-    requires { number ≤ GREATEST }
-    ensures value { result ≡ with_digit number byte }
-    ensures small { result ≤ GREATEST }
+fn with_digit(number: u64, byte: u8, most: u64) -> u64
+    ensures value { result ≡ with_digit most number byte }
+    ensures small { result ≤ most }
 {
-    (10 * number + u16::from(byte.saturating_sub(b'0'))).min(GREATEST)
+    let digit = u64::from(byte.saturating_sub(b'0'));
+    number.saturating_mul(10).saturating_add(digit).min(most)
 }
 
-fn decimal_value(bytes: &[u8]) -> u16
-    ensures value { result ≡ decimal_value bytes.now }
-    ensures small { result ≤ GREATEST }
+fn decimal_value(bytes: &[u8], most: u64) -> u64
+    ensures value { result ≡ decimal_value most bytes.now }
+    ensures small { result ≤ most }
 {
     let mut number = 0;
     for byte in bytes {
-        number = with_digit(number, *byte);
+        number = with_digit(number, *byte, most);
     }
     number
 }
 
-/// The number that the text spells without leading zeros, where one above 1,000 counts as 1,000.
-fn number_of(text: &str) -> Option<u16>
-    ensures value { result ≡ number_of text.now }
-    ensures small { IfSome result (λ n. n ≤ GREATEST) }
+/// The number that the text spells without leading zeros, where one above `most` counts as `most`.
+fn number_of(text: &str, most: u64) -> Option<u64>
+    ensures value { result ≡ number_of most text.now }
+    ensures small { IfSome result (λ n. n ≤ most) }
 {
     let bytes = text.as_bytes();
     if is_decimal(bytes) {
-        Some(decimal_value(bytes))
+        Some(decimal_value(bytes, most))
     } else {
         None
     }
+}
+
+/// A number of a region.
+fn region_number(text: &str) -> Option<u16>
+    ensures value { result ≡ region_number text.now }
+    ensures small { IfSome result (λ n. n ≤ PAST_PAGES) }
+{
+    Some(number_of(text, PAST_PAGES)? as u16)
 }
 
 // ---- Rights
@@ -204,12 +216,12 @@ pub(crate) struct CapWords<'a> {
 
 /// A region of which `COUNT RW` is left.
 fn sized_words<'a>(at: u16, target: &'a str, from: u16, text: &str) -> Option<RegionWords<'a>>
-    requires { (at ≤ GREATEST) × (from ≤ GREATEST) }
+    requires { (at ≤ PAST_PAGES) × (from ≤ PAST_PAGES) }
     ensures value { option_map region_form_of result ≡ sized_form at target.now from text.now }
     ensures small { IfSome result AreSmall }
 {
     let (count, access) = cut(text)?;
-    let count = number_of(count)?;
+    let count = region_number(count)?;
     let rights = access_of(access)?;
     Some(RegionWords {
         at,
@@ -222,18 +234,18 @@ fn sized_words<'a>(at: u16, target: &'a str, from: u16, text: &str) -> Option<Re
 
 /// A region of which `FROM COUNT RW` is left.
 fn placed_words<'a>(at: u16, target: &'a str, text: &str) -> Option<RegionWords<'a>>
-    requires { at ≤ GREATEST }
+    requires { at ≤ PAST_PAGES }
     ensures value { option_map region_form_of result ≡ placed_form at target.now text.now }
     ensures small { IfSome result AreSmall }
 {
     let (from, rest) = cut(text)?;
-    let from = number_of(from)?;
+    let from = region_number(from)?;
     sized_words(at, target, from, rest)
 }
 
 /// A region of which `NAME FROM COUNT RW` is left.
 fn named_words(at: u16, text: &str) -> Option<RegionWords<'_>>
-    requires { at ≤ GREATEST }
+    requires { at ≤ PAST_PAGES }
     ensures value { option_map region_form_of result ≡ named_form at text.now }
     ensures small { IfSome result AreSmall }
 {
@@ -250,7 +262,7 @@ pub(crate) fn region_words(text: &str) -> Option<RegionWords<'_>>
     ensures small { IfSome result AreSmall }
 {
     let (at, rest) = cut(text)?;
-    let at = number_of(at)?;
+    let at = region_number(at)?;
     named_words(at, rest)
 }
 
@@ -263,4 +275,19 @@ pub(crate) fn cap_words(text: &str) -> Option<CapWords<'_>>
     }
     let rights = rights_of(rights)?;
     Some(CapWords { entity, rights })
+}
+
+/// The words of a manager: `NUMBER PROGRAM`.
+#[derive(Clone, Copy)]
+pub(crate) struct ManagerWords<'a> {
+    pub number: u64,
+    pub program: &'a str,
+}
+
+pub(crate) fn manager_words(text: &str) -> Option<ManagerWords<'_>>
+    ensures { option_map manager_form_of result ≡ manager_form text.now }
+{
+    let (number, program) = cut(text)?;
+    let number = number_of(number, PAST_TAGS)?;
+    Some(ManagerWords { number, program })
 }

@@ -1,15 +1,16 @@
 -- The bytes that were read are those that the source had, so what they mean is said of the source.
-use Rattle.std.proofs.Common.{◌≡◌, ℕ, Option, Some, None, IfSome, Ok, sym, ap, ◌∙◌}
+use Rattle.std.proofs.Common.{◌≡◌, ℕ, Option, Some, None, IfSome, sym, ap, ◌∙◌}
 use Rattle.hop_model.specs.Scripts.{Script as Tables}
 use Rattle.hop_model.specs.State.{Text}
+use Rattle.manager_form.specs.Managing.{ManagerTables}
 use Rattle.script_read.specs.Meaning.{script_meaning}
 use Rattle.script_source.specs.Sources.{IsAccepted, MeansScript}
 
-pub means_whole : (had : Option Text) (all read : Text) (script : Tables) (frames : ℕ) → IfSome had (λ bytes. all ≡ bytes) → read ≡ all → script_meaning read ≡ Ok (record { tables = script; frames = frames })
-    → IfSome had (λ bytes. MeansScript bytes script frames)
-means_whole None all read script frames whole same means = tt
-means_whole (Some bytes) all read script frames whole same means = ap script_meaning (sym whole) ∙ ap script_meaning (sym same) ∙ means
+pub means_whole : (had : Option Text) (all read : Text) (script : Tables) (frames : ℕ) (brought : ManagerTables) → IfSome had (λ bytes. all ≡ bytes) → read ≡ all → MeansScript read script frames brought
+    → IfSome had (λ bytes. MeansScript bytes script frames brought)
+means_whole None all read script frames brought whole same means = tt
+means_whole (Some bytes) all read script frames brought whole same means = ap script_meaning (sym whole) ∙ ap script_meaning (sym same) ∙ means
 
-pub accepted_whole : (had : Option Text) (script : Tables) (frames : ℕ) → IfSome had (λ bytes. MeansScript bytes script frames) → IfSome had (λ bytes. IsAccepted bytes script)
-accepted_whole None script frames means = tt
-accepted_whole (Some bytes) script frames means = (frames, means)
+pub accepted_whole : (had : Option Text) (script : Tables) (frames : ℕ) (brought : ManagerTables) → IfSome had (λ bytes. MeansScript bytes script frames brought) → IfSome had (λ bytes. IsAccepted bytes script brought)
+accepted_whole None script frames brought means = tt
+accepted_whole (Some bytes) script frames brought means = (frames, means)

@@ -5,6 +5,7 @@ use Rattle.stream_edge.specs.declared.reading.ReadStop.{ReadStop}
 use Rattle.stream_edge.specs.declared.reading.ReadStop.TheVariants.{Source as FromSource, Memory as NoRoom, Long as TooMuch}
 use Rattle.hop_model.specs.State.{Text}
 use Rattle.hop_model.specs.Scripts.{Script as Tables}
+use Rattle.manager_form.specs.Managing.{ManagerTables}
 use Rattle.script_read.specs.Meaning.{script_meaning}
 use Rattle.script_read.specs.Reading.{refused}
 use Rattle.script_form.specs.declared.refusals.Refusal.{Refusal}
@@ -14,13 +15,13 @@ use Rattle.command_parts.specs.Seen.{SeenSource}
 use Rattle.command_parts.specs.declared.faults.Fault.{Fault}
 use Rattle.command_parts.specs.declared.faults.Fault.TheVariants.{Script, Source, Memory}
 
--- the source stands for this script, with so many frames for each container
-abbrev pub MeansScript : Text → Tables → ℕ → Type 0
-MeansScript bytes script frames = script_meaning bytes ≡ Ok (record { tables = script; frames = frames })
+-- the source stands for this script, with so many frames for each container, and brings these managers
+abbrev pub MeansScript : Text → Tables → ℕ → ManagerTables → Type 0
+MeansScript bytes script frames brought = script_meaning bytes ≡ Ok (record { script = record { tables = script; frames = frames }; managers = brought })
 
 -- whatever the frames
-abbrev pub IsAccepted : Text → Tables → Type 0
-IsAccepted bytes script = (frames : ℕ) × MeansScript bytes script frames
+abbrev pub IsAccepted : Text → Tables → ManagerTables → Type 0
+IsAccepted bytes script brought = (frames : ℕ) × MeansScript bytes script frames brought
 
 -- the source is refused so
 abbrev pub IsRefusal : Text → Why → Text → Type 0
@@ -30,9 +31,9 @@ IsRefusal bytes why key = script_meaning bytes ≡ refused why key
 abbrev pub IsRefusalOf : Option Text → Refusal → Type 0
 IsRefusalOf left refusal = IfSome left (λ bytes. IsRefusal bytes refusal.why (string_bytes refusal.key))
 
--- THE SOURCE WAS READ to its end, and stands for this script, where its bytes are told
-pub record HasRead (source : SeenSource) (script : Tables) : Type 0 where
-  pub accepted : IfSome source.before (λ bytes. IsAccepted bytes script)
+-- THE SOURCE WAS READ to its end, and stands for this script and brings these managers, where its bytes are told
+pub record HasRead (source : SeenSource) (script : Tables) (brought : ManagerTables) : Type 0 where
+  pub accepted : IfSome source.before (λ bytes. IsAccepted bytes script brought)
   pub ended : IfSome source.before (λ _. IsAtEnd source.after)
 
 -- WHY NO SCRIPT WAS READ: the source is refused so, its count of faults rose, or memory ran out

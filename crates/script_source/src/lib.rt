@@ -3,7 +3,7 @@
 
 mod reading;
 
-pub use reading::read_source;
+pub use reading::{fault_of_stop, read_source};
 
 #[cfg(test)]
 mod tests;

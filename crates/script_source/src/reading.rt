@@ -1,5 +1,6 @@
 //! Reading a source to a script that may run.
 ghost use Rattle.std.specs.Prelude.{◌≡◌, ◌≤◌, IfOk, IfErr, IfSome, codes, string_bytes};
+ghost use Rattle.manager_form.specs.Managing.{AreScriptManagers, managers_of};
 ghost use Rattle.script_form.specs.Rules.{IsScript};
 ghost use Rattle.script_form.specs.Scripts.{tables_of};
 ghost use Rattle.command_parts.specs.Seen.{seen_source};
@@ -7,8 +8,8 @@ ghost use Rattle.script_source.specs.Sources.{HasRead, IsFaultOfStop, MeansScrip
 
 use command_parts::Fault;
 use hop_base::MOST_SCRIPT_BYTES;
-use script_form::{Refusal, Script, Why};
-use script_read::read_script;
+use script_form::{Refusal, Why};
+use script_read::{ManagedScript, read_script};
 use std::alloc::{AllocError, Global};
 use stream_edge::{ReadStop, Source, read_all};
 
@@ -23,8 +24,8 @@ fn too_long(alloc: Global) -> Result<Refusal, AllocError>
     })
 }
 
-// The fault of a source whose reading stopped.
-fn fault_of_stop(alloc: Global, stop: ReadStop) -> Fault
+/// The fault of a source whose reading stopped.
+pub fn fault_of_stop(alloc: Global, stop: ReadStop) -> Fault
     ensures { IsFaultOfStop stop result }
 {
     match stop {
@@ -37,13 +38,14 @@ fn fault_of_stop(alloc: Global, stop: ReadStop) -> Fault
     }
 }
 
-/// Reads a source to its end, and the script that it stands for. A source of more than 1,048,576 bytes is refused as too long, and reading
-/// stops there.
-pub fn read_source<R: Source>(alloc: Global, source: &mut R) -> Result<Script, Fault>
-    ensures read { IfOk result (λ script. HasRead (seen_source R.left R.faults source.old source.new) (tables_of script)) }
-    ensures meaning { IfOk result (λ script. IfSome (R.left source.old) (λ bytes. MeansScript bytes (tables_of script) script.frames)) }
-    ensures rules { IfOk result (λ script. IsScript (tables_of script)) }
-    ensures frames { IfOk result (λ script. (1 ≤ script.frames) × (script.frames ≤ 256)) }
+/// Reads a source to its end, and the script that it stands for with the managers that it brings. A source of more than 1,048,576 bytes is
+/// refused as too long, and reading stops there.
+pub fn read_source<R: Source>(alloc: Global, source: &mut R) -> Result<ManagedScript, Fault>
+    ensures read { IfOk result (λ read. HasRead (seen_source R.left R.faults source.old source.new) (tables_of read.script) (managers_of read.managers)) }
+    ensures meaning { IfOk result (λ read. IfSome (R.left source.old) (λ bytes. MeansScript bytes (tables_of read.script) read.script.frames (managers_of read.managers))) }
+    ensures rules { IfOk result (λ read. IsScript (tables_of read.script)) }
+    ensures frames { IfOk result (λ read. (1 ≤ read.script.frames) × (read.script.frames ≤ 256)) }
+    ensures managers { IfOk result (λ read. AreScriptManagers (managers_of read.managers)) }
     ensures fault { IfErr result (StopsSource (seen_source R.left R.faults source.old source.new)) }
     ensures count { R.faults source.old ≤ R.faults source.new }
 {
@@ -51,6 +53,6 @@ pub fn read_source<R: Source>(alloc: Global, source: &mut R) -> Result<Script, F
         Ok(bytes) => bytes,
         Err(stop) => return Err(fault_of_stop(alloc, stop)),
     };
-    let script = read_script(alloc, &bytes)?;
-    Ok(script)
+    let read = read_script(alloc, &bytes)?;
+    Ok(read)
 }

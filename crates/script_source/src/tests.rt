@@ -12,6 +12,8 @@ const MOST: usize = 1_048_576;
 const SCRIPT: &[u8] = b"steps = 7
 frames = 2
 program.p = ['snap r0']
+program.m = ['halt']
+supply = ['7 m']
 container = [{ name = 'a', pages = 3, every = 5, program = 'p' }]
 locus = [{ name = 'l', host = 'a', at = 9 }]
 ";
@@ -42,11 +44,13 @@ fn blanks(alloc: Global, count: usize) -> Result<Vec<u8>, Fail> {
 #[test]
 fn a_source_is_read_to_its_end(rt: HostRuntime) -> Result<(), Fail> {
     let mut source = source(rt.alloc(), SCRIPT, &[])?;
-    let Ok(script) = read_source(rt.alloc(), &mut source) else {
+    let Ok(read) = read_source(rt.alloc(), &mut source) else {
         return Err(Fail::from("no script"));
     };
+    let script = &read.script;
     assert_eq!(rt; (script.steps, script.frames), (7, 2));
     assert!(rt; script.containers.len() == 1 && script.loci.len() == 1 && script.order.is_empty());
+    assert!(rt; read.managers.supply.len() == 1 && read.managers.policy.is_empty());
     let (a, l) = (&script.containers[0], &script.loci[0]);
     assert_eq!(rt; (a.pages, a.every, a.code.len()), (3, 5, 1));
     assert_eq!(rt; (l.name.as_str(), l.host.as_str(), l.at), ("l", "a", 9));

@@ -2,7 +2,7 @@
 ghost use Rattle.std.specs.Prelude.{◌≡◌, ◌≤◌, ◌+◌, ◌<◌, ◌^◌, ℕ, [], ◌∷◌, IfErr, IfOk, OnErr, OnOk};
 ghost use Rattle.fault_paging.specs.Calls.{IsCausedBy};
 ghost use Rattle.kernel_cells.specs.Cells.{part_of};
-ghost use Rattle.look_steps.specs.Looking.{LeavesMemory, MayLook};
+ghost use Rattle.look_steps.specs.Looking.{LeavesMemory, LooksAtWord, MayLook};
 ghost use Rattle.step_plans.specs.Plans.{IsPlanned};
 ghost use Rattle.step_plans.specs.declared.plans.Plan.TheVariants as plan;
 ghost use Rattle.step_cells.specs.Advances.{AdvancesSomehow, StepsCells};
@@ -30,6 +30,7 @@ pub fn advance_looking<B: PageStore, S: Supplier, P: Policy>(
     requires few { (locus.old.clock.version < 2 ^ 63) × (other.old.clock.version < 2 ^ 63) }
     ensures step { B.tells → IfOk result (StepsCells (S.word gate.now.supply) (B.words store.old) (B.words store.new) locus.old.clock.entity (locus.old ∷ other.old ∷ []) (locus.new ∷ other.new ∷ [])) }
     ensures somehow { IfOk result (AdvancesSomehow locus.old locus.new other.old other.new) }
+    ensures at_word { OnErr result (LooksAtWord locus.old other.old) }
     ensures locus_stays { OnErr result (locus.new ≡ locus.old) }
     ensures other_stays { OnErr result ((other.new.clock ≡ other.old.clock) × (other.new.wish ≡ other.old.wish) × (other.new.left ≡ other.old.left)) }
     ensures same_part { OnErr result (B.tells → part_of (S.word gate.now.supply) (B.words store.new) other.new.part ≡ part_of (S.word gate.now.supply) (B.words store.old) other.old.part) }

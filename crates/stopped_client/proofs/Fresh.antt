@@ -10,7 +10,7 @@ use Rattle.disk_trait.specs.Image.{Image, block_at}
 use Rattle.disk_trait.specs.MemoryDisk.{may_leave_of, reading_of}
 use Rattle.disk_trait.specs.declared.memory.MemoryDisk.{MemoryDisk}
 use Rattle.format_command.specs.Formats.{FormatLeaves, HasFormatted}
-use Rattle.hop_model.specs.State.{Text, empty_state}
+use Rattle.hop_model.specs.State.{Supply, Text, empty_state}
 use Rattle.image_blocks.specs.Checks.{active_area, active_by}
 use Rattle.image_blocks.specs.Layout.{epoch_in, first_number, header_block}
 use Rattle.image_blocks.specs.declared.areas.Area.{Area}
@@ -18,7 +18,6 @@ use Rattle.image_blocks.specs.declared.areas.Area.TheVariants.{A, B}
 use Rattle.image_meaning.specs.Empty.{IsFormatted}
 use Rattle.image_opening.specs.Images.{HasLowEpoch, HasTurnLeft}
 use Rattle.image_meaning.specs.Meaning.{Means}
-use Rattle.manager_gate.specs.Managers.{counted_word}
 use Rattle.hopper_top.specs.Starts.{HasLowNumbers}
 use Rattle.stopped_client.specs.Calls.{IsCalled, new_sink, seen_lines, seen_memory}
 use Rattle.stopped_client.specs.declared.calling.Called.{Called}
@@ -52,11 +51,11 @@ low_numbers count image f = record { epoch = low_epoch count image f; versions =
 -- it reads as an empty image, and a stop leaves what means the state in which nothing is born
 pub record HasNewImage (d : MemoryDisk) : Type 0 where
   pub formatted : IsFormatted 4096 (reading_of d)
-  pub means : (c : Image) → may_leave_of d c → Means counted_word c empty_state
+  pub means : (supply : Supply) (c : Image) → may_leave_of d c → Means supply c empty_state
 
 pub fresh : (text : Text) (old : MemoryDisk) (called : Called) → IsCalled (Format 4096) text old called → called.outcome.status ≡ Done → HasNewImage called.outcome.disk
 fresh text old called is done =
     let whole : HasFormatted 4096 (seen_memory old called.outcome.disk) (seen_lines new_sink is.sink) (gave called.outcome) =
     subst (λ (status : Status). FormatLeaves 4096 (seen_memory old called.outcome.disk) (seen_lines new_sink is.sink) (gave called.outcome) (ending status)) done
     (command_leaves (Format 4096) text old called is (subst (λ (status : Status). HadMemory status) (sym done) tt)).1 in
-    record { formatted = (whole.made tt).formatted; means = whole.means tt counted_word }
+    record { formatted = (whole.made tt).formatted; means = λ supply. whole.means tt supply }

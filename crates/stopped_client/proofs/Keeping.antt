@@ -3,7 +3,7 @@ use Rattle.std.proofs.Common.{◌≡◌, ◌≤◌, ◌<◌, ◌+◌, ◌-◌, �
 use Rattle.std.proofs.lemmas.Bool.{cases_lt}
 use Rattle.command_parts.specs.Ends.{IsEmpty}
 use Rattle.command_parts.specs.Seen.{Call, SeenDisk, gave}
-use Rattle.command_parts.specs.Statuses.{Ending, Stopped, Unput, Whole, ending}
+use Rattle.command_parts.specs.Statuses.{Ending, Stopped, Unput, Whole, Wrong, ending}
 use Rattle.command_parts.specs.declared.statuses.Status.{Status}
 use Rattle.command_parts.specs.declared.faults.Fault.TheVariants.{Blocks, Disk, Foreign as BadImage, Memory, Script, Source, Usage}
 use Rattle.command_words.specs.declared.Command.TheVariants.{Run, Show}
@@ -13,7 +13,7 @@ use Rattle.disk_trait.specs.KeptLaws.{MayLeave-since_now}
 use Rattle.disk_trait.specs.MemoryDisk.{left_since_of, may_leave_of, moments_of, reading_of, stood_at}
 use Rattle.disk_trait.specs.declared.calls.Torn.{Torn}
 use Rattle.disk_trait.specs.declared.memory.MemoryDisk.{MemoryDisk}
-use Rattle.hop_model.specs.State.{KernelState, Text, empty_state}
+use Rattle.hop_model.specs.State.{KernelState, Supply, Text, empty_state}
 use Rattle.image_meaning.proofs.Firsts.{not_both}
 use Rattle.image_meaning.proofs.Ones.{one_meaning}
 use Rattle.image_meaning.specs.Meaning.{Means}
@@ -25,7 +25,7 @@ use Rattle.hopper_top.specs.Openings.{HasFailedSync, IsKeptImage, KeepsMeaning, 
 use Rattle.run_outcomes.specs.Runs.{IsRun, IsServed}
 use Rattle.watched_disk.specs.Handing.{next_moment}
 use Rattle.stopped_client.specs.Calls.{IsCalled, managers, seen_call, seen_memory}
-use Rattle.stopped_client.specs.Promise.{IsShownAs, KeepsBy, KeepsCut, KeepsNothing, KeepsPromise}
+use Rattle.stopped_client.specs.Promise.{IsShownAs, KeepsBy, KeepsCut, KeepsNothing, KeepsPromise, answering}
 use Rattle.stopped_client.specs.declared.calling.Called.{Called}
 use Rattle.stopped_client.specs.declared.stopping.Shown.{Shown}
 use Rattle.stopped_client.proofs.Fresh.{HasNewImage, low_numbers, turn_left}
@@ -84,8 +84,8 @@ module _ (source : Text) (torn : Torn) (after : ℕ) (formatted ran showed : Cal
   left_then : left_since_of ran.outcome.disk t (reading_of left)
   left_then = (t, omega arith, omega (arith, stops), may)
 
-  means_nothing : Means counted_word (reading_of old) empty_state
-  means_nothing = fresh.means (reading_of old) old.tape.readable
+  means_nothing : (supply : Supply) → Means supply (reading_of old) empty_state
+  means_nothing supply = fresh.means supply (reading_of old) old.tape.readable
 
   shown_as : (w : KernelState) → Means counted_word (reading_of left) w → IsShownAs s w
   shown_as w means = record { text = shown_text [] left showed w shows means; accepted = no_bad_place [] left showed w shows means }
@@ -93,41 +93,44 @@ module _ (source : Text) (torn : Torn) (after : ℕ) (formatted ran showed : Cal
   -- A RUN
 
   -- what holds of the run while the image's numbers are low holds of it
-  run_holds : (P : Beginning → Type 0) (o : OfRun managers seen P) → P (run_from managers o.script empty_state (moments_of old))
+  run_holds : (P : Beginning → Type 0) (o : OfRun managers seen P) → P (run_from (answering o.brought) o.script empty_state (moments_of old))
   run_holds P o =
       let opened = o.opened tt in
-      let same : opened.state ≡ empty_state = one_meaning counted_word (reading_of old) opened.state empty_state opened.means means_nothing in
+      let supply = (answering o.brought).supply in
+      let same : opened.state ≡ empty_state = one_meaning supply (reading_of old) opened.state empty_state opened.means (means_nothing supply) in
       let low : HasLowNumbers (reading_of old) opened.state = subst (λ (v : KernelState). HasLowNumbers (reading_of old) v) (sym same) (low_numbers 4096 (reading_of old) fresh.formatted) in
-      subst (λ (v : KernelState). P (run_from managers o.script v (moments_of old))) same (opened.run low)
+      subst (λ (v : KernelState). P (run_from (answering o.brought) o.script v (moments_of old))) same (opened.run low)
 
   keeps_cut : (P : Beginning → Type 0) (o : OfRun managers seen P) → ((b : Beginning) → P b → IsRun b disk (gave ran.outcome)) → KeepsCut source torn s
   keeps_cut P o runs_so =
-      let run = runs_so (run_from managers o.script empty_state (moments_of old)) (run_holds P o) in
+      let run = runs_so (run_from (answering o.brought) o.script empty_state (moments_of old)) (run_holds P o) in
       let cut = run.kept.moments t (reading_of left) (stop_reaches (moments_of old) after (moments_of ran.outcome.disk) t stops some run.kept.begun) left_then in
       record {
         script = o.script;
+        brought = o.brought;
         accepted = o.read.accepted;
         legal = run.legal;
         image = reading_of left;
         left = tears;
         cut = cut;
-        shows = shown_as cut.state cut.means;
+        shows = shown_as;
       }
 
   -- NO RUN
 
-  keeps_nothing : IsEmpty (gave ran.outcome) → (moments_of old ≤ moments_of ran.outcome.disk → Means counted_word (reading_of left) empty_state) → KeepsNothing torn s
+  keeps_nothing : IsEmpty (gave ran.outcome) → Means counted_word (reading_of left) empty_state → KeepsNothing torn s
   keeps_nothing none means = record {
     empty = none.history;
     image = reading_of left;
     left = tears;
-    means = λ later. (means later, shown_as empty_state (means later));
+    means = means;
+    shows = shown_as empty_state means;
   }
 
   -- where the stop is at the return, and leaves nothing that it couldn't leave before
   means_by : t ≡ moments_of ran.outcome.disk → (may_leave_of ran.outcome.disk (reading_of left) → may_leave_of old (reading_of left)) → Means counted_word (reading_of left) empty_state
   means_by now no_more =
-      fresh.means (reading_of left) (no_more (leaves_at_now ran.outcome.disk (reading_of left) (subst (λ (n : ℕ). left_since_of ran.outcome.disk n (reading_of left)) now left_then)))
+      fresh.means counted_word (reading_of left) (no_more (leaves_at_now ran.outcome.disk (reading_of left) (subst (λ (n : ℕ). left_since_of ran.outcome.disk n (reading_of left)) now left_then)))
 
   -- the disk is as it was
   means_same : ran.outcome.disk ≡ old → Means counted_word (reading_of left) empty_state
@@ -144,16 +147,16 @@ module _ (source : Text) (torn : Torn) (after : ℕ) (formatted ran showed : Cal
       ]) (failed.may (reading_of left))
 
   -- the image means what it meant
-  means_kept : KeepsMeaning disk → moments_of old ≤ moments_of ran.outcome.disk → Means counted_word (reading_of left) empty_state
-  means_kept keeps later = elim (cases_lt (moments_of old) t) [
-    | inl behind ↦ keeps.since t (reading_of left) (next_reached (moments_of old) t behind) left_then counted_word empty_state means_nothing
-    | inr before ↦ (let here : t ≡ moments_of old = omega (arith, stops, before, later) in elim (keeps.earlier t (reading_of left) before left_then) [
-      | inl was ↦ fresh.means (reading_of left) (leaves_at_now old (reading_of left) (subst (λ (n : ℕ). left_since_of old n (reading_of left)) here was))
-      | inr same ↦ same counted_word empty_state means_nothing
+  means_kept : KeepsMeaning disk → Means counted_word (reading_of left) empty_state
+  means_kept keeps = elim (cases_lt (moments_of old) t) [
+    | inl behind ↦ keeps.since t (reading_of left) (next_reached (moments_of old) t behind) left_then counted_word empty_state (means_nothing counted_word)
+    | inr before ↦ (let later = keeps.later in let here : t ≡ moments_of old = omega (arith, stops, before, later) in elim (keeps.earlier t (reading_of left) before left_then) [
+      | inl was ↦ fresh.means counted_word (reading_of left) (leaves_at_now old (reading_of left) (subst (λ (n : ℕ). left_since_of old n (reading_of left)) here was))
+      | inr same ↦ same counted_word empty_state (means_nothing counted_word)
     ])
   ]
 
-  means_kept_image : IsKeptImage disk → moments_of old ≤ moments_of ran.outcome.disk → Means counted_word (reading_of left) empty_state
+  means_kept_image : IsKeptImage disk → Means counted_word (reading_of left) empty_state
   means_kept_image kept = means_kept (kept tt (turn_left 4096 (reading_of old) fresh.formatted))
 
   -- BY HOW THE RUN ENDED
@@ -163,23 +166,24 @@ module _ (source : Text) (torn : Torn) (after : ℕ) (formatted ran showed : Cal
       let served = run_holds (λ b. IsServed b disk (gave ran.outcome) _) o in
       record { keeps = keeps_cut _ o (λ b served. served.run); whole = served.whole; lines = runs.put ∙ served.output }
   keeps_by Unput o = keeps_cut _ o.0 (λ b served. served.run)
-  keeps_by (Stopped (Blocks n)) o = keeps_cut _ o (λ b cut. cut.run)
+  keeps_by (Stopped (Blocks n)) o = keeps_cut _ o (λ b short. short.cut.run)
   keeps_by (Stopped Disk) (rose, inl unrun) = inr (keeps_nothing unrun.0.empty (elim (unrun.2 tt (turn_left 4096 (reading_of old) fresh.formatted)) [
-    | inl fails ↦ λ later. means_failed fails.failed
+    | inl fails ↦ means_failed fails.failed
     | inr kept ↦ means_kept kept
   ]))
   keeps_by (Stopped Disk) (rose, inr o) = inl (keeps_cut _ o (λ b cut. cut.run))
-  keeps_by (Stopped (Script refusal)) (unrun, inl refused) = keeps_nothing unrun.empty (λ later. means_same refused.1)
-  keeps_by (Stopped (Script refusal)) (unrun, inr misfit) = keeps_nothing unrun.empty (means_kept_image misfit.2.kept)
-  keeps_by (Stopped Source) stopped = keeps_nothing stopped.1.empty (λ later. means_same stopped.2)
-  keeps_by (Stopped Memory) (unrun, inl same) = keeps_nothing unrun.empty (λ later. means_same same)
+  keeps_by (Stopped (Script refusal)) (unrun, inl refused) = keeps_nothing unrun.empty (means_same refused.1)
+  keeps_by (Stopped (Script refusal)) (unrun, inr misfit) = keeps_nothing unrun.empty (means_kept_image misfit.3.kept)
+  keeps_by (Stopped Source) stopped = keeps_nothing stopped.1.empty (means_same stopped.2)
+  keeps_by (Stopped Memory) (unrun, inl same) = keeps_nothing unrun.empty (means_same same)
   keeps_by (Stopped Memory) (unrun, inr behind) = keeps_nothing unrun.empty (means_kept_image behind.1)
-  keeps_by (Stopped (BadImage block place)) stopped = not_both (reading_of old) (record { block = block; place = place }) means_nothing.accepted (stopped.2 tt).0
+  keeps_by (Stopped (BadImage block place)) stopped = not_both (reading_of old) (record { block = block; place = place }) (means_nothing counted_word).accepted (stopped.2 tt).0
   keeps_by (Stopped Usage) stopped = stopped
+  keeps_by (Wrong line want) stopped = stopped
 
   pub keeps : KeepsPromise source torn s
   keeps = elim runs.leaves [
     | inl untouched ↦ subst (λ (status : Status). KeepsBy source torn s (ending status)) (sym untouched.status)
-        (keeps_nothing untouched.unrun.empty (λ later. means_same untouched.disk))
+        (keeps_nothing untouched.unrun.empty (means_same untouched.disk))
     | inr leaves ↦ keeps_by (ending ran.outcome.status) leaves
   ]

@@ -9,13 +9,15 @@ use Rattle.hop_model.specs.State.{KernelState, Text, empty_state}
 use Rattle.image_meaning.specs.Meaning.{Means}
 use Rattle.kernel_model.specs.Beginnings.{Beginning, IsLegal}
 use Rattle.kernel_model.specs.Left.{IsCutImage}
-use Rattle.manager_gate.specs.Managers.{counted_word, is_due}
+use Rattle.manager_form.specs.Managing.{ManagerTables}
+use Rattle.manager_gate.specs.Managers.{counted_word}
 use Rattle.plain_show.specs.Show.{shown}
-use Rattle.hopper_top.specs.Openings.{run_from}
+use Rattle.hopper_top.specs.Booked.{over}
+use Rattle.hopper_top.specs.Openings.{Managers, run_from}
 use Rattle.run_outcomes.specs.Runs.{printed}
 use Rattle.script_source.specs.Sources.{IsAccepted}
 use Rattle.serial_runs.specs.Serial.{IsWhole}
-use Rattle.command_parts.specs.Statuses.{Ending, Stopped, Unput, Whole, ending}
+use Rattle.command_parts.specs.Statuses.{Ending, Stopped, Unput, Whole, Wrong, ending}
 use Rattle.command_parts.specs.declared.faults.Fault.TheVariants.{Blocks, Disk, Foreign as BadImage, Memory, Script, Source, Usage}
 use Rattle.command_parts.specs.declared.statuses.Status.TheVariants.{Done, Foreign}
 use Rattle.stopped_client.specs.Calls.{managers}
@@ -26,33 +28,40 @@ pub record IsShownAs (s : Shown) (w : KernelState) : Type 0 where
   pub text : s.shown ≡ Done → s.text.items ≡ shown counted_word (λ x. (w x).cell)
   pub accepted : (block place : ℕ) → s.shown ≡ Foreign block place → ⊥
 
+-- the managers of a run: those that the script brings, over the program's
+abbrev pub answering : ManagerTables → Managers
+answering brought = over brought managers
+
 -- the run of a script from the state in which nothing is born, with marks and moments counted on the clock of the disk
-abbrev pub run_from_nothing : Tables → Shown → Beginning
-run_from_nothing script s = run_from managers script empty_state s.since
+abbrev pub run_from_nothing : Tables → ManagerTables → Shown → Beginning
+run_from_nothing script brought s = run_from (answering brought) script empty_state s.since
 
 -- A CUT OF THE RUN IS LEFT: the source stands for a script, the history is a legal run of it from nothing, and the image that the stop
--- left means the state that the first k commits make, where k holds all that was acknowledged by then. That state was shown.
+-- left means the state that the first k commits make, where k holds all that was acknowledged by then. What the image means by the
+-- program's managers was shown: where the script brings none, that state.
 pub record KeepsCut (source : Text) (torn : Torn) (s : Shown) : Type 0 where
   pub script : Tables
-  pub accepted : IsAccepted source script
-  pub legal : IsLegal (run_from_nothing script s) s.history.items
+  pub brought : ManagerTables
+  pub accepted : IsAccepted source script brought
+  pub legal : IsLegal (run_from_nothing script brought s) s.history.items
   pub image : Image
   pub left : IsTorn torn (stood_at s.disk s.stopped) image
-  pub cut : IsCutImage (run_from_nothing script s) s.history.items s.marks.items (moments_of s.disk) s.stopped image
-  pub shows : IsShownAs s cut.state
+  pub cut : IsCutImage (run_from_nothing script brought s) s.history.items s.marks.items (moments_of s.disk) s.stopped image
+  pub shows : (w : KernelState) → Means counted_word image w → IsShownAs s w
 
 -- and the run came to its end: its history is the whole serial one, and its lines are put
 pub record KeepsWhole (source : Text) (torn : Torn) (s : Shown) : Type 0 where
   pub keeps : KeepsCut source torn s
-  pub whole : IsWhole counted_word is_due keeps.script empty_state s.history.items
-  pub lines : s.lines.items ≡ printed (run_from_nothing keeps.script s) s.history.items
+  pub whole : IsWhole (answering keeps.brought).supply (answering keeps.brought).policy keeps.script empty_state s.history.items
+  pub lines : s.lines.items ≡ printed (run_from_nothing keeps.script keeps.brought s) s.history.items
 
--- NOTHING WAS RUN: the image that the stop left means the state in which nothing is born, which was shown, unless the disk's clock fell
+-- NOTHING WAS RUN: the image that the stop left means the state in which nothing is born, which was shown
 pub record KeepsNothing (torn : Torn) (s : Shown) : Type 0 where
   pub empty : s.history.items ≡ []
   pub image : Image
   pub left : IsTorn torn (stood_at s.disk s.stopped) image
-  pub means : s.since ≤ moments_of s.disk → Means counted_word image empty_state × IsShownAs s empty_state
+  pub means : Means counted_word image empty_state
+  pub shows : IsShownAs s empty_state
 
 -- by how the run ended
 abbrev pub KeepsBy : Text → Torn → Shown → Ending → Type 0
@@ -65,6 +74,7 @@ KeepsBy source torn s (Stopped Source) = KeepsNothing torn s
 KeepsBy source torn s (Stopped Memory) = KeepsNothing torn s
 KeepsBy source torn s (Stopped (BadImage block place)) = ⊥
 KeepsBy source torn s (Stopped Usage) = ⊥
+KeepsBy source torn s (Wrong line want) = ⊥
 
 -- THE PROMISE
 abbrev pub KeepsPromise : Text → Torn → Shown → Type 0

@@ -12,6 +12,7 @@ ghost use Rattle.cell_table.specs.Tables.{left_of, state_in, AreClean, AreFewWri
 ghost use Rattle.snapshot_store.specs.State.{books};
 ghost use Rattle.store_model.specs.Books.{free_in};
 ghost use Rattle.record_laws.specs.Cells.{words_on};
+ghost use Rattle.table_steps.specs.Wanting.{WantsWord};
 ghost use Rattle.kernel_model.specs.Beginnings.{Beginning};
 ghost use Rattle.kernel_views.specs.Events.{StepsOver, StopsOver};
 ghost use Rattle.store_steps.specs.Leaving.{LeavesInOrder};
@@ -25,8 +26,8 @@ use table_steps::{StepFault, advance};
 
 /// One step of the locus with this number, over the cells and the store of a kernel.
 ///
-/// It answers as `table_steps::advance` does: `Idle` where the locus can't step, with nothing changed, and `Paging` where the look of a
-/// load or a store met a fault, with nothing changed in the model. A kernel of this supplier whose store works goes on by a step that was
+/// It answers as `table_steps::advance` does: `Idle` where the locus can't step, with nothing changed, and `Paging` where a load or a
+/// store that comes to a word met a fault, with nothing changed in the model. A kernel of this supplier whose store works goes on by a step that was
 /// made (`EventLaw` of `kernel_views`), and stops at a fault (`StopLaw`).
 ///
 /// It takes no memory. It makes at most one read and one write of the disk, of a page each.
@@ -50,6 +51,7 @@ pub fn step_over<D: Disk, S: Supplier, P: Policy>(
         → StopsOver D.tells D.clock D.faults D.reading D.may_leave D.left_since b cells.old cells.new store.old store.new }
     ensures cause { (f : AFault) → IsErrOf result (StepFault.Paging f)
         → IsCausedBy (free_in (books store.old)) (D.faults store.old.disk) (D.faults store.new.disk) (books store.old).shut (books store.new).shut f }
+    ensures at_word { (f : AFault) → IsErrOf result (StepFault.Paging f) → WantsWord me cells.old }
     ensures same_shut { OnOk result ((books store.new).shut ≡ (books store.old).shut) }
     ensures leaves { LeavesInOrder D.tells D.clock D.faults D.reading D.may_leave D.left_since cells.old cells.new store.old store.new }
     ensures clean { D.tells → AreClean (S.word gate.now.supply) (words_on (D.reading store.new.disk)) cells.new }

@@ -12,6 +12,8 @@ mod image_tests;
 #[cfg(test)]
 mod line_tests;
 #[cfg(test)]
+mod manager_tests;
+#[cfg(test)]
 mod refusal_tests;
 #[cfg(test)]
 mod run_tests;

@@ -203,3 +203,38 @@ pub(crate) const SNAP: &[u8] = b"program.p = ['snap r0', 'print r7', 'halt']
 container = [{ name = 'a', pages = 1, program = 'p' }]
 locus = [{ name = 'l', host = 'a', caps = ['a s'] }]
 ";
+
+// Loads the word at place 2 of page 1 of a container of tag 7, whose words `p` makes.
+pub(crate) const PAGE_AND_PLACE: &[u8] = b"supply = ['7 p']
+program.p = ['copy r3 r2', 'add r3 r1', 'halt']
+program.q = ['set r0 130', 'load r1 r0', 'print r1', 'halt']
+container = [{ name = 'a', pages = 2, tag = 7, program = 'q' }]
+locus = [{ name = 'l', host = 'a' }]
+";
+
+// The same by a program that never halts, and by one that prints.
+pub(crate) const NEVER_HALTS: &[u8] = b"supply = ['7 p']
+program.p = ['jump @0']
+program.q = ['set r0 130', 'load r1 r0', 'print r1', 'halt']
+container = [{ name = 'a', pages = 2, tag = 7, program = 'q' }]
+locus = [{ name = 'l', host = 'a' }]
+";
+
+pub(crate) const PRINTS: &[u8] = b"supply = ['7 p']
+program.p = ['print r0']
+program.q = ['set r0 130', 'load r1 r0', 'print r1', 'halt']
+container = [{ name = 'a', pages = 2, tag = 7, program = 'q' }]
+locus = [{ name = 'l', host = 'a' }]
+";
+
+// `WISHED`, where a program says yes for 5.
+pub(crate) const WISHED_BY_PROGRAM: &[u8] = b"policy = ['5 y']
+program.y = ['set r3 1']
+program.p = ['set r0 5', 'store r1 r0', 'halt', 'set r0 9', 'store r1 r0', 'halt']
+container = [{ name = 'a', pages = 1, every = 5, program = 'p' }]
+locus = [{ name = 'l', host = 'a' }]
+";
+
+pub(crate) const BORN_WISHED_BY_PROGRAM: &str = "container a 1 0 5 -
+locus l a 0 running 0 0 0 0 0 0 0 0 0
+";

@@ -1,17 +1,20 @@
 -- What a table in order says of the container at which a step looks.
 use Rattle.std.proofs.Common.{◌≡◌, ℕ, ◌<◌, ◌^◌, Bool, List, slice_get, Some, sym, ap, ◌∙◌, subst, arith}
 use Rattle.hop_model.specs.State.{Supply}
+use Rattle.hop_model.specs.Steps.{step}
 use Rattle.locus_machine.specs.Loci.{locus_of}
 use Rattle.kernel_cells.specs.declared.cells.Cell.{Cell}
 use Rattle.beside_steps.specs.Besides.{memory_of}
 use Rattle.cell_laws.specs.Memories.{HasOwnMemory}
-use Rattle.look_steps.specs.Looking.{MayLook}
+use Rattle.look_steps.specs.Looking.{LooksAtWord, MayLook}
 use Rattle.plan_laws.proofs.SoundParts.{look_part}
 use Rattle.plan_laws.proofs.SoundPlans.{look_here}
 use Rattle.step_plans.specs.Plans.{IsPlanned}
 use Rattle.step_plans.specs.declared.plans.Plan.TheVariants as plan
 use Rattle.cell_table.specs.Steps.{IsPlannedAt}
-use Rattle.cell_table.specs.Tables.{AreClean, AreFewWrites, IsOrderly, memory_at}
+use Rattle.cell_table.specs.Tables.{AreClean, AreFewWrites, IsOrderly, memory_at, state_in}
+use Rattle.cell_table.proofs.Having.{state_has}
+use Rattle.table_steps.specs.Wanting.{WantsWord}
 use Rattle.table_steps.proofs.Facing.{are_sound, atlas, cells, locus_at, no_supply, no_words, part_here, plan_of}
 
 module _ (held : ℕ → Bool) (cs : List Cell) (orderly : IsOrderly held cs) where
@@ -42,3 +45,8 @@ module _ (held : ℕ → Bool) (cs : List Cell) (orderly : IsOrderly held cs) wh
         lower = omega (arith, at_a, at_b, below.1);
         few = (few me a is_a, few y b is_b);
       }
+
+-- a look of the table's cells that comes to a word is the table's next step
+pub wants_word : (cs : List Cell) (me y : ℕ) (a b : Cell) → slice_get cs me ≡ Some a → slice_get cs y ≡ Some b → a.clock.entity ≡ me → b.clock.entity ≡ y → LooksAtWord a b → WantsWord me cs
+wants_word cs me y a b is_a is_b at_a at_b looks = λ s words made is.
+    looks s words (state_in s words cs) made (state_has s words cs a (ap (slice_get cs) at_a ∙ is_a)) (state_has s words cs b (ap (slice_get cs) at_b ∙ is_b)) (ap (λ n. step s n (state_in s words cs)) at_a ∙ is)

@@ -4,6 +4,7 @@ ghost use Rattle.fault_paging.specs.Calls.{IsCausedBy};
 ghost use Rattle.step_plans.specs.declared.plans.Plan.TheVariants as plan;
 ghost use Rattle.cell_table.specs.Steps.{EntersStep, GoesOn, IsPlannedAt, StaysAtFault};
 ghost use Rattle.cell_table.specs.Tables.{tables_in, AreClean, AreFewWrites, HasNews, IsOrderly};
+ghost use Rattle.table_steps.specs.Wanting.{WantsWord};
 
 use fault_paging::PageFault;
 use hop_base::{Entity, Entry};
@@ -29,6 +30,7 @@ pub(crate) fn go_look<B: PageStore, S: Supplier, P: Policy>(
     ensures orderly { IsOrderly (B.held store.new) cells.new }
     ensures enters { IfOk result (EntersStep me cells.old cells.new) }
     ensures faulted { OnErr result (StaysAtFault B.tells (S.word gate.now.supply) (B.words store.old) (B.words store.new) cells.old cells.new) }
+    ensures at_word { OnErr result (WantsWord me cells.old) }
     ensures kept { B.kept_names store.new ≡ B.kept_names store.old }
     ensures news { HasNews (B.kept_names store.old) (tables_in cells.old) (tables_in cells.new) }
     ensures cause { IfErr result (IsCausedBy (B.free store.old) (B.faults store.old) (B.faults store.new) (B.is_shut store.old) (B.is_shut store.new)) }

@@ -7,6 +7,7 @@ ghost use Rattle.step_plans.specs.Plans.{idle_of};
 ghost use Rattle.step_plans.specs.declared.idle.Idle.{Idle as AnIdle};
 ghost use Rattle.cell_table.specs.Steps.{EntersStep, GoesOn, IsInOrder, IsPlannedAt, StaysAtFault};
 ghost use Rattle.cell_table.specs.Tables.{left_of, state_in, tables_in, AreClean, AreFewWrites, HasNews, IsOrderly};
+ghost use Rattle.table_steps.specs.Wanting.{WantsWord};
 
 use crate::bearings::{go_making, go_mapping, go_spawning};
 use crate::besides::{go_alone, go_beside};
@@ -54,6 +55,7 @@ fn go<B: PageStore, S: Supplier, P: Policy>(
     ensures orderly { IsOrderly (B.held store.new) cells.new }
     ensures enters { IfOk result (EntersStep me cells.old cells.new) }
     ensures faulted { OnErr result (StaysAtFault B.tells (S.word gate.now.supply) (B.words store.old) (B.words store.new) cells.old cells.new) }
+    ensures at_word { OnErr result (WantsWord me cells.old) }
     ensures kept { B.kept_names store.new ≡ B.kept_names store.old }
     ensures news { HasNews (B.kept_names store.old) (tables_in cells.old) (tables_in cells.new) }
     ensures cause { IfErr result (IsCausedBy (B.free store.old) (B.faults store.old) (B.faults store.new) (B.is_shut store.old) (B.is_shut store.new)) }
@@ -74,8 +76,8 @@ fn go<B: PageStore, S: Supplier, P: Policy>(
 /// One step of the locus with this number, over the cells that it touches: the locus, and at most the atlas and one other.
 ///
 /// `Idle` comes exactly where the locus can't step: it isn't born or no locus, it is halted or stopped, or it has no step left, in this
-/// order; then nothing is changed. `Paging` comes of a load or a store alone, and changes nothing in the model, so that the same step
-/// can be tried again. It takes no memory, and looks at no other cell.
+/// order; then nothing is changed. `Paging` comes of a load or a store alone that reads or writes a word, and changes nothing in the
+/// model, so that the same step can be tried again. It takes no memory, and looks at no other cell.
 pub fn advance<B: PageStore, S: Supplier, P: Policy>(
     cells: &mut [Cell],
     me: Entity,
@@ -94,6 +96,7 @@ pub fn advance<B: PageStore, S: Supplier, P: Policy>(
     ensures enters { IfOk result (EntersStep me cells.old cells.new) }
     ensures faulted { (f : AFault) → IsErrOf result (StepFault.Paging f)
         → StaysAtFault B.tells (S.word gate.now.supply) (B.words store.old) (B.words store.new) cells.old cells.new }
+    ensures at_word { (f : AFault) → IsErrOf result (StepFault.Paging f) → WantsWord me cells.old }
     ensures kept { B.kept_names store.new ≡ B.kept_names store.old }
     ensures news { HasNews (B.kept_names store.old) (tables_in cells.old) (tables_in cells.new) }
     ensures cause { (f : AFault) → IsErrOf result (StepFault.Paging f)

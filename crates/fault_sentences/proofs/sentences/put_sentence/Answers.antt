@@ -1,7 +1,7 @@
 use Rattle.std.proofs.Common.{◌∙◌, ap, ap₂, subst, sym}
 use Rattle.hop_model.specs.State.{Text}
 use Rattle.stream_edge.specs.Streams.{Puts}
-use Rattle.fault_sentences.specs.Sentences.{blocks_sentence, foreign_sentence, refusal_sentence, sentence}
+use Rattle.fault_sentences.specs.Sentences.{blocks_sentence, foreign_sentence, refusal_sentence, sentence, trace_sentence}
 use Rattle.fault_sentences.proofs.sentences.put_sentence.Goals as goal
 
 pub returns-in-Script-clause-bytes : goal.returns-in-Script-clause-bytes
@@ -38,3 +38,8 @@ returns-in-SinkFault-clause-bytes g c =
 pub returns-in-Memory-clause-bytes : goal.returns-in-Memory-clause-bytes
 returns-in-Memory-clause-bytes g c =
     subst (λ (t : Text). Puts (g.W.Sink.held c.args.sink.now) (g.W.Sink.held c.put-in-Memory.new.self) c.put-in-Memory.result t) (sym (ap sentence c.in-Memory.is)) c.put-in-Memory.ensures.bytes
+
+pub returns-in-TraceWrong-clause-bytes : goal.returns-in-TraceWrong-clause-bytes
+returns-in-TraceWrong-clause-bytes g c =
+    let is = ap trace_sentence (c.as_str-in-TraceWrong.ensures.value ∙ c.trace_text.ensures) ∙ sym (ap sentence c.in-TraceWrong.is) in
+    subst (λ (t : Text). Puts (g.W.Sink.held c.args.sink.now) (g.W.Sink.held c.put_line-in-TraceWrong.new.sink) c.put_line-in-TraceWrong.result t) is c.put_line-in-TraceWrong.ensures.bytes

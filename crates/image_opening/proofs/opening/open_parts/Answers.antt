@@ -29,6 +29,7 @@ returns-in-Ok-cells_of-clause-means g c t =
     let h = c.in-Ok.ensures.holds t in
     record {
       accepted = h.accepted.whole;
+      count = h.count;
       recs = ap logged_recs (sym o.all_kept) ∙ h.keeps.recs;
       means = λ s. c.in-Ok-cells_of.ensures.state h.log (g.D.Disk.reading c.args.disk) s h.parts_are h.accepted;
     }

@@ -13,6 +13,7 @@ use Rattle.part_checks.specs.Chosen.{parts_of}
 use Rattle.part_checks.specs.declared.chosen.ChosenEntity.{ChosenEntity}
 use Rattle.image_tools.specs.States.{cell_in}
 use Rattle.image_tools.proofs.Aside.{accepted_means, sound_cells, taken_of}
+use Rattle.image_tools.proofs.Low.{all_low}
 use Rattle.image_tools.proofs.image.read_image.Goals as goal
 
 pub returns-in_err-parts-clause-foreign : goal.returns-in_err-parts-clause-foreign
@@ -80,3 +81,6 @@ pub returns-clause-same : goal.returns-clause-same
 returns-clause-same g c =
     let disk = g.met.D.Disk in
     ReadsOnly-trans _ _ _ (λ t d s b. disk.counts_now d s b t) (ReadsOnly-trans _ _ _ (λ t d s b. disk.counts_now d s b t) c.in_ok-log.ensures.same c.in_ok-parts.ensures.same) c.state_of.ensures.same
+
+pub returns-in-Ok-clause-low : goal.returns-in-Ok-clause-low
+returns-in-Ok-clause-low g c = all_low c.in_ok-log.log.blocks c.in_ok-log.log.recs.items c.in_ok-parts.parts.cut.0 c.in_ok-log.ensures.known.in_range c.in_ok-parts.ensures.parts.cut

@@ -24,7 +24,7 @@ containers_of-requires g c κs within =
     let parts : ℕ → Option Part = parts_of es in
     let plain : PlainAtlas = c.in_ok-atlas.atlas in
     let some : 0 < length es = (let long = are.places in omega (arith, long)) in
-    let same : atlas_of plain ≡ atlas_by (parts 0) = c.in_ok-atlas.ensures ∙ ap atlas_by (read_part es 0 c.index.result.now some c.index.ensures) in
+    let same : atlas_of plain ≡ atlas_by (parts 0) = c.in_ok-atlas.ensures.atlas ∙ ap atlas_by (read_part es 0 c.index.result.now some c.index.ensures) in
     let named : length plain.containers.items ≡ length (atlas_by (parts 0)).containers = many_containers log.blocks recs parts are.formed are.fit plain same in
     let many : c.len.result ≡ length (atlas_by (parts 0)).containers = c.len.ensures ∙ (plain.containers.ok.0 ∙ named) in
     let few = few_containers log.blocks recs parts are.formed are.fit in (
@@ -59,7 +59,7 @@ loci_of-requires-clause-few g c =
     let es : List (Option ChosenEntity) = c.args.parts.now.entities.items in
     let plain : PlainAtlas = c.in_ok-atlas.atlas in
     let some : 0 < length es = (let long = are.places in omega (arith, long)) in
-    let same : atlas_of plain ≡ atlas_by (parts_of es 0) = c.in_ok-atlas.ensures ∙ ap atlas_by (read_part es 0 c.index.result.now some c.index.ensures) in
+    let same : atlas_of plain ≡ atlas_by (parts_of es 0) = c.in_ok-atlas.ensures.atlas ∙ ap atlas_by (read_part es 0 c.index.result.now some c.index.ensures) in
     let many : c.len-2.result ≡ length (atlas_by (parts_of es 0)).loci = c.len-2.ensures ∙ (plain.loci.ok.0 ∙ many_loci log.blocks recs (parts_of es) are.formed are.fit plain same) in
     let few = few_loci log.blocks recs (parts_of es) are.formed are.fit in
     omega (arith, many, few)
@@ -72,7 +72,7 @@ loci_of-requires-clause-kinds g c i lt =
     let es : List (Option ChosenEntity) = c.args.parts.now.entities.items in
     let plain : PlainAtlas = c.in_ok-atlas.atlas in
     let some : 0 < length es = (let long = are.places in omega (arith, long)) in
-    let same : atlas_of plain ≡ atlas_by (parts_of es 0) = c.in_ok-atlas.ensures ∙ ap atlas_by (read_part es 0 c.index.result.now some c.index.ensures) in
+    let same : atlas_of plain ≡ atlas_by (parts_of es 0) = c.in_ok-atlas.ensures.atlas ∙ ap atlas_by (read_part es 0 c.index.result.now some c.index.ensures) in
     let many : c.len-2.result ≡ length (atlas_by (parts_of es 0)).loci = c.len-2.ensures ∙ (plain.loci.ok.0 ∙ many_loci log.blocks recs (parts_of es) are.formed are.fit plain same) in
     subst (λ (l : List (Option ChosenEntity)). IsLocusPart (parts_of l (i + 41))) (sym c.deref-2.ensures.value) (locus_kinds log.blocks recs (parts_of es) are.formed are.fit i (omega (arith, lt, many)))
 
@@ -85,7 +85,7 @@ returns-clause-cells g c x =
     let parts : ℕ → Option Part = parts_of es in
     let plain : PlainAtlas = c.in_ok-atlas.atlas in
     let some : 0 < length es = (let long = are.places in omega (arith, long)) in
-    let same : atlas_of plain ≡ atlas_by (parts 0) = c.in_ok-atlas.ensures ∙ ap atlas_by (read_part es 0 c.index.result.now some c.index.ensures) in
+    let same : atlas_of plain ≡ atlas_by (parts 0) = c.in_ok-atlas.ensures.atlas ∙ ap atlas_by (read_part es 0 c.index.result.now some c.index.ensures) in
     let many : c.len.result ≡ length (atlas_by (parts 0)).containers = c.len.ensures ∙ (plain.containers.ok.0 ∙ many_containers log.blocks recs parts are.formed are.fit plain same) in
     let more : c.len-2.result ≡ length (atlas_by (parts 0)).loci = c.len-2.ensures ∙ (plain.loci.ok.0 ∙ many_loci log.blocks recs parts are.formed are.fit plain same) in
     let bytes : ℕ → List ℕ = block_at (g.D.Disk.reading c.args.disk.now) in

@@ -5,7 +5,7 @@ use Rattle.std.proofs.lemmas.Bool.{false≢true}
 use Rattle.kernel_commits.specs.Snapping.{Snaps}
 use Rattle.kernel_commits.proofs.Committing.{clean_again}
 use Rattle.kernel_commits.proofs.Steadying.{steady_again}
-use Rattle.kernel_commits.proofs.Wishing.{err_over, may_record, none_made, one_answer, one_failed, one_made, one_part}
+use Rattle.kernel_commits.proofs.Wishing.{err_over, may_record, none_made, one_answer, one_failed, one_lacks, one_made, one_part}
 use Rattle.kernel_room.proofs.Enough.{calm_whole}
 use Rattle.kernel_commits.proofs.Enough.{short_lacks}
 use Rattle.kernel_commits.proofs.snapping.snap_one.Goals as goal
@@ -73,5 +73,9 @@ pub returns-in-Err-clause-enough : goal.returns-in-Err-clause-enough
 returns-in-Err-clause-enough g c = λ told b free n is.
     let d = g.D.Disk in
     let runs = free.stands.runs in
-    short_lacks d.tells d.clock d.faults d.reading d.may_leave d.left_since b c.args.core.now told free.stands (calm_whole b c.args.core.now.noted.entries runs.begins runs.legal free.owes_nothing)
-    c.args.entity n ((c.in-Err.ensures.too_few n).0 (err_over Bool ⊤ c.in-Err.why (TooFew n) is))
+    let test = c.wants_snap.ensures.run told b free ∙ c.if-not-wants_snap.false in
+    let short = err_over Bool ⊤ c.in-Err.why (TooFew n) is in
+    one_lacks d.tells d.clock d.faults d.reading d.may_leave d.left_since b (g.P.Policy.wish c.args.gate.now.policy) c.args.entity c.args.core.now told free c.wants_snap.ensures.there.0 c.wants_snap.ensures.there.1 test
+    c.record_one.new.core (c.in-Err.ensures.untouched n short)
+    (short_lacks d.tells d.clock d.faults d.reading d.may_leave d.left_since b c.args.core.now told free.stands (calm_whole b c.args.core.now.noted.entries runs.begins runs.legal free.owes_nothing)
+    c.args.entity n ((c.in-Err.ensures.too_few n).0 short))

@@ -2,11 +2,10 @@ use Rattle.std.specs.Prelude.{⊤}
 use Rattle.std.proofs.Common.{◌+◌, Bool, false, drop, sym, ap, subst, arith}
 use Rattle.cell_table.specs.Tables.{AreClean}
 use Rattle.record_laws.specs.Cells.{words_on}
-use Rattle.kernel_commits.specs.Lacking.{LacksBlocks}
 use Rattle.kernel_commits.specs.Parts.{Parts}
 use Rattle.kernel_commits.specs.Steady.{IsSteady}
 use Rattle.kernel_commits.specs.declared.stopping.Stopped.TheVariants.{TooFew}
-use Rattle.kernel_commits.proofs.Along.{SnapsAlong, begins_along, ends_along, next_touch, none_left, place_low, skip, stops_along, take_one}
+use Rattle.kernel_commits.proofs.Along.{SnapsAlong, begins_along, ends_along, lacks_along, next_touch, none_left, place_low, skip, stops_along, take_one}
 use Rattle.kernel_commits.proofs.Counting.{CountsAlong, counts_begin, counts_end, counts_next, counts_skip, past_cells}
 use Rattle.kernel_commits.proofs.snapping.snap_touched.Goals.{then-touch+in_default, else-touch}
 use Rattle.kernel_commits.proofs.Stops.{stop_left}
@@ -82,5 +81,7 @@ returns-in-Err-clause-counts g c =
 
 pub returns-in-Err-clause-enough : goal.returns-in-Err-clause-enough
 returns-in-Err-clause-enough g c = λ told b free n is.
-    let short = err_over ⊤ Bool c.in-Err.why (TooFew n) is in
-    subst (LacksBlocks b) (sym (c.in-Err.ensures.untouched n short)) (c.in-Err.ensures.enough told b (c.loop-i.invariant.run told b free).runs n short)
+    let next = next_touch c.args.touches.now c.loop-i.i c.index-touches-i.result (omega arith) c.index-touches-i.is in
+    let along = subst (λ rest. SnapsAlong g.D.Disk.tells g.D.Disk.clock g.D.Disk.faults g.D.Disk.reading g.D.Disk.may_leave g.D.Disk.left_since b (g.P.Policy.wish c.args.gate.now.policy) c.args.touches.now rest c.args.core.now c.loop-i.core) next (c.loop-i.invariant.run told b free) in
+    lacks_along g.D.Disk.tells g.D.Disk.clock g.D.Disk.faults g.D.Disk.reading g.D.Disk.may_leave g.D.Disk.left_since b (g.P.Policy.wish c.args.gate.now.policy) c.args.touches.now (drop (c.loop-i.i + 1) c.args.touches.now) c.index-touches-i.result c.args.core.now c.loop-i.core along c.if-touch.true
+    c.snap_one.new.core (c.in-Err.ensures.enough told b along.runs n (err_over ⊤ Bool c.in-Err.why (TooFew n) is))

@@ -3,6 +3,7 @@ use Rattle.std.specs.Prelude.{OnErr}
 use Rattle.hop_base.specs.declared.histories.Touch.{Touch}
 use Rattle.serial_runs.specs.Serial.{wished_snaps, written_in}
 use Rattle.kernel_model.specs.Beginnings.{run_of}
+use Rattle.kernel_commits.specs.Lacking.{LacksIn}
 use Rattle.kernel_commits.specs.Pieces.{StopsIn}
 use Rattle.kernel_commits.proofs.snapping.snap_written.Goals as goal
 
@@ -10,3 +11,8 @@ pub returns-clause-part : goal.returns-clause-part
 returns-clause-part g c = λ told b free.
     subst (λ (ts : List Touch). OnErr c.snap_touched.result (StopsIn b (wished_snaps b.supply (g.P.Policy.wish c.args.gate.now.policy) b.script (run_of b c.args.core.now.noted.entries) (written_in ts)) c.args.core.now.noted.entries c.snap_touched.new.core.noted.entries)) c.as_slice.ensures.touches
     (c.snap_touched.ensures.part told b free)
+
+pub returns-clause-enough : goal.returns-clause-enough
+returns-clause-enough g c = λ told b free n is.
+    subst (λ (ts : List Touch). LacksIn b (wished_snaps b.supply (g.P.Policy.wish c.args.gate.now.policy) b.script (run_of b c.args.core.now.noted.entries) (written_in ts)) c.args.core.now.noted.entries c.snap_touched.new.core) c.as_slice.ensures.touches
+    (c.snap_touched.ensures.enough told b free n is)

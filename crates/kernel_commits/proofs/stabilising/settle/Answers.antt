@@ -1,9 +1,12 @@
-use Rattle.std.proofs.Common.{◌*◌, sym, subst}
+use Rattle.std.proofs.Common.{◌*◌, [], ◌∷◌, refl, sym, subst}
+use Rattle.hop_base.specs.declared.histories.Event.TheVariants.{Stable}
+use Rattle.hop_model.specs.Histories.{mark}
 use Rattle.cell_table.specs.Tables.{AreClean}
 use Rattle.record_laws.specs.Cells.{words_on}
 use Rattle.kernel_commits.specs.Pieces.{CountsWithin}
 use Rattle.kernel_commits.proofs.Settled.{entries_are, has_stabilised, marks_are, stable_steady}
 use Rattle.kernel_commits.proofs.Settling.{stable_calm, stable_stands}
+use Rattle.kernel_commits.proofs.Dues.{lacks_first}
 use Rattle.kernel_commits.proofs.Enough.{lacks_blocks}
 use Rattle.kernel_commits.proofs.stabilising.settle.Goals as goal
 
@@ -40,4 +43,5 @@ returns-clause-counts g c =
 pub returns-in-Err-clause-enough : goal.returns-in-Err-clause-enough
 returns-in-Err-clause-enough g c = λ told b owes n is.
     let d = g.D.Disk in
-    lacks_blocks d.tells d.clock d.faults d.reading d.may_leave d.left_since b c.args.core.now told owes.stands owes.whole ((c.in-Err.ensures.too_few n).0 is).fewer
+    lacks_first b (mark Stable c.args.actor 0) [] (mark Stable c.args.actor 0 ∷ []) c.args.core.now c.record_changed.new.core refl tt (c.in-Err.ensures.untouched n is)
+    (lacks_blocks d.tells d.clock d.faults d.reading d.may_leave d.left_since b c.args.core.now told owes.stands owes.whole ((c.in-Err.ensures.too_few n).0 is).fewer)

@@ -52,7 +52,7 @@ returns-clause-run g c = λ told b same r.
     let some = some_noted c.bear_all.new.core.noted.entries (sym c.is_new.ensures ∙ c.if-is_new.false) in
     let owed = owes g.D.Disk.tells g.D.Disk.clock g.D.Disk.faults g.D.Disk.reading g.D.Disk.may_leave g.D.Disk.left_since b (tables_of c.args.script.now) same c.bear_all.new.core along c.bear_all.ensures.all.none some in
     opens_settled g.D.Disk.tells g.D.Disk.clock g.D.Disk.faults g.D.Disk.reading g.D.Disk.may_leave g.D.Disk.left_since b (tables_of c.args.script.now) same c.bear_all.new.core along c.bear_all.ensures.all.none some c.settle.result c.settle.new.core
-    c.settle.ensures.stabilised (c.settle.ensures.run told b owed) (c.settle.ensures.part told b owed) (c.settle.ensures.enough told b owed) c.settle.ensures.untouched
+    c.settle.ensures.stabilised (c.settle.ensures.run told b owed) (c.settle.ensures.part told b owed) (c.settle.ensures.enough told b owed)
 
 pub returns-clause-clean : goal.returns-clause-clean
 returns-clause-clean g c = λ told s clean. c.settle.ensures.clean told s (clean_births (tables_of c.args.script.now) c.args.core.now c.bear_all.new.core c.bear_all.ensures.all g.D.Disk.reading s clean)

@@ -1,10 +1,19 @@
-use Rattle.std.proofs.Common.{sym, subst}
-use Rattle.kernel_commits.specs.Lacking.{LacksBlocks}
+use Rattle.std.proofs.Common.{Some, None, if◌then◌else◌, sym, subst}
+use Rattle.serial_runs.specs.Serial.{kept_behind, written_in}
+use Rattle.kernel_model.specs.Beginnings.{run_of}
+use Rattle.kernel_commits.specs.Lacking.{LacksIn}
 use Rattle.kernel_core.proofs.looking.keep_behind.Goals as goal
 
 pub returns-then-owes-clause-enough : goal.returns-then-owes-clause-enough
 returns-then-owes-clause-enough g c = λ told b owes free n is.
-    subst (LacksBlocks b) (sym (c.settle.ensures.untouched n is)) (c.settle.ensures.enough told b (owes c.if-owes.true) n is)
+    let es = c.args.core.now.noted.entries in
+    let e = c.args.entry.now in
+    subst (λ t. LacksIn b (kept_behind b.supply (g.P.Policy.wish c.args.gate.now.policy) b.script (run_of b es) (written_in e.touched) (if t then Some e.actor else None)) es c.settle.new.core) (sym c.if-owes.true)
+    (c.settle.ensures.enough told b (owes c.if-owes.true) n is)
 
 pub returns-clause-enough : goal.returns-clause-enough
-returns-clause-enough g c = λ told b owes free n is. c.snap_written.ensures.enough told b (free c.if-owes.false) n is
+returns-clause-enough g c = λ told b owes free n is.
+    let es = c.args.core.now.noted.entries in
+    let e = c.args.entry.now in
+    subst (λ t. LacksIn b (kept_behind b.supply (g.P.Policy.wish c.args.gate.now.policy) b.script (run_of b es) (written_in e.touched) (if t then Some e.actor else None)) es c.snap_written.new.core) (sym c.if-owes.false)
+    (c.snap_written.ensures.enough told b (free c.if-owes.false) n is)

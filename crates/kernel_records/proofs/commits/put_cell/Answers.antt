@@ -110,6 +110,7 @@ returns-in_err-record_cell-clause-counts g c =
       few = (let one = f.writes.few in let two = b.few in omega (arith, one, two));
       counts = CountsOn-then (g.D.Disk.clock c.args.store.now.disk) (g.D.Disk.clock c.flush_part-flushed.new.store.disk) (g.D.Disk.clock c.record_cell.new.store.disk) (books c.args.store.now).begun (books c.flush_part-flushed.new.store).begun (books c.record_cell.new.store).begun f.between.only.counts b.counts;
       later = (let one = f.faults in let two = b.later in omega (arith, one, two));
+      same_count = (c.record_cell.ensures.failed c.in_err-record_cell.field-0.0 c.in_err-record_cell.was).2.same_count ∙ f.between.only.same_count;
     }
 
 -- THE RECORD IS MADE
@@ -139,4 +140,5 @@ returns-clause-counts g c =
       few = (let one = f.writes.few in let two = b.few in omega (arith, one, two));
       counts = CountsOn-then (g.D.Disk.clock c.args.store.now.disk) (g.D.Disk.clock c.flush_part-flushed.new.store.disk) (g.D.Disk.clock c.record_cell.new.store.disk) (books c.args.store.now).begun (books c.flush_part-flushed.new.store).begun (books c.record_cell.new.store).begun f.between.only.counts b.counts;
       later = (let one = f.faults in let two = b.later in omega (arith, one, two));
+      same_count = c.in_ok-record_cell.ensures.made.made.same_count ∙ f.between.only.same_count;
     }

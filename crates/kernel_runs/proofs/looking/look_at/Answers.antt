@@ -1,6 +1,14 @@
-use Rattle.std.proofs.Common.{Bool}
+use Rattle.std.proofs.Common.{◌≡◌, [], ◌∷◌, ◌++◌, Some}
+use Rattle.disk_trait.specs.declared.disk.NoBlocks.{NoBlocks as TooFewBlocks}
 use Rattle.kernel_commits.specs.declared.stopping.Stopped.TheVariants.{TooFew}
+use Rattle.kernel_core.specs.declared.looking.Looked.{Looked}
+use Rattle.serial_turns.proofs.Whereabouts.{looked_more}
+use Rattle.serial_runs.specs.Serial.{look}
+use Rattle.kernel_model.specs.Beginnings.{run_of}
+use Rattle.kernel_commits.specs.Lacking.{LacksIn}
+use Rattle.kernel_commits.proofs.Dues.{due_looks}
 use Rattle.kernel_runs.proofs.Alongs.{told_stop}
+use Rattle.kernel_runs.proofs.Caused.{look_cause}
 use Rattle.kernel_runs.proofs.Course.{one_look, part_of_look}
 use Rattle.kernel_runs.proofs.looking.look_at.Goals as goal
 
@@ -18,6 +26,10 @@ returns-in-Ok-clause-run g c = λ told b looked given first along. record {
 pub returns-in-Err-clause-run : goal.returns-in-Err-clause-run
 returns-in-Err-clause-run g c = λ told b looked given first along.
     let p = c.in-Err.ensures.part told b given.same_supply given.same_policy along.lives c.requires.going in
+    let es = c.args.kernel.now.parts.noted.entries in
+    let lacks : (n : TooFewBlocks) → c.step.new.self.stop ≡ Some (TooFew n) → LacksIn b (look b.supply b.policy b.script (run_of b es) c.args.locus) es c.step.new.self.parts =
+    λ n is. c.in-Err.ensures.enough told b given.same_supply given.same_policy along.lives c.requires.going n
+    (told_stop Looked c.step.new.self.stop c.in-Err.why (TooFew n) c.in-Err.ensures.stops is) in
     record {
       along = tt;
       stopped = record {
@@ -25,8 +37,14 @@ returns-in-Err-clause-run g c = λ told b looked given first along.
         part =
             part_of_look b.supply b.policy b.script b.state looked c.args.kernel.now.parts.noted.entries c.step.new.self.parts.noted.entries c.args.locus along.looks first
             p.part p.entries p.is;
-        enough = λ n is.
-            c.in-Err.ensures.enough told b given.same_supply given.same_policy along.lives c.requires.going n
-            (told_stop Bool c.step.new.self.stop c.in-Err.why (TooFew n) c.in-Err.ensures.stops is);
+        enough = λ n is. (lacks n is).lacks;
+        due = λ n is.
+            due_looks b (looked ++ c.args.locus ∷ []) es (look b.supply b.policy b.script (run_of b es) c.args.locus) c.step.new.self.parts.noted.entries
+            (looked_more b.supply b.policy b.script b.state looked es c.args.locus along.looks) first (lacks n is).due;
       };
     }
+
+pub returns-in-Err-clause-caused : goal.returns-in-Err-clause-caused
+returns-in-Err-clause-caused g c =
+    let d = g.D.Disk in
+    look_cause d.tells d.clock d.faults d.reading d.may_leave d.left_since c.args.locus c.args.kernel.now.parts c.step.new.self.parts Looked c.in-Err.why (c.in-Err.ensures.stopped c.requires.going) (c.in-Err.ensures.failed c.requires.going)

@@ -3,11 +3,11 @@ use Rattle.std.specs.Option.{option_map}
 use Rattle.std.specs.Prelude.{string_bytes}
 use Rattle.std.proofs.lemmas.List.{length-map}
 use Rattle.std.proofs.lemmas.Option.{slice_get-map, slice_get_read}
-use Rattle.snapshot_store.proofs.Causes.{Rose-before}
 use Rattle.serial_turns.specs.Turns.{before_pick}
 use Rattle.serial_turns.proofs.Course.{all_picked}
 use Rattle.kernel_runs.specs.Running.{RunsAlong, look_most, opened_in}
 use Rattle.kernel_commits.proofs.Counting.{CountsWithin-fewer, CountsWithin-stay, CountsWithin-then}
+use Rattle.kernel_runs.proofs.Caused.{cause_from}
 use Rattle.kernel_runs.proofs.looking.look_for_all.Goals as goal
 
 pub loop-i-init : goal.loop-i-init
@@ -36,10 +36,9 @@ loop-i-preserved g c =
           (c.in_default.ensures.run told b i given here (c.loop-i.invariant.run told b given order along)).along;
     }
 
-pub returns-in-Err-clause-failed : goal.returns-in-Err-clause-failed
-returns-in-Err-clause-failed g c = λ is.
-    let d = g.D.Disk in
-    Rose-before (d.faults c.args.kernel.now.parts.store.disk) (d.faults c.loop-i.kernel.parts.store.disk) (d.faults c.look_for.new.kernel.parts.store.disk) c.loop-i.invariant.counts.later c.look_for.ensures.counts.later (c.in-Err.ensures.failed is)
+pub returns-in-Err-clause-caused : goal.returns-in-Err-clause-caused
+returns-in-Err-clause-caused g c =
+    cause_from g.D.Disk.faults c.args.kernel.now.parts c.loop-i.kernel.parts c.look_for.new.kernel.parts c.in-Err.why c.loop-i.invariant.counts.later c.look_for.ensures.counts.later c.in-Err.ensures.caused
 
 pub returns-in-Err-clause-counts : goal.returns-in-Err-clause-counts
 returns-in-Err-clause-counts g c =

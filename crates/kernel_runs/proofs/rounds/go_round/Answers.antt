@@ -1,6 +1,6 @@
 use Rattle.std.proofs.Common.{◌≤◌, ◌+◌, ◌*◌, ◌^◌, length, arith}
-use Rattle.snapshot_store.proofs.Causes.{Rose-before}
 use Rattle.kernel_runs.specs.Running.{look_most}
+use Rattle.kernel_runs.proofs.Caused.{cause_from}
 use Rattle.kernel_runs.proofs.Alongs.{ends}
 use Rattle.kernel_commits.proofs.Counting.{CountsWithin-fewer, CountsWithin-stay, CountsWithin-then}
 use Rattle.kernel_runs.proofs.rounds.go_round.Goals as goal
@@ -38,10 +38,9 @@ loop-why-smaller g c =
     let gt = c.if-entries_noted-noted.false in
     omega (arith, was, is, few, gt)
 
-pub returns-in-Err-clause-failed : goal.returns-in-Err-clause-failed
-returns-in-Err-clause-failed g c = λ is.
-    let d = g.D.Disk in
-    Rose-before (d.faults c.args.kernel.now.parts.store.disk) (d.faults c.loop-why.kernel.parts.store.disk) (d.faults c.round.new.kernel.parts.store.disk) c.loop-why.invariant.counts.later c.round.ensures.counts.later (c.in-Err.ensures.failed is)
+pub returns-in-Err-clause-caused : goal.returns-in-Err-clause-caused
+returns-in-Err-clause-caused g c =
+    cause_from g.D.Disk.faults c.args.kernel.now.parts c.loop-why.kernel.parts c.round.new.kernel.parts c.in-Err.why c.loop-why.invariant.counts.later c.round.ensures.counts.later c.in-Err.ensures.caused
 
 pub returns-in-Err-clause-counts : goal.returns-in-Err-clause-counts
 returns-in-Err-clause-counts g c =

@@ -1,9 +1,9 @@
 use Rattle.std.proofs.Common.{◌≤◌, ◌<◌, ◌+◌, ◌-◌, ◌*◌, ◌++◌, ◌∷◌, [], sym, ap, subst, ◌∙◌, arith}
 use Rattle.std.proofs.lemmas.List.{append-nil}
-use Rattle.snapshot_store.proofs.Causes.{Rose-before}
 use Rattle.hop_model.specs.Serial.{looks_of}
 use Rattle.serial_turns.specs.Turns.{ComeFirst, before_locus}
 use Rattle.kernel_runs.specs.Running.{RunsAlong, look_most, opened_in}
+use Rattle.kernel_runs.proofs.Caused.{cause_from}
 use Rattle.kernel_runs.proofs.Alongs.{locus_first, locus_next}
 use Rattle.kernel_runs.proofs.Born.{round_over}
 use Rattle.kernel_commits.proofs.Counting.{CountsWithin-fewer, CountsWithin-stay, CountsWithin-then}
@@ -40,10 +40,9 @@ loop-number-preserved g c =
           (c.in_default.ensures.run told b (before_locus b.script (opened_in b) made n) given first (c.loop-number.invariant.run told b made given along)).along;
     }
 
-pub returns-in-Err-clause-failed : goal.returns-in-Err-clause-failed
-returns-in-Err-clause-failed g c = λ is.
-    let d = g.D.Disk in
-    Rose-before (d.faults c.args.kernel.now.parts.store.disk) (d.faults c.loop-number.kernel.parts.store.disk) (d.faults c.look_at.new.kernel.parts.store.disk) c.loop-number.invariant.counts.later c.look_at.ensures.counts.later (c.in-Err.ensures.failed is)
+pub returns-in-Err-clause-caused : goal.returns-in-Err-clause-caused
+returns-in-Err-clause-caused g c =
+    cause_from g.D.Disk.faults c.args.kernel.now.parts c.loop-number.kernel.parts c.look_at.new.kernel.parts c.in-Err.why c.loop-number.invariant.counts.later c.look_at.ensures.counts.later c.in-Err.ensures.caused
 
 pub returns-in-Err-clause-counts : goal.returns-in-Err-clause-counts
 returns-in-Err-clause-counts g c =

@@ -1,9 +1,14 @@
-use Rattle.std.proofs.Common.{◌+◌, ◌*◌, ◌^◌, length, map, sym, ap, ◌∙◌, arith}
-use Rattle.std.specs.Prelude.{string_bytes, ⊤}
+use Rattle.std.proofs.Common.{◌+◌, ◌*◌, ◌^◌, ◌≤◌, ℕ, length, map, sym, ap, ◌∙◌, arith}
+use Rattle.std.specs.Prelude.{Err, IfErr, Ok, Result, string_bytes, ⊤}
 use Rattle.hop_model.specs.Scripts.{Script}
+use Rattle.script_form.specs.Scripts.{tables_of}
+use Rattle.kernel_commits.specs.Parts.{Parts}
+use Rattle.kernel_commits.specs.Stops.{IsCause}
+use Rattle.kernel_commits.specs.declared.stopping.Stopped.{Stopped}
 use Rattle.kernel_commits.specs.declared.stopping.Stopped.TheVariants.{TooFew}
 use Rattle.kernel_runs.specs.Running.{look_most}
 use Rattle.kernel_runs.proofs.Alongs.{opens, run_by, stops_opening, told_stop}
+use Rattle.kernel_runs.proofs.Caused.{births_cause, cause_from}
 use Rattle.kernel_commits.proofs.Counting.{CountsWithin-fewer, CountsWithin-then}
 use Rattle.kernel_runs.proofs.running.run.Goals as goal
 
@@ -52,3 +57,24 @@ returns-clause-run g c = λ told going b supply policy script lives.
     let along = opens d.tells d.clock d.faults d.reading d.may_leave d.left_since (g.S.Supplier.word c.args.gate.now.supply) (g.P.Policy.wish c.args.gate.now.policy) b c.births.new.self (c.births.ensures.run told b script lives) (c.in_default.ensures.opening told b script lives going) in
     let order = ap (λ (t : Script). t.order) script ∙ ap (map string_bytes) (sym c.deref.ensures.value) in
     c.finish.ensures.run told c.in_default-play.ensures.goes b 0 given (c.in_default-play.ensures.run told c.in_default.ensures.goes b given order along).along
+
+-- WHAT STOPPED IT
+
+pub returns-in-Err-clause-caused : goal.returns-in-Err-clause-caused
+returns-in-Err-clause-caused g c = λ going.
+    births_cause g.D.Disk.faults (tables_of c.args.script.now) c.args.kernel.now.parts c.births.new.self.parts c.in-Err.why (c.in-Err.ensures.too_few going) (c.in-Err.ensures.failed going)
+
+pub returns-in-Err-play-clause-caused : goal.returns-in-Err-play-clause-caused
+returns-in-Err-play-clause-caused g c = λ going.
+    cause_from g.D.Disk.faults c.args.kernel.now.parts c.births.new.self.parts c.play.new.kernel.parts c.in-Err-play.why c.births.ensures.counts.later c.play.ensures.counts.later (c.in-Err-play.ensures.caused c.in_default.ensures.goes)
+
+cause_behind : {D : Type 0} (faults : D → ℕ) (old mid new : Parts D) (r : Result ⊤ Stopped) → faults old.store.disk ≤ faults mid.store.disk → faults mid.store.disk ≤ faults new.store.disk
+    → IfErr r (IsCause faults mid new) → IfErr r (IsCause faults old new)
+cause_behind faults old mid new (Ok x) low later cause = tt
+cause_behind faults old mid new (Err why) low later cause = cause_from faults old mid new why low later cause
+
+pub returns-clause-caused : goal.returns-clause-caused
+returns-clause-caused g c = λ going.
+    let early = c.births.ensures.counts.later in
+    let later = c.play.ensures.counts.later in
+    cause_behind g.D.Disk.faults c.args.kernel.now.parts c.play.new.kernel.parts c.finish.new.kernel.parts c.finish.result (omega (arith, early, later)) c.finish.ensures.counts.later (c.finish.ensures.caused c.in_default-play.ensures.goes)

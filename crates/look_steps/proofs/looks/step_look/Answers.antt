@@ -5,6 +5,7 @@ use Rattle.hop_model.specs.State.{no_atlas}
 use Rattle.locus_machine.specs.Loci.{locus_of}
 use Rattle.kernel_cells.specs.Cells.{part_of}
 use Rattle.look_steps.specs.Looking.{part_with}
+use Rattle.look_steps.proofs.AtWord.{on_any_fault, word_step}
 use Rattle.look_steps.proofs.Stored.{TellsStores, look_tells}
 use Rattle.look_steps.proofs.LookSteps.{look_touches, stepped_at}
 use Rattle.look_steps.proofs.looks.step_look.Goals as goal
@@ -43,3 +44,8 @@ returns-clause-somehow g c =
           c.write_look.ensures.entity_locus c.write_look.ensures.entity_other (λ j k told. c.write_look.ensures.carries w hasc.clock hasd.clock j k told) in
           (r.0, r.1, (r.2.0, record { part = r.2.1; clock = r.2.2 }));
     }
+
+pub returns-in_err-answer-clause-at_word : goal.returns-in_err-answer-clause-at_word
+returns-in_err-answer-clause-at_word g c =
+    let run = c.requires.wants in
+    on_any_fault c.from_residual.result (word_step c.args.locus.now c.args.other.now run.0 run.1 run.2 c.in_err-answer.ensures.at_word)

@@ -4,9 +4,9 @@ use Rattle.atlas_dir.specs.Directory.{Directory}
 use Rattle.plain_parts.proofs.Naming.{all_containers, all_loci}
 use Rattle.plain_parts.proofs.atlases.plain_atlas.Goals as goal
 
-pub returns : goal.returns
-returns c =
+pub returns-clause-atlas : goal.returns-clause-atlas
+returns-clause-atlas c =
     let a : Directory = c.args.atlas.now in
     let containers = all_containers a c.named.result (map string_bytes c.in_ok-containers.containers.items) c.named.ensures.number c.named.ensures.containers c.in_ok-containers.ensures in
     let loci = all_loci a c.named-2.result (map string_bytes c.in_ok-loci.loci.items) c.named-2.ensures.number c.in_ok-loci.ensures in
-    λ i. record { containers = containers i; loci = loci i; edges = c.in_ok-edges.ensures i }
+    λ i. record { containers = containers i; loci = loci i; edges = c.in_ok-edges.ensures.counts i }

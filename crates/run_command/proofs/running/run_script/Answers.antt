@@ -1,12 +1,13 @@
 use Rattle.command_parts.specs.Seen.{Call, gave, seen_disk, seen_sink, seen_source}
 use Rattle.command_parts.specs.Statuses.{ending}
+use Rattle.manager_form.specs.Managing.{managers_of}
 use Rattle.script_form.specs.Scripts.{tables_of}
 use Rattle.run_command.proofs.Complete.{complete}
 use Rattle.run_command.proofs.Leavings.{behind_source, ended_by, source_stops}
 use Rattle.run_command.proofs.running.run_script.Goals as goal
 
 pub returns-in-Ok-clause-leaves : goal.returns-in-Ok-clause-leaves
-returns-in-Ok-clause-leaves g c = behind_source g.m _ (tables_of c.in-Ok.script) c.in-Ok.ensures.read (gave c.run_read.result) (ending c.run_read.result.status) c.run_read.ensures.leaves
+returns-in-Ok-clause-leaves g c = behind_source g.m _ (tables_of c.in-Ok.read.script) (managers_of c.in-Ok.read.managers) c.in-Ok.ensures.read (gave c.run_read.result) (ending c.run_read.result.status) c.run_read.ensures.leaves
 
 pub returns-in-Ok-clause-complete : goal.returns-in-Ok-clause-complete
 returns-in-Ok-clause-complete g c can source disk sink blocks = complete g.m _ (gave c.run_read.result) can c.run_read.result.status (returns-in-Ok-clause-leaves g c) source disk sink blocks

@@ -1,31 +1,42 @@
-use Rattle.std.proofs.Common.{◌≤◌, sym, subst}
+use Rattle.std.proofs.Common.{◌≡◌, ◌≤◌, List, map, sym, subst, rules}
 use Rattle.disk_trait.specs.Counts.{Rose}
+use Rattle.kernel_model.specs.Beginnings.{Beginning}
+use Rattle.manager_code.specs.Answering.{book_wish, book_word}
+use Rattle.manager_form.specs.Managing.{manager_of, managers_of}
+use Rattle.manager_form.specs.declared.ScriptManager.{ScriptManager}
 use Rattle.script_form.specs.Scripts.{tables_of}
+use Rattle.snapshot_store.specs.State.{books}
 use Rattle.command_parts.specs.Seen.{Gave, gave, seen_disk, seen_sink}
 use Rattle.command_parts.specs.Statuses.{ending}
-use Rattle.run_opening.specs.Openings.{Managers}
 use Rattle.run_opening.specs.Ready.{IsReady, StopsOpening}
+use Rattle.run_command.specs.Booked.{over}
 use Rattle.run_command.specs.OfScript.{ScriptLeaves}
 use Rattle.run_command.specs.Playing.{PlayLeaves, StartsRun}
 use Rattle.run_command.proofs.Leavings.{goes_on, opening_stops, rose_later, run_leaves, script_ended_by}
 use Rattle.run_command.proofs.watching.run_read.Goals as goal
 
 pub run_opened-requires-clause-clean : goal.run_opened-requires-clause-clean
-run_opened-requires-clause-clean g c = c.in-Ok.ensures.clean g.N.Answers.word
+run_opened-requires-clause-clean g c = c.in-Ok.ensures.clean _
 
 pub returns-in-Ok-clause-leaves : goal.returns-in-Ok-clause-leaves
 returns-in-Ok-clause-leaves g c =
     let d = g.D.Disk in
-    let m : Managers = record { supply = g.N.Answers.word; policy = g.N.Answers.wish } in
-    let script = tables_of c.args.script.now in
+    let m = over (managers_of c.args.read.now.managers) (record { supply = g.N.Answers.word; policy = g.N.Answers.wish }) in
+    let script = tables_of c.args.read.now.script in
     let sink = seen_sink g.W.Sink.held g.W.Sink.faults c.args.sink.now c.run_opened.new.sink in
     let old = c.args.disk in
     let k = c.in-Ok.kernel in
     let new = c.unwatched.result.disk in
     let made = gave c.run_opened.result in
-    let starts = StartsRun d.tells d.clock d.faults d.reading d.may_leave d.left_since m.supply m.policy script k in
-    let play = subst (λ (disk : g.row.D.Denot). PlayLeaves d.tells d.clock d.reading d.may_leave d.left_since starts (Rose (d.faults k.parts.store.disk) (d.faults disk)) sink made disk (ending made.status))
-    (sym c.unwatched.ensures.disk) c.run_opened.ensures.leaves in
+    let suppliers : c.new-gate.result.supply.now.managers.now.supply.items ≡ c.args.read.now.managers.supply.items = first_of (cc, search rules) in
+    let policies : c.new-gate.result.policy.now.managers.now.policy.items ≡ c.args.read.now.managers.policy.items = first_of (cc, search rules) in
+    let starts : List ScriptManager → List ScriptManager → Beginning → Type 0 =
+    λ supply policy. StartsRun d.tells d.clock d.faults d.reading d.may_leave d.left_since (book_word (map manager_of supply) g.N.Answers.word) (book_wish (map manager_of policy) g.N.Answers.wish) script k in
+    let leaves : List ScriptManager → List ScriptManager → g.row.D.Denot → Type 0 =
+    λ supply policy disk. PlayLeaves d.tells d.clock d.reading d.may_leave d.left_since (starts supply policy) (Rose (d.faults k.parts.store.disk) (d.faults disk)) (books k.parts.store).count sink made disk (ending made.status) in
+    let by_book = subst (λ (ms : List ScriptManager). leaves c.args.read.now.managers.supply.items ms c.run_opened.result.disk) policies
+    (subst (λ (ms : List ScriptManager). leaves ms c.new-gate.result.policy.now.managers.now.policy.items c.run_opened.result.disk) suppliers c.run_opened.ensures.leaves) in
+    let play = subst (leaves c.args.read.now.managers.supply.items c.args.read.now.managers.policy.items) (sym c.unwatched.ensures.disk) by_book in
     let later = subst (λ (disk : g.row.D.Denot). d.faults k.parts.store.disk ≤ d.faults disk) (sym c.unwatched.ensures.disk) c.run_opened.ensures.later in
     let ready = λ (told : d.tells). subst (λ (disk : g.row.D.Denot). IsReady d.tells d.clock d.faults d.reading d.may_leave d.left_since script disk k) c.new-watched.ensures (c.in-Ok.ensures.ready told) in
     let began = subst (λ (disk : g.row.D.Denot). d.faults disk ≤ d.faults k.parts.store.disk) c.new-watched.ensures c.in-Ok.ensures.begins.later in
@@ -38,8 +49,8 @@ returns-in-Ok-clause-leaves g c =
 pub returns-in-Err-clause-leaves : goal.returns-in-Err-clause-leaves
 returns-in-Err-clause-leaves g c =
     let d = g.D.Disk in
-    let m : Managers = record { supply = g.N.Answers.word; policy = g.N.Answers.wish } in
-    let script = tables_of c.args.script.now in
+    let m = over (managers_of c.args.read.now.managers) (record { supply = g.N.Answers.word; policy = g.N.Answers.wish }) in
+    let script = tables_of c.args.read.now.script in
     let sink = seen_sink g.W.Sink.held g.W.Sink.faults c.args.sink.now c.end_with.new.sink in
     let old = c.args.disk in
     let new = c.into_disk.result in

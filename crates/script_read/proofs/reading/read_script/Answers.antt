@@ -1,7 +1,7 @@
 -- Lines are read by `instr_of`, and what is read is allowed.
 use Rattle.instr_set.specs.Reader.{instr_of}
 use Rattle.instr_set.proofs.Reader.{IsReader-instr_of}
-use Rattle.script_read.proofs.Allowed.{rules_of, frames_of}
+use Rattle.script_read.proofs.Whole.{rules_of, frames_of, managed_of}
 use Rattle.script_read.proofs.reading.read_script.Goals as goal
 
 pub returns-clause-meaning : goal.returns-clause-meaning
@@ -12,3 +12,6 @@ returns-clause-rules c = rules_of c.args.bytes.now c.read_source.result (c.read_
 
 pub returns-clause-frames : goal.returns-clause-frames
 returns-clause-frames c = frames_of c.args.bytes.now c.read_source.result (c.read_source.ensures instr_of IsReader-instr_of)
+
+pub returns-clause-managers : goal.returns-clause-managers
+returns-clause-managers c = managed_of c.args.bytes.now c.read_source.result (c.read_source.ensures instr_of IsReader-instr_of)

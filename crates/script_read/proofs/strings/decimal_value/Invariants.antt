@@ -4,4 +4,4 @@ use Rattle.script_read.specs.Strings.{decimal_value}
 use Rattle.script_read.proofs.strings.decimal_value.Given as goal
 
 abbrev pub invariant-loop-byte : goal.invariant-loop-byte
-invariant-loop-byte l = (l.number ≡ decimal_value (take l.byte-index l.bytes)) × (l.number ≤ 1000)
+invariant-loop-byte l = (l.number ≡ decimal_value l.most (take l.byte-index l.bytes)) × (l.number ≤ l.most)

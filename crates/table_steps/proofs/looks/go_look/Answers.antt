@@ -1,8 +1,9 @@
 use Rattle.std.proofs.Common.{◌≡◌, ◌++◌, slice_get, slice_set, get_or, Some, sym, ap, ◌∙◌, arith}
+use Rattle.std.proofs.lemmas.Result.{on_err_weaker}
 use Rattle.step_plans.specs.declared.plans.Plan.TheVariants as plan
 use Rattle.cell_table.proofs.Blocks.{ChangesTwo}
 use Rattle.table_steps.proofs.Facing.{high_at, plan_of}
-use Rattle.table_steps.proofs.FacingLook.{faces_look, look_below}
+use Rattle.table_steps.proofs.FacingLook.{faces_look, look_below, wants_word}
 use Rattle.cell_table.proofs.LookDone.{look_leaves}
 use Rattle.table_steps.proofs.Pairs.{lends_high}
 use Rattle.table_steps.proofs.Places.{read_back, read_front, set_two, write_two}
@@ -98,6 +99,7 @@ returns g c =
       orderly = left.orderly;
       enters = left.enters;
       faulted = left.faulted;
+      at_word = on_err_weaker c.advance_looking.result (wants_word cs c.args.me c.args.other a b is_a is_b at_a at_b) made.at_word;
       news = left.news;
       one_write = made.one_write;
       kept = made.memory.others.same_kept;

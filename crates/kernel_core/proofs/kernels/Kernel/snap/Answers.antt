@@ -5,7 +5,7 @@ use Rattle.hop_model.specs.Histories.{Policy}
 use Rattle.kernel_model.specs.Beginnings.{run_of}
 use Rattle.serial_runs.specs.Serial.{wished_snap}
 use Rattle.kernel_core.specs.Kernels.{Held, Lives, StaysClean}
-use Rattle.kernel_commits.specs.Lacking.{LacksBlocks}
+use Rattle.kernel_commits.specs.Lacking.{LacksIn}
 use Rattle.kernel_commits.specs.Parts.{Parts}
 use Rattle.kernel_commits.specs.Pieces.{StopsIn}
 use Rattle.kernel_commits.specs.Recording.{HasRecorded, IsShort}
@@ -53,8 +53,10 @@ returns-clause-enough g c = λ told b same lives _.
     let steady = c.self.invariant.steady c.in_default.is in
     let was = subst (λ o. Lives d.tells d.clock d.faults d.reading d.may_leave d.left_since b (record { parts = c.self.inside.core; stop = o })) c.in_default.is (subst (Lives d.tells d.clock d.faults d.reading d.may_leave d.left_since b) (sym c.self.view_is) lives) in
     let free = runs_free d.tells d.clock d.faults d.reading d.may_leave d.left_since c.args.entity c.self.inside.core c.snap_one-made.new.core steady b (g.P.Policy.wish c.args.gate.now.policy) same was in
-    subst (λ (p : Parts g.row.D.Denot). (n : TooFewBlocks) → IsErrOf c.snap_one-made.result (TooFew n) → LacksBlocks b p) (ap (λ (k : Held g.row.D.Denot). k.parts) c.self.view_is)
-    (c.snap_one-made.ensures.enough told b free)
+    subst (λ (p : Parts g.row.D.Denot). (n : TooFewBlocks) → IsErrOf c.snap_one-made.result (TooFew n) → LacksIn b (wished_snap b.policy (run_of b p.noted.entries) c.args.entity) p.noted.entries c.snap_one-made.new.core)
+    (ap (λ (k : Held g.row.D.Denot). k.parts) c.self.view_is)
+    (subst (λ (q : Policy). (n : TooFewBlocks) → IsErrOf c.snap_one-made.result (TooFew n) → LacksIn b (wished_snap q (run_of b c.self.inside.core.noted.entries) c.args.entity) c.self.inside.core.noted.entries c.snap_one-made.new.core) (sym same)
+    (c.snap_one-made.ensures.enough told b free))
 
 pub returns-clause-clean : goal.returns-clause-clean
 returns-clause-clean g c = λ s stays told none.

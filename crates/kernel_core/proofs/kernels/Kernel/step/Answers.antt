@@ -1,15 +1,19 @@
-use Rattle.std.proofs.Common.{◌≡◌, sym, ap, subst, ◌∙◌}
-use Rattle.std.specs.Prelude.{IfErr, IsErrOf, OnErr}
+use Rattle.std.proofs.Common.{◌≡◌, Some, Ok, sym, ap, subst, ◌∙◌}
+use Rattle.std.specs.Prelude.{◌↔◌, IfErr, IsErrOf, OnErr}
 use Rattle.disk_trait.specs.Counts.{Rose}
+use Rattle.disk_trait.specs.declared.disk.NoBlocks.{NoBlocks as TooFewBlocks}
 use Rattle.cell_table.specs.Tables.{AreClean}
 use Rattle.record_laws.specs.Cells.{words_on}
 use Rattle.kernel_model.specs.Beginnings.{run_of}
 use Rattle.serial_runs.specs.Serial.{look}
 use Rattle.kernel_core.specs.Kernels.{Held, Lives}
 use Rattle.kernel_core.specs.Looking.{StopsLook}
+use Rattle.kernel_core.specs.Stepping.{idle_at}
+use Rattle.kernel_core.specs.declared.looking.Looked.TheVariants.{Idle}
+use Rattle.kernel_commits.specs.Lacking.{LacksIn}
 use Rattle.kernel_commits.specs.Parts.{Parts}
 use Rattle.kernel_commits.specs.Pieces.{StopsIn}
-use Rattle.kernel_commits.specs.declared.stopping.Stopped.TheVariants.{Failed}
+use Rattle.kernel_commits.specs.declared.stopping.Stopped.TheVariants.{Failed, TooFew}
 use Rattle.kernel_core.proofs.Kept.{runs_free, while_going}
 use Rattle.kernel_core.proofs.LookKept.{look_entries, look_kept, look_lives}
 use Rattle.kernel_core.proofs.kernels.Kernel.step.Goals as goal
@@ -73,8 +77,14 @@ returns-clause-enough g c = λ told b supply policy lives _.
     let steady = c.self.invariant.steady c.in_default.is in
     let was = subst (λ o. Lives d.tells d.clock d.faults d.reading d.may_leave d.left_since b (record { parts = c.self.inside.core; stop = o })) c.in_default.is (subst (Lives d.tells d.clock d.faults d.reading d.may_leave d.left_since b) (sym c.self.view_is) lives) in
     let free = runs_free d.tells d.clock d.faults d.reading d.may_leave d.left_since c.args.me c.self.inside.core c.look_core-looked.new.core steady b (g.P.Policy.wish c.args.gate.now.policy) policy was in
-    c.look_core-looked.ensures.enough told b supply policy free.stands (was.live.calm Rattle.std.proofs.Common.refl)
+    subst (λ (p : Parts g.row.D.Denot). (n : TooFewBlocks) → IsErrOf c.look_core-looked.result (TooFew n) → LacksIn b (look b.supply b.policy b.script (run_of b p.noted.entries) c.args.me) p.noted.entries c.look_core-looked.new.core)
+    (ap (λ (k : Held g.row.D.Denot). k.parts) c.self.view_is)
+    (c.look_core-looked.ensures.enough told b supply policy free.stands (was.live.calm Rattle.std.proofs.Common.refl))
 
 pub returns-clause-clean : goal.returns-clause-clean
 returns-clause-clean g c = λ told none.
     while_going c.look_core-looked.result (c.look_core-looked.ensures.clean told) c.err-self-inside.result c.err-self-inside.ensures.value none
+
+pub returns-clause-idle : goal.returns-clause-idle
+returns-clause-idle g c = λ s words why going.
+    subst (λ (k : Held g.row.D.Denot). (idle_at s words c.args.me k.parts.cells ≡ Some why) ↔ (c.look_core-looked.result ≡ Ok (Idle why))) c.self.view_is (c.look_core-looked.ensures.idle s words why)

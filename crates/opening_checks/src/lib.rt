@@ -1,0 +1,13 @@
+//! A caller of `kernel_opening` over any disk, and tests of it in memory.
+#![tactic(auto)]
+
+mod made;
+
+pub use made::open_made;
+
+#[cfg(test)]
+mod images;
+#[cfg(test)]
+mod refused_tests;
+#[cfg(test)]
+mod tests;

@@ -1,0 +1,62 @@
+-- A verdict on a trace, and how a command ends with it.
+use Rattle.std.specs.Prelude.{◌≡◌, ℕ, Err, Ok, Result, ⊤}
+use Rattle.hop_model.specs.Scripts.{Script as Tables}
+use Rattle.hop_model.specs.State.{KernelState, Text}
+use Rattle.hop_model.specs.Steps.{atlas_in}
+use Rattle.image_meaning.specs.Foreign.{IsForeign}
+use Rattle.plain_run.specs.Fitting.{Fits, IsMisfit}
+use Rattle.script_form.specs.declared.refusals.ScriptFault.TheVariants.{Refused}
+use Rattle.trace_check.specs.Reading.{SpellsNone}
+use Rattle.trace_check.specs.declared.faults.TraceFault.{TraceFault}
+use Rattle.trace_check.specs.declared.faults.TraceFault.TheVariants as checked
+use Rattle.trace_steps.specs.Standing.{Managers}
+use Rattle.trace_words.specs.Traces.{GoesWrong, Spells}
+use Rattle.command_parts.specs.Ends.{Gains, IsEmpty, IsPut, IsUnrun}
+use Rattle.command_parts.specs.Faults.{wrong_line}
+use Rattle.command_parts.specs.Seen.{Gave, SeenDisk, SeenSink}
+use Rattle.command_parts.specs.Statuses.{status_by}
+use Rattle.command_parts.specs.declared.faults.Fault.{Fault}
+use Rattle.command_parts.specs.declared.faults.Fault.TheVariants.{Script, Foreign, Disk, Memory}
+use Rattle.command_parts.specs.declared.statuses.Status.TheVariants.{TraceWrong}
+use Rattle.trace_command.specs.Leaving.{ok_line}
+use Rattle.trace_command.specs.Traces.{HasMisfit, IsLegal, IsWrong}
+use Rattle.trace_command.specs.declared.judging.Verdict.{Verdict}
+use Rattle.trace_command.specs.declared.judging.Verdict.TheVariants.{Legal, Wrong, Stopped}
+
+-- what a check comes to
+abbrev pub verdict_of : Result ℕ TraceFault → Verdict
+verdict_of (Ok lines) = Legal lines
+verdict_of (Err (checked.At line want text)) = Wrong line want text
+verdict_of (Err checked.Memory) = Stopped Memory
+
+-- FROM THIS STATE the verdict is right
+module _ (m : Managers) (script : Tables) (trace : Text) (w : KernelState) where
+  abbrev pub IsFitFault : Fault → Type 0
+  IsFitFault (Script refusal) = IsMisfit (atlas_in (w 0).cell) script (Refused refusal)
+  IsFitFault Memory = ⊤
+  IsFitFault fault = ⊥
+
+  abbrev pub IsVerdict : Verdict → Type 0
+  IsVerdict (Legal lines) = Fits (atlas_in (w 0).cell) script × Spells m.word m.wish w script trace lines
+  IsVerdict (Wrong line want text) = Fits (atlas_in (w 0).cell) script × GoesWrong m.word m.wish w script trace line want text.bytes × SpellsNone m.word m.wish w script trace
+  IsVerdict (Stopped fault) = IsFitFault fault
+
+-- FROM THE STATE THAT THE IMAGE MEANS it is, or there is none
+module _ (m : Managers) (script : Tables) (trace : Text) (disk : SeenDisk) where
+  abbrev pub StopsJudging : Fault → Type 0
+  StopsJudging (Script refusal) = HasMisfit m script disk refusal
+  StopsJudging (Foreign block place) = disk.tells → IsForeign disk.before.reading (record { block = block; place = place })
+  StopsJudging Disk = disk.rose
+  StopsJudging Memory = ⊤
+  StopsJudging fault = ⊥
+
+  abbrev pub IsJudged : Verdict → Type 0
+  IsJudged (Legal lines) = IsLegal m script disk trace lines
+  IsJudged (Wrong line want text) = IsWrong m script disk trace line want text.bytes
+  IsJudged (Stopped fault) = StopsJudging fault
+
+-- THE COMMAND ENDS with the verdict
+abbrev pub EndsWith : SeenSink → Gave → Verdict → Type 0
+EndsWith sink gave (Legal lines) = IsEmpty gave × IsPut sink (ok_line lines) gave.status
+EndsWith sink gave (Wrong line want text) = IsEmpty gave × (gave.status ≡ TraceWrong line want) × Gains sink (wrong_line line text.bytes)
+EndsWith sink gave (Stopped fault) = IsUnrun sink gave fault × (gave.status ≡ status_by fault)

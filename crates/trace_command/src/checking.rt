@@ -1,0 +1,111 @@
+//! The command `check-trace`.
+ghost use Rattle.std.specs.Prelude.{◌≡◌, ◌≤◌, ◌<◌, ◌^◌, ℕ, Bool, length};
+ghost use Rattle.disk_trait.specs.Counts.{Rose};
+ghost use Rattle.script_form.specs.Rules.{IsScript};
+ghost use Rattle.script_form.specs.Scripts.{tables_of};
+ghost use Rattle.trace_steps.specs.Standing.{Managers};
+ghost use Rattle.command_parts.specs.Seen.{gave, seen_disk, seen_sink, seen_source};
+ghost use Rattle.command_parts.specs.Statuses.{IsComplete, ending};
+ghost use Rattle.trace_command.specs.Leaving.{CanCheck, TraceLeaves};
+ghost use Rattle.trace_command.specs.Sources.{from_bytes, from_parts, from_source, most_bytes};
+
+use crate::judging::judge;
+use crate::putting::end_by;
+use crate::reading::{read_bytes, read_traced};
+use command_parts::{Fault, Outcome, end_with};
+use disk_trait::Disk;
+use script_form::Script;
+use std::alloc::Global;
+use stream_edge::{Sink, Source};
+
+/// Checks a trace of a script that was read, and puts the verdict.
+fn check_read<W: Sink, D: Disk, S: Fn(u64, u32, u16) -> u64, P: Fn(u32, u64) -> bool>(
+    alloc: Global,
+    script: &Script,
+    trace: &[u8],
+    sink: &mut W,
+    mut disk: D,
+    supply: &S,
+    policy: &P,
+) -> Outcome<D>
+    ghost m: { Managers }
+    requires words { (t p a : ℕ) → t < 2 ^ 64 → p < 256 → a < 128 → S.pre supply.now t p a }
+    requires supplied { (t p a r : ℕ) → t < 2 ^ 64 → p < 256 → a < 128 → S.post supply.now t p a r → r ≡ m.word t p a }
+    requires callable { (every since : ℕ) → every < 2 ^ 32 → since < 2 ^ 64 → P.pre policy.now every since }
+    requires answers { (every since : ℕ) (r : Bool) → every < 2 ^ 32 → since < 2 ^ 64 → P.post policy.now every since r → r ≡ m.wish every since }
+    requires allowed { IsScript (tables_of script.now) }
+    ensures leaves { TraceLeaves m (from_parts (tables_of script.now) trace.now) (seen_sink W.held W.faults sink.old sink.new)
+        (seen_disk D.tells D.block_count D.reading D.may_leave D.left_since D.clock D.faults disk result.disk) (gave result) (ending result.status) }
+    ensures count { W.faults sink.old ≤ W.faults sink.new }
+{
+    let verdict = judge(alloc, &mut disk, script, trace, supply, policy);
+    end_by(alloc, sink, disk, verdict)
+}
+
+/// Checks a trace in bytes that were read, and puts the verdict.
+fn check_bytes<W: Sink, D: Disk, S: Fn(u64, u32, u16) -> u64, P: Fn(u32, u64) -> bool>(
+    alloc: Global,
+    bytes: &[u8],
+    sink: &mut W,
+    disk: D,
+    supply: &S,
+    policy: &P,
+) -> Outcome<D>
+    ghost m: { Managers }
+    requires words { (t p a : ℕ) → t < 2 ^ 64 → p < 256 → a < 128 → S.pre supply.now t p a }
+    requires supplied { (t p a r : ℕ) → t < 2 ^ 64 → p < 256 → a < 128 → S.post supply.now t p a r → r ≡ m.word t p a }
+    requires callable { (every since : ℕ) → every < 2 ^ 32 → since < 2 ^ 64 → P.pre policy.now every since }
+    requires answers { (every since : ℕ) (r : Bool) → every < 2 ^ 32 → since < 2 ^ 64 → P.post policy.now every since r → r ≡ m.wish every since }
+    requires short { length bytes.now ≤ most_bytes }
+    ensures leaves { TraceLeaves m (from_bytes bytes.now) (seen_sink W.held W.faults sink.old sink.new)
+        (seen_disk D.tells D.block_count D.reading D.may_leave D.left_since D.clock D.faults disk result.disk) (gave result) (ending result.status) }
+    ensures count { W.faults sink.old ≤ W.faults sink.new }
+{
+    match read_traced(alloc, bytes) {
+        Ok(traced) => check_read(
+            alloc,
+            &traced.script,
+            traced.trace,
+            sink,
+            disk,
+            supply,
+            policy,
+        ),
+        Err(fault) => end_with(alloc, sink, disk, Fault::from(fault)),
+    }
+}
+
+/// Checks whether the trace that a source holds is that of a legal history of its script, from the state that the image on a disk means. The
+/// source has a script, a line `---` and the trace; the first such line counts. The line `ok LINES` is put, or `fault 10 LINE want ENTRY`
+/// with the first line that is that of no entry that may be next. The disk is only read: no write and no sync is begun.
+///
+/// What stops the call first decides: the source, with at most 67,108,864 bytes and 1,048,576 before the line `---`; the image; the script
+/// against it; the trace. It takes memory for as many bytes, for the script, for what `read_image` takes, and for what a check keeps.
+pub fn check_trace<
+    R: Source,
+    W: Sink,
+    D: Disk,
+    S: Fn(u64, u32, u16) -> u64,
+    P: Fn(u32, u64) -> bool,
+>(alloc: Global, source: &mut R, sink: &mut W, disk: D, supply: &S, policy: &P) -> Outcome<D>
+    ghost m: { Managers }
+    // The managers give one answer for each question, and may be asked each.
+    requires words { (t p a : ℕ) → t < 2 ^ 64 → p < 256 → a < 128 → S.pre supply.now t p a }
+    requires supplied { (t p a r : ℕ) → t < 2 ^ 64 → p < 256 → a < 128 → S.post supply.now t p a r → r ≡ m.word t p a }
+    requires callable { (every since : ℕ) → every < 2 ^ 32 → since < 2 ^ 64 → P.pre policy.now every since }
+    requires answers { (every since : ℕ) (r : Bool) → every < 2 ^ 32 → since < 2 ^ 64 → P.post policy.now every since r → r ≡ m.wish every since }
+    ensures leaves { TraceLeaves m (from_source (seen_source R.left R.faults source.old source.new)) (seen_sink W.held W.faults sink.old sink.new)
+        (seen_disk D.tells D.block_count D.reading D.may_leave D.left_since D.clock D.faults disk result.disk) (gave result) (ending result.status) }
+    ensures complete { CanCheck m (record {
+      source = seen_source R.left R.faults source.old source.new;
+      sink = seen_sink W.held W.faults sink.old sink.new;
+      disk = seen_disk D.tells D.block_count D.reading D.may_leave D.left_since D.clock D.faults disk result.disk;
+    }) → (Rose (R.faults source.old) (R.faults source.new) → ⊥) → (Rose (D.faults disk) (D.faults result.disk) → ⊥)
+        → (Rose (W.faults sink.old) (W.faults sink.new) → ⊥) → IsComplete result.status }
+    ensures count { (R.faults source.old ≤ R.faults source.new) × (W.faults sink.old ≤ W.faults sink.new) }
+{
+    match read_bytes(alloc, source) {
+        Ok(bytes) => check_bytes(alloc, &bytes, sink, disk, supply, policy),
+        Err(fault) => end_with(alloc, sink, disk, fault),
+    }
+}

@@ -1,0 +1,104 @@
+// The verdict on a trace.
+ghost use Rattle.std.specs.Prelude.{◌≡◌, ◌≤◌, ◌<◌, ◌^◌, ℕ, All, Bool};
+ghost use Rattle.history_model.specs.Born.{AreEdges};
+ghost use Rattle.history_model.specs.Plains.{cells_of};
+ghost use Rattle.hop_model.specs.Soundness.{IsSound};
+ghost use Rattle.hop_model.specs.State.{KernelState};
+ghost use Rattle.log_reading.specs.Reads.{ReadsOnly};
+ghost use Rattle.script_form.specs.Rules.{IsScript};
+ghost use Rattle.script_form.specs.Scripts.{tables_of};
+ghost use Rattle.trace_steps.specs.Standing.{Managers};
+ghost use Rattle.trace_words.specs.Traces.{Begins};
+ghost use Rattle.command_parts.specs.Seen.{seen_disk};
+ghost use Rattle.trace_command.specs.Verdicts.{IsJudged, IsVerdict, verdict_of as told_verdict};
+
+use arrayvec::ArrayString;
+use command_parts::Fault;
+use disk_trait::Disk;
+use history_model::Plain;
+use hop_base::Entry;
+use image_tools::{ImageFacts, read_image};
+use plain_run::against;
+use script_form::Script;
+use std::alloc::Global;
+use text_lines::LINE;
+use trace_check::{TraceFault, check};
+
+/// What became of a trace that was to be checked.
+#[derive(Debug, Drop)]
+pub(crate) enum Verdict {
+    /// It is that of a legal history, with so many lines.
+    Legal(u64),
+    /// It goes wrong in this line, which wants this entry; its line, or `none`.
+    Wrong {
+        line: u64,
+        want: Option<Entry>,
+        text: ArrayString<LINE>,
+    },
+    /// Nothing was checked.
+    Stopped(Fault),
+}
+
+/// The verdict that a check comes to.
+fn verdict_of(checked: Result<u64, TraceFault>) -> Verdict
+    ensures { result ≡ told_verdict checked }
+{
+    match checked {
+        Ok(lines) => Verdict::Legal(lines),
+        Err(TraceFault::At { line, want, text }) => Verdict::Wrong { line, want, text },
+        Err(TraceFault::Memory) => Verdict::Stopped(Fault::Memory),
+    }
+}
+
+/// Checks a trace from a plain state with these versions.
+fn verdict_from<S: Fn(u64, u32, u16) -> u64, P: Fn(u32, u64) -> bool>(
+    alloc: Global,
+    state: Plain,
+    versions: [u64; 64],
+    script: &Script,
+    trace: &[u8],
+    supply: &S,
+    policy: &P,
+) -> Verdict
+    ghost m: { Managers }
+    requires words { (t p a : ℕ) → t < 2 ^ 64 → p < 256 → a < 128 → S.pre supply.now t p a }
+    requires supplied { (t p a r : ℕ) → t < 2 ^ 64 → p < 256 → a < 128 → S.post supply.now t p a r → r ≡ m.word t p a }
+    requires callable { (every since : ℕ) → every < 2 ^ 32 → since < 2 ^ 64 → P.pre policy.now every since }
+    requires answers { (every since : ℕ) (r : Bool) → every < 2 ^ 32 → since < 2 ^ 64 → P.post policy.now every since r → r ≡ m.wish every since }
+    requires sound { IsSound (cells_of m.word state) }
+    requires edges { AreEdges state.atlas.edges.items }
+    requires low { All (λ v. v ≤ 2 ^ 62) versions }
+    requires allowed { IsScript (tables_of script.now) }
+    ensures { (w : KernelState) → Begins w (cells_of m.word state) versions → IsVerdict m (tables_of script.now) trace.now w result }
+{
+    match against(alloc, script, &state.atlas) {
+        Ok(()) => { verdict_of(check(alloc, state, versions, script, supply, policy, trace)) }
+        Err(fault) => Verdict::Stopped(Fault::from(fault)),
+    }
+}
+
+/// Checks a trace of a script from the state that the image on a disk means. The disk is only read.
+pub(crate) fn judge<D: Disk, S: Fn(u64, u32, u16) -> u64, P: Fn(u32, u64) -> bool>(
+    alloc: Global,
+    disk: &mut D,
+    script: &Script,
+    trace: &[u8],
+    supply: &S,
+    policy: &P,
+) -> Verdict
+    ghost m: { Managers }
+    requires words { (t p a : ℕ) → t < 2 ^ 64 → p < 256 → a < 128 → S.pre supply.now t p a }
+    requires supplied { (t p a r : ℕ) → t < 2 ^ 64 → p < 256 → a < 128 → S.post supply.now t p a r → r ≡ m.word t p a }
+    requires callable { (every since : ℕ) → every < 2 ^ 32 → since < 2 ^ 64 → P.pre policy.now every since }
+    requires answers { (every since : ℕ) (r : Bool) → every < 2 ^ 32 → since < 2 ^ 64 → P.post policy.now every since r → r ≡ m.wish every since }
+    requires allowed { IsScript (tables_of script.now) }
+    ensures judged { IsJudged m (tables_of script.now) trace.now (seen_disk D.tells D.block_count D.reading D.may_leave D.left_since D.clock D.faults disk.old disk.new) result }
+    ensures same { ReadsOnly D.tells D.block_count D.reading D.may_leave D.left_since D.clock D.faults disk.old disk.new }
+{
+    match read_image(alloc, disk, supply) {
+        Ok(ImageFacts { cut, state, .. }) => {
+            verdict_from(alloc, state, cut.0, script, trace, supply, policy)
+        }
+        Err(fault) => Verdict::Stopped(Fault::from(fault)),
+    }
+}

@@ -1,0 +1,85 @@
+// A source, read to a script and a trace.
+ghost use Rattle.std.specs.Prelude.{◌≡◌, ◌≤◌, ◌<◌, IfErr, IfOk, IfSome, OnOk, Some, codes, length, true, vec_len};
+ghost use Rattle.std.specs.Io.KnownBytes.{IsAtEnd};
+ghost use Rattle.script_form.specs.Rules.{IsScript};
+ghost use Rattle.script_form.specs.Scripts.{tables_of};
+ghost use Rattle.script_read.specs.Reading.{IsBlamed, IsFaultOf};
+ghost use Rattle.command_parts.specs.Seen.{seen_source};
+ghost use Rattle.trace_command.specs.Parts.{rule_from};
+ghost use Rattle.trace_command.specs.Sources.{MeansTraced, StopsTraced, most_bytes, traced_meaning};
+
+use crate::parting::{behind_rule, rule_place};
+use command_parts::Fault;
+use script_form::{Refusal, Script, ScriptFault, Why};
+use script_read::read_script;
+use script_source::fault_of_stop;
+use std::alloc::Global;
+use stream_edge::{Source, read_all};
+
+/// How many bytes a script and its trace may have, with the line between them.
+const MOST_BYTES: usize = 67_108_864;
+
+/// A script, and the trace behind it.
+#[derive(Drop)]
+pub(crate) struct Traced<'a> {
+    pub(crate) script: Script,
+    pub(crate) trace: &'a [u8],
+}
+
+/// The fault of a source without the line `---`.
+fn no_rule(alloc: Global) -> ScriptFault
+    ensures { IsBlamed Why.Missing (codes "---") result }
+{
+    match String::from_str(alloc, "---") {
+        Ok(key) => ScriptFault::Refused(Refusal {
+            why: Why::Missing,
+            key,
+        }),
+        Err(_) => ScriptFault::Memory,
+    }
+}
+
+/// All bytes of a source, of which there may be so many.
+pub(crate) fn read_bytes<R: Source>(alloc: Global, source: &mut R) -> Result<Vec<u8>, Fault>
+    ensures whole { IfOk result (λ bytes. IfSome (R.left source.old) (λ left. bytes.items ≡ left)) }
+    ensures end { OnOk result (IfSome (R.left source.old) (λ _. IsAtEnd (R.left source.new))) }
+    ensures short { IfOk result (λ bytes. vec_len bytes ≤ most_bytes) }
+    ensures fault { IfErr result (StopsTraced (seen_source R.left R.faults source.old source.new)) }
+    ensures count { R.faults source.old ≤ R.faults source.new }
+{
+    match read_all(alloc, source, MOST_BYTES) {
+        Ok(bytes) => Ok(bytes),
+        Err(stop) => Err(fault_of_stop(alloc, stop)),
+    }
+}
+
+/// The script before the line that begins here, and the trace behind it.
+fn read_parts(alloc: Global, bytes: &[u8], at: usize) -> Result<Traced<'_>, ScriptFault>
+    requires short { length bytes.now ≤ most_bytes }
+    requires place { rule_from true bytes.now 0 ≡ Some at }
+    requires within { at < length bytes.now }
+    ensures means { IfOk result (λ t. MeansTraced bytes.entry.now (tables_of t.script) t.trace.now) }
+    ensures rules { IfOk result (λ t. IsScript (tables_of t.script)) }
+    ensures fault { IfErr result (IsFaultOf (traced_meaning bytes.entry.now)) }
+{
+    match read_script(alloc, &bytes[..at]) {
+        Ok(read) => Ok(Traced {
+            script: read.script,
+            trace: behind_rule(bytes, at),
+        }),
+        Err(fault) => Err(fault),
+    }
+}
+
+/// The script and the trace that the bytes stand for.
+pub(crate) fn read_traced(alloc: Global, bytes: &[u8]) -> Result<Traced<'_>, ScriptFault>
+    requires short { length bytes.now ≤ most_bytes }
+    ensures means { IfOk result (λ t. MeansTraced bytes.entry.now (tables_of t.script) t.trace.now) }
+    ensures rules { IfOk result (λ t. IsScript (tables_of t.script)) }
+    ensures fault { IfErr result (IsFaultOf (traced_meaning bytes.entry.now)) }
+{
+    match rule_place(bytes) {
+        Some(at) => read_parts(alloc, bytes, at),
+        None => Err(no_rule(alloc)),
+    }
+}
