@@ -8,7 +8,7 @@ use Rattle.hop_base.specs.Edges.{Edges}
 use Rattle.hop_base.specs.declared.capabilities.Region.{Region}
 use Rattle.circle_law.specs.Containers.{IsAmongContainers}
 use Rattle.history_model.specs.Born.{shown}
-use Rattle.sound_runs.proofs.Tables.{shown_target}
+use Rattle.history_model.proofs.sound_runs_lemmas.Tables.{shown_target}
 
 one_more_by : (t : ℕ) (xs : List Region) (i : ℕ) (x : Region) → slice_get xs i ≡ Some x → (b : Bool) → (x.target == t) ≡ b → shown (take (i + 1) xs) t ≡ shown (take i xs) t + (if b then 1 else 0)
 one_more_by t xs i x h true e = count_by_more_yes (λ (r : Region). r.target == t) xs i x (slice_get_within xs i x h) (ap (λ (r : Region). r.target == t) (get_or_from_slice_get xs i x x h) ∙ e)

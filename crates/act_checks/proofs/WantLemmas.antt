@@ -1,11 +1,11 @@
 -- The act that a locus wants beside another entity.
 use Rattle.std.proofs.Common.{◌≡◌, ℕ, Bool, IsTrue, Some, None, subst}
 use Rattle.hop_base.specs.declared.instructions.Instr.{Instr}
-use Rattle.hop_model.specs.Acts.{Act as Wanted, wanted}
-use Rattle.hop_model.specs.State.{LocusState}
-use Rattle.wanted_act.specs.Views.{act_of}
-use Rattle.wanted_act.specs.declared.choice.Act.{Act}
-use Rattle.invocation.specs.Entries.{WantsBeside}
+use Rattle.history_model.specs.hop_model.Acts.{Act as Wanted, wanted}
+use Rattle.history_model.specs.hop_model.State.{LocusState}
+use Rattle.history_model.specs.wanted_act.Views.{act_of}
+use Rattle.history_model.specs.wanted_act.declared.choice.Act.{Act}
+use Rattle.kernel_calls.specs.invocation.Entries.{WantsBeside}
 
 pub wanted_beside : (is : Instr → Bool) (l : LocusState) (act : Act) (x : ℕ) → act_of act ≡ wanted 64 l → act.refused ≡ None → act.other ≡ Some x → IsTrue (is act.instr) → (y : ℕ) × WantsBeside is l y
 wanted_beside is l act x same none other holds = (

@@ -1,18 +1,18 @@
 ghost use Rattle.std.specs.Prelude.{◌≡◌, ◌<◌, IfOk, IfSome, None, All, codes};
-ghost use Rattle.hop_model.specs.Scripts.{container_named as container_number, locus_named as locus_number};
-ghost use Rattle.hop_model.specs.Soundness.{IsSound};
-ghost use Rattle.hop_model.specs.State.{AtlasState, Supply, Text};
-ghost use Rattle.script_form.specs.Rules.{IsScript};
-ghost use Rattle.script_form.specs.Scripts.{tables_of};
+ghost use Rattle.history_model.specs.hop_model.Scripts.{container_named as container_number, locus_named as locus_number};
+ghost use Rattle.history_model.specs.hop_model.Soundness.{IsSound};
+ghost use Rattle.history_model.specs.hop_model.State.{AtlasState, Supply, Text};
+ghost use Rattle.history_model.specs.script_form.Rules.{IsScript};
+ghost use Rattle.history_model.specs.script_form.Scripts.{tables_of};
 ghost use Rattle.history_model.specs.Born.{AreEdges, AreOfOneKind, KnowsNames};
 ghost use Rattle.history_model.specs.Plains.{cells_of};
 
 use crate::both::{Seen, step_both};
 use crate::programs::{Draws, program, script_of};
 use atlas_dir::Atlas;
+use history_model::script_form::Script;
 use history_model::{Plain, PlainAtlas, container_named, number_among, plain_birth};
 use hop_base::{Answer, Entity, Entry, Instr, Kind, Reply};
-use script_form::Script;
 use std::alloc::{AllocError, Global};
 use std::process::Abort;
 use std::test::Fail;

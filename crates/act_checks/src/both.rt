@@ -1,6 +1,6 @@
 // The same step by both kernels, from the same state.
 ghost use Rattle.std.specs.Prelude.{◌≡◌};
-ghost use Rattle.hop_model.specs.Soundness.{IsSound};
+ghost use Rattle.history_model.specs.hop_model.Soundness.{IsSound};
 ghost use Rattle.history_model.specs.Born.{AreEdges};
 ghost use Rattle.history_model.specs.Events.{AreFewVersions};
 ghost use Rattle.history_model.specs.Plains.{cells_of};
@@ -10,12 +10,12 @@ use crate::kernel::{Around, kernel_step};
 use crate::made::{head_from, locus_from};
 use crate::same::{same_atlas, same_head, same_locus};
 use atlas_dir::Atlas;
+use history_model::wanted_act::Act;
 use history_model::{Plain, plain_step};
 use hop_base::{Answer, Condition, Entity, Entry, Instr, Kind};
-use locus_machine::{Head, Locus};
+use kernel_calls::locus_machine::{Head, Locus};
 use std::alloc::AllocError;
 use std::process::Abort;
-use wanted_act::Act;
 
 /// A step on a supplier whose words are the container's tag.
 fn step(

@@ -1,20 +1,20 @@
 // A step by the kernel's own calls.
 ghost use Rattle.std.specs.Prelude.{◌≡◌, ℕ, None, Some, IsTrue};
 ghost use Rattle.hop_base.specs.declared.instructions.Condition.TheVariants.{Running as RunningNow};
-ghost use Rattle.hop_model.specs.Acts.{wanted};
-ghost use Rattle.wanted_act.specs.Views.{IsReadyLocus, act_of};
-ghost use Rattle.locus_machine.specs.Loci.{locus_of};
-ghost use Rattle.invocation.specs.Entries.{WantsBeside};
+ghost use Rattle.history_model.specs.hop_model.Acts.{wanted};
+ghost use Rattle.history_model.specs.wanted_act.Views.{IsReadyLocus, act_of};
+ghost use Rattle.kernel_calls.specs.locus_machine.Loci.{locus_of};
+ghost use Rattle.kernel_calls.specs.invocation.Entries.{WantsBeside};
 ghost use Rattle.kernel_calls.specs.Calls.{is_map, is_unmap};
 
 use crate::{is_counted, names_born};
 use atlas_dir::Atlas;
+use history_model::wanted_act::Act;
 use hop_base::{Answer, Entity, Instr, Kind, Reply};
-use invocation::{back, invoke, leave};
+use kernel_calls::invocation::{back, invoke, leave};
+use kernel_calls::locus_machine::{Head, Locus};
 use kernel_calls::{give, go, go_itself, make, map, spawn, stop, stop_itself, take, unmap};
-use locus_machine::{Head, Locus};
 use std::process::Abort;
-use wanted_act::Act;
 
 /// What stands beside the locus that makes a step.
 #[derive(Drop)]

@@ -19,8 +19,16 @@ mod by_hand;
 #[cfg(test)]
 mod kernel;
 #[cfg(test)]
+mod locus_machine_tests;
+#[cfg(test)]
 mod made;
+#[cfg(test)]
+mod manager_code_tests;
+#[cfg(test)]
+mod page_store_tests;
 #[cfg(test)]
 mod programs;
 #[cfg(test)]
 mod same;
+#[cfg(test)]
+mod script_against_tests;

@@ -2,7 +2,7 @@
 use cap_list::{CapList, SLOTS};
 use history_model::{PlainContainer, PlainLocus};
 use hop_base::{Call, Cap, Entity, Instr, Private, Region, Rights};
-use locus_machine::{Chain, Code, Head, Locus, MOST_CALLS, Privates};
+use kernel_calls::locus_machine::{Chain, Code, Head, Locus, MOST_CALLS, Privates};
 use region_map::RegionMap;
 
 fn code_from(code: &[Instr]) -> Option<Code> {

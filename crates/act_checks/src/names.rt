@@ -1,6 +1,6 @@
 ghost use Rattle.std.specs.Prelude.{◌≡◌, ◌↔◌, IsTrue, Some};
 ghost use Rattle.hop_base.specs.declared.capabilities.Cap.{Cap as AnyCap};
-ghost use Rattle.hop_model.specs.Words.{is_container};
+ghost use Rattle.history_model.specs.hop_model.Words.{is_container};
 ghost use Rattle.atlas_dir.specs.Directory.{IsBornContainer};
 ghost use Rattle.kernel_calls.specs.Calls.{NamesBorn};
 

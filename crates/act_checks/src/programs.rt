@@ -2,15 +2,15 @@
 ghost use Rattle.std.specs.Option.{ForSome};
 ghost use Rattle.std.specs.Prelude.{◌≡◌, ◌<◌, IfOk, None, All, length, codes};
 ghost use Rattle.hop_base.specs.Instructions.{IsInstruction, IsAccess, IsPlace};
-ghost use Rattle.hop_model.specs.Scripts.{container_named as container_number, locus_named as locus_number};
-ghost use Rattle.hop_model.specs.Soundness.{IsSoundCode};
-ghost use Rattle.hop_model.specs.State.{AtlasState, Text};
-ghost use Rattle.script_form.specs.Rules.{IsScript};
-ghost use Rattle.script_form.specs.Scripts.{tables_of};
+ghost use Rattle.history_model.specs.hop_model.Scripts.{container_named as container_number, locus_named as locus_number};
+ghost use Rattle.history_model.specs.hop_model.Soundness.{IsSoundCode};
+ghost use Rattle.history_model.specs.hop_model.State.{AtlasState, Text};
+ghost use Rattle.history_model.specs.script_form.Rules.{IsScript};
+ghost use Rattle.history_model.specs.script_form.Scripts.{tables_of};
 ghost use Rattle.history_model.specs.Born.{AreOfOneKind, KnowsNames};
 
+use history_model::script_form::{Script, ScriptCap, ScriptContainer, ScriptLocus};
 use hop_base::{Instr, Rights};
-use script_form::{Script, ScriptCap, ScriptContainer, ScriptLocus};
 use std::alloc::{AllocError, Global};
 
 /// Numbers that look random, the same each time.

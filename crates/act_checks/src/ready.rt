@@ -2,11 +2,11 @@ ghost use Rattle.std.specs.Prelude.{◌≡◌, ◌≤◌, ◌↔◌, IsTrue, All
 ghost use Rattle.std.specs.Option.{ForSome};
 ghost use Rattle.hop_base.specs.Instructions.{IsInstruction, IsAccess, IsPlace};
 ghost use Rattle.hop_base.specs.declared.instructions.Walk.{Walk};
-ghost use Rattle.wanted_act.specs.Views.{IsReadyLocus, IsInside};
-ghost use Rattle.locus_machine.specs.Loci.{locus_of};
+ghost use Rattle.history_model.specs.wanted_act.Views.{IsReadyLocus, IsInside};
+ghost use Rattle.kernel_calls.specs.locus_machine.Loci.{locus_of};
 
 use hop_base::{Instr, Region, Rights, Walk};
-use locus_machine::Locus;
+use kernel_calls::locus_machine::Locus;
 
 /// Read, Write or both.
 fn is_access(rights: Rights) -> bool

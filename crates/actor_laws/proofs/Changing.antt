@@ -5,30 +5,30 @@ use Rattle.std.proofs.lemmas.List.{append-nil, length-append}
 use Rattle.hop_base.specs.declared.histories.Entry.{Entry}
 use Rattle.hop_base.specs.declared.histories.Event.TheVariants.{Birth, Step}
 use Rattle.hop_base.specs.declared.histories.Touch.{Touch}
-use Rattle.hop_model.specs.Acts.{wanted}
-use Rattle.hop_model.specs.Births.{birth_from, birth_named, container_birth, locus_birth, next_birth, next_birth_change}
-use Rattle.hop_model.specs.Changes.{Access, Change, carried, changed, insert_access, merged, ordered, touches_of}
-use Rattle.hop_model.specs.LocalEvents.{touch_at}
-use Rattle.hop_model.specs.Outcomes.{free_container}
-use Rattle.hop_model.specs.Scripts.{ContainerTable, LocusTable, Script, container_named, container_table, locus_table, next_name, number_of}
-use Rattle.hop_model.specs.Soundness.{AreSound, IsSound, is_born, is_born_container, is_born_locus}
-use Rattle.hop_model.specs.State.{AtlasState, AtlasCell, Cell, ContainerCell, KernelState, LocusCell, NotBorn, Supply, Text}
-use Rattle.hop_model.specs.Steps.{accesses_of, atlas_in, change_of, numbered_change, outcome_in, running, seen_atlas, seen_other, step, step_change, with_atlas_access, with_newborn_access, with_other_access}
-use Rattle.hop_model.proofs.Basics.{some_of_map}
-use Rattle.hop_model.proofs.Faithful.{IsNewborn, free_locus_is, wanted_is}
-use Rattle.hop_model.proofs.Locality.{next_birth_local, step_local}
+use Rattle.history_model.specs.hop_model.Acts.{wanted}
+use Rattle.history_model.specs.hop_model.Births.{birth_from, birth_named, container_birth, locus_birth, next_birth, next_birth_change}
+use Rattle.history_model.specs.hop_model.Changes.{Access, Change, carried, changed, insert_access, merged, ordered, touches_of}
+use Rattle.history_model.specs.hop_model.LocalEvents.{touch_at}
+use Rattle.history_model.specs.hop_model.Outcomes.{free_container}
+use Rattle.history_model.specs.hop_model.Scripts.{ContainerTable, LocusTable, Script, container_named, container_table, locus_table, next_name, number_of}
+use Rattle.history_model.specs.hop_model.Soundness.{AreSound, IsSound, is_born, is_born_container, is_born_locus}
+use Rattle.history_model.specs.hop_model.State.{AtlasState, AtlasCell, Cell, ContainerCell, KernelState, LocusCell, NotBorn, Supply, Text}
+use Rattle.history_model.specs.hop_model.Steps.{accesses_of, atlas_in, change_of, numbered_change, outcome_in, running, seen_atlas, seen_other, step, step_change, with_atlas_access, with_newborn_access, with_other_access}
+use Rattle.history_model.proofs.hop_model_lemmas.Basics.{some_of_map}
+use Rattle.history_model.proofs.hop_model_lemmas.Faithful.{IsNewborn, free_locus_is, wanted_is}
+use Rattle.history_model.proofs.hop_model_lemmas.Locality.{next_birth_local, step_local}
 use Rattle.history_model.specs.Lists.{IsFront, KeepsNames}
 use Rattle.fitting_births.proofs.Growing.{ByContainer, ByLocus, Grew, born_atlas, container_change, locus_change}
 use Rattle.fitting_births.proofs.KnownNames.{NextName, OfContainer, OfLocus, next_name_is}
-use Rattle.script_form.specs.Rules.{IsScript}
-use Rattle.run_laws.proofs.Writing.{running_is}
-use Rattle.sound_runs.proofs.Ranges.{NamesBorn, wanted_born}
-use Rattle.sound_runs.proofs.Tables.{container_named_born}
+use Rattle.history_model.specs.script_form.Rules.{IsScript}
+use Rattle.history_model.proofs.run_laws_lemmas.Writing.{running_is}
+use Rattle.history_model.proofs.sound_runs_lemmas.Ranges.{NamesBorn, wanted_born}
+use Rattle.history_model.proofs.sound_runs_lemmas.Tables.{container_named_born}
 use Rattle.sound_states.proofs.Cells.{AreGood, IsGoodCell, changed_good}
 use Rattle.sound_states.proofs.Steps.{step_good}
-use Rattle.sound_steps.proofs.Cells.{locus_in}
-use Rattle.sound_steps.proofs.Growth.{Wider, born_container, born_locus, wider_born}
-use Rattle.sound_steps.proofs.Steps.{step_sound}
+use Rattle.history_model.proofs.sound_steps_lemmas.Cells.{locus_in}
+use Rattle.history_model.proofs.sound_steps_lemmas.Growth.{Wider, born_container, born_locus, wider_born}
+use Rattle.history_model.proofs.sound_steps_lemmas.Steps.{step_sound}
 use Rattle.actor_laws.proofs.Naming.{step_names}
 
 -- ACCESSES
@@ -57,7 +57,7 @@ module _ (P : ℕ → Type 0) where
   touched_of : (w : KernelState) (ms : List Access) (x : ℕ) (t : Touch) → AllOf P ms → touch_at (touches_of w ms) x ≡ Some t → P x
   touched_of w [] x t all e = cc
   touched_of w (m ∷ ms) x t all e =
-      elim (m.entity == x) as (λ b. (m.entity == x) ≡ b → (if b then Some (Rattle.hop_model.specs.Changes.touch_of w m) else touch_at (touches_of w ms) x) ≡ Some t → P x) [
+      elim (m.entity == x) as (λ b. (m.entity == x) ≡ b → (if b then Some (Rattle.history_model.specs.hop_model.Changes.touch_of w m) else touch_at (touches_of w ms) x) ≡ Some t → P x) [
         | true ↦ λ is e. subst P (eqb-true m.entity x is) all.0
         | false ↦ λ is e. touched_of w ms x t all.1 e
       ] refl e

@@ -6,25 +6,25 @@ use Rattle.hop_base.specs.Edges.{upto}
 use Rattle.hop_base.specs.declared.histories.Answer.{Answer}
 use Rattle.hop_base.specs.declared.histories.Entry.{Entry}
 use Rattle.hop_base.specs.declared.histories.Event.TheVariants.{Birth, Step, Snap as SnapEvent, Stable, Tried}
-use Rattle.hop_model.specs.Births.{next_birth}
-use Rattle.hop_model.specs.Histories.{IsLegalFrom, IsLegalRun, May, MayCommit, Policy, Run, births_owed, event_of, goes_on, has_changed, has_wish, asked_by, with_asked, writes, locus_in as locus_of, may, next_changed, owed_by, run_after, stabilises, start_run, version_of, went_on}
-use Rattle.hop_model.specs.Parts.{after_entry, is_event, next_of}
-use Rattle.hop_model.specs.Scripts.{Script}
-use Rattle.hop_model.specs.Soundness.{IsSound, is_born}
-use Rattle.hop_model.specs.State.{AtlasState, EntityState, KernelState, LocusState, Supply}
-use Rattle.hop_model.specs.Steps.{atlas_in, step}
-use Rattle.hop_model.specs.Words.{put}
-use Rattle.hop_model.proofs.Basics.{some_of_map}
-use Rattle.hop_model.proofs.LegalRuns.{next_legal, state_goes_on}
+use Rattle.history_model.specs.hop_model.Births.{next_birth}
+use Rattle.history_model.specs.hop_model.Histories.{IsLegalFrom, IsLegalRun, May, MayCommit, Policy, Run, births_owed, event_of, goes_on, has_changed, has_wish, asked_by, with_asked, writes, locus_in as locus_of, may, next_changed, owed_by, run_after, stabilises, start_run, version_of, went_on}
+use Rattle.history_model.specs.hop_model.Parts.{after_entry, is_event, next_of}
+use Rattle.history_model.specs.hop_model.Scripts.{Script}
+use Rattle.history_model.specs.hop_model.Soundness.{IsSound, is_born}
+use Rattle.history_model.specs.hop_model.State.{AtlasState, EntityState, KernelState, LocusState, Supply}
+use Rattle.history_model.specs.hop_model.Steps.{atlas_in, step}
+use Rattle.history_model.specs.hop_model.Words.{put}
+use Rattle.history_model.proofs.hop_model_lemmas.Basics.{some_of_map}
+use Rattle.history_model.proofs.hop_model_lemmas.LegalRuns.{next_legal, state_goes_on}
 use Rattle.history_model.specs.Lists.{KeepsNames}
-use Rattle.run_laws.proofs.Tellings.{written_rises}
-use Rattle.run_laws.proofs.Writing.{step_is, step_writes_asked}
-use Rattle.script_form.specs.Rules.{IsScript}
-use Rattle.sound_runs.proofs.Births.{NotLocus}
-use Rattle.sound_runs.proofs.Standing.{IsStanding, standing_next}
-use Rattle.sound_runs.proofs.Tables.{born_locus}
-use Rattle.sound_steps.proofs.Cells.{locus_in}
-use Rattle.sound_steps.proofs.Growth.{wider_born}
+use Rattle.history_model.proofs.run_laws_lemmas.Tellings.{written_rises}
+use Rattle.history_model.proofs.run_laws_lemmas.Writing.{step_is, step_writes_asked}
+use Rattle.history_model.specs.script_form.Rules.{IsScript}
+use Rattle.history_model.proofs.sound_runs_lemmas.Births.{NotLocus}
+use Rattle.history_model.proofs.sound_runs_lemmas.Standing.{IsStanding, standing_next}
+use Rattle.history_model.proofs.sound_runs_lemmas.Tables.{born_locus}
+use Rattle.history_model.proofs.sound_steps_lemmas.Cells.{locus_in}
+use Rattle.history_model.proofs.sound_steps_lemmas.Growth.{wider_born}
 use Rattle.actor_laws.proofs.Changing.{IsWidened, birth_widens, step_changes, wider}
 use Rattle.actor_laws.proofs.Naming.{keeps_same, step_names}
 
@@ -71,7 +71,7 @@ unput f k x e = elim (x == k) as (λ b. (if b then false else f x) ≡ true → 
 owes_self : (actor : ℕ) (answer : Answer) (o : Option LocusState) (x : ℕ) → owed_by actor answer o ≡ Some x → x ≡ actor
 owes_self actor answer None x e = none_some x e
 owes_self actor answer (Some l) x e =
-    elim (stabilises answer (Rattle.hop_model.specs.Refusals.instr_at l)) as (λ b. (if b then Some actor else None) ≡ Some x → x ≡ actor) [
+    elim (stabilises answer (Rattle.history_model.specs.hop_model.Refusals.instr_at l)) as (λ b. (if b then Some actor else None) ≡ Some x → x ≡ actor) [
       | true ↦ λ e. sym (some_is actor x e)
       | false ↦ λ e. none_some x e
     ] e
@@ -83,7 +83,7 @@ module _ (s : Supply) (policy : Policy) (script : Script) (rules : IsScript scri
       let k = subst (may s policy script r e) is m.1 in
       let q = some_of_map (λ (q : Entry × KernelState). q.0) (next_birth s script r.state) e k.1 in
       let left : (goes_on s script r e).state ≡ q.0.1 = state_goes_on s policy script r e
-      ∙ ap (λ ev. if is_event ev then next_of (event_of s script) r.state (Rattle.hop_model.specs.Histories.by_event s script ev e.actor r.state) else r.state) is ∙ ap (next_of (event_of s script) r.state) q.1 in
+      ∙ ap (λ ev. if is_event ev then next_of (event_of s script) r.state (Rattle.history_model.specs.hop_model.Histories.by_event s script ev e.actor r.state) else r.state) is ∙ ap (next_of (event_of s script) r.state) q.1 in
       subst (IsWidened r.state) (sym left) (birth_widens s script r.state q.0 rules q.1).0
 
   -- a newborn is born then
@@ -92,7 +92,7 @@ module _ (s : Supply) (policy : Policy) (script : Script) (rules : IsScript scri
       let k = subst (may s policy script r e) is m.1 in
       let q = some_of_map (λ (q : Entry × KernelState). q.0) (next_birth s script r.state) e k.1 in
       let left : (goes_on s script r e).state ≡ q.0.1 = state_goes_on s policy script r e
-      ∙ ap (λ ev. if is_event ev then next_of (event_of s script) r.state (Rattle.hop_model.specs.Histories.by_event s script ev e.actor r.state) else r.state) is ∙ ap (next_of (event_of s script) r.state) q.1 in
+      ∙ ap (λ ev. if is_event ev then next_of (event_of s script) r.state (Rattle.history_model.specs.hop_model.Histories.by_event s script ev e.actor r.state) else r.state) is ∙ ap (next_of (event_of s script) r.state) q.1 in
       subst (λ (v : KernelState). IsTrue (is_born (atlas_in (v 0).cell) e.actor)) (sym left) (subst (λ (f : Entry). IsTrue (is_born (atlas_in (q.0.1 0).cell) f.actor)) q.2 (birth_widens s script r.state q.0 rules q.1).1)
 
   step_left : (r : Run) (e : Entry) → e.event ≡ Step → May s policy script r e → IsStanding script r → IsWidened r.state (goes_on s script r e).state
@@ -100,7 +100,7 @@ module _ (s : Supply) (policy : Policy) (script : Script) (rules : IsScript scri
       let k = subst (may s policy script r e) is m.1 in
       let q = some_of_map (λ (q : Entry × KernelState). q.0) (step s e.actor r.state) e k.4 in
       let left : (goes_on s script r e).state ≡ q.0.1 = state_goes_on s policy script r e
-      ∙ ap (λ ev. if is_event ev then next_of (event_of s script) r.state (Rattle.hop_model.specs.Histories.by_event s script ev e.actor r.state) else r.state) is ∙ ap (next_of (event_of s script) r.state) q.1 in
+      ∙ ap (λ ev. if is_event ev then next_of (event_of s script) r.state (Rattle.history_model.specs.hop_model.Histories.by_event s script ev e.actor r.state) else r.state) is ∙ ap (next_of (event_of s script) r.state) q.1 in
       subst (IsWidened r.state) (sym left) (record { names = step_names s e.actor r.state q.0 h.sound q.1; changes = λ x. step_changes s e.actor r.state q.0 x h.sound q.1 })
 
   -- the locus of a step is born

@@ -1,3 +1,5 @@
 pub mod Naming
 pub mod Changing
 pub mod Knowing
+pub use Rattle.history_model.proofs as history_model_lemmas
+pub use Rattle.history_model.proofs.sound_runs_lemmas

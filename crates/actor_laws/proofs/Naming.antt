@@ -2,11 +2,11 @@
 use Rattle.std.proofs.Common.{◌≡◌, ℕ, [], Some, sym, ◌∙◌}
 use Rattle.std.proofs.lemmas.List.{append-nil}
 use Rattle.hop_base.specs.declared.histories.Entry.{Entry}
-use Rattle.hop_model.specs.State.{AtlasState, KernelState, Supply}
-use Rattle.hop_model.specs.Soundness.{IsSound}
-use Rattle.hop_model.specs.Steps.{atlas_in, step}
+use Rattle.history_model.specs.hop_model.State.{AtlasState, KernelState, Supply}
+use Rattle.history_model.specs.hop_model.Soundness.{IsSound}
+use Rattle.history_model.specs.hop_model.Steps.{atlas_in, step}
 use Rattle.history_model.specs.Lists.{KeepsNames}
-use Rattle.sound_runs.proofs.Naming.{step_keeps}
+use Rattle.history_model.proofs.sound_runs_lemmas.Naming.{step_keeps}
 
 pub keeps_same : (a b : AtlasState) → b.containers ≡ a.containers → b.loci ≡ a.loci → KeepsNames a b
 keeps_same a b c l = record { containers = ([], c ∙ sym (append-nil a.containers)); loci = ([], l ∙ sym (append-nil a.loci)) }

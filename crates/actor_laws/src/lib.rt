@@ -4,14 +4,17 @@
 ghost use Rattle.std.specs.Prelude.{◌≡◌, IsTrue, ℕ, List, Some};
 ghost use Rattle.hop_base.specs.declared.histories.Entry.{Entry};
 ghost use Rattle.hop_base.specs.declared.histories.Event.TheVariants.{Birth};
-ghost use Rattle.hop_model.specs.State.{Supply, KernelState};
-ghost use Rattle.hop_model.specs.Histories.{Policy, IsLegalRun, May, goes_on, run_after, start_run};
-ghost use Rattle.hop_model.specs.Scripts.{Script};
-ghost use Rattle.hop_model.specs.Soundness.{IsSound, is_born};
-ghost use Rattle.hop_model.specs.Steps.{atlas_in, step};
+ghost use Rattle.history_model.specs.hop_model.State.{Supply, KernelState};
+ghost use Rattle.history_model.specs.hop_model.Histories.{Policy, IsLegalRun, May, goes_on, run_after, start_run};
+ghost use Rattle.history_model.specs.hop_model.Scripts.{Script};
+ghost use Rattle.history_model.specs.hop_model.Soundness.{IsSound, is_born};
+ghost use Rattle.history_model.specs.hop_model.Steps.{atlas_in, step};
 ghost use Rattle.history_model.specs.Lists.{KeepsNames};
-ghost use Rattle.script_form.specs.Rules.{IsScript};
-ghost use Rattle.sound_runs.specs.Kinds.{NamesNoLocus};
+ghost use Rattle.history_model.specs.script_form.Rules.{IsScript};
+ghost use Rattle.history_model.specs.sound_runs.Kinds.{NamesNoLocus};
+
+pub use history_model;
+pub use history_model::script_form;
 
 /// A step takes no name from the atlas and gives none to another number.
 pub fn kept_names_law()

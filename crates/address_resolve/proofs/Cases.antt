@@ -7,13 +7,13 @@ use Rattle.hop_base.specs.declared.histories.Answer.{Answer}
 use Rattle.hop_base.specs.declared.instructions.Reply.{Reply}
 use Rattle.hop_base.specs.declared.instructions.Reply.TheVariants.{NoPage, Deep}
 use Rattle.hop_base.specs.declared.instructions.Walk.{Walk}
-use Rattle.hop_model.specs.State.{ContainerState, LocusState, ContainerCell}
-use Rattle.hop_model.specs.Outcomes.{Outcome, hop_to, look_hops, looked, looked_by, own_reply, through}
-use Rattle.hop_model.specs.Words.{covers, denied}
+use Rattle.fault_paging.specs.hop_model.State.{ContainerState, LocusState, ContainerCell}
+use Rattle.fault_paging.specs.hop_model.Outcomes.{Outcome, hop_to, look_hops, looked, looked_by, own_reply, through}
+use Rattle.fault_paging.specs.hop_model.Words.{covers, denied}
 use Rattle.region_map.specs.Regions.{AreRegions}
-use Rattle.wanted_act.specs.Views.{IsReadyLocus, ShowsPage}
-use Rattle.wanted_act.proofs.Shown.{shows}
-use Rattle.locus_machine.proofs.Kept.{ready_finish}
+use Rattle.invocation.specs.wanted_act.Views.{IsReadyLocus, ShowsPage}
+use Rattle.invocation.proofs.wanted_act_lemmas.Shown.{shows}
+use Rattle.invocation.proofs.locus_machine_lemmas.Kept.{ready_finish}
 use Rattle.address_resolve.specs.Looks.{Looked, Shows}
 
 -- the region that covers the page shows it

@@ -2,11 +2,11 @@
 use Rattle.std.proofs.Common.{◌≡◌, ℕ, ◌<◌, true, false, refl, sym, ap, ◌∙◌}
 use Rattle.hop_base.specs.declared.instructions.Instr.{Instr}
 use Rattle.hop_base.specs.declared.instructions.Instr.TheVariants.{Load, Store}
-use Rattle.hop_model.specs.State.{Supply, AtlasState, ContainerState, LocusState, ContainerCell}
-use Rattle.hop_model.specs.Acts.{wanted}
-use Rattle.hop_model.specs.Outcomes.{load, look_address, looked, on_cell, outcome, store}
-use Rattle.hop_model.specs.Refusals.{instr_at, reg}
-use Rattle.wanted_act.specs.Views.{IsReadyLocus, may_name_itself}
+use Rattle.fault_paging.specs.hop_model.State.{Supply, AtlasState, ContainerState, LocusState, ContainerCell}
+use Rattle.fault_paging.specs.hop_model.Acts.{wanted}
+use Rattle.fault_paging.specs.hop_model.Outcomes.{load, look_address, looked, on_cell, outcome, store}
+use Rattle.fault_paging.specs.hop_model.Refusals.{instr_at, reg}
+use Rattle.invocation.specs.wanted_act.Views.{IsReadyLocus, may_name_itself}
 use Rattle.invocation.specs.Entries.{WantsBeside}
 use Rattle.invocation.proofs.Entered.{instr_is, made_by, within}
 use Rattle.address_resolve.specs.declared.aim.Access.TheVariants.{Load as Reads, Store as Writes}

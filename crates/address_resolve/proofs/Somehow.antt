@@ -3,12 +3,12 @@ use Rattle.std.proofs.Common.{◌≡◌, ◌≢◌, ℕ, ◌*◌, ◌/◌, ◌<�
 use Rattle.hop_base.specs.declared.histories.Answer.{Answer}
 use Rattle.hop_base.specs.declared.histories.Answer.TheVariants.{Read, Reply as Replied}
 use Rattle.hop_base.specs.declared.instructions.Reply.TheVariants.{Ok}
-use Rattle.hop_model.specs.Acts.{wanted}
-use Rattle.hop_model.specs.Outcomes.{Outcome, finish, looked, outcome, set_reg}
-use Rattle.hop_model.specs.State.{Supply, AtlasState, ContainerCell, ContainerState, LocusState}
-use Rattle.hop_model.specs.Words.{put}
-use Rattle.locus_machine.specs.Loci.{container_with}
-use Rattle.locus_machine.specs.declared.loci.Head.{Head}
+use Rattle.fault_paging.specs.hop_model.Acts.{wanted}
+use Rattle.fault_paging.specs.hop_model.Outcomes.{Outcome, finish, looked, outcome, set_reg}
+use Rattle.fault_paging.specs.hop_model.State.{Supply, AtlasState, ContainerCell, ContainerState, LocusState}
+use Rattle.fault_paging.specs.hop_model.Words.{put}
+use Rattle.invocation.specs.locus_machine.Loci.{container_with}
+use Rattle.invocation.specs.locus_machine.declared.loci.Head.{Head}
 use Rattle.address_resolve.specs.Looks.{Looked, LooksSomehow, ReachesSomehow, Shows, done_by, needed_by}
 use Rattle.address_resolve.specs.declared.aim.Access.{Access}
 use Rattle.address_resolve.specs.declared.aim.Access.TheVariants.{Load as Reads, Store as Writes}

@@ -5,13 +5,13 @@ use Rattle.hop_base.specs.declared.histories.Answer.TheVariants.{Read}
 use Rattle.hop_base.specs.declared.instructions.Instr.{Instr}
 use Rattle.hop_base.specs.declared.instructions.Instr.TheVariants.{Load, Store}
 use Rattle.hop_base.specs.declared.instructions.Reply.TheVariants.{Ok}
-use Rattle.hop_model.specs.State.{AtlasState, ContainerState, LocusState, ContainerCell, Supply}
-use Rattle.hop_model.specs.Acts.{wanted}
-use Rattle.hop_model.specs.Outcomes.{Outcome, finish, look_address, outcome, own, set_reg, with_other, with_word}
-use Rattle.hop_model.specs.Refusals.{instr_at, reg}
-use Rattle.hop_model.specs.Words.{covers}
-use Rattle.locus_machine.specs.Loci.{container_with}
-use Rattle.locus_machine.specs.declared.loci.Head.{Head}
+use Rattle.fault_paging.specs.hop_model.State.{AtlasState, ContainerState, LocusState, ContainerCell, Supply}
+use Rattle.fault_paging.specs.hop_model.Acts.{wanted}
+use Rattle.fault_paging.specs.hop_model.Outcomes.{Outcome, finish, look_address, outcome, own, set_reg, with_other, with_word}
+use Rattle.fault_paging.specs.hop_model.Refusals.{instr_at, reg}
+use Rattle.fault_paging.specs.hop_model.Words.{covers}
+use Rattle.invocation.specs.locus_machine.Loci.{container_with}
+use Rattle.invocation.specs.locus_machine.declared.loci.Head.{Head}
 use Rattle.fault_paging.specs.declared.paged.PagedMemory.{PagedMemory}
 use Rattle.address_resolve.specs.declared.aim.Access.{Access}
 use Rattle.address_resolve.specs.declared.aim.Access.TheVariants.{Load as Reads, Store as Writes}

@@ -1,16 +1,16 @@
 ghost use Rattle.std.specs.Prelude.{◌≡◌, ◌<◌, ℕ};
-ghost use Rattle.hop_model.specs.Acts.{wanted};
-ghost use Rattle.hop_model.specs.Outcomes.{looked, outcome};
-ghost use Rattle.hop_model.specs.Refusals.{instr_at};
-ghost use Rattle.hop_model.specs.State.{AtlasState, ContainerCell, ContainerState, Supply};
-ghost use Rattle.wanted_act.specs.Views.{IsReadyLocus};
-ghost use Rattle.locus_machine.specs.Loci.{locus_of};
+ghost use Rattle.fault_paging.specs.hop_model.Acts.{wanted};
+ghost use Rattle.fault_paging.specs.hop_model.Outcomes.{looked, outcome};
+ghost use Rattle.fault_paging.specs.hop_model.Refusals.{instr_at};
+ghost use Rattle.fault_paging.specs.hop_model.State.{AtlasState, ContainerCell, ContainerState, Supply};
+ghost use Rattle.invocation.specs.wanted_act.Views.{IsReadyLocus};
+ghost use Rattle.invocation.specs.locus_machine.Loci.{locus_of};
 ghost use Rattle.invocation.specs.Entries.{WantsBeside};
 ghost use Rattle.address_resolve.specs.Looks.{address_of, done_by, is_look, is_store, needed_by, writes, NamesRegister};
 
 use hop_base::{Instr, Rights};
-use locus_machine::Locus;
-use wanted_act::{fetch, next_address};
+use invocation::locus_machine::Locus;
+use invocation::wanted_act::{fetch, next_address};
 
 /// What is done with a word.
 #[derive(Clone, Copy)]

@@ -2,12 +2,12 @@
 #![tactic(auto)]
 
 ghost use Rattle.std.specs.Prelude.{◌≡◌, ◌≤◌, ◌+◌, ◌/◌, ℕ, false, true, IfErr, IfOk, IsOk, OnErr, OnOk};
-ghost use Rattle.hop_model.specs.Acts.{wanted};
-ghost use Rattle.hop_model.specs.Outcomes.{outcome};
-ghost use Rattle.hop_model.specs.Refusals.{instr_at};
-ghost use Rattle.hop_model.specs.State.{AtlasState, ContainerCell, Supply};
-ghost use Rattle.wanted_act.specs.Views.{IsReadyLocus};
-ghost use Rattle.locus_machine.specs.Loci.{container_with, locus_of};
+ghost use Rattle.fault_paging.specs.hop_model.Acts.{wanted};
+ghost use Rattle.fault_paging.specs.hop_model.Outcomes.{outcome};
+ghost use Rattle.fault_paging.specs.hop_model.Refusals.{instr_at};
+ghost use Rattle.fault_paging.specs.hop_model.State.{AtlasState, ContainerCell, Supply};
+ghost use Rattle.invocation.specs.wanted_act.Views.{IsReadyLocus};
+ghost use Rattle.invocation.specs.locus_machine.Loci.{container_with, locus_of};
 ghost use Rattle.invocation.specs.Entries.{WantsBeside};
 ghost use Rattle.fault_paging.specs.Words.{AreCleanTrue, IsSoundTable, words_of};
 ghost use Rattle.fault_paging.specs.Calls.{Counts, IsCausedBy, Keeps, KeepsBlocks, MakesRoom, MarksOne};
@@ -16,11 +16,14 @@ ghost use Rattle.address_resolve.specs.Looks.{address_of, comes_to_word, is_look
 use crate::aim::aim_of;
 use crate::shown::shown;
 use crate::word::at_word;
+pub use fault_paging;
+pub use fault_paging::page_store;
+use fault_paging::page_store::PageStore;
 use fault_paging::{PageFault, PagedMemory};
 use hop_base::{Answer, PAGE_WORDS};
-use locus_machine::{Head, Locus};
+use invocation::locus_machine::{Head, Locus};
+pub use invocation::{locus_machine, wanted_act};
 use manager_gate::{Gate, Policy, Supplier};
-use page_store::PageStore;
 
 mod aim;
 mod shown;

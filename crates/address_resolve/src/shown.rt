@@ -1,13 +1,13 @@
 ghost use Rattle.std.specs.Prelude.{◌≡◌, ◌/◌, ◌<◌, ℕ, false, true, IfNone, IfSome};
-ghost use Rattle.hop_model.specs.Outcomes.{looked, through as gone_through, Outcome};
-ghost use Rattle.hop_model.specs.Words.{denied};
-ghost use Rattle.wanted_act.specs.Views.{IsReadyLocus, ShowsPage};
-ghost use Rattle.locus_machine.specs.Loci.{locus_of, container_with};
+ghost use Rattle.fault_paging.specs.hop_model.Outcomes.{looked, through as gone_through, Outcome};
+ghost use Rattle.fault_paging.specs.hop_model.Words.{denied};
+ghost use Rattle.invocation.specs.wanted_act.Views.{IsReadyLocus, ShowsPage};
+ghost use Rattle.invocation.specs.locus_machine.Loci.{locus_of, container_with};
 ghost use Rattle.address_resolve.specs.Looks.{comes_to_word, Shows};
 
 use hop_base::{Answer, PAGE_WORDS, Region, Reply, Rights};
-use locus_machine::{Head, Locus};
-use wanted_act::next_walk;
+use invocation::locus_machine::{Head, Locus};
+use invocation::wanted_act::next_walk;
 
 /// What a region that shows the address makes of the walk: a denial, one hop more, or the end.
 fn follow(locus: &mut Locus, region: &Region, address: u64, needed: Rights) -> Answer

@@ -1,17 +1,17 @@
 ghost use Rattle.std.specs.Prelude.{◌≡◌, ◌*◌, ◌/◌, ◌<◌, IfErr, IfOk, OnErr, OnOk};
-ghost use Rattle.wanted_act.specs.Views.{IsReadyLocus};
-ghost use Rattle.locus_machine.specs.declared.loci.Head.{Head};
-ghost use Rattle.locus_machine.specs.Loci.{container_with, locus_of};
+ghost use Rattle.invocation.specs.wanted_act.Views.{IsReadyLocus};
+ghost use Rattle.invocation.specs.locus_machine.declared.loci.Head.{Head};
+ghost use Rattle.invocation.specs.locus_machine.Loci.{container_with, locus_of};
 ghost use Rattle.fault_paging.specs.Words.{AreCleanTrue, IsSoundTable, words_of};
 ghost use Rattle.fault_paging.specs.Calls.{Counts, IsCausedBy, Keeps, KeepsBlocks, MakesRoom, MarksOne};
 ghost use Rattle.address_resolve.specs.Looks.{done_by, writes, Looked, NamesRegister, ReachesSomehow};
 
 use crate::aim::{Access, Aim};
+use fault_paging::page_store::PageStore;
 use fault_paging::{PageFault, PagedMemory};
 use hop_base::{Answer, PAGE_WORDS, Reply};
-use locus_machine::Locus;
+use invocation::locus_machine::Locus;
 use manager_gate::{Gate, Policy, Supplier};
-use page_store::PageStore;
 
 /// The look at a word: it is read or written, and the walk ends. A fault leaves the locus and the words as they were.
 pub(crate) fn at_word<B: PageStore, S: Supplier, P: Policy>(

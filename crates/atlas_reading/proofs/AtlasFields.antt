@@ -4,11 +4,11 @@ use Rattle.std.proofs.lemmas.List.{append-nil, length-append}
 use Rattle.std.specs.List.{flat_map}
 use Rattle.hop_base.specs.Edges.{Edges}
 use Rattle.hop_base.specs.declared.entities.Kind.TheVariants.{Atlas, Container, Locus}
-use Rattle.hop_model.specs.State.{AtlasState}
+use Rattle.snapshot_reading.specs.hop_model.State.{AtlasState}
 use Rattle.atlas_dir.specs.Directory.{Directory, IsDirectory}
 use Rattle.atlas_dir.proofs.Naming.{born_container, born_locus, nothing_born}
-use Rattle.blob_grammar.specs.Forms.{IsAtlasForm, IsSpelling, SpellsAtlas}
-use Rattle.blob_grammar.specs.Spelling.{atlas_blob, counted_edges, edges_bytes, listed, text_bytes}
+use Rattle.snapshot_reading.specs.blob_grammar.Forms.{IsAtlasForm, IsSpelling, SpellsAtlas}
+use Rattle.snapshot_reading.specs.blob_grammar.Spelling.{atlas_blob, counted_edges, edges_bytes, listed, text_bytes}
 use Rattle.snapshot_reading.specs.Fields.{IsByteIn, IsFound, IsRefused, Spells, Then}
 use Rattle.snapshot_reading.proofs.Bytes.{byte_tells}
 use Rattle.snapshot_reading.proofs.Items.{items_tell}

@@ -3,9 +3,9 @@ use Rattle.std.proofs.Common.{◌≡◌, ◌<◌, ◌⊎◌, inl, inr, ℕ, zero
 use Rattle.std.proofs.lemmas.Bool.{false≢true}
 use Rattle.std.proofs.lemmas.Option.{slice_get_within}
 use Rattle.std.specs.Prelude.{IfSome}
-use Rattle.hop_model.specs.Scripts.{text_eq}
-use Rattle.hop_model.specs.Soundness.{are_names_from, is_given_name, is_name_of}
-use Rattle.hop_model.proofs.Basics.{and_left, and_right}
+use Rattle.snapshot_reading.specs.hop_model.Scripts.{text_eq}
+use Rattle.snapshot_reading.specs.hop_model.Soundness.{are_names_from, is_given_name, is_name_of}
+use Rattle.snapshot_reading.proofs.hop_model_lemmas.Basics.{and_left, and_right}
 use Rattle.atlas_dir.specs.Directory.{Directory, IsDirectory, IsNameOf, entity_named, made_name, name_of}
 use Rattle.atlas_dir.proofs.Naming.{container_name, locus_name}
 use Rattle.directory_laws.proofs.NameLaws.{given_names_same}

@@ -4,8 +4,8 @@ use Rattle.std.specs.Prelude.{slice_index}
 use Rattle.hop_base.specs.declared.entities.Kind.TheVariants.{Container, Locus}
 use Rattle.atlas_dir.specs.Directory.{Directory, edges_of}
 use Rattle.atlas_dir.specs.Reached.{edges_in}
-use Rattle.blob_grammar.specs.Forms.{SpellsAtlas}
-use Rattle.hop_model.specs.State.{AtlasState}
+use Rattle.snapshot_reading.specs.blob_grammar.Forms.{SpellsAtlas}
+use Rattle.snapshot_reading.specs.hop_model.State.{AtlasState}
 use Rattle.snapshot_reading.specs.Fields.{IsFound}
 use Rattle.atlas_reading.specs.Atlases.{IsAtlasSpelled}
 use Rattle.atlas_reading.specs.Names.{AreNamesSpelled, names_in, with_names}

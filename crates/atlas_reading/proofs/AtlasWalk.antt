@@ -5,10 +5,10 @@ use Rattle.std.proofs.lemmas.List.{append-nil, length-append}
 use Rattle.std.proofs.lemmas.Option.{slice_get_within}
 use Rattle.std.specs.Prelude.{codes, slice_index}
 use Rattle.std.specs.List.{flat_map}
-use Rattle.hop_model.specs.Soundness.{is_name_of}
+use Rattle.snapshot_reading.specs.hop_model.Soundness.{is_name_of}
 use Rattle.atlas_dir.specs.Directory.{Directory, IsDirectory, IsNameOf, entity_named, name_of}
 use Rattle.atlas_dir.proofs.Naming.{born_container, born_locus, container_name, led, locus_name}
-use Rattle.blob_grammar.specs.Spelling.{text_bytes}
+use Rattle.snapshot_reading.specs.blob_grammar.Spelling.{text_bytes}
 use Rattle.atlas_reading.proofs.AtlasNames.{directory_name, is_none, some_of}
 use Rattle.hop_base.specs.declared.entities.Kind.TheVariants.{Container, Locus}
 use Rattle.atlas_reading.specs.Names.{AreNamesSpelled}

@@ -4,7 +4,7 @@ use Rattle.std.proofs.Math.Nat.{mod-lt}
 use Rattle.std.proofs.lemmas.Nat.{div-add-mod'}
 use Rattle.std.proofs.lemmas.Bool.Decides.{eqb_tells}
 use Rattle.std.specs.Prelude.{drop, slice_index}
-use Rattle.blob_grammar.specs.Spelling.{edge_bytes}
+use Rattle.snapshot_reading.specs.blob_grammar.Spelling.{edge_bytes}
 use Rattle.snapshot_reading.specs.Fields.{IsByteIn, IsFound, IsRefused, Spells, Then}
 use Rattle.snapshot_reading.proofs.Bytes.{byte_tells, some_byte}
 use Rattle.snapshot_reading.proofs.Sequences.{TellsApart, chain, joined, refused_as, refused_here, refused_later}

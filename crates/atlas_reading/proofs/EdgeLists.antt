@@ -3,8 +3,8 @@ use Rattle.std.proofs.Common.{◌≡◌, ◌≤◌, ℕ, zero, suc, ◌+◌, ◌
 use Rattle.std.specs.List.{flat_map}
 use Rattle.byteorder.specs.Endian.{little_bytes}
 use Rattle.hop_base.specs.Edges.{Edges}
-use Rattle.blob_grammar.specs.Forms.{AreCounts}
-use Rattle.blob_grammar.specs.Spelling.{Counted, counted_edges, edge_bytes, edges_bytes}
+use Rattle.snapshot_reading.specs.blob_grammar.Forms.{AreCounts}
+use Rattle.snapshot_reading.specs.blob_grammar.Spelling.{Counted, counted_edges, edge_bytes, edges_bytes}
 use Rattle.snapshot_reading.specs.Fields.{IsFound, IsNumberIn, IsRefused, Items, Spells, Then}
 use Rattle.snapshot_reading.proofs.Numbers.{tells}
 use Rattle.snapshot_reading.proofs.Sequences.{chain, joined, refused_as, refused_here, refused_later}

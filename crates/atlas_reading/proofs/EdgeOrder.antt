@@ -7,8 +7,8 @@ use Rattle.std.proofs.lemmas.List.{append-nil}
 use Rattle.std.specs.List.{flat_map}
 use Rattle.hop_base.specs.Edges.{Edges, upto}
 use Rattle.atlas_dir.specs.Reached.{with_edge}
-use Rattle.blob_grammar.specs.Forms.{AreCounts}
-use Rattle.blob_grammar.specs.Spelling.{Counted, counted, counted_edges}
+use Rattle.snapshot_reading.specs.blob_grammar.Forms.{AreCounts}
+use Rattle.snapshot_reading.specs.blob_grammar.Spelling.{Counted, counted, counted_edges}
 use Rattle.atlas_reading.specs.Edges.{pair_of}
 
 -- RANGES

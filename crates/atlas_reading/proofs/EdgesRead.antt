@@ -2,7 +2,7 @@
 use Rattle.std.proofs.Common.{◌≡◌, ◌<◌, ◌≤◌, ℕ, suc, ◌+◌, ◌-◌, List, [], ◌∷◌, ◌++◌, sym, subst, arith}
 use Rattle.hop_base.specs.Edges.{Edges}
 use Rattle.atlas_dir.specs.Reached.{with_edge}
-use Rattle.blob_grammar.specs.Spelling.{Counted, counted_edges}
+use Rattle.snapshot_reading.specs.blob_grammar.Spelling.{Counted, counted_edges}
 use Rattle.snapshot_reading.specs.Fields.{IsFound, IsRefused, Spells}
 use Rattle.snapshot_reading.proofs.Items.{HasRead, all_read, none_yet, one_more, one_refused}
 use Rattle.atlas_reading.specs.Edges.{IsEdgeIn, pair_of}

@@ -4,9 +4,9 @@ use Rattle.std.proofs.lemmas.Bool.{cases_lt}
 use Rattle.std.specs.Prelude.{drop, slice_index}
 use Rattle.atlas_dir.specs.Directory.{Directory, IsDirectory, IsNameOf, entity_named, made_name, name_of}
 use Rattle.atlas_dir.proofs.Digits.{one_digit, two_digits}
-use Rattle.blob_grammar.specs.Places.{Begins}
-use Rattle.blob_grammar.specs.Spelling.{text_bytes}
-use Rattle.blob_grammar.proofs.Fields.{text}
+use Rattle.snapshot_reading.specs.blob_grammar.Places.{Begins}
+use Rattle.snapshot_reading.specs.blob_grammar.Spelling.{text_bytes}
+use Rattle.snapshot_reading.proofs.blob_grammar_lemmas.Fields.{text}
 use Rattle.snapshot_reading.specs.Fields.{IsFound, IsRefused, Spells, Then}
 use Rattle.snapshot_reading.proofs.Sequences.{TellsApart, chain, joined, refused_as, refused_here, refused_later}
 use Rattle.atlas_reading.specs.Names.{HasShortName, IsNameIn, IsSizeSpelled, IsTextIn, IsTextSpelled}

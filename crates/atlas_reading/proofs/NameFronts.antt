@@ -9,7 +9,7 @@ use Rattle.std.specs.List.{list_all}
 use Rattle.atlas_dir.specs.Directory.{Directory, IsDirectory, IsName, IsNameOf, entity_named, is_letter, is_name_byte, made_name, name_of}
 use Rattle.atlas_dir.proofs.Digits.{one_digit, two_digits}
 use Rattle.atlas_dir.proofs.Naming.{made_is_new}
-use Rattle.blob_grammar.specs.Places.{Begins}
+use Rattle.snapshot_reading.specs.blob_grammar.Places.{Begins}
 use Rattle.atlas_reading.specs.Names.{GoesOn, HasShortName, IsGivenFront, IsTextIn}
 use Rattle.atlas_reading.proofs.Pigeons.{no_ones}
 

@@ -6,7 +6,7 @@ use Rattle.hop_base.specs.declared.entities.Kind.{Kind}
 use Rattle.hop_base.specs.declared.entities.Kind.TheVariants.{Atlas, Container, Locus}
 use Rattle.atlas_dir.specs.Directory.{Directory, IsDirectory, IsNameOf, entity_named, free_number, made_name, name_of, with_entity}
 use Rattle.atlas_dir.proofs.Naming.{born_container, born_locus, free_container_none, free_locus_none, made_is_new}
-use Rattle.blob_grammar.specs.Spelling.{text_bytes}
+use Rattle.snapshot_reading.specs.blob_grammar.Spelling.{text_bytes}
 use Rattle.snapshot_reading.specs.Fields.{IsFound, IsRefused, Spells}
 use Rattle.snapshot_reading.proofs.Items.{HasRead, all_read, none_yet, one_more, one_refused}
 use Rattle.atlas_reading.specs.Names.{AreNamesSpelled, IsNameIn, NameItem, most_names, names_in, next_number, with_names, with_next}

@@ -1,7 +1,7 @@
 -- Texts of one length, read byte by byte: which front goes on, and where they are refused.
 use Rattle.std.proofs.Common.{◌≡◌, ◌<◌, ◌≤◌, ℕ, List, [], ◌∷◌, ◌++◌, length, take, drop, refl, sym, ap, subst, ◌∙◌, arith, append_assoc}
 use Rattle.std.proofs.lemmas.List.{length-append, take-append-drop, take-append-le, take_at}
-use Rattle.blob_grammar.specs.Places.{Begins}
+use Rattle.snapshot_reading.specs.blob_grammar.Places.{Begins}
 use Rattle.snapshot_reading.specs.Fields.{IsRefused, IsStuck}
 
 module _ (Text : List ℕ → Type 0) (size : ℕ) (long : (text : List ℕ) → Text text → length text ≡ size) where

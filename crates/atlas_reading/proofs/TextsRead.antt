@@ -2,7 +2,7 @@
 use Rattle.std.proofs.Common.{◌≡◌, ◌<◌, ◌≤◌, ℕ, ◌+◌, List, [], ◌∷◌, ◌++◌, length, None, refl, sym, ap, subst, ◌∙◌, arith, append_assoc}
 use Rattle.std.proofs.lemmas.List.{append-nil, length-append, nil_from_length}
 use Rattle.atlas_dir.specs.Directory.{Directory, IsDirectory, name_of}
-use Rattle.blob_grammar.specs.Places.{Begins}
+use Rattle.snapshot_reading.specs.blob_grammar.Places.{Begins}
 use Rattle.snapshot_reading.specs.Fields.{IsFound, IsRefused, Spells}
 use Rattle.snapshot_reading.proofs.Sequences.{refused_as}
 use Rattle.atlas_reading.specs.Names.{GoesOn, IsTextIn, IsTextSpelled}

@@ -1,8 +1,8 @@
 -- The edges of an atlas as fields: which bytes spell which counts.
 use Rattle.std.specs.Prelude.{◌≡◌, ℕ, ◌+◌, ◌-◌, ◌*◌, ◌/◌, ◌%◌, ◌≤◌, ◌==◌, if◌then◌else◌, List}
 use Rattle.hop_base.specs.Edges.{Edges}
-use Rattle.blob_grammar.specs.Forms.{AreCounts}
-use Rattle.blob_grammar.specs.Spelling.{Counted, counted_edges, edge_bytes, edges_bytes}
+use Rattle.snapshot_reading.specs.blob_grammar.Forms.{AreCounts}
+use Rattle.snapshot_reading.specs.blob_grammar.Spelling.{Counted, counted_edges, edge_bytes, edges_bytes}
 use Rattle.atlas_reading.specs.declared.edges.Edge.{Edge}
 
 -- PAIRS of containers, numbered from 0 in the order of edges

@@ -4,7 +4,7 @@ use Rattle.std.specs.List.{list_all}
 use Rattle.hop_base.specs.declared.entities.Kind.{Kind}
 use Rattle.hop_base.specs.declared.entities.Kind.TheVariants as kinds
 use Rattle.atlas_dir.specs.Directory.{Directory, IsNameOf, entity_named, is_letter, is_name_byte, made_name, with_entity}
-use Rattle.blob_grammar.specs.Spelling.{text_bytes}
+use Rattle.snapshot_reading.specs.blob_grammar.Spelling.{text_bytes}
 use Rattle.snapshot_reading.specs.Fields.{Items}
 
 -- ONE NAME

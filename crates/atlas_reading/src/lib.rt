@@ -6,6 +6,5 @@ mod edges;
 mod names;
 
 pub use atlases::read_atlas;
-
-#[cfg(test)]
-mod tests;
+pub use snapshot_reading;
+pub use snapshot_reading::locus_machine;

@@ -4,7 +4,7 @@ ghost use Rattle.std.specs.Bool.{OnTrue, OnFalse};
 ghost use Rattle.std.specs.List.{list_all};
 ghost use Rattle.atlas_dir.specs.Directory.{IsDirectory, IsNameOf, entity_named, is_name_byte, name_of, with_entity};
 ghost use Rattle.atlas_reading.specs.Names.{AreNamesSpelled, GoesOn, HasShortName, IsGivenFront, IsGivenSo, IsMadeSo, IsNameIn, IsSize, IsSizeSpelled, IsTextIn, IsTextSpelled, most_names, names_in, next_number as next_number_of, with_names};
-ghost use Rattle.blob_grammar.specs.Places.{Begins};
+ghost use Rattle.snapshot_reading.specs.blob_grammar.Places.{Begins};
 ghost use Rattle.snapshot_reading.specs.Fields.{IsFound, IsRefused, Spells};
 
 use arrayvec::ArrayString;

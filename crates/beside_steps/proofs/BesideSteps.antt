@@ -4,12 +4,12 @@ use Rattle.hop_base.specs.declared.histories.Answer.{Answer}
 use Rattle.hop_base.specs.declared.histories.Entry.{Entry}
 use Rattle.hop_base.specs.declared.histories.Event.TheVariants.{Step}
 use Rattle.hop_base.specs.declared.instructions.Condition.TheVariants.{Running}
-use Rattle.hop_model.specs.Acts.{Act, wanted}
-use Rattle.hop_model.specs.Changes.{Access, carried_by, changed, ordered}
-use Rattle.hop_model.specs.Outcomes.{Outcome, outcome}
-use Rattle.hop_model.specs.State.{Supply, LocusState, Cell as ModelCell, LocusCell, KernelState, no_atlas}
-use Rattle.hop_model.specs.Steps.{accesses_of, outcome_in, seen_atlas, seen_other, step, with_atlas_access, with_newborn_access, with_other_access}
-use Rattle.event_clocks.specs.Clocks.{writing, CarriesTwo}
+use Rattle.kernel_cells.specs.hop_model.Acts.{Act, wanted}
+use Rattle.kernel_cells.specs.hop_model.Changes.{Access, carried_by, changed, ordered}
+use Rattle.kernel_cells.specs.hop_model.Outcomes.{Outcome, outcome}
+use Rattle.kernel_cells.specs.hop_model.State.{Supply, LocusState, Cell as ModelCell, LocusCell, KernelState, no_atlas}
+use Rattle.kernel_cells.specs.hop_model.Steps.{accesses_of, outcome_in, seen_atlas, seen_other, step, with_atlas_access, with_newborn_access, with_other_access}
+use Rattle.kernel_cells.specs.event_clocks.Clocks.{writing, CarriesTwo}
 use Rattle.kernel_cells.specs.declared.cells.Cell.{Cell}
 use Rattle.kernel_cells.specs.Cells.{HasCell, part_of}
 use Rattle.kernel_cells.specs.Steps.{Steps}

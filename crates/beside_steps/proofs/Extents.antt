@@ -5,14 +5,14 @@ use Rattle.hop_base.specs.declared.capabilities.Region.{Region}
 use Rattle.hop_base.specs.declared.instructions.Instr.{Instr}
 use Rattle.hop_base.specs.declared.instructions.Instr.TheVariants.{Map, Unmap, Give}
 use Rattle.hop_base.specs.declared.instructions.Reply.{Reply}
-use Rattle.hop_model.specs.Acts.{wanted}
-use Rattle.hop_model.specs.Outcomes.{Outcome, give, give_at, given_cap, map_by, map_refusal, map_region, on_cell, outcome, unmap, unmap_at}
-use Rattle.hop_model.specs.Refusals.{new_region, reg}
-use Rattle.hop_model.specs.State.{Supply, AtlasState, ContainerState, LocusState, Cell, ContainerCell}
-use Rattle.hop_model.specs.Words.{free_slot}
-use Rattle.wanted_act.proofs.Beside.{made_beside}
-use Rattle.locus_machine.specs.Loci.{container_with}
-use Rattle.locus_machine.specs.declared.loci.Head.{Head}
+use Rattle.kernel_cells.specs.hop_model.Acts.{wanted}
+use Rattle.kernel_cells.specs.hop_model.Outcomes.{Outcome, give, give_at, given_cap, map_by, map_refusal, map_region, on_cell, outcome, unmap, unmap_at}
+use Rattle.kernel_cells.specs.hop_model.Refusals.{new_region, reg}
+use Rattle.kernel_cells.specs.hop_model.State.{Supply, AtlasState, ContainerState, LocusState, Cell, ContainerCell}
+use Rattle.kernel_cells.specs.hop_model.Words.{free_slot}
+use Rattle.kernel_cells.proofs.wanted_act_lemmas.Beside.{made_beside}
+use Rattle.kernel_cells.specs.locus_machine.Loci.{container_with}
+use Rattle.kernel_cells.specs.locus_machine.declared.loci.Head.{Head}
 
 -- THE MODEL
 

@@ -1,10 +1,10 @@
 -- Accesses of two entities, the lower number first.
 use Rattle.std.proofs.Common.{◌≡◌, ◌≢◌, ℕ, ◌<◌, ◌≤◌, Bool, true, false, nat_lt, if◌then◌else◌, [], ◌∷◌, Some, refl, ap, arith, ne_eqb}
 use Rattle.std.proofs.lemmas.Bool.Decides.{nat_tests}
-use Rattle.hop_model.specs.Changes.{access_at, merged, ordered}
-use Rattle.hop_model.specs.State.{Cell}
-use Rattle.event_clocks.specs.Clocks.{writing}
-use Rattle.event_clocks.proofs.Changing.{access_first, access_second}
+use Rattle.kernel_cells.specs.hop_model.Changes.{access_at, merged, ordered}
+use Rattle.kernel_cells.specs.hop_model.State.{Cell}
+use Rattle.kernel_cells.specs.event_clocks.Clocks.{writing}
+use Rattle.kernel_cells.proofs.event_clocks_lemmas.Changing.{access_first, access_second}
 use Rattle.beside_steps.specs.Besides.{pair_of}
 
 -- they are in order

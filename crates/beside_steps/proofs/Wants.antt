@@ -4,14 +4,14 @@ use Rattle.hop_base.specs.declared.instructions.Instr.{Instr}
 use Rattle.hop_base.specs.declared.instructions.Instr.TheVariants.{Invoke, Leave, Return, Take, Give, Stop, Go, Snap}
 use Rattle.hop_base.specs.declared.instructions.Reply.{Reply}
 use Rattle.hop_base.specs.declared.instructions.Reply.TheVariants.{Ok}
-use Rattle.hop_model.specs.Acts.{Act, act_by, allowed, alone, beside, beside_or_self, wanted}
-use Rattle.hop_model.specs.Outcomes.{Outcome, finish, on_cell, outcome, with_other}
-use Rattle.hop_model.specs.Refusals.{entity_of, instr_at, refusal}
-use Rattle.hop_model.specs.State.{Supply, AtlasState, LocusState, Cell}
-use Rattle.wanted_act.specs.Views.{IsReadyLocus, may_name_itself}
-use Rattle.wanted_act.proofs.Beside.{made_beside, wanted_same}
-use Rattle.locus_machine.proofs.Alone.{place_within, wanted_allowed, wanted_says}
-use Rattle.kernel_calls.specs.Calls.{CallMade}
+use Rattle.kernel_cells.specs.hop_model.Acts.{Act, act_by, allowed, alone, beside, beside_or_self, wanted}
+use Rattle.kernel_cells.specs.hop_model.Outcomes.{Outcome, finish, on_cell, outcome, with_other}
+use Rattle.kernel_cells.specs.hop_model.Refusals.{entity_of, instr_at, refusal}
+use Rattle.kernel_cells.specs.hop_model.State.{Supply, AtlasState, LocusState, Cell}
+use Rattle.kernel_cells.specs.wanted_act.Views.{IsReadyLocus, may_name_itself}
+use Rattle.kernel_cells.proofs.wanted_act_lemmas.Beside.{made_beside, wanted_same}
+use Rattle.kernel_cells.proofs.locus_machine_lemmas.Alone.{place_within, wanted_allowed, wanted_says}
+use Rattle.kernel_cells.specs.kernel_calls.Calls.{CallMade}
 use Rattle.kernel_cells.specs.declared.cells.Part.{Part}
 use Rattle.kernel_cells.specs.declared.cells.Part.TheVariants as part
 use Rattle.beside_steps.specs.Besides.{FitsBeside, WantsOther, calls_container, is_snap}

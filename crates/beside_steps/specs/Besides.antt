@@ -3,14 +3,14 @@ use Rattle.std.specs.Prelude.{◌≡◌, ℕ, Bool, true, false, IsTrue, IsSome,
 use Rattle.hop_base.specs.declared.histories.Answer.{Answer}
 use Rattle.hop_base.specs.declared.instructions.Instr.{Instr}
 use Rattle.hop_base.specs.declared.instructions.Instr.TheVariants.{Invoke, Leave, Return, Take, Give, Snap}
-use Rattle.hop_model.specs.Acts.{wanted}
-use Rattle.hop_model.specs.Changes.{Access}
-use Rattle.hop_model.specs.Outcomes.{Outcome}
-use Rattle.hop_model.specs.State.{LocusState, Cell, LocusCell}
-use Rattle.wanted_act.specs.Views.{may_name_itself}
-use Rattle.locus_machine.specs.declared.loci.Head.{Head}
-use Rattle.fault_paging.specs.declared.paged.PagedMemory.{PagedMemory}
-use Rattle.event_clocks.specs.Clocks.{writing}
+use Rattle.kernel_cells.specs.hop_model.Acts.{wanted}
+use Rattle.kernel_cells.specs.hop_model.Changes.{Access}
+use Rattle.kernel_cells.specs.hop_model.Outcomes.{Outcome}
+use Rattle.kernel_cells.specs.hop_model.State.{LocusState, Cell, LocusCell}
+use Rattle.kernel_cells.specs.wanted_act.Views.{may_name_itself}
+use Rattle.kernel_cells.specs.locus_machine.declared.loci.Head.{Head}
+use Rattle.kernel_cells.specs.fault_paging.declared.paged.PagedMemory.{PagedMemory}
+use Rattle.kernel_cells.specs.event_clocks.Clocks.{writing}
 use Rattle.kernel_cells.specs.declared.cells.Part.{Part}
 use Rattle.kernel_cells.specs.declared.cells.Part.TheVariants as part
 

@@ -1,18 +1,18 @@
 // The step of a locus beside another entity, which writes both.
 ghost use Rattle.std.specs.Prelude.{◌≡◌, ◌≢◌, ◌<◌, ◌^◌, ℕ, List};
 ghost use Rattle.hop_base.specs.declared.histories.Event.TheVariants.{Step as StepEvent};
-ghost use Rattle.hop_model.specs.State.{Cell as ModelCell, KernelState, Supply};
-ghost use Rattle.locus_machine.specs.Loci.{locus_of};
-ghost use Rattle.locus_machine.specs.declared.loci.Locus.{Locus as ALocus};
-ghost use Rattle.event_clocks.specs.Clocks.{CarriesTwo, HasClock};
+ghost use Rattle.kernel_cells.specs.hop_model.State.{Cell as ModelCell, KernelState, Supply};
+ghost use Rattle.kernel_cells.specs.locus_machine.Loci.{locus_of};
+ghost use Rattle.kernel_cells.specs.locus_machine.declared.loci.Locus.{Locus as ALocus};
+ghost use Rattle.kernel_cells.specs.event_clocks.Clocks.{CarriesTwo, HasClock};
 ghost use Rattle.kernel_cells.specs.Cells.{HasCell, IsRunning};
 ghost use Rattle.kernel_cells.specs.Steps.{Steps};
 ghost use Rattle.beside_steps.specs.Besides.{pair_of, FitsBeside, KeepsMemory, WantsOther};
 
 use crate::parts::act_in_parts;
-use event_clocks::{Clock, write_two};
 use hop_base::{Answer, Entry, Event, Instr};
 use kernel_cells::Cell;
+use kernel_cells::event_clocks::{Clock, write_two};
 
 /// The entry of a step that writes the locus and another entity.
 fn write_both(locus: &mut Clock, other: &mut Clock, answer: Answer) -> Entry

@@ -5,3 +5,5 @@ mod besides;
 mod parts;
 
 pub use besides::step_beside;
+pub use kernel_cells;
+pub use kernel_cells::{event_clocks, kernel_calls, locus_machine};

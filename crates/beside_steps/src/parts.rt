@@ -1,20 +1,20 @@
 // Acts on the parts of two cells.
 ghost use Rattle.std.specs.Prelude.{◌≡◌, ◌≢◌, ◌<◌, ℕ, List, IsTrue, Some};
-ghost use Rattle.hop_model.specs.Acts.{wanted};
-ghost use Rattle.hop_model.specs.Outcomes.{outcome};
-ghost use Rattle.hop_model.specs.State.{AtlasState, Cell as ModelCell, ContainerCell, LocusCell, LocusState, Supply};
-ghost use Rattle.wanted_act.specs.Views.{IsReadyLocus, may_name_itself};
-ghost use Rattle.locus_machine.specs.Loci.{locus_of, container_with};
-ghost use Rattle.locus_machine.specs.declared.loci.Locus.{Locus as ALocus};
-ghost use Rattle.kernel_calls.specs.Calls.{CallMade};
+ghost use Rattle.kernel_cells.specs.hop_model.Acts.{wanted};
+ghost use Rattle.kernel_cells.specs.hop_model.Outcomes.{outcome};
+ghost use Rattle.kernel_cells.specs.hop_model.State.{AtlasState, Cell as ModelCell, ContainerCell, LocusCell, LocusState, Supply};
+ghost use Rattle.kernel_cells.specs.wanted_act.Views.{IsReadyLocus, may_name_itself};
+ghost use Rattle.kernel_cells.specs.locus_machine.Loci.{locus_of, container_with};
+ghost use Rattle.kernel_cells.specs.locus_machine.declared.loci.Locus.{Locus as ALocus};
+ghost use Rattle.kernel_cells.specs.kernel_calls.Calls.{CallMade};
 ghost use Rattle.kernel_cells.specs.Cells.{part_of, IsRunning};
 ghost use Rattle.beside_steps.specs.Besides.{calls_container, is_snap, FitsBeside, KeepsMemory, MakesBoth, WantsOther};
 
 use hop_base::{Answer, Entity, Instr, Reply};
-use invocation::{back, invoke, leave};
-use kernel_calls::{give, go, stop, take};
+use kernel_cells::invocation::{back, invoke, leave};
+use kernel_cells::kernel_calls::{give, go, stop, take};
+use kernel_cells::locus_machine::{Head, Locus};
 use kernel_cells::{Part, Storage};
-use locus_machine::{Head, Locus};
 
 /// A snap, which leaves the other entity as it is.
 fn record_it(locus: &mut Locus, number: Entity, instr: Instr) -> Reply

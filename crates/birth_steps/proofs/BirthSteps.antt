@@ -8,17 +8,17 @@ use Rattle.hop_base.specs.declared.histories.Event.TheVariants.{Step}
 use Rattle.hop_base.specs.declared.instructions.Condition.TheVariants.{Running}
 use Rattle.hop_base.specs.declared.instructions.Instr.{Instr}
 use Rattle.hop_base.specs.declared.instructions.Instr.TheVariants.{Make, Spawn}
-use Rattle.hop_model.specs.Acts.{Act, allowed, wanted}
-use Rattle.hop_model.specs.Changes.{Access, carried_by, changed, insert_access, ordered}
-use Rattle.hop_model.specs.Outcomes.{Outcome, outcome}
-use Rattle.hop_model.specs.Refusals.{instr_at}
-use Rattle.hop_model.specs.State.{Supply, AtlasState, LocusState, Cell as ModelCell, NotBorn, AtlasCell, LocusCell, KernelState}
-use Rattle.hop_model.specs.Steps.{accesses_of, atlas_in, outcome_in, seen_atlas, seen_other, step, with_atlas_access, with_newborn_access, with_other_access}
-use Rattle.locus_machine.proofs.Alone.{wanted_allowed}
-use Rattle.kernel_calls.specs.Calls.{WantsBirth, is_make, is_spawn}
-use Rattle.kernel_calls.proofs.BirthLemmas.{birth_allowed, birth_instr}
-use Rattle.event_clocks.specs.Clocks.{writing, CarriesThree}
-use Rattle.event_clocks.proofs.Changing.{access_first, access_second, access_third}
+use Rattle.kernel_cells.specs.hop_model.Acts.{Act, allowed, wanted}
+use Rattle.kernel_cells.specs.hop_model.Changes.{Access, carried_by, changed, insert_access, ordered}
+use Rattle.kernel_cells.specs.hop_model.Outcomes.{Outcome, outcome}
+use Rattle.kernel_cells.specs.hop_model.Refusals.{instr_at}
+use Rattle.kernel_cells.specs.hop_model.State.{Supply, AtlasState, LocusState, Cell as ModelCell, NotBorn, AtlasCell, LocusCell, KernelState}
+use Rattle.kernel_cells.specs.hop_model.Steps.{accesses_of, atlas_in, outcome_in, seen_atlas, seen_other, step, with_atlas_access, with_newborn_access, with_other_access}
+use Rattle.kernel_cells.proofs.locus_machine_lemmas.Alone.{wanted_allowed}
+use Rattle.kernel_cells.specs.kernel_calls.Calls.{WantsBirth, is_make, is_spawn}
+use Rattle.kernel_cells.proofs.kernel_calls_lemmas.BirthLemmas.{birth_allowed, birth_instr}
+use Rattle.kernel_cells.specs.event_clocks.Clocks.{writing, CarriesThree}
+use Rattle.kernel_cells.proofs.event_clocks_lemmas.Changing.{access_first, access_second, access_third}
 use Rattle.kernel_cells.specs.declared.cells.Cell.{Cell}
 use Rattle.kernel_cells.specs.Cells.{HasCell, part_of}
 use Rattle.kernel_cells.specs.Steps.{Steps}

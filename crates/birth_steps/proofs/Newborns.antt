@@ -5,15 +5,15 @@ use Rattle.hop_base.specs.declared.histories.Answer.TheVariants.{Reply as Replie
 use Rattle.hop_base.specs.declared.instructions.Instr.{Instr}
 use Rattle.hop_base.specs.declared.instructions.Instr.TheVariants.{Make, Spawn}
 use Rattle.hop_base.specs.declared.instructions.Reply.{Reply}
-use Rattle.hop_model.specs.Acts.{wanted}
-use Rattle.hop_model.specs.Outcomes.{Outcome, free_container, free_locus, make, make_at, made_container, outcome, spawn, spawn_at, spawned, supplied}
-use Rattle.hop_model.specs.Refusals.{instr_at, refusal, reg}
-use Rattle.hop_model.specs.State.{Supply, AtlasState, ContainerState, LocusState, Cell, AtlasCell, ContainerCell, LocusCell}
-use Rattle.locus_machine.specs.Loci.{container_with}
-use Rattle.locus_machine.specs.declared.loci.Head.{Head}
-use Rattle.locus_machine.specs.declared.loci.Locus.{Locus}
-use Rattle.kernel_calls.specs.Calls.{AtlasCallMade, WantsBirth, born_head, born_locus, is_make, is_spawn}
-use Rattle.kernel_calls.proofs.BirthLemmas.{birth_allowed, birth_instr, make_allowed, make_made, spawn_made}
+use Rattle.kernel_cells.specs.hop_model.Acts.{wanted}
+use Rattle.kernel_cells.specs.hop_model.Outcomes.{Outcome, free_container, free_locus, make, make_at, made_container, outcome, spawn, spawn_at, spawned, supplied}
+use Rattle.kernel_cells.specs.hop_model.Refusals.{instr_at, refusal, reg}
+use Rattle.kernel_cells.specs.hop_model.State.{Supply, AtlasState, ContainerState, LocusState, Cell, AtlasCell, ContainerCell, LocusCell}
+use Rattle.kernel_cells.specs.locus_machine.Loci.{container_with}
+use Rattle.kernel_cells.specs.locus_machine.declared.loci.Head.{Head}
+use Rattle.kernel_cells.specs.locus_machine.declared.loci.Locus.{Locus}
+use Rattle.kernel_cells.specs.kernel_calls.Calls.{AtlasCallMade, WantsBirth, born_head, born_locus, is_make, is_spawn}
+use Rattle.kernel_cells.proofs.kernel_calls_lemmas.BirthLemmas.{birth_allowed, birth_instr, make_allowed, make_made, spawn_made}
 use Rattle.kernel_cells.specs.Cells.{locus_cell}
 use Rattle.birth_steps.specs.Bearing.{MakesNewborn}
 

@@ -10,19 +10,19 @@ use Rattle.hop_base.specs.declared.instructions.Condition.TheVariants.{Running}
 use Rattle.hop_base.specs.declared.instructions.Instr.{Instr}
 use Rattle.hop_base.specs.declared.instructions.Instr.TheVariants.{Make, Spawn, Halt}
 use Rattle.hop_base.specs.declared.instructions.Reply.TheVariants.{NoNumber}
-use Rattle.hop_model.specs.Acts.{Act, wanted}
-use Rattle.hop_model.specs.Changes.{Access, carried_by, changed, ordered}
-use Rattle.hop_model.specs.Outcomes.{Outcome, finish, make, make_at, outcome, spawn, spawn_at, with_atlas}
-use Rattle.hop_model.specs.Refusals.{instr_at, reg}
-use Rattle.hop_model.specs.State.{Supply, AtlasState, LocusState, Cell as ModelCell, NotBorn, AtlasCell, LocusCell, KernelState}
-use Rattle.hop_model.specs.Steps.{accesses_of, step, with_atlas_access, with_newborn_access, with_other_access}
+use Rattle.kernel_cells.specs.hop_model.Acts.{Act, wanted}
+use Rattle.kernel_cells.specs.hop_model.Changes.{Access, carried_by, changed, ordered}
+use Rattle.kernel_cells.specs.hop_model.Outcomes.{Outcome, finish, make, make_at, outcome, spawn, spawn_at, with_atlas}
+use Rattle.kernel_cells.specs.hop_model.Refusals.{instr_at, reg}
+use Rattle.kernel_cells.specs.hop_model.State.{Supply, AtlasState, LocusState, Cell as ModelCell, NotBorn, AtlasCell, LocusCell, KernelState}
+use Rattle.kernel_cells.specs.hop_model.Steps.{accesses_of, step, with_atlas_access, with_newborn_access, with_other_access}
 use Rattle.atlas_dir.specs.Directory.{Directory}
-use Rattle.wanted_act.specs.Views.{IsReadyLocus}
-use Rattle.locus_machine.proofs.Alone.{place_within}
-use Rattle.kernel_calls.specs.Calls.{WantsBirth, atlas_state, is_make, is_spawn}
-use Rattle.kernel_calls.proofs.BirthLemmas.{birth_instr, make_made, spawn_made}
-use Rattle.event_clocks.specs.Clocks.{writing, CarriesTwo}
-use Rattle.event_clocks.proofs.Changing.{access_first, access_second}
+use Rattle.kernel_cells.specs.wanted_act.Views.{IsReadyLocus}
+use Rattle.kernel_cells.proofs.locus_machine_lemmas.Alone.{place_within}
+use Rattle.kernel_cells.specs.kernel_calls.Calls.{WantsBirth, atlas_state, is_make, is_spawn}
+use Rattle.kernel_cells.proofs.kernel_calls_lemmas.BirthLemmas.{birth_instr, make_made, spawn_made}
+use Rattle.kernel_cells.specs.event_clocks.Clocks.{writing, CarriesTwo}
+use Rattle.kernel_cells.proofs.event_clocks_lemmas.Changing.{access_first, access_second}
 use Rattle.kernel_cells.specs.declared.cells.Cell.{Cell}
 use Rattle.kernel_cells.specs.Cells.{HasCell, part_of}
 use Rattle.kernel_cells.specs.Steps.{Steps}

@@ -2,10 +2,10 @@
 use Rattle.std.proofs.Common.{◌≡◌, ℕ, ◌/◌, ◌%◌, Bool, List, replicate, slice_index, ap, ◌∙◌, inl, inr, arith}
 use Rattle.std.proofs.lemmas.Bool.{cases_lt}
 use Rattle.std.proofs.lemmas.List.{get_or_past, get_or-replicate, length-replicate}
-use Rattle.hop_model.specs.Outcomes.{supplied}
-use Rattle.hop_model.specs.State.{Supply}
-use Rattle.fault_paging.specs.declared.paged.PagedMemory.{PagedMemory}
-use Rattle.fault_paging.specs.Words.{AreHeldBlocks, stored_word, words_of}
+use Rattle.kernel_cells.specs.hop_model.Outcomes.{supplied}
+use Rattle.kernel_cells.specs.hop_model.State.{Supply}
+use Rattle.kernel_cells.specs.fault_paging.declared.paged.PagedMemory.{PagedMemory}
+use Rattle.kernel_cells.specs.fault_paging.Words.{AreHeldBlocks, stored_word, words_of}
 
 zeros : (n k : ℕ) → slice_index (replicate n 0) k ≡ 0
 zeros n k = elim (cases_lt k n) [

@@ -1,13 +1,13 @@
 -- Births by a program, over the cells of a locus, the atlas and the newborn.
 use Rattle.std.specs.Prelude.{◌≡◌, ◌⊎◌, ◌≤◌, ℕ, Bool, List, length, Some, None}
 use Rattle.hop_base.specs.declared.histories.Answer.{Answer}
-use Rattle.hop_model.specs.Outcomes.{Outcome}
-use Rattle.hop_model.specs.State.{Supply, LocusState, Cell, AtlasCell, LocusCell}
+use Rattle.kernel_cells.specs.hop_model.Outcomes.{Outcome}
+use Rattle.kernel_cells.specs.hop_model.State.{Supply, LocusState, Cell, AtlasCell, LocusCell}
 use Rattle.atlas_dir.specs.Directory.{Directory}
-use Rattle.locus_machine.specs.declared.loci.Head.{Head}
-use Rattle.kernel_calls.specs.Calls.{WantsBirth, is_make, is_spawn}
-use Rattle.fault_paging.specs.declared.paged.PagedMemory.{PagedMemory}
-use Rattle.fault_paging.specs.Words.{AreCleanTrue, IsSoundTable}
+use Rattle.kernel_cells.specs.locus_machine.declared.loci.Head.{Head}
+use Rattle.kernel_cells.specs.kernel_calls.Calls.{WantsBirth, is_make, is_spawn}
+use Rattle.kernel_cells.specs.fault_paging.declared.paged.PagedMemory.{PagedMemory}
+use Rattle.kernel_cells.specs.fault_paging.Words.{AreCleanTrue, IsSoundTable}
 use Rattle.kernel_cells.specs.declared.cells.Part.{Part}
 use Rattle.kernel_cells.specs.declared.cells.Part.TheVariants as part
 

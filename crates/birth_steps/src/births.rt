@@ -1,18 +1,18 @@
 // The step of a locus that gives birth.
 ghost use Rattle.std.specs.Prelude.{◌≡◌, ◌<◌, ◌+◌, ◌^◌, ℕ, List, length};
 ghost use Rattle.atlas_dir.specs.Directory.{Directory};
-ghost use Rattle.hop_model.specs.State.{KernelState, Supply};
-ghost use Rattle.locus_machine.specs.Loci.{locus_of};
-ghost use Rattle.locus_machine.specs.declared.loci.Locus.{Locus as ALocus};
-ghost use Rattle.kernel_calls.specs.Calls.{is_make, is_spawn, WantsBirth};
+ghost use Rattle.kernel_cells.specs.hop_model.State.{KernelState, Supply};
+ghost use Rattle.kernel_cells.specs.locus_machine.Loci.{locus_of};
+ghost use Rattle.kernel_cells.specs.locus_machine.declared.loci.Locus.{Locus as ALocus};
+ghost use Rattle.kernel_cells.specs.kernel_calls.Calls.{is_make, is_spawn, WantsBirth};
 ghost use Rattle.kernel_cells.specs.Cells.{HasCell, IsRunning};
 ghost use Rattle.kernel_cells.specs.Steps.{Steps};
 ghost use Rattle.birth_steps.specs.Bearing.{IsNewContainer, IsUnbornContainer};
 
 use crate::containers::make_in_parts;
 use crate::loci::spawn_in_parts;
-use event_clocks::write_three;
 use hop_base::{Entry, Event};
+use kernel_cells::event_clocks::write_three;
 use kernel_cells::{Cell, Part};
 
 /// The step of a running locus that makes a container, where a number is free. The cell of the lowest free number becomes

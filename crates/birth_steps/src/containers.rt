@@ -1,22 +1,22 @@
 // A container that a locus makes, on the parts of three cells.
 ghost use Rattle.std.specs.Prelude.{◌≡◌, ◌≤◌, ◌<◌, ◌+◌, ℕ, List, length};
-ghost use Rattle.hop_model.specs.Acts.{wanted};
-ghost use Rattle.hop_model.specs.Outcomes.{outcome, supplied};
-ghost use Rattle.hop_model.specs.State.{AtlasState, AtlasCell, ContainerCell, LocusCell, LocusState, NotBorn, Supply};
+ghost use Rattle.kernel_cells.specs.hop_model.Acts.{wanted};
+ghost use Rattle.kernel_cells.specs.hop_model.Outcomes.{outcome, supplied};
+ghost use Rattle.kernel_cells.specs.hop_model.State.{AtlasState, AtlasCell, ContainerCell, LocusCell, LocusState, NotBorn, Supply};
 ghost use Rattle.atlas_dir.specs.Directory.{Directory};
-ghost use Rattle.wanted_act.specs.Views.{IsReadyLocus};
-ghost use Rattle.locus_machine.specs.Loci.{locus_of, container_with};
-ghost use Rattle.locus_machine.specs.declared.loci.Locus.{Locus as ALocus};
-ghost use Rattle.kernel_calls.specs.Calls.{atlas_state, is_make, WantsBirth};
+ghost use Rattle.kernel_cells.specs.wanted_act.Views.{IsReadyLocus};
+ghost use Rattle.kernel_cells.specs.locus_machine.Loci.{locus_of, container_with};
+ghost use Rattle.kernel_cells.specs.locus_machine.declared.loci.Locus.{Locus as ALocus};
+ghost use Rattle.kernel_cells.specs.kernel_calls.Calls.{atlas_state, is_make, WantsBirth};
 ghost use Rattle.kernel_cells.specs.Cells.{part_of, IsRunning};
 ghost use Rattle.birth_steps.specs.Bearing.{IsNewContainer, IsUnbornContainer, MakesNewborn};
 
 use atlas_dir::Atlas;
-use fault_paging::ShadowTable;
 use hop_base::{Answer, Reply};
-use kernel_calls::make;
+use kernel_cells::fault_paging::ShadowTable;
+use kernel_cells::kernel_calls::make;
+use kernel_cells::locus_machine::{Head, Locus};
 use kernel_cells::{Part, Storage};
-use locus_machine::{Head, Locus};
 
 /// Puts a new container into its place. No page is resident, and none has a block.
 fn begin(storage: &mut Storage, head: Head)

@@ -1,21 +1,21 @@
 // A locus that a locus spawns, on the parts of three cells.
 ghost use Rattle.std.specs.Prelude.{◌≡◌, ◌<◌, ◌+◌, ℕ, List, Some, length};
-ghost use Rattle.hop_model.specs.Acts.{wanted};
-ghost use Rattle.hop_model.specs.Outcomes.{outcome};
-ghost use Rattle.hop_model.specs.State.{AtlasState, AtlasCell, LocusCell, LocusState, NotBorn, Supply};
+ghost use Rattle.kernel_cells.specs.hop_model.Acts.{wanted};
+ghost use Rattle.kernel_cells.specs.hop_model.Outcomes.{outcome};
+ghost use Rattle.kernel_cells.specs.hop_model.State.{AtlasState, AtlasCell, LocusCell, LocusState, NotBorn, Supply};
 ghost use Rattle.atlas_dir.specs.Directory.{Directory};
-ghost use Rattle.wanted_act.specs.Views.{IsReadyLocus};
-ghost use Rattle.locus_machine.specs.Loci.{locus_of};
-ghost use Rattle.locus_machine.specs.declared.loci.Locus.{Locus as ALocus};
-ghost use Rattle.kernel_calls.specs.Calls.{atlas_state, is_spawn, WantsBirth};
+ghost use Rattle.kernel_cells.specs.wanted_act.Views.{IsReadyLocus};
+ghost use Rattle.kernel_cells.specs.locus_machine.Loci.{locus_of};
+ghost use Rattle.kernel_cells.specs.locus_machine.declared.loci.Locus.{Locus as ALocus};
+ghost use Rattle.kernel_cells.specs.kernel_calls.Calls.{atlas_state, is_spawn, WantsBirth};
 ghost use Rattle.kernel_cells.specs.Cells.{locus_cell, part_of, IsRunning};
 ghost use Rattle.birth_steps.specs.Bearing.{MakesNewborn};
 
 use atlas_dir::Atlas;
 use hop_base::{Answer, Reply};
-use kernel_calls::spawn;
 use kernel_cells::Part;
-use locus_machine::Locus;
+use kernel_cells::kernel_calls::spawn;
+use kernel_cells::locus_machine::Locus;
 
 fn spawn_locus(locus: &mut Locus, atlas: &mut Atlas, newborn: &mut Option<Locus>) -> Reply
     requires ready { IsReadyLocus (locus_of locus.old) }

@@ -1,21 +1,21 @@
 // The step of a locus that would give birth where no number is free.
 ghost use Rattle.std.specs.Prelude.{◌≡◌, ◌<◌, ◌^◌, ℕ, List};
 ghost use Rattle.atlas_dir.specs.Directory.{Directory};
-ghost use Rattle.hop_model.specs.Acts.{wanted};
-ghost use Rattle.hop_model.specs.Outcomes.{outcome};
-ghost use Rattle.hop_model.specs.State.{AtlasCell, KernelState, LocusCell, LocusState, NotBorn, Supply};
-ghost use Rattle.wanted_act.specs.Views.{IsReadyLocus};
-ghost use Rattle.locus_machine.specs.Loci.{locus_of};
-ghost use Rattle.locus_machine.specs.declared.loci.Locus.{Locus as ALocus};
-ghost use Rattle.kernel_calls.specs.Calls.{atlas_state};
+ghost use Rattle.kernel_cells.specs.hop_model.Acts.{wanted};
+ghost use Rattle.kernel_cells.specs.hop_model.Outcomes.{outcome};
+ghost use Rattle.kernel_cells.specs.hop_model.State.{AtlasCell, KernelState, LocusCell, LocusState, NotBorn, Supply};
+ghost use Rattle.kernel_cells.specs.wanted_act.Views.{IsReadyLocus};
+ghost use Rattle.kernel_cells.specs.locus_machine.Loci.{locus_of};
+ghost use Rattle.kernel_cells.specs.locus_machine.declared.loci.Locus.{Locus as ALocus};
+ghost use Rattle.kernel_cells.specs.kernel_calls.Calls.{atlas_state};
 ghost use Rattle.kernel_cells.specs.Cells.{part_of, HasCell, IsRunning};
 ghost use Rattle.kernel_cells.specs.Steps.{Steps};
 ghost use Rattle.birth_steps.specs.Bearing.{MakesNone, NoNumberFree};
 
-use event_clocks::write_two;
 use hop_base::{Answer, Entry, Event, Reply};
+use kernel_cells::event_clocks::write_two;
+use kernel_cells::locus_machine::Locus;
 use kernel_cells::{Cell, Part};
-use locus_machine::Locus;
 
 fn refuse(locus: &mut Locus) -> Answer
     requires ready { IsReadyLocus (locus_of locus.old) }

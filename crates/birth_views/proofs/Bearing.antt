@@ -3,23 +3,23 @@ use Rattle.std.proofs.Common.{◌≡◌, ℕ, List, [], ◌∷◌, ◌++◌, Som
 use Rattle.disk_trait.specs.Image.{Image}
 use Rattle.hop_base.specs.declared.histories.Entry.{Entry}
 use Rattle.hop_base.specs.declared.histories.Event.TheVariants.{Birth}
-use Rattle.hop_model.specs.Births.{next_birth}
-use Rattle.hop_model.specs.Histories.{May, Run, goes_on, start_run}
-use Rattle.hop_model.proofs.LegalRuns.{state_goes_on}
-use Rattle.fitting_births.proofs.Ends.{born_state}
-use Rattle.run_cuts.specs.Marks.{is_completing}
-use Rattle.serial_runs.specs.Serial.{IsNew}
-use Rattle.serial_runs.proofs.Openings.{birth_event, birth_may}
-use Rattle.snapshot_store.specs.State.{State, books}
-use Rattle.kernel_cells.specs.declared.cells.Cell.{Cell}
-use Rattle.kernel_cells.specs.Wishes.{HasWish}
-use Rattle.cell_table.specs.Tables.{AreClean, state_in, tables_in}
-use Rattle.record_laws.specs.Cells.{words_on}
-use Rattle.store_model.specs.Between.{Between-stay}
-use Rattle.store_model.specs.Owning.{AreOwned}
-use Rattle.kernel_model.specs.Beginnings.{Beginning, IsLegal, run_of}
-use Rattle.kernel_model.specs.Live.{HoldsCommits}
-use Rattle.kernel_laws.specs.Going.{MadeEvent}
+use Rattle.kernel_views.specs.hop_model.Births.{next_birth}
+use Rattle.kernel_views.specs.hop_model.Histories.{May, Run, goes_on, start_run}
+use Rattle.kernel_views.proofs.hop_model_lemmas.LegalRuns.{state_goes_on}
+use Rattle.kernel_views.proofs.fitting_births_lemmas.Ends.{born_state}
+use Rattle.kernel_views.specs.run_cuts.Marks.{is_completing}
+use Rattle.kernel_views.specs.serial_runs.Serial.{IsNew}
+use Rattle.kernel_views.proofs.serial_runs_lemmas.Openings.{birth_event, birth_may}
+use Rattle.kernel_views.specs.snapshot_store.State.{State, books}
+use Rattle.kernel_views.specs.kernel_cells.declared.cells.Cell.{Cell}
+use Rattle.kernel_views.specs.kernel_cells.Wishes.{HasWish}
+use Rattle.kernel_views.specs.cell_table.Tables.{AreClean, state_in, tables_in}
+use Rattle.kernel_views.specs.record_laws.Cells.{words_on}
+use Rattle.kernel_views.specs.store_model.Between.{Between-stay}
+use Rattle.kernel_views.specs.store_model.Owning.{AreOwned}
+use Rattle.kernel_views.specs.kernel_model.Beginnings.{Beginning, IsLegal, run_of}
+use Rattle.kernel_views.specs.kernel_model.Live.{HoldsCommits}
+use Rattle.kernel_views.specs.kernel_laws.Going.{MadeEvent}
 use Rattle.kernel_views.specs.Snaps.{Stands}
 use Rattle.kernel_views.specs.Views.{FollowsRun, view_in}
 use Rattle.kernel_views.proofs.Flushing.{owned_again}

@@ -2,13 +2,13 @@
 use Rattle.std.specs.Prelude.{◌≡◌, ℕ, List, [], ◌∷◌, ◌++◌, None, slice_index}
 use Rattle.disk_trait.specs.Image.{Image}
 use Rattle.hop_base.specs.declared.histories.Entry.{Entry}
-use Rattle.serial_runs.specs.Serial.{IsNew}
-use Rattle.snapshot_store.specs.State.{State, books}
-use Rattle.kernel_cells.specs.declared.cells.Cell.{Cell}
-use Rattle.cell_table.specs.Tables.{AreClean, IsOrderly, tables_in}
-use Rattle.record_laws.specs.Cells.{words_on}
-use Rattle.kernel_model.specs.Beginnings.{Beginning, run_of}
-use Rattle.kernel_laws.specs.Going.{MadeEvent}
+use Rattle.kernel_views.specs.serial_runs.Serial.{IsNew}
+use Rattle.kernel_views.specs.snapshot_store.State.{State, books}
+use Rattle.kernel_views.specs.kernel_cells.declared.cells.Cell.{Cell}
+use Rattle.kernel_views.specs.cell_table.Tables.{AreClean, IsOrderly, tables_in}
+use Rattle.kernel_views.specs.record_laws.Cells.{words_on}
+use Rattle.kernel_views.specs.kernel_model.Beginnings.{Beginning, run_of}
+use Rattle.kernel_views.specs.kernel_laws.Going.{MadeEvent}
 use Rattle.kernel_views.specs.Snaps.{Stands}
 use Rattle.kernel_views.specs.Views.{view_of}
 use Rattle.table_births.specs.Births.{BearsOn}

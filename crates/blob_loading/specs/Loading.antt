@@ -3,13 +3,13 @@ use Rattle.std.specs.Prelude.{◌≡◌, ◌⊎◌, ℕ, List}
 use Rattle.disk_trait.specs.Image.{Image}
 use Rattle.hop_base.specs.declared.entities.Kind.{Kind}
 use Rattle.hop_base.specs.declared.records.Rec.{Rec}
-use Rattle.image_blocks.specs.Checks.{Bad}
-use Rattle.image_meaning.specs.Foreign.{IsBadRest, IsBadSpelling, blob_bad}
-use Rattle.image_meaning.specs.Parts.{Spells, kind_in}
+use Rattle.log_reading.specs.image_blocks.Checks.{Bad}
+use Rattle.part_checks.specs.image_meaning.Foreign.{IsBadRest, IsBadSpelling, blob_bad}
+use Rattle.part_checks.specs.image_meaning.Parts.{Spells, kind_in}
 use Rattle.part_checks.specs.Chosen.{part_of}
 use Rattle.part_checks.specs.declared.chosen.ChosenPart.{ChosenPart}
-use Rattle.snapshot_reading.specs.declared.places.BadBlob.{BadBlob}
-use Rattle.snapshot_reading.specs.declared.places.BadBlob.TheVariants.{Malformed, TooLong}
+use Rattle.part_checks.specs.snapshot_reading.declared.places.BadBlob.{BadBlob}
+use Rattle.part_checks.specs.snapshot_reading.declared.places.BadBlob.TheVariants.{Malformed, TooLong}
 
 -- the part is of this kind, and the bytes spell it
 pub record IsRead (kind : Kind) (bytes : List ℕ) (part : ChosenPart) : Type 0 where

@@ -7,6 +7,7 @@ mod places;
 mod rooms;
 
 pub use loading::load;
-
-#[cfg(test)]
-mod tests;
+pub use log_reading;
+pub use log_reading::image_blocks;
+pub use part_checks;
+pub use part_checks::snapshot_reading;

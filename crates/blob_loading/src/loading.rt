@@ -2,8 +2,8 @@
 ghost use Rattle.std.specs.Prelude.{◌≡◌, ◌≤◌, ◌<◌, All, IfOk, IfErr, length};
 ghost use Rattle.disk_trait.specs.Disk.{HasCause};
 ghost use Rattle.disk_trait.specs.Image.{Image};
-ghost use Rattle.image_blocks.specs.Bodies.{blob_blocks, blob_room, blocks_for};
-ghost use Rattle.image_meaning.specs.Parts.{IsFormed, IsSpelt};
+ghost use Rattle.log_reading.specs.image_blocks.Bodies.{blob_blocks, blob_room, blocks_for};
+ghost use Rattle.part_checks.specs.image_meaning.Parts.{IsFormed, IsSpelt};
 ghost use Rattle.log_reading.specs.Reads.{ReadsOnly};
 ghost use Rattle.part_checks.specs.Chosen.{part_of};
 ghost use Rattle.blob_loading.specs.Loading.{IsBadRecord};
@@ -14,7 +14,7 @@ use crate::rooms::read_room;
 use block_code::{Blob, MOST_BLOB_BYTES};
 use disk_trait::{Disk, DiskFault};
 use hop_base::Rec;
-use image_blocks::Bad;
+use log_reading::image_blocks::Bad;
 use part_checks::ChosenPart;
 
 // The blocks of a record's blob.

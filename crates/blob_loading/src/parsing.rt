@@ -1,14 +1,14 @@
 //! What bytes spell, by the kind that is wanted.
 ghost use Rattle.std.specs.Prelude.{◌≡◌, IfOk, IfErr};
-ghost use Rattle.image_meaning.specs.Parts.{kind_in, Spells};
+ghost use Rattle.part_checks.specs.image_meaning.Parts.{kind_in, Spells};
 ghost use Rattle.part_checks.specs.Chosen.{part_of};
-ghost use Rattle.snapshot_reading.specs.Places.{IsBadBlob};
+ghost use Rattle.part_checks.specs.snapshot_reading.Places.{IsBadBlob};
 ghost use Rattle.blob_loading.specs.Loading.{IsRead};
 
-use atlas_reading::read_atlas;
 use hop_base::Kind;
 use part_checks::ChosenPart;
-use snapshot_reading::{BadBlob, read_container, read_locus};
+use part_checks::atlas_reading::read_atlas;
+use part_checks::snapshot_reading::{BadBlob, read_container, read_locus};
 
 // What the bytes of an entity of this kind spell.
 pub(crate) fn parse(kind: Kind, bytes: &[u8]) -> Result<ChosenPart, BadBlob>

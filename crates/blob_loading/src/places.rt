@@ -1,12 +1,12 @@
 //! Where a chosen blob is bad.
 ghost use Rattle.std.specs.Prelude.{◌≡◌, ◌≤◌, ◌<◌, ◌+◌, ◌*◌, IfSome, IfNone, All, drop, length};
-ghost use Rattle.image_meaning.specs.Foreign.{IsFirstRest, blob_bad, index_for};
+ghost use Rattle.part_checks.specs.image_meaning.Foreign.{IsFirstRest, blob_bad, index_for};
 ghost use Rattle.blob_loading.specs.Loading.{bad_for, place_in};
 
 use block_code::MOST_BLOB_BYTES;
 use hop_base::Rec;
-use image_blocks::Bad;
-use snapshot_reading::BadBlob;
+use log_reading::image_blocks::Bad;
+use part_checks::snapshot_reading::BadBlob;
 
 /// The bytes of a block.
 const BLOCK: u32 = 1024;

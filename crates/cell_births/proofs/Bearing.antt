@@ -6,22 +6,22 @@ use Rattle.std.proofs.lemmas.Bool.Decides.{nat_tests}
 use Rattle.hop_base.specs.declared.histories.Answer.TheVariants.{Quiet}
 use Rattle.hop_base.specs.declared.histories.Entry.{Entry}
 use Rattle.hop_base.specs.declared.histories.Event.TheVariants.{Birth}
-use Rattle.hop_model.specs.Births.{birth, birth_change, birth_from, birth_named, code_in, container_birth, container_born, container_from, edges_from, locus_birth, locus_born, locus_from, locus_in_host, with_container_name, with_locus_name}
-use Rattle.hop_model.specs.Changes.{Access, Change, access_at, accessed, carried, carried_by, changed, entry_of, joined, ordered, touches_of}
-use Rattle.hop_model.specs.Histories.{writes}
-use Rattle.hop_model.specs.Outcomes.{free_container, free_locus}
-use Rattle.hop_model.specs.Scripts.{ContainerTable, LocusTable, Script, container_table, locus_table, number_in}
-use Rattle.hop_model.specs.State.{Cell as ModelCell, NotBorn, AtlasCell, ContainerCell, LocusCell, KernelState, Supply}
-use Rattle.hop_model.specs.Steps.{atlas_in}
+use Rattle.wish_laws.specs.hop_model.Births.{birth, birth_change, birth_from, birth_named, code_in, container_birth, container_born, container_from, edges_from, locus_birth, locus_born, locus_from, locus_in_host, with_container_name, with_locus_name}
+use Rattle.wish_laws.specs.hop_model.Changes.{Access, Change, access_at, accessed, carried, carried_by, changed, entry_of, joined, ordered, touches_of}
+use Rattle.wish_laws.specs.hop_model.Histories.{writes}
+use Rattle.wish_laws.specs.hop_model.Outcomes.{free_container, free_locus}
+use Rattle.wish_laws.specs.hop_model.Scripts.{ContainerTable, LocusTable, Script, container_table, locus_table, number_in}
+use Rattle.wish_laws.specs.hop_model.State.{Cell as ModelCell, NotBorn, AtlasCell, ContainerCell, LocusCell, KernelState, Supply}
+use Rattle.wish_laws.specs.hop_model.Steps.{atlas_in}
 use Rattle.vector_stamps.specs.Stamps.{component}
-use Rattle.event_clocks.specs.declared.Clock.{Clock}
-use Rattle.event_clocks.specs.Clocks.{HasClock, writing, CarriesThree, CarriesTwo}
-use Rattle.event_clocks.proofs.Changing.{access_first, access_second, access_third}
-use Rattle.kernel_cells.specs.declared.cells.Cell.{Cell}
-use Rattle.kernel_cells.specs.Cells.{HasCell, part_of}
-use Rattle.kernel_cells.proofs.Stepping.{written_cell}
+use Rattle.wish_laws.specs.event_clocks.declared.Clock.{Clock}
+use Rattle.wish_laws.specs.event_clocks.Clocks.{HasClock, writing, CarriesThree, CarriesTwo}
+use Rattle.wish_laws.proofs.event_clocks_lemmas.Changing.{access_first, access_second, access_third}
+use Rattle.wish_laws.specs.kernel_cells.declared.cells.Cell.{Cell}
+use Rattle.wish_laws.specs.kernel_cells.Cells.{HasCell, part_of}
+use Rattle.wish_laws.proofs.kernel_cells_lemmas.Stepping.{written_cell}
 use Rattle.atlas_dir.specs.Directory.{Directory}
-use Rattle.kernel_calls.specs.Calls.{atlas_state}
+use Rattle.wish_laws.specs.kernel_calls.Calls.{atlas_state}
 use Rattle.cell_births.specs.Bearing.{Bears, IsBirthEntry, MayBearContainer, MayBearLocus}
 
 -- WHAT IS WRITTEN

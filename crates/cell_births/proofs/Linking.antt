@@ -7,16 +7,16 @@ use Rattle.std.proofs.lemmas.List.Elements.{All-weaker}
 use Rattle.std.proofs.lemmas.List.{length-take}
 use Rattle.hop_base.specs.Edges.{Edges}
 use Rattle.hop_base.specs.declared.capabilities.Region.{Region}
-use Rattle.hop_model.specs.Births.{edges_from, number_or_0, regions_from, with_container_name}
-use Rattle.hop_model.specs.Scripts.{RegionTable}
-use Rattle.hop_model.specs.Soundness.{is_born_container}
-use Rattle.hop_model.specs.State.{Text}
-use Rattle.sound_steps.proofs.RegionLists.{shown}
-use Rattle.sound_runs.proofs.Tables.{all_regions}
-use Rattle.sound_runs.proofs.TableEdges.{model_containers, model_edges, model_loci}
+use Rattle.wish_laws.specs.hop_model.Births.{edges_from, number_or_0, regions_from, with_container_name}
+use Rattle.wish_laws.specs.hop_model.Scripts.{RegionTable}
+use Rattle.wish_laws.specs.hop_model.Soundness.{is_born_container}
+use Rattle.wish_laws.specs.hop_model.State.{Text}
+use Rattle.script_against.proofs.sound_steps_lemmas.RegionLists.{shown}
+use Rattle.script_against.proofs.sound_runs_lemmas.Tables.{all_regions}
+use Rattle.script_against.proofs.sound_runs_lemmas.TableEdges.{model_containers, model_edges, model_loci}
 use Rattle.atlas_dir.specs.Directory.{Directory, edges_of}
 use Rattle.atlas_dir.specs.Reached.{with_edge}
-use Rattle.kernel_calls.specs.Calls.{atlas_state}
+use Rattle.wish_laws.specs.kernel_calls.Calls.{atlas_state}
 
 shown_next : (rs : List Region) (i : ℕ) (r : Region) (y : ℕ) → i < length rs → r ≡ get_or rs i r → shown (take (i + 1) rs) y ≡ shown (take i rs) y + (if r.target == y then 1 else 0)
 shown_next rs i r y lt is = by (r.target == y) refl

@@ -2,22 +2,22 @@
 use Rattle.std.proofs.Common.{◌≡◌, ℕ, ◌+◌, ◌<◌, ◌≤◌, if◌then◌else◌, IsTrue, [], length, Some, None, is_none, option_map, option_and_then, refl, sym, ap, subst, ◌∙◌, arith}
 use Rattle.std.proofs.lemmas.Bool.Decides.{nat_tests}
 use Rattle.hop_base.specs.declared.histories.Event.TheVariants.{Birth}
-use Rattle.hop_model.specs.Births.{birth, birth_change, birth_from, birth_named, knows_caps, knows_regions, locus_birth, next_birth, next_birth_change}
-use Rattle.hop_model.specs.Changes.{Change, carried}
-use Rattle.hop_model.specs.Scripts.{ContainerTable, LocusTable, Script, container_named, container_table, locus_table, next_name, number_in, number_of}
-use Rattle.hop_model.specs.Soundness.{AreSound, is_born_container, regions_onto}
-use Rattle.hop_model.specs.State.{AtlasState, Cell, NotBorn, KernelState, Supply, Text}
-use Rattle.hop_model.specs.Steps.{atlas_in}
-use Rattle.script_form.specs.Rules.{IsScript, container_names}
-use Rattle.sound_runs.proofs.Tables.{container_named_born}
-use Rattle.sound_runs.proofs.Found.{and_both, find_locus, found_container}
-use Rattle.sound_runs.proofs.Grown.{not_yet_container}
-use Rattle.fitting_births.specs.Fitting.{Fits}
-use Rattle.fitting_births.proofs.KnownNames.{KnowsContainer, KnowsLocus, NextName, OfContainer, OfLocus, next_name_is}
-use Rattle.fitting_births.proofs.Growing.{locus_change, named_defined}
-use Rattle.fitting_births.proofs.Ends.{some_is}
+use Rattle.wish_laws.specs.hop_model.Births.{birth, birth_change, birth_from, birth_named, knows_caps, knows_regions, locus_birth, next_birth, next_birth_change}
+use Rattle.wish_laws.specs.hop_model.Changes.{Change, carried}
+use Rattle.wish_laws.specs.hop_model.Scripts.{ContainerTable, LocusTable, Script, container_named, container_table, locus_table, next_name, number_in, number_of}
+use Rattle.wish_laws.specs.hop_model.Soundness.{AreSound, is_born_container, regions_onto}
+use Rattle.wish_laws.specs.hop_model.State.{AtlasState, Cell, NotBorn, KernelState, Supply, Text}
+use Rattle.wish_laws.specs.hop_model.Steps.{atlas_in}
+use Rattle.script_against.specs.script_form.Rules.{IsScript, container_names}
+use Rattle.script_against.proofs.sound_runs_lemmas.Tables.{container_named_born}
+use Rattle.script_against.proofs.sound_runs_lemmas.Found.{and_both, find_locus, found_container}
+use Rattle.script_against.proofs.sound_runs_lemmas.Grown.{not_yet_container}
+use Rattle.script_against.specs.fitting_births.Fitting.{Fits}
+use Rattle.script_against.proofs.fitting_births_lemmas.KnownNames.{KnowsContainer, KnowsLocus, NextName, OfContainer, OfLocus, next_name_is}
+use Rattle.script_against.proofs.fitting_births_lemmas.Growing.{locus_change, named_defined}
+use Rattle.script_against.proofs.fitting_births_lemmas.Ends.{some_is}
 use Rattle.atlas_dir.specs.Directory.{Directory}
-use Rattle.kernel_calls.specs.Calls.{atlas_state}
+use Rattle.wish_laws.specs.kernel_calls.Calls.{atlas_state}
 use Rattle.script_against.specs.NextTables.{IsNextContainer, IsNextLocus}
 use Rattle.cell_births.specs.Bearing.{MayBearContainer, MayBearLocus}
 

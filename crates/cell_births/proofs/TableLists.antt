@@ -6,15 +6,15 @@ use Rattle.std.proofs.lemmas.List.Elements.{All-weaker}
 use Rattle.std.proofs.lemmas.List.Folds.{list_any_none}
 use Rattle.hop_base.specs.declared.capabilities.Region.{Region}
 use Rattle.hop_base.specs.declared.instructions.Reply.{Reply}
-use Rattle.hop_model.specs.Births.{caps_from, number_or_0, region_from, regions_from}
-use Rattle.hop_model.specs.Refusals.{rights_with}
-use Rattle.hop_model.specs.Scripts.{CapTable, RegionTable}
-use Rattle.hop_model.specs.State.{Text}
-use Rattle.hop_model.specs.Words.{overlaps}
-use Rattle.script_form.specs.Rules.{AreAllApart, AreApart, IsRegionTable}
-use Rattle.sound_runs.proofs.Tables.{all_regions, length_regions}
+use Rattle.wish_laws.specs.hop_model.Births.{caps_from, number_or_0, region_from, regions_from}
+use Rattle.wish_laws.specs.hop_model.Refusals.{rights_with}
+use Rattle.wish_laws.specs.hop_model.Scripts.{CapTable, RegionTable}
+use Rattle.wish_laws.specs.hop_model.State.{Text}
+use Rattle.wish_laws.specs.hop_model.Words.{overlaps}
+use Rattle.script_against.specs.script_form.Rules.{AreAllApart, AreApart, IsRegionTable}
+use Rattle.script_against.proofs.sound_runs_lemmas.Tables.{all_regions, length_regions}
 use Rattle.region_map.specs.Regions.{IsRegion, add_answer, insert_region as region_put}
-use Rattle.kernel_calls.proofs.MapLemmas.{added}
+use Rattle.wish_laws.proofs.kernel_calls_lemmas.MapLemmas.{added}
 
 -- a mapped list from a place on, one item more
 from_place : {X T : Type 0} (f : X → T) (xs : List X) (i j : ℕ) (x : X) → j + 1 ≡ i → i ≤ length xs → x ≡ get_or xs j x → drop j (map f xs) ≡ f x ∷ drop i (map f xs)

@@ -3,14 +3,14 @@ use Rattle.std.specs.Prelude.{◌≡◌, ℕ, ◌+◌, ◌<◌, ◌==◌, ◌&&�
 use Rattle.std.specs.List.{list_any}
 use Rattle.hop_base.specs.declared.histories.Entry.{Entry}
 use Rattle.hop_base.specs.declared.histories.Event.TheVariants.{Birth}
-use Rattle.hop_model.specs.Births.{birth, knows_caps, knows_regions, number_or_0}
-use Rattle.hop_model.specs.Histories.{writes}
-use Rattle.hop_model.specs.Scripts.{ContainerTable, LocusTable, RegionTable, Script, container_named, number_in, number_of}
-use Rattle.hop_model.specs.Soundness.{is_born_container}
-use Rattle.hop_model.specs.State.{KernelState, Supply, Text}
-use Rattle.script_form.specs.Rules.{IsContainerTable, IsLocusTable}
+use Rattle.wish_laws.specs.hop_model.Births.{birth, knows_caps, knows_regions, number_or_0}
+use Rattle.wish_laws.specs.hop_model.Histories.{writes}
+use Rattle.wish_laws.specs.hop_model.Scripts.{ContainerTable, LocusTable, RegionTable, Script, container_named, number_in, number_of}
+use Rattle.wish_laws.specs.hop_model.Soundness.{is_born_container}
+use Rattle.wish_laws.specs.hop_model.State.{KernelState, Supply, Text}
+use Rattle.script_against.specs.script_form.Rules.{IsContainerTable, IsLocusTable}
 use Rattle.atlas_dir.specs.Directory.{Directory, edges_of}
-use Rattle.kernel_calls.specs.Calls.{atlas_state}
+use Rattle.wish_laws.specs.kernel_calls.Calls.{atlas_state}
 
 -- THE BIRTH OF THE NAME in the state: this entry, and a state that differs at most where the entry writes, of which P holds
 abbrev pub Bears : Supply → Script → Text → KernelState → Entry → (KernelState → Type 0) → Type 0

@@ -1,20 +1,20 @@
 // The births of a container and of a locus over cells.
 ghost use Rattle.std.specs.Prelude.{◌≡◌, ◌<◌, ◌^◌, ◌∷◌, [], ℕ, List, None, Some, false, string_bytes};
-ghost use Rattle.hop_model.specs.Histories.{writes};
-ghost use Rattle.hop_model.specs.Scripts.{Script, container_table, locus_table};
-ghost use Rattle.hop_model.specs.State.{KernelState, Supply};
-ghost use Rattle.script_form.specs.Scripts.{container_of, locus_of};
+ghost use Rattle.wish_laws.specs.hop_model.Histories.{writes};
+ghost use Rattle.wish_laws.specs.hop_model.Scripts.{Script, container_table, locus_table};
+ghost use Rattle.wish_laws.specs.hop_model.State.{KernelState, Supply};
+ghost use Rattle.script_against.specs.script_form.Scripts.{container_of, locus_of};
 ghost use Rattle.atlas_dir.specs.Directory.{Directory};
-ghost use Rattle.kernel_cells.specs.Cells.{HasCell};
+ghost use Rattle.wish_laws.specs.kernel_cells.Cells.{HasCell};
 ghost use Rattle.wish_laws.specs.Founded.{TakesBirth};
 ghost use Rattle.birth_steps.specs.Bearing.{IsNewContainer, IsUnbornContainer};
 ghost use Rattle.cell_births.specs.Bearing.{Bears, IsBirthEntry, MayBearContainer, MayBearLocus};
 
 use crate::{containers, loci};
-use event_clocks::{write_three, write_two};
 use hop_base::{Answer, Entry, Event};
-use kernel_cells::{Cell, Part, Wish};
-use script_form::{ScriptContainer, ScriptLocus};
+use script_against::script_form::{ScriptContainer, ScriptLocus};
+use wish_laws::event_clocks::{write_three, write_two};
+use wish_laws::kernel_cells::{Cell, Part, Wish};
 
 /// The wish of a written cell: a birth is its last writer.
 fn born(wish: &Wish) -> Wish

@@ -1,27 +1,27 @@
 // The birth of a container from its table, on the parts of two cells.
 ghost use Rattle.std.specs.Prelude.{◌≡◌, ◌≤◌, ◌<◌, ◌+◌, ◌++◌, ◌∷◌, [], ℕ, List, All, IsTrue, count_by, length, if◌then◌else◌, ◌==◌, None, Some, string_bytes};
 ghost use Rattle.hop_base.specs.declared.capabilities.Region.{Region as ARegion};
-ghost use Rattle.hop_model.specs.Births.{container_from as container_by, edges_from as edges_by, with_container_name};
-ghost use Rattle.hop_model.specs.Outcomes.{supplied};
-ghost use Rattle.hop_model.specs.Scripts.{number_in, number_of};
-ghost use Rattle.hop_model.specs.Soundness.{is_born_container, is_given_name};
-ghost use Rattle.hop_model.specs.State.{AtlasState, AtlasCell, ContainerCell, Supply, Text};
-ghost use Rattle.script_form.specs.Rules.{IsContainerTable};
-ghost use Rattle.script_form.specs.Scripts.{container_of as table_of};
+ghost use Rattle.wish_laws.specs.hop_model.Births.{container_from as container_by, edges_from as edges_by, with_container_name};
+ghost use Rattle.wish_laws.specs.hop_model.Outcomes.{supplied};
+ghost use Rattle.wish_laws.specs.hop_model.Scripts.{number_in, number_of};
+ghost use Rattle.wish_laws.specs.hop_model.Soundness.{is_born_container, is_given_name};
+ghost use Rattle.wish_laws.specs.hop_model.State.{AtlasState, AtlasCell, ContainerCell, Supply, Text};
+ghost use Rattle.script_against.specs.script_form.Rules.{IsContainerTable};
+ghost use Rattle.script_against.specs.script_form.Scripts.{container_of as table_of};
 ghost use Rattle.atlas_dir.specs.Directory.{Directory, edges_of};
-ghost use Rattle.locus_machine.specs.Loci.{container_with};
-ghost use Rattle.kernel_calls.specs.Calls.{atlas_state};
-ghost use Rattle.kernel_cells.specs.Cells.{part_of};
+ghost use Rattle.wish_laws.specs.locus_machine.Loci.{container_with};
+ghost use Rattle.wish_laws.specs.kernel_calls.Calls.{atlas_state};
+ghost use Rattle.wish_laws.specs.kernel_cells.Cells.{part_of};
 ghost use Rattle.birth_steps.specs.Bearing.{IsNewContainer, IsUnbornContainer};
 ghost use Rattle.cell_births.specs.Bearing.{MayBearContainer};
 
 use crate::tables::{caps_from, regions_from};
 use atlas_dir::Atlas;
-use fault_paging::ShadowTable;
 use hop_base::{Entity, Kind, Region};
-use kernel_cells::{Part, Storage};
-use locus_machine::Head;
-use script_form::ScriptContainer;
+use script_against::script_form::ScriptContainer;
+use wish_laws::fault_paging::ShadowTable;
+use wish_laws::kernel_cells::{Part, Storage};
+use wish_laws::locus_machine::Head;
 
 /// The container of a table.
 fn head_from(atlas: &Atlas, newborn: Entity, table: &ScriptContainer) -> Head

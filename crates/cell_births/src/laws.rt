@@ -1,15 +1,15 @@
 // What a script's next birth asks is met: laws, without code.
 ghost use Rattle.std.specs.Prelude.{◌≡◌, ◌+◌, ℕ, List, Some, length};
 ghost use Rattle.hop_base.specs.declared.histories.Entry.{Entry as AnEntry};
-ghost use Rattle.hop_model.specs.Births.{birth, next_birth};
-ghost use Rattle.hop_model.specs.Scripts.{ContainerTable, LocusTable, Script, next_name};
-ghost use Rattle.hop_model.specs.Soundness.{AreSound};
-ghost use Rattle.hop_model.specs.State.{Cell as ModelCell, KernelState, Supply, Text};
-ghost use Rattle.hop_model.specs.Steps.{atlas_in};
-ghost use Rattle.script_form.specs.Rules.{IsScript};
-ghost use Rattle.fitting_births.specs.Fitting.{Fits};
+ghost use Rattle.wish_laws.specs.hop_model.Births.{birth, next_birth};
+ghost use Rattle.wish_laws.specs.hop_model.Scripts.{ContainerTable, LocusTable, Script, next_name};
+ghost use Rattle.wish_laws.specs.hop_model.Soundness.{AreSound};
+ghost use Rattle.wish_laws.specs.hop_model.State.{Cell as ModelCell, KernelState, Supply, Text};
+ghost use Rattle.wish_laws.specs.hop_model.Steps.{atlas_in};
+ghost use Rattle.script_against.specs.script_form.Rules.{IsScript};
+ghost use Rattle.script_against.specs.fitting_births.Fitting.{Fits};
 ghost use Rattle.atlas_dir.specs.Directory.{Directory};
-ghost use Rattle.kernel_calls.specs.Calls.{atlas_state};
+ghost use Rattle.wish_laws.specs.kernel_calls.Calls.{atlas_state};
 ghost use Rattle.script_against.specs.NextTables.{IsNextContainer, IsNextLocus};
 ghost use Rattle.cell_births.specs.Bearing.{MayBearContainer, MayBearLocus};
 

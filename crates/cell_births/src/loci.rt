@@ -1,22 +1,22 @@
 // The birth of a locus from its table, on the parts of three cells.
 ghost use Rattle.std.specs.Prelude.{◌≡◌, ◌≤◌, ◌<◌, ◌++◌, ◌∷◌, [], ℕ, List, IsTrue, length, None, string_bytes};
-ghost use Rattle.hop_model.specs.Births.{code_in, locus_from as locus_by, with_locus_name};
-ghost use Rattle.hop_model.specs.Scripts.{number_in, number_of};
-ghost use Rattle.hop_model.specs.Soundness.{is_given_name};
-ghost use Rattle.hop_model.specs.State.{AtlasState, AtlasCell, LocusCell, Supply};
-ghost use Rattle.script_form.specs.Scripts.{locus_of as table_of};
+ghost use Rattle.wish_laws.specs.hop_model.Births.{code_in, locus_from as locus_by, with_locus_name};
+ghost use Rattle.wish_laws.specs.hop_model.Scripts.{number_in, number_of};
+ghost use Rattle.wish_laws.specs.hop_model.Soundness.{is_given_name};
+ghost use Rattle.wish_laws.specs.hop_model.State.{AtlasState, AtlasCell, LocusCell, Supply};
+ghost use Rattle.script_against.specs.script_form.Scripts.{locus_of as table_of};
 ghost use Rattle.atlas_dir.specs.Directory.{Directory};
-ghost use Rattle.locus_machine.specs.Loci.{locus_of};
-ghost use Rattle.kernel_calls.specs.Calls.{atlas_state};
-ghost use Rattle.kernel_cells.specs.Cells.{part_of};
+ghost use Rattle.wish_laws.specs.locus_machine.Loci.{locus_of};
+ghost use Rattle.wish_laws.specs.kernel_calls.Calls.{atlas_state};
+ghost use Rattle.wish_laws.specs.kernel_cells.Cells.{part_of};
 ghost use Rattle.cell_births.specs.Bearing.{MayBearLocus};
 
 use crate::tables::caps_from;
 use atlas_dir::Atlas;
 use hop_base::{Entity, Instr, Kind};
-use kernel_cells::{Part, Storage};
-use locus_machine::Locus;
-use script_form::ScriptLocus;
+use script_against::script_form::ScriptLocus;
+use wish_laws::kernel_cells::{Part, Storage};
+use wish_laws::locus_machine::Locus;
 
 /// The code of a container that is born, and else none.
 fn code_of(part: &Part) -> &[Instr]

@@ -1,8 +1,8 @@
 // Numbers of names to which a table refers.
 ghost use Rattle.std.specs.Prelude.{◌≡◌};
-ghost use Rattle.hop_model.specs.Births.{number_or_0};
-ghost use Rattle.hop_model.specs.Scripts.{text_eq, number_in};
-ghost use Rattle.kernel_calls.specs.Calls.{atlas_state};
+ghost use Rattle.wish_laws.specs.hop_model.Births.{number_or_0};
+ghost use Rattle.wish_laws.specs.hop_model.Scripts.{text_eq, number_in};
+ghost use Rattle.wish_laws.specs.kernel_calls.Calls.{atlas_state};
 
 use atlas_dir::Atlas;
 use hop_base::Entity;

@@ -1,18 +1,18 @@
 // Capabilities and regions of a table.
 ghost use Rattle.std.specs.Prelude.{◌≡◌, ◌≤◌, ℕ, List, All, length, map};
-ghost use Rattle.hop_model.specs.Births.{caps_from as caps_by, regions_from as regions_by};
-ghost use Rattle.hop_model.specs.Scripts.{number_in};
-ghost use Rattle.hop_model.specs.State.{Text};
-ghost use Rattle.script_form.specs.Rules.{AreAllApart, IsRegionTable};
-ghost use Rattle.script_form.specs.Scripts.{cap_of, region_of};
-ghost use Rattle.kernel_calls.specs.Calls.{atlas_state};
+ghost use Rattle.wish_laws.specs.hop_model.Births.{caps_from as caps_by, regions_from as regions_by};
+ghost use Rattle.wish_laws.specs.hop_model.Scripts.{number_in};
+ghost use Rattle.wish_laws.specs.hop_model.State.{Text};
+ghost use Rattle.script_against.specs.script_form.Rules.{AreAllApart, IsRegionTable};
+ghost use Rattle.script_against.specs.script_form.Scripts.{cap_of, region_of};
+ghost use Rattle.wish_laws.specs.kernel_calls.Calls.{atlas_state};
 
 use crate::names::known_number;
 use atlas_dir::Atlas;
 use cap_list::CapList;
 use hop_base::{Cap, Entity, Region};
 use region_map::RegionMap;
-use script_form::{ScriptCap, ScriptRegion};
+use script_against::script_form::{ScriptCap, ScriptRegion};
 
 /// The capabilities of a table, in the slots from 0 on.
 pub(crate) fn caps_from(atlas: &Atlas, own: &str, newborn: Entity, tables: &[ScriptCap]) -> CapList

@@ -7,11 +7,11 @@ use Rattle.std.proofs.lemmas.List.{length-take-le}
 use Rattle.std.proofs.lemmas.Option.{slice_get-get_or, slice_get_within}
 use Rattle.hop_base.specs.declared.capabilities.Cap.{Cap}
 use Rattle.hop_base.specs.declared.instructions.Walk.{Walk}
-use Rattle.locus_machine.specs.declared.loci.Head.{Head}
-use Rattle.locus_machine.specs.declared.loci.Locus.{Locus}
-use Rattle.locus_machine.specs.Loci.{container_with, locus_of}
-use Rattle.blob_grammar.specs.Forms.{HaveByteRights, IsContainerForm, IsLocusForm, IsNumber}
-use Rattle.blob_grammar.specs.Shapes.{IsContainerOver, IsLocusOver}
+use Rattle.address_resolve.specs.locus_machine.declared.loci.Head.{Head}
+use Rattle.address_resolve.specs.locus_machine.declared.loci.Locus.{Locus}
+use Rattle.address_resolve.specs.locus_machine.Loci.{container_with, locus_of}
+use Rattle.snapshot_form.specs.blob_grammar.Forms.{HaveByteRights, IsContainerForm, IsLocusForm, IsNumber}
+use Rattle.snapshot_form.specs.blob_grammar.Shapes.{IsContainerOver, IsLocusOver}
 use Rattle.cell_blobs.specs.Ranges.{HasByteRights}
 
 pub some_same : {X : Type 0} (x y : X) → Some x ≡ Some y → x ≡ y

@@ -1,16 +1,16 @@
 -- What the blob of a part spells, and which parts have a spelling.
 use Rattle.std.specs.Prelude.{◌≡◌, ℕ, ◌+◌, ◌==◌, if◌then◌else◌, Bool, List, [], length, take, Option, Some, None}
-use Rattle.locus_machine.specs.declared.loci.Head.{Head}
-use Rattle.locus_machine.specs.declared.loci.Locus.{Locus}
-use Rattle.locus_machine.specs.Loci.{container_with, locus_of}
-use Rattle.kernel_calls.specs.Calls.{atlas_state}
-use Rattle.fault_paging.specs.declared.paged.PagedMemory.{PagedMemory}
-use Rattle.fault_paging.specs.Words.{need_of}
+use Rattle.address_resolve.specs.locus_machine.declared.loci.Head.{Head}
+use Rattle.address_resolve.specs.locus_machine.declared.loci.Locus.{Locus}
+use Rattle.address_resolve.specs.locus_machine.Loci.{container_with, locus_of}
+use Rattle.kernel_cells.specs.kernel_calls.Calls.{atlas_state}
+use Rattle.kernel_cells.specs.fault_paging.declared.paged.PagedMemory.{PagedMemory}
+use Rattle.kernel_cells.specs.fault_paging.Words.{need_of}
 use Rattle.address_resolve.specs.Looks.{IsMemoryOf}
-use Rattle.blob_grammar.specs.Forms.{IsAtlasForm, IsNumber}
-use Rattle.blob_grammar.specs.Shapes.{IsContainerOver, IsLocusOver}
-use Rattle.blob_grammar.specs.Spelling.{atlas_blob, container_blob, locus_blob}
-use Rattle.image_blocks.specs.Bodies.{blocks_for}
+use Rattle.snapshot_form.specs.blob_grammar.Forms.{IsAtlasForm, IsNumber}
+use Rattle.snapshot_form.specs.blob_grammar.Shapes.{IsContainerOver, IsLocusOver}
+use Rattle.snapshot_form.specs.blob_grammar.Spelling.{atlas_blob, container_blob, locus_blob}
+use Rattle.image_meaning.specs.image_blocks.Bodies.{blocks_for}
 use Rattle.image_meaning.specs.Parts.{Part as Spelt, AtlasPart, ContainerPart, LocusPart}
 use Rattle.kernel_cells.specs.declared.cells.Cell.{Cell}
 use Rattle.kernel_cells.specs.declared.cells.Part.{Part}

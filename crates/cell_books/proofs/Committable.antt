@@ -7,25 +7,25 @@ use Rattle.std.proofs.lemmas.Option.{slice_get_within}
 use Rattle.hop_base.specs.Kinds.{kind_of}
 use Rattle.hop_base.specs.declared.entities.Kind.TheVariants.{Atlas as AtlasKind, Container as ContainerKind, Locus as LocusKind}
 use Rattle.hop_base.specs.declared.records.Rec.{Rec}
-use Rattle.hop_model.specs.State.{KernelState, NotBorn, empty_state}
-use Rattle.image_meaning.specs.Parts.{Part as Spelt, AtlasPart, LocusPart, IsOf}
-use Rattle.locus_machine.specs.declared.loci.Head.{Head}
-use Rattle.locus_machine.specs.Loci.{locus_of}
-use Rattle.kernel_calls.specs.Calls.{atlas_state}
-use Rattle.kernel_cells.specs.declared.cells.Cell.{Cell}
-use Rattle.kernel_cells.specs.declared.cells.Part.{Part}
-use Rattle.kernel_cells.specs.declared.cells.Part.TheVariants as part
-use Rattle.kernel_cells.specs.Cells.{part_of}
-use Rattle.cell_blobs.specs.Blobs.{is_recorded, spelt_in, spelt_storage}
-use Rattle.cell_laws.specs.Memories.{HasOwnMemory}
-use Rattle.cell_laws.proofs.Formed.{cell_formed}
-use Rattle.cell_table.specs.Tables.{HasKind, IsOrderly, entity_by, entity_in, state_in}
-use Rattle.cell_table.proofs.Having.{no_supply, no_words, state_has}
-use Rattle.record_laws.specs.Cells.{IsSoundIn, IsSpellable}
-use Rattle.sound_states.specs.States.{IsSoundState}
-use Rattle.store_model.specs.Books.{Books, recs_in}
-use Rattle.kernel_records.specs.Committing.{MayCommit}
-use Rattle.kernel_records.proofs.Newest.{few_kept}
+use Rattle.kernel_views.specs.hop_model.State.{KernelState, NotBorn, empty_state}
+use Rattle.kernel_views.specs.image_meaning.Parts.{Part as Spelt, AtlasPart, LocusPart, IsOf}
+use Rattle.kernel_views.specs.locus_machine.declared.loci.Head.{Head}
+use Rattle.kernel_views.specs.locus_machine.Loci.{locus_of}
+use Rattle.kernel_views.specs.kernel_calls.Calls.{atlas_state}
+use Rattle.kernel_views.specs.kernel_cells.declared.cells.Cell.{Cell}
+use Rattle.kernel_views.specs.kernel_cells.declared.cells.Part.{Part}
+use Rattle.kernel_views.specs.kernel_cells.declared.cells.Part.TheVariants as part
+use Rattle.kernel_views.specs.kernel_cells.Cells.{part_of}
+use Rattle.kernel_views.specs.cell_blobs.Blobs.{is_recorded, spelt_in, spelt_storage}
+use Rattle.kernel_views.specs.cell_laws.Memories.{HasOwnMemory}
+use Rattle.kernel_views.proofs.cell_laws_lemmas.Formed.{cell_formed}
+use Rattle.kernel_views.specs.cell_table.Tables.{HasKind, IsOrderly, entity_by, entity_in, state_in}
+use Rattle.kernel_views.proofs.cell_table_lemmas.Having.{no_supply, no_words, state_has}
+use Rattle.kernel_views.specs.record_laws.Cells.{IsSoundIn, IsSpellable}
+use Rattle.kernel_views.specs.sound_states.States.{IsSoundState}
+use Rattle.kernel_views.specs.store_model.Books.{Books, recs_in}
+use Rattle.kernel_views.specs.kernel_records.Committing.{MayCommit}
+use Rattle.kernel_views.proofs.kernel_records_lemmas.Newest.{few_kept}
 use Rattle.kernel_views.specs.Views.{newest_at}
 use Rattle.vector_stamps.specs.Stamps.{component}
 use Rattle.cell_books.specs.Matching.{MatchesBooks, newest_of, version_at, version_of}

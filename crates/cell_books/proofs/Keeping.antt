@@ -2,23 +2,23 @@
 use Rattle.std.proofs.Common.{◌≡◌, ◌≢◌, ◌⊎◌, inl, inr, ℕ, ◌<◌, ◌≤◌, Bool, true, false, ◌==◌, if◌then◌else◌, List, [], ◌∷◌, slice_get, slice_index, Option, Some, None, refl, sym, ap, subst, ◌∙◌, arith, eqb-true, eq-eqb}
 use Rattle.std.proofs.lemmas.Bool.Decides.{nat_tests}
 use Rattle.disk_trait.specs.Image.{Image}
-use Rattle.event_clocks.specs.declared.Clock.{Clock}
-use Rattle.hop_model.specs.Words.{put}
-use Rattle.kernel_cells.specs.declared.cells.Cell.{Cell}
-use Rattle.kernel_cells.specs.declared.cells.Wish.{Wish}
-use Rattle.cell_blobs.specs.Blobs.{bytes_of, is_recorded, spelt_in}
-use Rattle.cell_table.specs.Lending.{Lends}
-use Rattle.cell_table.specs.Tables.{IsOrderly}
-use Rattle.record_laws.specs.Cells.{table_of}
-use Rattle.wish_laws.specs.Founded.{IsFoundedCell}
-use Rattle.snapshot_store.specs.Committed.{HasNewRecord}
-use Rattle.snapshot_store.specs.Shelves.{records_of}
-use Rattle.snapshot_store.specs.State.{State, books}
-use Rattle.store_model.specs.Books.{Books, Logged, kept_in, recs_in, logged_recs}
-use Rattle.kernel_records.specs.Committing.{HasCommitted, HasNotCommitted, LeavesCell}
-use Rattle.kernel_records.specs.Keeping.{HasNewest}
-use Rattle.kernel_records.proofs.Fewer.{keeps_one_more}
-use Rattle.kernel_records.proofs.Newest.{keeps_newest, newest_goes_on}
+use Rattle.kernel_views.specs.event_clocks.declared.Clock.{Clock}
+use Rattle.kernel_views.specs.hop_model.Words.{put}
+use Rattle.kernel_views.specs.kernel_cells.declared.cells.Cell.{Cell}
+use Rattle.kernel_views.specs.kernel_cells.declared.cells.Wish.{Wish}
+use Rattle.kernel_views.specs.cell_blobs.Blobs.{bytes_of, is_recorded, spelt_in}
+use Rattle.kernel_views.specs.cell_table.Lending.{Lends}
+use Rattle.kernel_views.specs.cell_table.Tables.{IsOrderly}
+use Rattle.kernel_views.specs.record_laws.Cells.{table_of}
+use Rattle.kernel_views.specs.wish_laws.Founded.{IsFoundedCell}
+use Rattle.kernel_views.specs.snapshot_store.Committed.{HasNewRecord}
+use Rattle.kernel_views.specs.snapshot_store.Shelves.{records_of}
+use Rattle.kernel_views.specs.snapshot_store.State.{State, books}
+use Rattle.kernel_views.specs.store_model.Books.{Books, Logged, kept_in, recs_in, logged_recs}
+use Rattle.kernel_views.specs.kernel_records.Committing.{HasCommitted, HasNotCommitted, LeavesCell}
+use Rattle.kernel_views.specs.kernel_records.Keeping.{HasNewest}
+use Rattle.kernel_views.proofs.kernel_records_lemmas.Fewer.{keeps_one_more}
+use Rattle.kernel_views.proofs.kernel_records_lemmas.Newest.{keeps_newest, newest_goes_on}
 use Rattle.kernel_views.specs.Views.{newest_at}
 use Rattle.kernel_views.proofs.Behind.{order, recorded_founded}
 use Rattle.kernel_views.proofs.Flushing.{spot}

@@ -1,12 +1,12 @@
 -- The cells against the books of their store: what is true of both whatever the disk tells.
 use Rattle.std.specs.Prelude.{◌≡◌, ℕ, ◌+◌, ◌<◌, ◌≤◌, ◌==◌, if◌then◌else◌, true, false, List, slice_get, slice_index, Option, Some, None}
-use Rattle.cell_blobs.specs.Blobs.{is_recorded}
-use Rattle.cell_table.specs.Tables.{IsOrderly}
-use Rattle.kernel_cells.specs.declared.cells.Cell.{Cell}
-use Rattle.kernel_records.specs.Keeping.{HasNewest}
+use Rattle.kernel_views.specs.cell_blobs.Blobs.{is_recorded}
+use Rattle.kernel_views.specs.cell_table.Tables.{IsOrderly}
+use Rattle.kernel_views.specs.kernel_cells.declared.cells.Cell.{Cell}
+use Rattle.kernel_views.specs.kernel_records.Keeping.{HasNewest}
 use Rattle.kernel_views.specs.Views.{newest_at}
-use Rattle.snapshot_store.specs.Shelves.{records_of}
-use Rattle.store_model.specs.Books.{Books, kept_in, recs_in}
+use Rattle.kernel_views.specs.snapshot_store.Shelves.{records_of}
+use Rattle.kernel_views.specs.store_model.Books.{Books, kept_in, recs_in}
 
 abbrev pub version_at : Option Cell → ℕ
 version_at (Some c) = c.clock.version

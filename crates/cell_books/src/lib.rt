@@ -3,17 +3,18 @@
 #![tactic(auto)]
 
 ghost use Rattle.std.specs.Prelude.{◌≡◌, ◌<◌, ◌≤◌, ◌^◌, ℕ, Bool, List, [], ◌∷◌, Some, false, slice_get};
-ghost use Rattle.cell_blobs.specs.Blobs.{is_recorded};
+ghost use Rattle.kernel_views.specs.cell_blobs.Blobs.{is_recorded};
 ghost use Rattle.cell_books.specs.Matching.{AreRecorded, HasRoomFor, MatchesBooks, Rises, SameLog};
-ghost use Rattle.cell_table.specs.Lending.{Lends};
-ghost use Rattle.cell_table.specs.Tables.{IsOrderly};
-ghost use Rattle.kernel_cells.specs.declared.cells.Cell.{Cell as ACell};
-ghost use Rattle.kernel_records.specs.Committing.{HasCommitted, HasNotCommitted, MayCommit};
-ghost use Rattle.snapshot_store.specs.State.{State, books};
-ghost use Rattle.store_model.specs.Between.{OnlyPages};
-ghost use Rattle.store_model.specs.Books.{Books};
+ghost use Rattle.kernel_views.specs.cell_table.Lending.{Lends};
+ghost use Rattle.kernel_views.specs.cell_table.Tables.{IsOrderly};
+ghost use Rattle.kernel_views.specs.kernel_cells.declared.cells.Cell.{Cell as ACell};
+ghost use Rattle.kernel_views.specs.kernel_records.Committing.{HasCommitted, HasNotCommitted, MayCommit};
+ghost use Rattle.kernel_views.specs.snapshot_store.State.{State, books};
+ghost use Rattle.kernel_views.specs.store_model.Between.{OnlyPages};
+ghost use Rattle.kernel_views.specs.store_model.Books.{Books};
 
 use disk_trait::Disk;
+pub use kernel_views::{kernel_records, snapshot_store};
 
 /// A record of a cell that has changed since its newest one may be made, where no entity has more than five kept records.
 pub fn may_commit_law()

@@ -1,11 +1,11 @@
 -- How many blocks a page table names.
 use Rattle.std.proofs.Common.{◌≡◌, ℕ, zero, suc, ◌≤◌, Bool, true, false, not, ◌==◌, cond, List, [], ◌∷◌, get_or, count_by, Option, Some, None, refl, ap, arith, eq-eqb}
 use Rattle.std.proofs.lemmas.List.Sums.{sum_by-cons}
-use Rattle.locus_machine.specs.declared.loci.Head.{Head}
-use Rattle.fault_paging.specs.declared.paged.PagedMemory.{PagedMemory}
-use Rattle.fault_paging.specs.Words.{IsSoundTable}
-use Rattle.kernel_cells.specs.declared.cells.Part.{Part}
-use Rattle.kernel_cells.specs.declared.cells.Part.TheVariants as part
+use Rattle.cell_blobs.specs.locus_machine.declared.loci.Head.{Head}
+use Rattle.cell_blobs.specs.fault_paging.declared.paged.PagedMemory.{PagedMemory}
+use Rattle.cell_blobs.specs.fault_paging.Words.{IsSoundTable}
+use Rattle.cell_blobs.specs.kernel_cells.declared.cells.Part.{Part}
+use Rattle.cell_blobs.specs.kernel_cells.declared.cells.Part.TheVariants as part
 use Rattle.cell_laws.specs.Memories.{HasOwnMemory, IsOwn, blocks_named, pages_born, pages_of}
 
 abbrev pub is_block : ℕ → Bool

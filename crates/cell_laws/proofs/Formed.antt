@@ -1,20 +1,20 @@
 -- The cells of a sound state keep their form.
 use Rattle.std.proofs.Common.{ℕ, Bool, List, Option, Some, None, sym, subst}
-use Rattle.hop_model.specs.State.{AtlasState, Cell as ModelCell, KernelState, Supply}
-use Rattle.hop_model.specs.Soundness.{AreSound, IsSound}
+use Rattle.sound_steps.specs.hop_model.State.{AtlasState, Cell as ModelCell, KernelState, Supply}
+use Rattle.sound_steps.specs.hop_model.Soundness.{AreSound, IsSound}
 use Rattle.sound_steps.proofs.Cells.{Fits, fits_in}
-use Rattle.blob_grammar.specs.Forms.{IsAtlasForm, IsNumber}
-use Rattle.blob_grammar.specs.Shapes.{IsContainerOver}
-use Rattle.blob_grammar.proofs.Joins.{atlas_form, container_form, locus_form}
-use Rattle.locus_machine.specs.declared.loci.Head.{Head}
-use Rattle.locus_machine.specs.declared.loci.Locus.{Locus}
-use Rattle.locus_machine.specs.Loci.{container_with, locus_of}
-use Rattle.fault_paging.specs.declared.paged.PagedMemory.{PagedMemory}
-use Rattle.fault_paging.specs.Words.{IsSoundTable}
-use Rattle.kernel_cells.specs.declared.cells.Cell.{Cell}
-use Rattle.kernel_cells.specs.declared.cells.Part.{Part}
-use Rattle.kernel_cells.specs.declared.cells.Part.TheVariants as part
-use Rattle.kernel_cells.specs.Cells.{HasCell, container_cell, locus_cell, part_of}
+use Rattle.cell_blobs.specs.blob_grammar.Forms.{IsAtlasForm, IsNumber}
+use Rattle.cell_blobs.specs.blob_grammar.Shapes.{IsContainerOver}
+use Rattle.cell_blobs.proofs.blob_grammar_lemmas.Joins.{atlas_form, container_form, locus_form}
+use Rattle.cell_blobs.specs.locus_machine.declared.loci.Head.{Head}
+use Rattle.cell_blobs.specs.locus_machine.declared.loci.Locus.{Locus}
+use Rattle.cell_blobs.specs.locus_machine.Loci.{container_with, locus_of}
+use Rattle.cell_blobs.specs.fault_paging.declared.paged.PagedMemory.{PagedMemory}
+use Rattle.cell_blobs.specs.fault_paging.Words.{IsSoundTable}
+use Rattle.cell_blobs.specs.kernel_cells.declared.cells.Cell.{Cell}
+use Rattle.cell_blobs.specs.kernel_cells.declared.cells.Part.{Part}
+use Rattle.cell_blobs.specs.kernel_cells.declared.cells.Part.TheVariants as part
+use Rattle.cell_blobs.specs.kernel_cells.Cells.{HasCell, container_cell, locus_cell, part_of}
 use Rattle.cell_blobs.specs.Blobs.{HasFormedHead, IsFormed, IsFormedLocus}
 use Rattle.cell_laws.specs.Memories.{HasOwnMemory, IsOwn}
 

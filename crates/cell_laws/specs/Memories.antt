@@ -1,11 +1,11 @@
 -- Whose memory a container's cell has.
 use Rattle.std.specs.Prelude.{◌≡◌, ℕ, Bool, not, ◌==◌, count_by, Option, Some, None}
-use Rattle.locus_machine.specs.declared.loci.Head.{Head}
-use Rattle.fault_paging.specs.declared.paged.PagedMemory.{PagedMemory}
-use Rattle.fault_paging.specs.Words.{IsSoundTable}
-use Rattle.address_resolve.specs.Looks.{IsMemoryOf}
-use Rattle.kernel_cells.specs.declared.cells.Part.{Part}
-use Rattle.kernel_cells.specs.declared.cells.Part.TheVariants as part
+use Rattle.cell_blobs.specs.locus_machine.declared.loci.Head.{Head}
+use Rattle.cell_blobs.specs.fault_paging.declared.paged.PagedMemory.{PagedMemory}
+use Rattle.cell_blobs.specs.fault_paging.Words.{IsSoundTable}
+use Rattle.cell_blobs.specs.address_resolve.Looks.{IsMemoryOf}
+use Rattle.cell_blobs.specs.kernel_cells.declared.cells.Part.{Part}
+use Rattle.cell_blobs.specs.kernel_cells.declared.cells.Part.TheVariants as part
 
 -- the memory is that of the container with this head, or has no pages where none is born
 abbrev pub IsOwn : PagedMemory → Option Head → Type 0

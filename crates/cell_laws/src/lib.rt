@@ -2,13 +2,15 @@
 #![tactic(auto)]
 
 ghost use Rattle.std.specs.Prelude.{◌≤◌, ℕ, Bool, List};
-ghost use Rattle.hop_model.specs.State.{KernelState, Supply};
-ghost use Rattle.hop_model.specs.Soundness.{IsSound};
-ghost use Rattle.kernel_cells.specs.declared.cells.Cell.{Cell as ACell};
-ghost use Rattle.kernel_cells.specs.declared.cells.Part.{Part as APart};
-ghost use Rattle.kernel_cells.specs.Cells.{HasCell};
+ghost use Rattle.sound_steps.specs.hop_model.State.{KernelState, Supply};
+ghost use Rattle.sound_steps.specs.hop_model.Soundness.{IsSound};
+ghost use Rattle.cell_blobs.specs.kernel_cells.declared.cells.Cell.{Cell as ACell};
+ghost use Rattle.cell_blobs.specs.kernel_cells.declared.cells.Part.{Part as APart};
+ghost use Rattle.cell_blobs.specs.kernel_cells.Cells.{HasCell};
 ghost use Rattle.cell_blobs.specs.Blobs.{IsFormed};
 ghost use Rattle.cell_laws.specs.Memories.{HasOwnMemory, blocks_named, pages_born};
+
+pub use cell_blobs;
 
 /// Each cell that a sound state has keeps what its blob needs to have a spelling, where a container's memory is its own.
 pub fn formed_cell_law()

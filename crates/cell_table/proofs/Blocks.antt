@@ -1,15 +1,15 @@
 -- The blocks of all containers after a look at one of them.
 use Rattle.std.proofs.Common.{◌≡◌, ◌≢◌, ◌⊎◌, inl, inr, ℕ, zero, suc, ◌<◌, ◌≤◌, Bool, true, false, ◌==◌, List, [], ◌∷◌, length, slice_get, slice_index, Option, Some, None, refl, sym, ap, ◌∙◌, subst, arith, eqb-true, eq-eqb}
-use Rattle.locus_machine.specs.declared.loci.Head.{Head}
-use Rattle.locus_machine.specs.declared.loci.Locus.{Locus}
-use Rattle.fault_paging.specs.declared.paged.PagedMemory.{PagedMemory}
-use Rattle.fault_paging.specs.Calls.{IsOfTable}
-use Rattle.fault_paging.specs.Words.{IsSoundTable}
-use Rattle.address_resolve.specs.Looks.{IsMemoryOf}
-use Rattle.kernel_cells.specs.declared.cells.Cell.{Cell}
-use Rattle.kernel_cells.specs.declared.cells.Part.{Part}
-use Rattle.kernel_cells.specs.declared.cells.Part.TheVariants as part
-use Rattle.beside_steps.specs.Besides.{memory_of}
+use Rattle.touch_laws.specs.locus_machine.declared.loci.Head.{Head}
+use Rattle.touch_laws.specs.locus_machine.declared.loci.Locus.{Locus}
+use Rattle.touch_laws.specs.fault_paging.declared.paged.PagedMemory.{PagedMemory}
+use Rattle.touch_laws.specs.fault_paging.Calls.{IsOfTable}
+use Rattle.touch_laws.specs.fault_paging.Words.{IsSoundTable}
+use Rattle.touch_laws.specs.address_resolve.Looks.{IsMemoryOf}
+use Rattle.touch_laws.specs.kernel_cells.declared.cells.Cell.{Cell}
+use Rattle.touch_laws.specs.kernel_cells.declared.cells.Part.{Part}
+use Rattle.touch_laws.specs.kernel_cells.declared.cells.Part.TheVariants as part
+use Rattle.touch_laws.specs.beside_steps.Besides.{memory_of}
 use Rattle.cell_laws.specs.Memories.{HasOwnMemory}
 use Rattle.cell_table.specs.Tables.{AreNumbered, HasKind, HasNews, IsOrderly, blocks_by, memory_at, tables_in}
 use Rattle.cell_table.proofs.Having.{some_cell}

@@ -1,10 +1,10 @@
 -- The entry of a step over the table.
 use Rattle.std.proofs.Common.{◌≡◌, ◌⊎◌, inl, inr, ℕ, ◌+◌, true, false, ◌==◌, if◌then◌else◌, List, slice_get, Option, Some, refl, sym, ap, ◌∙◌, arith, eqb-true, eq-eqb}
 use Rattle.hop_base.specs.declared.histories.Entry.{Entry}
-use Rattle.hop_model.specs.Histories.{writes}
-use Rattle.hop_model.specs.State.{KernelState, LocusState, Supply}
-use Rattle.hop_model.specs.Steps.{step}
-use Rattle.kernel_cells.specs.declared.cells.Cell.{Cell}
+use Rattle.cell_laws.specs.hop_model.Histories.{writes}
+use Rattle.cell_laws.specs.hop_model.State.{KernelState, LocusState, Supply}
+use Rattle.cell_laws.specs.hop_model.Steps.{step}
+use Rattle.touch_laws.specs.kernel_cells.declared.cells.Cell.{Cell}
 use Rattle.touch_laws.specs.Touching.{IsNoted}
 use Rattle.touch_laws.proofs.Noted.{names}
 use Rattle.cell_table.specs.Steps.{ChangesThree, EntersStep}

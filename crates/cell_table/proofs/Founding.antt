@@ -1,13 +1,13 @@
 -- Wishes rest on changes, also after a step.
 use Rattle.std.proofs.Common.{◌≡◌, ℕ, zero, suc, ◌+◌, ◌-◌, ◌≤◌, Bool, false, List, [], ◌∷◌, slice_get, Option, Some, None, ap, ◌∙◌, arith}
 use Rattle.hop_base.specs.declared.histories.Entry.{Entry}
-use Rattle.hop_model.specs.Histories.{Run, after_step, locus_in, start_run}
-use Rattle.hop_model.specs.State.{Supply, KernelState}
-use Rattle.hop_model.specs.Steps.{step}
-use Rattle.kernel_cells.specs.declared.cells.Cell.{Cell}
-use Rattle.event_clocks.specs.Clocks.{HasClock}
-use Rattle.kernel_cells.specs.Wishes.{HasWish}
-use Rattle.wish_laws.specs.Founded.{IsFoundedCell}
+use Rattle.cell_laws.specs.hop_model.Histories.{Run, after_step, locus_in, start_run}
+use Rattle.cell_laws.specs.hop_model.State.{Supply, KernelState}
+use Rattle.cell_laws.specs.hop_model.Steps.{step}
+use Rattle.touch_laws.specs.kernel_cells.declared.cells.Cell.{Cell}
+use Rattle.touch_laws.specs.event_clocks.Clocks.{HasClock}
+use Rattle.touch_laws.specs.kernel_cells.Wishes.{HasWish}
+use Rattle.touch_laws.specs.wish_laws.Founded.{IsFoundedCell}
 use Rattle.touch_laws.specs.Touching.{IsNoted}
 use Rattle.touch_laws.proofs.Noted.{founded_left, noted}
 

@@ -1,15 +1,15 @@
 -- A step over lent cells is one over the table.
 use Rattle.std.proofs.Common.{◌≡◌, inl, inr, ℕ, List, slice_get, Option, Some, None, refl, sym, ap, ◌∙◌, subst}
 use Rattle.hop_base.specs.declared.histories.Entry.{Entry}
-use Rattle.hop_model.specs.Histories.{Run, after_step, goes_on, locus_in, writes}
-use Rattle.hop_model.specs.LocalEvents.{touch_at}
-use Rattle.hop_model.specs.Scripts.{Script}
-use Rattle.hop_model.specs.State.{Supply}
-use Rattle.hop_model.specs.Steps.{step}
-use Rattle.kernel_cells.specs.declared.cells.Cell.{Cell}
-use Rattle.kernel_cells.specs.Cells.{HasCell, part_of}
-use Rattle.kernel_cells.specs.Wishes.{HasWish}
-use Rattle.wish_laws.proofs.Going.{unwritten_wish, wish_left}
+use Rattle.cell_laws.specs.hop_model.Histories.{Run, after_step, goes_on, locus_in, writes}
+use Rattle.cell_laws.specs.hop_model.LocalEvents.{touch_at}
+use Rattle.cell_laws.specs.hop_model.Scripts.{Script}
+use Rattle.cell_laws.specs.hop_model.State.{Supply}
+use Rattle.cell_laws.specs.hop_model.Steps.{step}
+use Rattle.touch_laws.specs.kernel_cells.declared.cells.Cell.{Cell}
+use Rattle.touch_laws.specs.kernel_cells.Cells.{HasCell, part_of}
+use Rattle.touch_laws.specs.kernel_cells.Wishes.{HasWish}
+use Rattle.touch_laws.proofs.wish_laws_lemmas.Going.{unwritten_wish, wish_left}
 use Rattle.step_cells.specs.Advances.{HasCells, StepsCells}
 use Rattle.cell_table.specs.Tables.{AreNumbered, HasTableWishes, entity_by, entity_in, state_in}
 use Rattle.cell_table.specs.Lending.{ForPairs, IsApart, Lends}

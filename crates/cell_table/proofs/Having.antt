@@ -1,10 +1,10 @@
 -- Cells that the state of a table has.
 use Rattle.std.proofs.Common.{◌≡◌, ◌≢◌, ℕ, List, [], ◌∷◌, slice_get, Some, sym, ap, ◌∙◌}
-use Rattle.hop_model.specs.Histories.{Run}
-use Rattle.hop_model.specs.State.{Supply, EntityState, KernelState}
-use Rattle.kernel_cells.specs.declared.cells.Cell.{Cell}
-use Rattle.kernel_cells.specs.Cells.{HasCell}
-use Rattle.kernel_cells.specs.Wishes.{HasWish}
+use Rattle.cell_laws.specs.hop_model.Histories.{Run}
+use Rattle.cell_laws.specs.hop_model.State.{Supply, EntityState, KernelState}
+use Rattle.touch_laws.specs.kernel_cells.declared.cells.Cell.{Cell}
+use Rattle.touch_laws.specs.kernel_cells.Cells.{HasCell}
+use Rattle.touch_laws.specs.kernel_cells.Wishes.{HasWish}
 use Rattle.step_cells.specs.Advances.{HasCells, HasWishes}
 use Rattle.cell_table.specs.Tables.{HasTableWishes, entity_by, entity_in, state_in}
 use Rattle.cell_table.specs.Lending.{ForPairs, IsApart, IsSameNumber, StandIn}

@@ -1,16 +1,16 @@
 -- What a table keeps where the cells that were lent leave all blocks as they are.
 use Rattle.std.proofs.Common.{◌≡◌, ◌≢◌, inl, inr, ℕ, zero, suc, Bool, true, false, List, slice_get, slice_index, Option, Some, None, option_map, refl, sym, ap, ◌∙◌, subst, arith}
-use Rattle.hop_model.specs.State.{Supply}
-use Rattle.locus_machine.specs.declared.loci.Head.{Head}
-use Rattle.fault_paging.specs.declared.paged.PagedMemory.{PagedMemory}
-use Rattle.fault_paging.specs.Words.{AreCleanTrue, IsSoundTable}
-use Rattle.kernel_cells.specs.declared.cells.Cell.{Cell}
-use Rattle.kernel_cells.specs.declared.cells.Part.{Part}
-use Rattle.kernel_cells.specs.declared.cells.Part.TheVariants as part
-use Rattle.beside_steps.specs.Besides.{KeepsMemory, memory_of}
-use Rattle.birth_steps.specs.Bearing.{IsNewContainer}
+use Rattle.cell_laws.specs.hop_model.State.{Supply}
+use Rattle.touch_laws.specs.locus_machine.declared.loci.Head.{Head}
+use Rattle.touch_laws.specs.fault_paging.declared.paged.PagedMemory.{PagedMemory}
+use Rattle.touch_laws.specs.fault_paging.Words.{AreCleanTrue, IsSoundTable}
+use Rattle.touch_laws.specs.kernel_cells.declared.cells.Cell.{Cell}
+use Rattle.touch_laws.specs.kernel_cells.declared.cells.Part.{Part}
+use Rattle.touch_laws.specs.kernel_cells.declared.cells.Part.TheVariants as part
+use Rattle.touch_laws.specs.beside_steps.Besides.{KeepsMemory, memory_of}
+use Rattle.touch_laws.specs.birth_steps.Bearing.{IsNewContainer}
 use Rattle.cell_laws.specs.Memories.{HasOwnMemory, IsOwn}
-use Rattle.wish_laws.specs.Founded.{IsFoundedCell}
+use Rattle.touch_laws.specs.wish_laws.Founded.{IsFoundedCell}
 use Rattle.sound_states.specs.States.{IsSoundState}
 use Rattle.cell_table.specs.Lending.{ForPairs, IsSameNumber, Lends}
 use Rattle.cell_table.specs.Quiet.{GoesQuietly}

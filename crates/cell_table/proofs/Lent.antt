@@ -1,7 +1,7 @@
 -- Tables some of whose cells are lent.
 use Rattle.std.proofs.Common.{◌≡◌, ◌⊎◌, inl, inr, ℕ, ◌≤◌, Bool, true, false, ◌==◌, ◌||◌, List, [], ◌∷◌, length, slice_get, Some, refl, sym, ap, ◌∙◌, eqb-true, eq-eqb, arith}
 use Rattle.std.specs.List.{list_any}
-use Rattle.kernel_cells.specs.declared.cells.Cell.{Cell}
+use Rattle.touch_laws.specs.kernel_cells.declared.cells.Cell.{Cell}
 use Rattle.cell_table.specs.Lending.{ForPairs, IsApart, IsSameNumber, Lends, StandIn}
 use Rattle.cell_table.specs.Steps.{ChangesThree}
 

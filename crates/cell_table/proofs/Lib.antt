@@ -12,3 +12,7 @@ pub mod Blocks
 pub mod Looked
 pub mod Told
 pub mod LookDone
+pub use Rattle.cell_laws.proofs.cell_blobs_lemmas
+pub use Rattle.cell_laws.proofs as cell_laws_lemmas
+pub use Rattle.touch_laws.proofs.sound_runs_lemmas
+pub use Rattle.sound_states.proofs as sound_states_lemmas

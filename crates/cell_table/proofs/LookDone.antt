@@ -1,11 +1,11 @@
 -- What a look over lent cells leaves of the table.
 use Rattle.std.proofs.Common.{◌≡◌, ℕ, Bool, List, [], ◌∷◌, Result, Ok, Err, IfOk, OnErr}
 use Rattle.hop_base.specs.declared.histories.Entry.{Entry}
-use Rattle.hop_model.specs.State.{Supply}
-use Rattle.page_store.specs.declared.faults.PageFault.{PageFault}
-use Rattle.kernel_cells.specs.declared.cells.Cell.{Cell}
-use Rattle.kernel_cells.specs.Cells.{part_of}
-use Rattle.look_steps.specs.Looking.{LeavesMemory}
+use Rattle.cell_laws.specs.hop_model.State.{Supply}
+use Rattle.touch_laws.specs.page_store.declared.faults.PageFault.{PageFault}
+use Rattle.touch_laws.specs.kernel_cells.declared.cells.Cell.{Cell}
+use Rattle.touch_laws.specs.kernel_cells.Cells.{part_of}
+use Rattle.touch_laws.specs.look_steps.Looking.{LeavesMemory}
 use Rattle.step_cells.specs.Advances.{AdvancesSomehow, StepsCells}
 use Rattle.cell_table.specs.Lending.{Lends}
 use Rattle.cell_table.specs.Steps.{EntersStep, GoesOn, StaysAtFault}

@@ -1,27 +1,27 @@
 -- A look at a container keeps the table in order, whatever the store tells.
 use Rattle.std.proofs.Common.{◌≡◌, ◌≢◌, inl, inr, ℕ, ◌*◌, ◌/◌, ◌%◌, ◌≤◌, Bool, true, false, ◌==◌, ◌||◌, if◌then◌else◌, List, [], ◌∷◌, slice_get, Option, Some, None, refl, sym, ap, ◌∙◌, subst, arith, eq-eqb, ne_eqb}
 use Rattle.hop_base.specs.declared.histories.Entry.{Entry}
-use Rattle.hop_model.specs.Histories.{Run, after_step, locus_in}
-use Rattle.hop_model.specs.LocalEvents.{touch_at}
-use Rattle.hop_model.specs.State.{Cell as ModelCell, ContainerCell, ContainerState, EntityState, KernelState, LocusCell, NotBorn, Supply}
-use Rattle.hop_model.specs.Steps.{step}
-use Rattle.event_clocks.specs.Clocks.{HasClock}
+use Rattle.cell_laws.specs.hop_model.Histories.{Run, after_step, locus_in}
+use Rattle.cell_laws.specs.hop_model.LocalEvents.{touch_at}
+use Rattle.cell_laws.specs.hop_model.State.{Cell as ModelCell, ContainerCell, ContainerState, EntityState, KernelState, LocusCell, NotBorn, Supply}
+use Rattle.cell_laws.specs.hop_model.Steps.{step}
+use Rattle.touch_laws.specs.event_clocks.Clocks.{HasClock}
 use Rattle.vector_stamps.specs.Stamps.{component}
-use Rattle.locus_machine.specs.declared.loci.Head.{Head}
-use Rattle.locus_machine.specs.declared.loci.Locus.{Locus}
-use Rattle.locus_machine.specs.Loci.{container_with, locus_of}
-use Rattle.fault_paging.specs.Words.{IsSoundTable, word_in, words_of}
-use Rattle.kernel_cells.specs.declared.cells.Cell.{Cell}
-use Rattle.kernel_cells.specs.declared.cells.Part.{Part}
-use Rattle.kernel_cells.specs.declared.cells.Part.TheVariants as part
-use Rattle.kernel_cells.specs.Cells.{HasCell, container_cell, part_of}
-use Rattle.kernel_cells.specs.Wishes.{HasWish}
-use Rattle.look_steps.specs.Looking.{HasCellWith, part_with}
+use Rattle.touch_laws.specs.locus_machine.declared.loci.Head.{Head}
+use Rattle.touch_laws.specs.locus_machine.declared.loci.Locus.{Locus}
+use Rattle.touch_laws.specs.locus_machine.Loci.{container_with, locus_of}
+use Rattle.touch_laws.specs.fault_paging.Words.{IsSoundTable, word_in, words_of}
+use Rattle.touch_laws.specs.kernel_cells.declared.cells.Cell.{Cell}
+use Rattle.touch_laws.specs.kernel_cells.declared.cells.Part.{Part}
+use Rattle.touch_laws.specs.kernel_cells.declared.cells.Part.TheVariants as part
+use Rattle.touch_laws.specs.kernel_cells.Cells.{HasCell, container_cell, part_of}
+use Rattle.touch_laws.specs.kernel_cells.Wishes.{HasWish}
+use Rattle.touch_laws.specs.look_steps.Looking.{HasCellWith, part_with}
 use Rattle.step_cells.specs.Advances.{AdvancesSomehow}
 use Rattle.cell_laws.specs.Memories.{HasOwnMemory}
-use Rattle.event_clocks.specs.declared.Clock.{Clock}
-use Rattle.kernel_cells.specs.declared.cells.Wish.{Wish}
-use Rattle.wish_laws.specs.Founded.{IsFounded, IsFoundedCell}
+use Rattle.touch_laws.specs.event_clocks.declared.Clock.{Clock}
+use Rattle.touch_laws.specs.kernel_cells.declared.cells.Wish.{Wish}
+use Rattle.touch_laws.specs.wish_laws.Founded.{IsFounded, IsFoundedCell}
 use Rattle.sound_states.specs.States.{IsSoundState, IsSupplied}
 use Rattle.sound_states.proofs.States.{step_state}
 use Rattle.touch_laws.specs.Touching.{IsNoted}
@@ -66,7 +66,7 @@ own_supplied held s words (part.Container b) c own is = by b.head own.0 is
         past address high =
             let page : b.memory.pages ≤ address / 128 = (let same = of.pages in omega arith) in
             let none = own.1.none_past (address / 128) page in
-            (λ i. Rattle.fault_paging.specs.Words.word_by s b.memory.tag words (none.0 i) (address / 128) (address % 128) (none.1 i))
+            (λ i. Rattle.touch_laws.specs.fault_paging.Words.word_by s b.memory.tag words (none.0 i) (address / 128) (address % 128) (none.1 i))
             ∙ ap (λ t. s t (address / 128) (address % 128)) of.tag
 
 module _ (held held' : ℕ → Bool) (cs cs' : List Cell) (me y : ℕ) (a b a' b' : Cell) (orderly : IsOrderly held cs) (two : ChangesTwo cs cs' me y a b a' b') (looks : LooksAt held held' b b') where
@@ -89,7 +89,7 @@ module _ (held held' : ℕ → Bool) (cs cs' : List Cell) (me y : ℕ) (a b a' b
       by (Some d) at is = own_supplied held' s words d.part c ((kept kind).own x d at) is
       by None at is = none (x == 0) is
         where
-          none : (b : Bool) → (if b then Rattle.hop_model.specs.State.AtlasCell Rattle.hop_model.specs.State.no_atlas else NotBorn) ≡ ContainerCell c → IsSupplied s c
+          none : (b : Bool) → (if b then Rattle.cell_laws.specs.hop_model.State.AtlasCell Rattle.cell_laws.specs.hop_model.State.no_atlas else NotBorn) ≡ ContainerCell c → IsSupplied s c
           none true e = cc
           none false e = cc
 
@@ -146,7 +146,7 @@ module _ (held held' : ℕ → Bool) (cs cs' : List Cell) (me y : ℕ) (a b a' b
 
         supplied_here : IsSupplied s (container_with before looks.head)
         supplied_here address high =
-            (advances.steps.past own address (subst (λ p. Rattle.look_steps.specs.Looking.pages_in p * 128 ≤ address) (sym looks.was) high)).0
+            (advances.steps.past own address (subst (λ p. Rattle.touch_laws.specs.look_steps.Looking.pages_in p * 128 ≤ address) (sym looks.was) high)).0
             ∙ (orderly.sound s words).words y (container_with own looks.head) was_there address high
 
         supplied_at : (x : ℕ) (c : ContainerState) → (looked x).cell ≡ ContainerCell c → IsSupplied s c

@@ -2,18 +2,18 @@
 use Rattle.std.proofs.Common.{◌≡◌, ℕ, ◌+◌, ◌<◌, ◌≤◌, Bool, true, false, ◌&&◌, ◌==◌, nat_lt, nat_le, List, length, Option, Some, None, refl, sym, ap, ◌∙◌, subst, arith}
 use Rattle.std.proofs.lemmas.Bool.Decides.{nat_tests}
 use Rattle.hop_base.specs.declared.histories.Entry.{Entry}
-use Rattle.hop_model.specs.LocalEvents.{touch_at}
-use Rattle.hop_model.specs.Soundness.{AreSound}
-use Rattle.hop_model.specs.State.{AtlasState, Cell, KernelState, NotBorn, AtlasCell, Supply}
-use Rattle.hop_model.specs.Steps.{step}
-use Rattle.hop_model.proofs.Locality.{step_local}
-use Rattle.locus_machine.specs.declared.loci.Head.{Head}
-use Rattle.kernel_cells.specs.declared.cells.Part.{Part}
-use Rattle.kernel_cells.specs.declared.cells.Part.TheVariants as part
-use Rattle.kernel_cells.specs.Cells.{container_cell, part_of}
-use Rattle.beside_steps.specs.Besides.{KeepsMemory}
+use Rattle.cell_laws.specs.hop_model.LocalEvents.{touch_at}
+use Rattle.cell_laws.specs.hop_model.Soundness.{AreSound}
+use Rattle.cell_laws.specs.hop_model.State.{AtlasState, Cell, KernelState, NotBorn, AtlasCell, Supply}
+use Rattle.cell_laws.specs.hop_model.Steps.{step}
+use Rattle.cell_laws.proofs.hop_model_lemmas.Locality.{step_local}
+use Rattle.touch_laws.specs.locus_machine.declared.loci.Head.{Head}
+use Rattle.touch_laws.specs.kernel_cells.declared.cells.Part.{Part}
+use Rattle.touch_laws.specs.kernel_cells.declared.cells.Part.TheVariants as part
+use Rattle.touch_laws.specs.kernel_cells.Cells.{container_cell, part_of}
+use Rattle.touch_laws.specs.beside_steps.Besides.{KeepsMemory}
 use Rattle.sound_states.specs.States.{IsSoundState}
-use Rattle.sound_steps.proofs.Cells.{Fits, fits_in}
+use Rattle.cell_laws.proofs.sound_steps_lemmas.Cells.{Fits, fits_in}
 use Rattle.cell_table.specs.Tables.{HasKind}
 
 low_number : (n x : ℕ) → n ≤ 40 → (nat_lt 0 x && nat_le x n) ≡ true → (0 < x) × (x ≤ 40)

@@ -1,12 +1,12 @@
 -- A step that leaves all blocks as they are keeps the table in order.
 use Rattle.std.proofs.Common.{◌≡◌, inl, inr, ℕ, ◌≤◌, Bool, List, length, slice_get, Some, refl, sym, ap, ◌∙◌, subst}
 use Rattle.hop_base.specs.declared.histories.Entry.{Entry}
-use Rattle.hop_model.specs.Histories.{after_step, locus_in}
-use Rattle.hop_model.specs.State.{Supply, KernelState}
-use Rattle.hop_model.specs.Steps.{step}
-use Rattle.kernel_cells.specs.declared.cells.Cell.{Cell}
-use Rattle.kernel_cells.specs.Wishes.{HasWish}
-use Rattle.wish_laws.specs.Founded.{IsFoundedCell}
+use Rattle.cell_laws.specs.hop_model.Histories.{after_step, locus_in}
+use Rattle.cell_laws.specs.hop_model.State.{Supply, KernelState}
+use Rattle.cell_laws.specs.hop_model.Steps.{step}
+use Rattle.touch_laws.specs.kernel_cells.declared.cells.Cell.{Cell}
+use Rattle.touch_laws.specs.kernel_cells.Wishes.{HasWish}
+use Rattle.touch_laws.specs.wish_laws.Founded.{IsFoundedCell}
 use Rattle.sound_states.specs.States.{IsSoundState}
 use Rattle.sound_states.proofs.States.{step_state}
 use Rattle.step_cells.specs.Advances.{StepsCells}

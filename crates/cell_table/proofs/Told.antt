@@ -1,18 +1,18 @@
 -- The words of other containers after a look at one of them.
 use Rattle.std.proofs.Common.{◌≡◌, ◌≢◌, inl, inr, ℕ, ◌/◌, ◌%◌, Bool, true, ◌==◌, if◌then◌else◌, List, [], ◌∷◌, slice_get, slice_index, Option, Some, None, refl, sym, ap, ◌∙◌, subst, eq-eqb}
 use Rattle.hop_base.specs.declared.histories.Entry.{Entry}
-use Rattle.hop_model.specs.State.{ContainerCell, Supply}
+use Rattle.cell_laws.specs.hop_model.State.{ContainerCell, Supply}
 use Rattle.frame_table.specs.FrameTable.{page_at}
-use Rattle.locus_machine.specs.declared.loci.Head.{Head}
-use Rattle.locus_machine.specs.Loci.{container_with}
-use Rattle.fault_paging.specs.declared.paged.PagedMemory.{PagedMemory}
-use Rattle.fault_paging.specs.Calls.{IsOfTable}
-use Rattle.fault_paging.specs.Words.{AreCleanTrue, block_at, stored_word, word_by, word_in, words_of}
-use Rattle.kernel_cells.specs.declared.cells.Cell.{Cell}
-use Rattle.kernel_cells.specs.declared.cells.Part.{Part}
-use Rattle.kernel_cells.specs.declared.cells.Part.TheVariants as part
-use Rattle.kernel_cells.specs.Cells.{container_cell, part_of}
-use Rattle.beside_steps.specs.Besides.{memory_of}
+use Rattle.touch_laws.specs.locus_machine.declared.loci.Head.{Head}
+use Rattle.touch_laws.specs.locus_machine.Loci.{container_with}
+use Rattle.touch_laws.specs.fault_paging.declared.paged.PagedMemory.{PagedMemory}
+use Rattle.touch_laws.specs.fault_paging.Calls.{IsOfTable}
+use Rattle.touch_laws.specs.fault_paging.Words.{AreCleanTrue, block_at, stored_word, word_by, word_in, words_of}
+use Rattle.touch_laws.specs.kernel_cells.declared.cells.Cell.{Cell}
+use Rattle.touch_laws.specs.kernel_cells.declared.cells.Part.{Part}
+use Rattle.touch_laws.specs.kernel_cells.declared.cells.Part.TheVariants as part
+use Rattle.touch_laws.specs.kernel_cells.Cells.{container_cell, part_of}
+use Rattle.touch_laws.specs.beside_steps.Besides.{memory_of}
 use Rattle.step_cells.specs.Advances.{StepsCells}
 use Rattle.cell_table.specs.Lending.{Lends}
 use Rattle.cell_table.specs.Steps.{GoesOn}

@@ -2,12 +2,12 @@
 use Rattle.std.proofs.Common.{◌≡◌, ◌≢◌, ℕ, ◌+◌, true, false, ◌==◌, if◌then◌else◌, Some, None, refl, ap, arith, eq-eqb, ne_eqb}
 use Rattle.hop_base.specs.declared.histories.Entry.{Entry}
 use Rattle.hop_base.specs.declared.histories.Touch.{Touch}
-use Rattle.hop_model.specs.Histories.{writes}
-use Rattle.hop_model.specs.LocalEvents.{touch_at}
-use Rattle.hop_model.specs.State.{Supply, EntityState, KernelState}
-use Rattle.hop_model.specs.Steps.{step}
-use Rattle.hop_model.proofs.Locality.{step_local}
-use Rattle.sound_runs.proofs.Lengths.{not_written}
+use Rattle.cell_laws.specs.hop_model.Histories.{writes}
+use Rattle.cell_laws.specs.hop_model.LocalEvents.{touch_at}
+use Rattle.cell_laws.specs.hop_model.State.{Supply, EntityState, KernelState}
+use Rattle.cell_laws.specs.hop_model.Steps.{step}
+use Rattle.cell_laws.proofs.hop_model_lemmas.Locality.{step_local}
+use Rattle.touch_laws.proofs.sound_runs_lemmas.Lengths.{not_written}
 
 -- the state with one version more of the entity
 pub raised : KernelState → ℕ → KernelState

@@ -1,7 +1,7 @@
 -- Soundness says nothing of words within a container's pages.
 use Rattle.std.proofs.Common.{◌≡◌, ℕ, ◌≤◌, refl, sym, ap, ◌∙◌, subst}
-use Rattle.hop_model.specs.Soundness.{AreSound, IsSoundContainer, regions_onto}
-use Rattle.hop_model.specs.State.{AtlasState, Cell, ContainerState, KernelState, LocusState, NotBorn, AtlasCell, ContainerCell, LocusCell, Supply}
+use Rattle.cell_laws.specs.hop_model.Soundness.{AreSound, IsSoundContainer, regions_onto}
+use Rattle.cell_laws.specs.hop_model.State.{AtlasState, Cell, ContainerState, KernelState, LocusState, NotBorn, AtlasCell, ContainerCell, LocusCell, Supply}
 use Rattle.sound_states.specs.States.{IsSoundState, IsSupplied}
 
 -- the cell with no words

@@ -1,6 +1,6 @@
 -- Some cells of the table are lent, and come back changed.
 use Rattle.std.specs.Prelude.{◌≡◌, ◌≢◌, ℕ, List, [], ◌∷◌, length, slice_get, Some}
-use Rattle.kernel_cells.specs.declared.cells.Cell.{Cell}
+use Rattle.touch_laws.specs.kernel_cells.declared.cells.Cell.{Cell}
 
 -- each pair of the two lists, which are as long
 abbrev pub ForPairs : (Cell → Cell → Type 0) → List Cell → List Cell → Type 0

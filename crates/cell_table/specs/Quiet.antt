@@ -1,8 +1,8 @@
 -- What a step that leaves all blocks as they are makes of a cell.
 use Rattle.std.specs.Prelude.{◌⊎◌}
-use Rattle.kernel_cells.specs.declared.cells.Cell.{Cell}
-use Rattle.beside_steps.specs.Besides.{KeepsMemory}
-use Rattle.birth_steps.specs.Bearing.{IsNewContainer, IsUnbornContainer}
+use Rattle.touch_laws.specs.kernel_cells.declared.cells.Cell.{Cell}
+use Rattle.touch_laws.specs.beside_steps.Besides.{KeepsMemory}
+use Rattle.touch_laws.specs.birth_steps.Bearing.{IsNewContainer, IsUnbornContainer}
 use Rattle.cell_table.specs.Tables.{HasKind}
 
 -- WHAT BECOMES OF A PART'S MEMORY: it is kept, or begins with the container

@@ -3,15 +3,15 @@ use Rattle.std.specs.Prelude.{◌≡◌, ℕ, ◌+◌, ◌≤◌, Bool, false, �
 use Rattle.std.specs.List.{list_any}
 use Rattle.hop_base.specs.declared.histories.Entry.{Entry}
 use Rattle.hop_base.specs.declared.histories.Event.TheVariants.{Step as StepEvent}
-use Rattle.hop_model.specs.Histories.{Run, goes_on}
-use Rattle.hop_model.specs.Scripts.{Script}
-use Rattle.hop_model.specs.State.{Supply}
-use Rattle.hop_model.specs.Steps.{step}
+use Rattle.cell_laws.specs.hop_model.Histories.{Run, goes_on}
+use Rattle.cell_laws.specs.hop_model.Scripts.{Script}
+use Rattle.cell_laws.specs.hop_model.State.{Supply}
+use Rattle.cell_laws.specs.hop_model.Steps.{step}
 use Rattle.atlas_dir.specs.Directory.{Directory}
-use Rattle.kernel_cells.specs.declared.cells.Cell.{Cell}
-use Rattle.kernel_cells.specs.declared.cells.Part.TheVariants as Part
-use Rattle.step_plans.specs.Plans.{IsPlanned}
-use Rattle.step_plans.specs.declared.plans.Plan.{Plan}
+use Rattle.touch_laws.specs.kernel_cells.declared.cells.Cell.{Cell}
+use Rattle.touch_laws.specs.kernel_cells.declared.cells.Part.TheVariants as Part
+use Rattle.touch_laws.specs.step_plans.Plans.{IsPlanned}
+use Rattle.touch_laws.specs.step_plans.declared.plans.Plan.{Plan}
 use Rattle.cell_table.specs.Tables.{AreClean, HasTableWishes, IsOrderly, state_in, tables_in}
 
 -- THE STEP of the locus in the state that the cells are gives this entry and the state that they are left as; each run that is in this

@@ -1,17 +1,17 @@
 -- The cells of the kernel: a list of 64, each at its entity's number.
 use Rattle.std.specs.Prelude.{◌≡◌, ◌≢◌, ◌⊎◌, ℕ, ◌<◌, ◌≤◌, ◌^◌, Bool, true, false, List, [], length, slice_get, slice_index, Option, Some, None}
-use Rattle.hop_model.specs.Histories.{Run}
-use Rattle.hop_model.specs.State.{EntityState, KernelState, Supply, empty_state}
+use Rattle.cell_laws.specs.hop_model.Histories.{Run}
+use Rattle.cell_laws.specs.hop_model.State.{EntityState, KernelState, Supply, empty_state}
 use Rattle.vector_stamps.specs.Stamps.{component}
-use Rattle.fault_paging.specs.declared.paged.PagedMemory.{PagedMemory}
-use Rattle.fault_paging.specs.Words.{AreCleanTrue}
-use Rattle.kernel_cells.specs.declared.cells.Cell.{Cell}
-use Rattle.kernel_cells.specs.declared.cells.Part.{Part}
-use Rattle.kernel_cells.specs.declared.cells.Part.TheVariants as part
-use Rattle.kernel_cells.specs.Cells.{part_of}
-use Rattle.kernel_cells.specs.Wishes.{HasWish}
-use Rattle.beside_steps.specs.Besides.{memory_of}
-use Rattle.wish_laws.specs.Founded.{IsFoundedCell}
+use Rattle.touch_laws.specs.fault_paging.declared.paged.PagedMemory.{PagedMemory}
+use Rattle.touch_laws.specs.fault_paging.Words.{AreCleanTrue}
+use Rattle.touch_laws.specs.kernel_cells.declared.cells.Cell.{Cell}
+use Rattle.touch_laws.specs.kernel_cells.declared.cells.Part.{Part}
+use Rattle.touch_laws.specs.kernel_cells.declared.cells.Part.TheVariants as part
+use Rattle.touch_laws.specs.kernel_cells.Cells.{part_of}
+use Rattle.touch_laws.specs.kernel_cells.Wishes.{HasWish}
+use Rattle.touch_laws.specs.beside_steps.Besides.{memory_of}
+use Rattle.touch_laws.specs.wish_laws.Founded.{IsFoundedCell}
 use Rattle.cell_laws.specs.Memories.{HasOwnMemory}
 use Rattle.sound_states.specs.States.{IsSoundState}
 

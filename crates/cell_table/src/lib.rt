@@ -5,13 +5,17 @@
 
 ghost use Rattle.std.specs.Prelude.{◌≤◌, ℕ, List, length};
 ghost use Rattle.hop_base.specs.declared.histories.Entry.{Entry};
-ghost use Rattle.hop_model.specs.State.{Supply};
-ghost use Rattle.kernel_cells.specs.declared.cells.Cell.{Cell as ACell};
+ghost use Rattle.cell_laws.specs.hop_model.State.{Supply};
+ghost use Rattle.touch_laws.specs.kernel_cells.declared.cells.Cell.{Cell as ACell};
 ghost use Rattle.step_cells.specs.Advances.{StepsCells};
 ghost use Rattle.cell_table.specs.Lending.{ForPairs, Lends};
 ghost use Rattle.cell_table.specs.Quiet.{GoesQuietly};
 ghost use Rattle.cell_table.specs.Steps.{StepsQuietly};
 ghost use Rattle.cell_table.specs.Tables.{AreNumbered};
+
+pub use cell_laws::cell_blobs;
+pub use step_cells;
+pub use touch_laws::script_form;
 
 /// A step over at most three cells that are lent from a table, which leaves all blocks as they are, is the step over the table, which it leaves in order.
 pub fn lent_step_law()

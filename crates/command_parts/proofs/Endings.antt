@@ -3,7 +3,7 @@ use Rattle.std.proofs.Common.{◌≡◌, inl, inr, Result, Ok, Err, OnErr, refl,
 use Rattle.std.specs.Io.KnownBytes.{Appends}
 use Rattle.stream_edge.specs.Streams.{AppendsPart, Puts}
 use Rattle.stream_edge.proofs.Streams.{AppendsPart-whole}
-use Rattle.hop_model.specs.State.{Text}
+use Rattle.script_form.specs.hop_model.State.{Text}
 use Rattle.command_parts.specs.Ends.{Gains, IsPut, LeavesBy}
 use Rattle.command_parts.specs.Seen.{SeenSink}
 use Rattle.command_parts.specs.Statuses.{Ending, IsComplete, Stopped, Unput, Whole, ending, status_by}

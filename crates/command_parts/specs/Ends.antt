@@ -2,7 +2,7 @@
 use Rattle.std.specs.Prelude.{◌≡◌, ◌⊎◌, []}
 use Rattle.std.specs.Io.KnownBytes.{Appends}
 use Rattle.stream_edge.specs.Streams.{AppendsPart}
-use Rattle.hop_model.specs.State.{Text}
+use Rattle.script_form.specs.hop_model.State.{Text}
 use Rattle.command_parts.specs.Faults.{fault_line}
 use Rattle.command_parts.specs.Seen.{Gave, SeenSink}
 use Rattle.command_parts.specs.Statuses.{Ending, Stopped, Unput, Whole, Wrong}

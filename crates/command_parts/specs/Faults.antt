@@ -1,6 +1,6 @@
 -- The last line of a call that came to no good end.
 use Rattle.std.specs.Prelude.{ℕ, [], ◌∷◌, ◌++◌, codes, decimal, string_bytes}
-use Rattle.hop_model.specs.State.{Text}
+use Rattle.script_form.specs.hop_model.State.{Text}
 use Rattle.log_reading.specs.declared.faults.ReadingFault.{ReadingFault}
 use Rattle.log_reading.specs.declared.faults.ReadingFault.TheVariants as reading
 use Rattle.script_form.specs.declared.refusals.Refusal.{Refusal}

@@ -1,2 +1,4 @@
-mod Words
+mod Flags
 mod Walks
+mod Words
+pub mod Worded

@@ -1,5 +1,5 @@
 -- Words, their bytes, and which are no command.
-use Rattle.std.proofs.Common.{◌≡◌, ◌∙◌, ℕ, List, [], ◌∷◌, length, map, Option, Some, None, IfSome, IfNone, sym, ap, ap₂, refl, true, false, true≢false, is_some, unwrap_or, String, string_bytes, codes, slice_index, ne_eqb, arith}
+use Rattle.std.proofs.Common.{◌≡◌, ◌∙◌, ◌<◌, ℕ, List, [], ◌∷◌, length, map, Option, Some, None, IfSome, IfNone, sym, ap, ap₂, refl, true, false, true≢false, is_some, unwrap_or, String, string_bytes, codes, slice_index, ne_eqb, arith}
 use Rattle.std.specs.Prelude.{◌==◌, ◌&&◌, ◌||◌, slice_get, bytes_eq}
 use Rattle.std.specs.List.{list_any}
 use Rattle.std.specs.Borrow.{Bor}
@@ -11,7 +11,7 @@ use Rattle.std.proofs.lemmas.Str.Parse.{digit_from_value}
 use Rattle.command_words.specs.Commands.{IsCommand}
 use Rattle.command_words.specs.Forms as form
 use Rattle.command_words.specs.declared.Command.{Command}
-use Rattle.command_words.specs.declared.Command.TheVariants.{Format, Report, Run, Show}
+use Rattle.command_words.specs.declared.Command.TheVariants.{CheckTrace, Drill, Format, Report, Run, Show}
 
 -- what a getter gave, by its bytes
 pub value_given : (r : Option (Bor (List ℕ))) (name v : List ℕ) (words : List (List ℕ)) → option_map (λ s. s.now) r ≡ Some v → words ≡ name ∷ v ∷ []
@@ -46,31 +46,43 @@ digits_stand digits h =
 -- a command has no refused word
 pub commands_stand : (words : List (List ℕ)) (command : Command) → IsCommand words command → list_any form.is_refused words ≡ false
 commands_stand words (Format blocks) (digits, is, number, size) = ap (list_any form.is_refused) is ∙ ap (λ b. b || false) (digits_stand digits number.0)
-commands_stand words Run is = ap (list_any form.is_refused) is
+commands_stand words (Drill seed) (digits, is, number, size) = ap (list_any form.is_refused) is ∙ ap (λ b. b || false) (digits_stand digits number.0)
+commands_stand words (Run true) is = ap (list_any form.is_refused) is
+commands_stand words (Run false) is = ap (list_any form.is_refused) is
 commands_stand words Show is = ap (list_any form.is_refused) is
 commands_stand words Report is = ap (list_any form.is_refused) is
+commands_stand words CheckTrace is = ap (list_any form.is_refused) is
 
 pub no_command : (words : List (List ℕ)) → list_any form.is_refused words ≡ true → (command : Command) → IsCommand words command → ⊥
 no_command words e command is = true≢false (sym e ∙ commands_stand words command is)
 
--- words that begin otherwise than with `format`
-other_word : (words : List (List ℕ)) (first : List ℕ) (others : List (List ℕ)) → first ≡ codes "format" → slice_get words 0 ≡ Some first → words ≡ others
-    → (slice_index (unwrap_or (slice_get others 0) []) 0 ≡ 102 → ⊥) → ⊥
-other_word words first others named at is no_f =
-    no_f (ap (λ ws. slice_index (unwrap_or (slice_get ws 0) []) 0) (sym is) ∙ ap (λ o. slice_index (unwrap_or o []) 0) at ∙ ap (λ word. slice_index word 0) named)
+-- the first byte of the first word
+abbrev pub letter : List (List ℕ) → ℕ
+letter words = slice_index (unwrap_or (slice_get words 0) []) 0
 
--- with no value, or one that begins with a hyphen, `format` is no command
-pub no_format : (words : List (List ℕ)) (first : List ℕ) → first ≡ codes "format" → slice_get words 0 ≡ Some first
+-- words of a command without digits
+other_word : (words others : List (List ℕ)) (a b : ℕ) → words ≡ others → letter others ≡ a → letter words ≡ b → (a ≡ b → ⊥) → ⊥
+other_word words others a b is at front differ = differ (sym at ∙ ap letter (sym is) ∙ front)
+
+-- with no value, or one that begins with a hyphen, neither `format` nor `drill` is a command
+pub no_number : (words : List (List ℕ)) (k : ℕ) → letter words ≡ k → k < 114 → (99 ≡ k → ⊥)
     → ((name v : List ℕ) → words ≡ name ∷ v ∷ [] → slice_index v 0 ≡ 45) → (command : Command) → IsCommand words command → ⊥
-no_format words first named at hyphen (Format blocks) (digits, is, number, size) = first_digit digits number.0 (hyphen (codes "format") digits is)
-no_format words first named at hyphen Run is = other_word words first (codes "run" ∷ []) named at is (λ e. let bad : 114 ≡ 102 = e in omega (arith, bad))
-no_format words first named at hyphen Show is = other_word words first (codes "show" ∷ []) named at is (λ e. let bad : 115 ≡ 102 = e in omega (arith, bad))
-no_format words first named at hyphen Report is = other_word words first (codes "report" ∷ []) named at is (λ e. let bad : 114 ≡ 102 = e in omega (arith, bad))
+no_number words k front low not_c hyphen (Format blocks) (digits, is, number, size) = first_digit digits number.0 (hyphen (codes "format") digits is)
+no_number words k front low not_c hyphen (Drill seed) (digits, is, number, size) = first_digit digits number.0 (hyphen (codes "drill") digits is)
+no_number words k front low not_c hyphen (Run true) is = other_word words _ 114 k is refl front (λ e. omega arith)
+no_number words k front low not_c hyphen (Run false) is = other_word words _ 114 k is refl front (λ e. omega arith)
+no_number words k front low not_c hyphen Show is = other_word words _ 115 k is refl front (λ e. omega arith)
+no_number words k front low not_c hyphen Report is = other_word words _ 114 k is refl front (λ e. omega arith)
+no_number words k front low not_c hyphen CheckTrace is = other_word words _ 99 k is refl front not_c
 
 -- no word is refused, said of the bytes
 pub none_in_bytes : {Z : Type 0} (words : List (String Z)) → list_any (λ word. form.is_refused (string_bytes word)) words ≡ false → list_any form.is_refused (map string_bytes words) ≡ false
 none_in_bytes words none = sym (list_any-map form.is_refused string_bytes words) ∙ none
 
-pub string_front : {Z : Type 0} (words : List (String Z)) (first : String Z) → slice_get words 0 ≡ Some first → slice_get (map string_bytes words) 0 ≡ Some (string_bytes first)
+string_front : {Z : Type 0} (words : List (String Z)) (first : String Z) → slice_get words 0 ≡ Some first → slice_get (map string_bytes words) 0 ≡ Some (string_bytes first)
 string_front [] first e = absurd (false≢true (ap is_some e))
 string_front (w ∷ ws) first e = ap (option_map string_bytes) e
+
+pub first_letter : {Z : Type 0} (words : List (String Z)) (first : String Z) (name : List ℕ) → slice_get words 0 ≡ Some first → string_bytes first ≡ name
+    → letter (map string_bytes words) ≡ slice_index name 0
+first_letter words first name at named = ap (λ o. slice_index (unwrap_or o []) 0) (string_front words first at) ∙ ap (λ word. slice_index word 0) named

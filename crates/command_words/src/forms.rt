@@ -1,11 +1,12 @@
 //! The forms of commands, as `clap` reads them.
-ghost use Rattle.std.specs.Prelude.{◌≡◌, ◌≢◌, ◌≤◌, ◌↔◌, ℕ, List, [], ◌∷◌, IfErr, IfNone, IfOk, IfSome, IsErrAnd, IsTrue, MatchOption, false, length, map, slice_index, string_bytes};
+ghost use Rattle.std.specs.Prelude.{◌≡◌, ◌≢◌, ◌≤◌, ◌↔◌, ℕ, List, [], ◌∷◌, IfErr, IfNone, IfOk, IfSome, IsErrAnd, IsTrue, MatchOption, drop, false, length, map, slice_index, string_bytes};
 ghost use Rattle.std.specs.List.{list_any};
 ghost use Rattle.clap.specs.Words.{kind_of};
+ghost use Rattle.command_words.specs.Commands.{run_words};
 ghost use Rattle.command_words.specs.Forms as form;
 
 use clap::error::ErrorKind;
-use clap::{Arg, ArgMatches, Error};
+use clap::{Arg, ArgAction, ArgMatches, Error};
 use std::alloc::{AllocError, Global};
 
 /// No command has such a word, and `clap` may read more in it than a value.
@@ -55,19 +56,39 @@ pub(crate) fn has_no_value<'a>(
 /// The one word behind the command's name. A word that begins with a hyphen is no value.
 pub(crate) fn one_value<'a>(
     alloc: Global,
+    name: &'a str,
     words: &'a [String],
 ) -> Result<Option<&'a str>, AllocError>
     requires { list_any form.is_refused (map string_bytes words.now) ≡ false }
-    ensures some { IfOk result (λ r. IfSome r (λ value. (name : List ℕ) × (map string_bytes words.entry.now ≡ name ∷ value.now ∷ []))) }
-    ensures none { IfOk result (λ r. IfNone r ((name value : List ℕ) → map string_bytes words.entry.now ≡ name ∷ value ∷ [] → slice_index value 0 ≡ 45)) }
+    ensures some { IfOk result (λ r. IfSome r (λ value. (first : List ℕ) × (map string_bytes words.entry.now ≡ first ∷ value.now ∷ []))) }
+    ensures none { IfOk result (λ r. IfNone r ((first value : List ℕ) → map string_bytes words.entry.now ≡ first ∷ value ∷ [] → slice_index value 0 ≡ 45)) }
 {
-    let value = Arg::new(alloc, "blocks").required(true);
-    let command = clap::Command::new(alloc, "format")
+    let value = Arg::new(alloc, "number").required(true);
+    let command = clap::Command::new(alloc, name)
         .disable_help_flag(true)
         .arg(value)?;
     let matches = if_of_form(command.try_get_matches_from(words))?;
     match matches {
-        Some(found) => Ok(found.get_str("blocks")),
+        Some(found) => Ok(found.get_str("number")),
+        None => Ok(None),
+    }
+}
+
+/// Whether `--trace` stands behind the name of a run. None where other words do.
+pub(crate) fn trace_flag(alloc: Global, words: &[String]) -> Result<Option<bool>, AllocError>
+    requires { list_any form.is_refused (map string_bytes words.now) ≡ false }
+    ensures some { IfOk result (λ r. IfSome r (λ trace. drop 1 (map string_bytes words.now) ≡ run_words trace)) }
+    ensures none { IfOk result (λ r. IfNone r ((trace : _) → drop 1 (map string_bytes words.now) ≡ run_words trace → ⊥)) }
+{
+    let flag = Arg::new(alloc, "trace")
+        .long("trace")
+        .action(ArgAction::SetTrue);
+    let command = clap::Command::new(alloc, "run")
+        .disable_help_flag(true)
+        .arg(flag)?;
+    let matches = if_of_form(command.try_get_matches_from(words))?;
+    match matches {
+        Some(found) => Ok(Some(found.get_flag("trace"))),
         None => Ok(None),
     }
 }

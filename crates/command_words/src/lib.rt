@@ -5,7 +5,7 @@ ghost use Rattle.std.specs.Prelude.{IfNone, IfOk, IfSome, map, string_bytes};
 ghost use Rattle.command_words.specs.Commands.{IsCommand};
 
 mod forms;
-mod sizes;
+mod numbers;
 
 use std::alloc::{AllocError, Global};
 
@@ -15,11 +15,18 @@ pub enum Command {
     /// An empty image of so many blocks.
     Format(u32),
     /// A run of the script that the source holds.
-    Run,
+    Run {
+        /// Whether each entry of the history gets a line, in place of the lines that loci print.
+        trace: bool,
+    },
     /// What the image means.
     Show,
     /// The log of the image, and its cut.
     Report,
+    /// A script drawn from this number.
+    Drill(u64),
+    /// Whether the trace that the source holds is that of a legal history of its script.
+    CheckTrace,
 }
 
 /// The command that the words stand for, None where they are of no known form. The words are the
@@ -35,13 +42,20 @@ pub fn read_command(alloc: Global, words: &[String]) -> Result<Option<Command>, 
         return Ok(None);
     };
     match first.as_str() {
-        "format" => match forms::one_value(alloc, words)? {
-            Some(size) => Ok(sizes::read_size(size).map(Command::Format)),
+        "format" => match forms::one_value(alloc, "format", words)? {
+            Some(size) => Ok(numbers::read_size(size).map(Command::Format)),
             None => Ok(None),
         },
-        "run" => Ok(forms::has_no_value(alloc, "run", words)?.then_some(Command::Run)),
+        "drill" => match forms::one_value(alloc, "drill", words)? {
+            Some(seed) => Ok(numbers::read_number(seed).map(Command::Drill)),
+            None => Ok(None),
+        },
+        "run" => Ok(forms::trace_flag(alloc, words)?.map(|trace| Command::Run { trace })),
         "show" => Ok(forms::has_no_value(alloc, "show", words)?.then_some(Command::Show)),
         "report" => Ok(forms::has_no_value(alloc, "report", words)?.then_some(Command::Report)),
+        "check-trace" => {
+            Ok(forms::has_no_value(alloc, "check-trace", words)?.then_some(Command::CheckTrace))
+        }
         _ => Ok(None),
     }
 }

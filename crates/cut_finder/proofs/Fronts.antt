@@ -5,7 +5,7 @@ use Rattle.std.proofs.lemmas.List.{map_more, get_or-take, length-take-le}
 use Rattle.std.specs.Prelude.{slice_index, slice_index_or}
 use Rattle.vector_stamps.proofs.Blanks.{get_or-replicate_all}
 use Rattle.hop_base.specs.declared.records.Rec.{Rec}
-use Rattle.hop_model.specs.Choices.{Commit, IsClosedChoice, IsGreatest}
+use Rattle.cut_laws.specs.hop_model.Choices.{Commit, IsClosedChoice, IsGreatest}
 use Rattle.cut_laws.specs.Agreeing.{nothing}
 use Rattle.cut_laws.specs.Records.{commit_of, commits_of}
 use Rattle.cut_laws.proofs.Joins.{closed_more}

@@ -3,7 +3,7 @@ use Rattle.std.proofs.Common.{◌≡◌, ◌≢◌, ℕ, zero, suc, ◌≤◌, �
 use Rattle.std.proofs.lemmas.Bool.{ltb-true, cases_lt, false≢true}
 use Rattle.std.proofs.lemmas.Bool.Decides.{nat_tests}
 use Rattle.hop_base.specs.declared.records.Rec.{Rec}
-use Rattle.hop_model.specs.Choices.{Commit, IsBelow, Among, IsClosedChoice, IsGreatest}
+use Rattle.cut_laws.specs.hop_model.Choices.{Commit, IsBelow, Among, IsClosedChoice, IsGreatest}
 use Rattle.cut_laws.specs.Records.{commit_of, commits_of}
 use Rattle.cut_finder.specs.Records.{IsAscending}
 use Rattle.cut_finder.specs.Searches.{no_record, record_at, entity_at, stamp_at, version_in, version_at, IsOf, IsAfter, IsLastOf, IsCovered, needs_more, IsLoweredTo, IsMarked, IsSearch}

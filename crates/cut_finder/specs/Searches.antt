@@ -1,7 +1,7 @@
 -- How far a search for the greatest closed choice has come, from the versions `low` at its start.
 use Rattle.std.specs.Prelude.{◌≡◌, ℕ, ◌+◌, ◌<◌, Bool, false, nat_lt, List, [], Option, Some, None, length, slice_index, slice_index_or, sum_by, IfSome, MatchBool}
 use Rattle.hop_base.specs.declared.records.Rec.{Rec}
-use Rattle.hop_model.specs.Choices.{IsBelow, IsClosedChoice}
+use Rattle.cut_laws.specs.hop_model.Choices.{IsBelow, IsClosedChoice}
 use Rattle.cut_laws.specs.Records.{commits_of}
 
 -- RECORDS AND THEIR PLACES

@@ -5,9 +5,9 @@ use Rattle.std.proofs.lemmas.Bool.{false≢true}
 use Rattle.std.proofs.lemmas.Bool.Decides.{nat_tests}
 use borrow.Author.Tests.{eqb-true, ne_eqb, lt-ltb}
 use Rattle.hop_base.specs.declared.capabilities.Cap.{Cap}
-use Rattle.hop_model.specs.State.{AtlasState, ContainerState, LocusState, Cell, NotBorn, AtlasCell, ContainerCell, LocusCell}
-use Rattle.hop_model.specs.Words.{is_container}
-use Rattle.hop_model.specs.Soundness.{is_born, is_born_container, is_born_locus, AreSound, regions_onto}
+use Rattle.kernel_calls.specs.hop_model.State.{AtlasState, ContainerState, LocusState, Cell, NotBorn, AtlasCell, ContainerCell, LocusCell}
+use Rattle.kernel_calls.specs.hop_model.Words.{is_container}
+use Rattle.kernel_calls.specs.hop_model.Soundness.{is_born, is_born_container, is_born_locus, AreSound, regions_onto}
 use Rattle.atlas_dir.specs.Directory.{Directory, name_of, IsBornContainer}
 use Rattle.kernel_calls.specs.Calls.{atlas_state, NamesBorn}
 use Rattle.directory_laws.specs.Mapping.{MeetsMapping}

@@ -7,9 +7,9 @@ use Rattle.std.specs.Str.{bytes_eq}
 use Rattle.std.proofs.lemmas.Bool.{false≢true}
 use Rattle.std.proofs.lemmas.Bool.Decides.{nat_tests}
 use Rattle.std.proofs.lemmas.Slice.Eq.{bytes_eq-Decides, compares_Decides}
-use Rattle.hop_model.specs.Scripts.{text_eq, place_of, atlas_name, number_of}
-use Rattle.hop_model.specs.Words.{or_else as model_or_else}
-use Rattle.hop_model.specs.Soundness.{is_letter as model_letter, is_name_byte as model_name_byte, begins_with_letter, is_given_name}
+use Rattle.kernel_calls.specs.hop_model.Scripts.{text_eq, place_of, atlas_name, number_of}
+use Rattle.kernel_calls.specs.hop_model.Words.{or_else as model_or_else}
+use Rattle.kernel_calls.specs.hop_model.Soundness.{is_letter as model_letter, is_name_byte as model_name_byte, begins_with_letter, is_given_name}
 use Rattle.atlas_dir.specs.Directory.{Directory, entity_named, number_from, or_else, is_letter, is_name_byte, IsName}
 use Rattle.kernel_calls.specs.Calls.{atlas_state}
 

@@ -1,1 +1,2 @@
 pub mod Mapping
+pub use Rattle.kernel_calls.specs as kernel_calls

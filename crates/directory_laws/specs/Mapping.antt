@@ -1,6 +1,6 @@
 -- What the calls on regions of a container ask of the state in which they are made.
 use Rattle.std.specs.Prelude.{◌≡◌, ℕ, ◌==◌, count_by}
-use Rattle.hop_model.specs.State.{ContainerState, LocusState, Cell, ContainerCell, LocusCell}
+use Rattle.kernel_calls.specs.hop_model.State.{ContainerState, LocusState, Cell, ContainerCell, LocusCell}
 use Rattle.atlas_dir.specs.Directory.{Directory, edges_of, IsBornContainer}
 use Rattle.kernel_calls.specs.Calls.{NamesBorn}
 

@@ -2,9 +2,9 @@
 #![tactic(auto)]
 
 ghost use Rattle.std.specs.Prelude.{◌≡◌, ◌↔◌, ℕ, ◌≤◌, List, length, IsTrue};
-ghost use Rattle.hop_model.specs.State.{Cell as ModelCell};
-ghost use Rattle.hop_model.specs.Scripts.{number_of};
-ghost use Rattle.hop_model.specs.Soundness.{is_given_name, is_born_container, AreSound};
+ghost use Rattle.kernel_calls.specs.hop_model.State.{Cell as ModelCell};
+ghost use Rattle.kernel_calls.specs.hop_model.Scripts.{number_of};
+ghost use Rattle.kernel_calls.specs.hop_model.Soundness.{is_given_name, is_born_container, AreSound};
 ghost use Rattle.atlas_dir.specs.Directory.{Directory, entity_named, IsName, IsBornContainer};
 ghost use Rattle.kernel_calls.specs.Calls.{atlas_state};
 ghost use Rattle.directory_laws.specs.Mapping.{MeetsMapping};

@@ -11,9 +11,9 @@ use Rattle.hop_base.specs.Edges.{upto}
 use Rattle.hop_base.specs.Instructions.{IsInstruction}
 use Rattle.hop_base.specs.declared.instructions.Instr.{Instr}
 use Rattle.hop_base.specs.declared.instructions.Instr.TheVariants.{Jump}
-use Rattle.hop_model.specs.State.{Text}
-use Rattle.hop_model.specs.Scripts.{RegionTable, CapTable, ContainerTable, LocusTable, text_eq, atlas_name}
-use Rattle.hop_model.specs.Soundness.{is_given_name, IsSoundCode}
+use Rattle.script_form.specs.hop_model.State.{Text}
+use Rattle.script_form.specs.hop_model.Scripts.{RegionTable, CapTable, ContainerTable, LocusTable, text_eq, atlas_name}
+use Rattle.script_form.specs.hop_model.Soundness.{is_given_name, IsSoundCode}
 use Rattle.script_form.specs.Rules.{is_among, AreDifferent, IsRegionTable, AreAllApart, IsCapTable, IsContainerTable, IsLocusTable, container_names, locus_names, AreContainerTables, AreLocusTables, IsScript}
 use Rattle.drill_gen.specs.Draws.{Words, Drawn, rest, each}
 use Rattle.drill_gen.specs.Drill.{container_name, locus_name, of_kind, instruction, program, region_onto, regions, container, cap_on, locus, drill_of}

@@ -2,8 +2,8 @@
 use Rattle.std.specs.Prelude.{ℕ, ◌+◌, ◌%◌, ◌==◌, if◌then◌else◌, List, [], ◌∷◌, ◌++◌, Some, codes, decimal}
 use Rattle.hop_base.specs.declared.instructions.Instr.{Instr}
 use Rattle.hop_base.specs.declared.instructions.Instr.TheVariants.{Set, Add, Jump, Load, Store, Invoke, Return, Snap, Stabilise, Print}
-use Rattle.hop_model.specs.State.{Text}
-use Rattle.hop_model.specs.Scripts.{RegionTable, CapTable, ContainerTable, LocusTable, Script as Tables, atlas_name}
+use Rattle.script_form.specs.hop_model.State.{Text}
+use Rattle.script_form.specs.hop_model.Scripts.{RegionTable, CapTable, ContainerTable, LocusTable, Script as Tables, atlas_name}
 use Rattle.drill_gen.specs.Draws.{Words, Drawn, rest, one_drawn, two_drawn, each, words_numbered}
 
 abbrev pub container_name : ℕ → Text

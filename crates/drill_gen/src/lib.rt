@@ -7,6 +7,3 @@ mod programs;
 mod tables;
 
 pub use drill::drill_script;
-
-#[cfg(test)]
-mod tests;

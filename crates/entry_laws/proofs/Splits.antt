@@ -6,8 +6,8 @@ use Rattle.std.specs.Str.Parse.{digits_value}
 use Rattle.std.proofs.lemmas.Bool.{and_parts, false≢true}
 use Rattle.std.proofs.lemmas.Fmt.{decimal_is_IsNumeral}
 use Rattle.std.proofs.lemmas.Str.Parse.{digit_at}
-use Rattle.hop_model.specs.Soundness.{is_name_byte}
-use Rattle.hop_model.specs.State.{Text}
+use Rattle.entry_lines.specs.hop_model.Soundness.{is_name_byte}
+use Rattle.entry_lines.specs.hop_model.State.{Text}
 
 -- the byte does not stand in the text
 abbrev pub Lacks : ℕ → Text → Type 0

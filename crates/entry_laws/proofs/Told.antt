@@ -15,8 +15,8 @@ use Rattle.hop_base.specs.declared.histories.Event.TheVariants.{Birth, Step, Sna
 use Rattle.hop_base.specs.declared.histories.Touch.{Touch}
 use Rattle.hop_base.specs.declared.instructions.Reply.{Reply}
 use Rattle.hop_base.specs.declared.instructions.Reply.TheVariants.{Ok, NoSlot, WrongKind, NoPage, Circle, Overlap, ListFull, NoCaller, NoEntry, Deep, NoNumber, NoRegion, Denied}
-use Rattle.hop_model.specs.State.{Text, AtlasState}
-use Rattle.text_lines.specs.Lines.{name_in, word}
+use Rattle.entry_lines.specs.hop_model.State.{Text, AtlasState}
+use Rattle.entry_lines.specs.text_lines.Lines.{name_in, word}
 use Rattle.entry_lines.specs.Entries.{touch_text, touches_text, answer_text, event_word, details, entry_text}
 use Rattle.entry_laws.specs.Telling.{HasCleanNames, IsAnswered, IsWritten, SameTouch, SameTouches, SameDetails, TellsSame}
 use Rattle.entry_laws.proofs.Splits.{Lacks, Lacks-append, split, no_split, Lacks-name, Lacks-decimal, decimal_same}
@@ -160,7 +160,7 @@ marks_same false true e = absurd (omega (arith, e))
 marks_same false false e = refl
 
 -- a mark is no byte of a name, and neither a comma nor a blank
-lacks_mark : (w : Bool) (t : Text) → list_all (Rattle.hop_model.specs.Soundness.is_name_byte) t ≡ true → Lacks (mark_of w) t
+lacks_mark : (w : Bool) (t : Text) → list_all (Rattle.entry_lines.specs.hop_model.Soundness.is_name_byte) t ≡ true → Lacks (mark_of w) t
 lacks_mark true t h = Lacks-name 58 t refl h
 lacks_mark false t h = Lacks-name 61 t refl h
 

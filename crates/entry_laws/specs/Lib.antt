@@ -1,1 +1,2 @@
 pub mod Telling
+pub use Rattle.entry_lines.specs as entry_lines

@@ -8,9 +8,9 @@ use Rattle.hop_base.specs.declared.histories.Entry.{Entry}
 use Rattle.hop_base.specs.declared.histories.Event.{Event}
 use Rattle.hop_base.specs.declared.histories.Event.TheVariants.{Birth, Step, Snap, Stable, Tried}
 use Rattle.hop_base.specs.declared.histories.Touch.{Touch}
-use Rattle.hop_model.specs.Soundness.{is_name_byte}
-use Rattle.hop_model.specs.State.{AtlasState}
-use Rattle.text_lines.specs.Lines.{name_in}
+use Rattle.entry_lines.specs.hop_model.Soundness.{is_name_byte}
+use Rattle.entry_lines.specs.hop_model.State.{AtlasState}
+use Rattle.entry_lines.specs.text_lines.Lines.{name_in}
 
 -- names have letters, digits, `_`, `-` and `.` alone
 abbrev pub HasCleanNames : AtlasState → Type 0

@@ -8,7 +8,7 @@ use Rattle.hop_base.specs.declared.histories.Entry.{Entry}
 use Rattle.hop_base.specs.declared.histories.Event.{Event}
 use Rattle.hop_base.specs.declared.histories.Event.TheVariants.{Birth, Step, Snap, Stable, Tried}
 use Rattle.hop_base.specs.declared.histories.Touch.{Touch}
-use Rattle.hop_model.specs.State.{Text, AtlasState}
+use Rattle.text_lines.specs.hop_model.State.{Text, AtlasState}
 use Rattle.text_lines.specs.Lines.{line_end, name_in, word}
 
 -- a colon before the version of a written entity, and an equals sign before that of a read one

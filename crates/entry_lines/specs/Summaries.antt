@@ -6,8 +6,8 @@ use Rattle.hop_base.specs.declared.histories.Entry.{Entry}
 use Rattle.hop_base.specs.declared.histories.Event.{Event}
 use Rattle.hop_base.specs.declared.histories.Event.TheVariants.{Birth, Step, Snap as SnapEvent, Stable as StableEvent, Tried}
 use Rattle.hop_base.specs.declared.instructions.Reply.TheVariants.{Ok as AnsweredOk}
-use Rattle.hop_model.specs.Printing.{is_print}
-use Rattle.hop_model.specs.State.{Text}
+use Rattle.text_lines.specs.hop_model.Printing.{is_print}
+use Rattle.text_lines.specs.hop_model.State.{Text}
 use Rattle.text_lines.specs.Lines.{line_end, word}
 
 -- a reply other than Ok

@@ -6,7 +6,6 @@ mod summaries;
 mod touches;
 
 pub use entries::{put_trace, write_entry};
+pub use stream_edge;
 pub use summaries::put_summary;
-
-#[cfg(test)]
-mod tests;
+pub use text_lines;

@@ -2,7 +2,7 @@
 ghost use Rattle.std.specs.Prelude.{◌≡◌, ◌+◌, ◌%◌, ◌<◌, ◌≤◌, ◌^◌, ◌++◌, IsTrue, OnErr, codes, count_by, decimal, length, sum_by};
 ghost use Rattle.arrayvec.specs.ArrayString.{array_string_len};
 ghost use Rattle.disk_trait.specs.Counts.{Rose};
-ghost use Rattle.hop_model.specs.Printing.{is_print};
+ghost use Rattle.text_lines.specs.hop_model.Printing.{is_print};
 ghost use Rattle.stream_edge.specs.Streams.{Puts};
 ghost use Rattle.text_lines.specs.Lines.{word};
 ghost use Rattle.entry_lines.specs.Summaries.{is_refusal, is_snap, is_stable, summary_line, value_printed};

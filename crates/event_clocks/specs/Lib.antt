@@ -1,1 +1,2 @@
 pub mod Clocks
+pub use Rattle.hop_model.specs as hop_model

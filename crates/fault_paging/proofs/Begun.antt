@@ -2,7 +2,7 @@
 use Rattle.std.proofs.Common.{◌≡◌, ℕ, Bool, ◌/◌, ◌%◌, ◌≤◌, List, length, replicate, get_or, is_some, Option, IsSome, None, sym, ap, ◌∙◌, inl, inr, arith}
 use Rattle.std.proofs.lemmas.Bool.{cases_lt}
 use Rattle.std.proofs.lemmas.List.{get_or_past, get_or-replicate, length-replicate}
-use Rattle.hop_model.specs.State.{Supply}
+use Rattle.page_store.specs.hop_model.State.{Supply}
 use Rattle.frame_table.specs.FrameTable.{Resident, page_at, resident_count}
 use Rattle.frame_table.proofs.Pages.{count-none}
 use Rattle.fault_paging.specs.declared.paged.PagedMemory.{PagedMemory}

@@ -2,7 +2,7 @@
 use Rattle.std.proofs.Common.{◌≡◌, ◌≢◌, ℕ, ◌<◌, ◌≤◌, Bool, true, false, ◌||◌, List, length, set, is_some, Option, Some, None, IsSome, IsTrue, refl, sym, ap, ◌∙◌, inl, inr, subst, arith}
 use Rattle.std.proofs.lemmas.Bool.{cases_eq}
 use Rattle.std.proofs.lemmas.List.{get_or-set_same, get_or-set_other, length-set}
-use Rattle.hop_model.specs.State.{Supply}
+use Rattle.page_store.specs.hop_model.State.{Supply}
 use Rattle.frame_table.specs.FrameTable.{FrameTable, Resident, changed_at, page_at, resident_count, resident_words, unmarked, used_at, words_at}
 use Rattle.frame_table.proofs.Pages.{not_some}
 use Rattle.fault_paging.specs.declared.paged.PagedMemory.{PagedMemory}

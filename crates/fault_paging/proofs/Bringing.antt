@@ -1,7 +1,7 @@
 -- A page comes into a frame with its words, which are its block's or the supplier's. No word changes.
 use Rattle.std.proofs.Common.{◌≡◌, ◌≢◌, ◌↔◌, ℕ, ◌+◌, ◌-◌, ◌^◌, ◌<◌, ◌≤◌, Bool, true, false, ◌||◌, List, length, set, slice_index, is_some, count_by, Option, Some, None, Ok, Err, IsErrOf, IsOk, refl, sym, ap, ◌∙◌, inl, inr, subst, arith}
 use Rattle.std.proofs.lemmas.Bool.{cases_eq, cases_lt}
-use Rattle.hop_model.specs.State.{Supply}
+use Rattle.page_store.specs.hop_model.State.{Supply}
 use Rattle.disk_trait.specs.Disk.{Ticks}
 use Rattle.disk_trait.specs.declared.disk.NoBlocks.{NoBlocks as Shortage}
 use Rattle.page_store.specs.declared.faults.PageFault.{PageFault}

@@ -1,7 +1,7 @@
 -- A page is brought: an eviction where one is due, its words from the block or the supplier, and its place in a frame.
 use Rattle.std.proofs.Common.{◌≡◌, ◌≢◌, ◌↔◌, ℕ, ◌<◌, Bool, true, List, length, slice_index, is_some, None, Ok, IsErrOf, sym, ap, ◌∙◌, inl, inr, subst, arith}
 use Rattle.std.proofs.lemmas.Bool.{cases_lt}
-use Rattle.hop_model.specs.State.{Supply}
+use Rattle.page_store.specs.hop_model.State.{Supply}
 use Rattle.disk_trait.specs.Disk.{Ticks}
 use Rattle.page_store.specs.declared.faults.PageFault.TheVariants.{Shut}
 use Rattle.page_store.specs.Pages.{SameWords}

@@ -1,7 +1,7 @@
 -- A page leaves its frame: the clock's victim, after it was saved. No word changes.
 use Rattle.std.proofs.Common.{◌≡◌, ◌≢◌, ◌↔◌, ℕ, ◌+◌, ◌<◌, ◌≤◌, Bool, true, false, ◌&&◌, ◌||◌, ◌==◌, List, length, set, Option, Some, None, Result, is_some, IsSome, IsErrOf, OnOk, OnSome, count_by, refl, sym, ap, ◌∙◌, inl, inr, subst, arith}
 use Rattle.std.proofs.lemmas.Bool.{cases_eq}
-use Rattle.hop_model.specs.State.{Supply}
+use Rattle.page_store.specs.hop_model.State.{Supply}
 use Rattle.page_store.specs.declared.faults.PageFault.{PageFault}
 use Rattle.page_store.specs.declared.faults.PageFault.TheVariants.{NoBlocks, Shut}
 use Rattle.frame_table.specs.FrameTable.{FrameTable, Resident, HasEmptyFrame, IsResident, IsVictim, Removes, changed_at, page_at, page_taken, resident_changed, resident_count, unmarked}

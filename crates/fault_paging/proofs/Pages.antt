@@ -3,7 +3,7 @@ use Rattle.std.proofs.Common.{◌≡◌, ◌≢◌, ℕ, ◌/◌, ◌%◌, ◌<�
 use Rattle.std.proofs.lemmas.Bool.{cases_eq, cases_lt}
 use Rattle.std.proofs.lemmas.Bool.Decides.{nat_tests}
 use Rattle.std.proofs.lemmas.List.{get_or_past, get_or-set_same, get_or-set_other}
-use Rattle.hop_model.specs.State.{Supply}
+use Rattle.page_store.specs.hop_model.State.{Supply}
 use Rattle.frame_table.specs.FrameTable.{FrameTable, Resident, IsResident, changed_at, page_at, resident_changed, resident_count, unmarked}
 use Rattle.frame_table.proofs.Pages.{count-same}
 use Rattle.fault_paging.specs.declared.paged.PagedMemory.{PagedMemory}

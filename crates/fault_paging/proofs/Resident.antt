@@ -3,8 +3,8 @@ use Rattle.std.proofs.Common.{◌≡◌, ◌≢◌, ℕ, ◌/◌, ◌%◌, ◌<�
 use Rattle.std.proofs.lemmas.Bool.{cases_eq}
 use Rattle.std.proofs.lemmas.Bool.Decides.{nat_tests}
 use Rattle.std.proofs.lemmas.List.{get_or-set_same, get_or-set_other}
-use Rattle.hop_model.specs.State.{Supply}
-use Rattle.hop_model.specs.Words.{put}
+use Rattle.page_store.specs.hop_model.State.{Supply}
+use Rattle.page_store.specs.hop_model.Words.{put}
 use Rattle.page_store.specs.declared.faults.PageFault.{PageFault}
 use Rattle.frame_table.specs.FrameTable.{FrameTable, Resident, IsResident, changed_at, page_at, resident_changed, resident_words, unmarked, with_resident, words_at}
 use Rattle.fault_paging.specs.declared.paged.PagedMemory.{PagedMemory}

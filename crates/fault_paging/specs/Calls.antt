@@ -1,6 +1,6 @@
 -- What the calls of a memory do to its pages and to its page store.
 use Rattle.std.specs.Prelude.{◌≡◌, ◌≢◌, ◌↔◌, ◌⊎◌, ℕ, ◌+◌, ◌≤◌, Bool, false, true, List, Result, IsErrOf, IsOk, OnErr, OnOk, None, is_some}
-use Rattle.hop_model.specs.State.{Supply}
+use Rattle.page_store.specs.hop_model.State.{Supply}
 use Rattle.disk_trait.specs.Counts.{Rose}
 use Rattle.disk_trait.specs.Disk.{Ticks}
 use Rattle.disk_trait.specs.declared.disk.NoBlocks.{NoBlocks as Shortage}

@@ -1,6 +1,6 @@
 -- What contracts see of a container's memory over a page store, and the words that it stands for.
 use Rattle.std.specs.Prelude.{◌≡◌, ◌≢◌, ℕ, zero, suc, ◌+◌, ◌/◌, ◌%◌, ◌<◌, ◌≤◌, Bool, false, true, ◌&&◌, ◌||◌, ◌==◌, if◌then◌else◌, List, length, Option, Some, None, slice_index}
-use Rattle.hop_model.specs.State.{Supply}
+use Rattle.page_store.specs.hop_model.State.{Supply}
 use Rattle.frame_table.specs.FrameTable.{Resident, IsResident, changed_at, page_at, resident_count}
 use Rattle.fault_paging.specs.declared.paged.PagedMemory.{PagedMemory}
 

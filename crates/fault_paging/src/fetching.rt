@@ -1,5 +1,5 @@
 ghost use Rattle.std.specs.Prelude.{◌≡◌, ◌≢◌, ◌↔◌, ◌≤◌, ◌<◌, ◌+◌, ℕ, true, IfOk, IfErr, OnOk, OnErr, IsErrOf, IsOk, None, slice_index};
-ghost use Rattle.hop_model.specs.State.{Supply};
+ghost use Rattle.page_store.specs.hop_model.State.{Supply};
 ghost use Rattle.disk_trait.specs.Disk.{Ticks};
 ghost use Rattle.page_store.specs.Pages.{IsReadFault, SameBlocks, SameWords};
 ghost use Rattle.frame_table.specs.FrameTable.{HasEmptyFrame, IsResident, page_at};

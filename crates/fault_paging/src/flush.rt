@@ -1,5 +1,5 @@
 ghost use Rattle.std.specs.Prelude.{◌≡◌, ◌≤◌, ◌+◌, ℕ, false, IfErr, OnOk, is_some};
-ghost use Rattle.hop_model.specs.State.{Supply};
+ghost use Rattle.page_store.specs.hop_model.State.{Supply};
 ghost use Rattle.page_store.specs.Pages.{IsWriteFault};
 ghost use Rattle.frame_table.specs.FrameTable.{changed_at, page_at};
 ghost use Rattle.fault_paging.specs.Words.{AreCleanTrue, IsSoundTable, need_of, needs_block};

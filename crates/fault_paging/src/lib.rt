@@ -16,5 +16,6 @@ mod paged;
 mod saving;
 
 pub use page_shadow::ShadowTable;
+pub use page_store;
 pub use page_store::{MemoryPages, NoBlocks, PageFault, PageStore};
 pub use paged::PagedMemory;

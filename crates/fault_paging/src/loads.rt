@@ -1,5 +1,5 @@
 ghost use Rattle.std.specs.Prelude.{◌≡◌, ◌<◌, ◌*◌, ◌/◌, true, IfOk, IfErr, OnOk, OnErr};
-ghost use Rattle.hop_model.specs.Words.{put};
+ghost use Rattle.page_store.specs.hop_model.Words.{put};
 ghost use Rattle.frame_table.specs.FrameTable.{IsResident};
 ghost use Rattle.fault_paging.specs.Words.{AreCleanTrue, IsSoundTable, words_of};
 ghost use Rattle.fault_paging.specs.Calls.{Counts, IsCausedBy, Keeps, KeepsBlocks, KeepsPages, MakesRoom, MarksOne, Stands};

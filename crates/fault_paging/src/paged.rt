@@ -1,5 +1,5 @@
 ghost use Rattle.std.specs.Prelude.{◌≡◌, ℕ, ◌/◌, ◌%◌, ◌<◌, ◌≤◌, Bool, List, IfOk, replicate, slice_index};
-ghost use Rattle.hop_model.specs.State.{Supply};
+ghost use Rattle.page_store.specs.hop_model.State.{Supply};
 ghost use Rattle.frame_table.specs.FrameTable.{empty_table};
 ghost use Rattle.fault_paging.specs.Words.{AreCleanTrue, AreHeldBlocks, IsSoundTable, stored_word, words_of};
 

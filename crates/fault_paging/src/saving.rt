@@ -1,5 +1,5 @@
 ghost use Rattle.std.specs.Prelude.{◌≡◌, ◌≢◌, ◌≤◌, ◌+◌, ◌||◌, ◌↔◌, ℕ, true, false, IsTrue, IfOk, IfErr, OnOk, OnErr, IsErrOf, IsOk};
-ghost use Rattle.hop_model.specs.State.{Supply};
+ghost use Rattle.page_store.specs.hop_model.State.{Supply};
 ghost use Rattle.frame_table.specs.FrameTable.{changed_at};
 ghost use Rattle.fault_paging.specs.Words.{AreCleanTrue, IsSoundTable, need_at, needs_block};
 ghost use Rattle.fault_paging.specs.Calls.{IsCausedBy, IsNoRead, IsWritten, Keeps, KeepsPages, Later, Moves, Saves, Stands};

@@ -2,10 +2,10 @@
 use Rattle.std.specs.Prelude.{ℕ, ◌==◌, Bool, [], ◌++◌, codes, cond, decimal, string_bytes}
 use Rattle.std.specs.List.{starts_with}
 use Rattle.disk_trait.specs.declared.disk.NoBlocks.{NoBlocks}
-use Rattle.hop_model.specs.State.{Text}
-use Rattle.script_form.specs.declared.refusals.Refusal.{Refusal}
-use Rattle.script_form.specs.declared.refusals.Why.{Why}
-use Rattle.script_form.specs.declared.refusals.Why.TheVariants.{NotToml, Missing, Kind, Name, Unknown, Range, TooMany, BadCode, Long, NoRoom, Clash}
+use Rattle.command_parts.specs.hop_model.State.{Text}
+use Rattle.command_parts.specs.script_form.declared.refusals.Refusal.{Refusal}
+use Rattle.command_parts.specs.script_form.declared.refusals.Why.{Why}
+use Rattle.command_parts.specs.script_form.declared.refusals.Why.TheVariants.{NotToml, Missing, Kind, Name, Unknown, Range, TooMany, BadCode, Long, NoRoom, Clash}
 use Rattle.command_parts.specs.Faults.{line}
 use Rattle.command_parts.specs.declared.statuses.Status.{Status}
 use Rattle.command_parts.specs.declared.statuses.Status.TheVariants.{Done, Usage, Script, Foreign, DiskFault, SourceFault, SinkFault, Memory, BlocksFull, TraceWrong}
@@ -70,7 +70,7 @@ trace_sentence place = line (codes "trace refused: " ++ place ++ codes " is that
 -- THE SENTENCE on a status
 abbrev pub sentence : Status → Text
 sentence Done = []
-sentence Usage = line (codes "usage: hopper_program IMAGE COMMAND; a command is format N, with N from 2600 to 65536 blocks, run, show or report, and run reads a script from standard input (README.md)")
+sentence Usage = line (codes "usage: hopper_program IMAGE COMMAND; a command is format N, with N from 2600 to 65536 blocks, run, run --trace, drill N, show, report or check-trace; run reads a script from standard input, and check-trace a script, a line --- and a trace (README.md)")
 sentence (Script refusal) = refusal_sentence (subject refusal) (reason refusal)
 sentence (Foreign block place) = foreign_sentence (place_text block place)
 sentence DiskFault = line (codes "disk fault: the image's file could not be read, written or synced; its disk may be full or gone, and when that is mended the command can be given again")

@@ -3,7 +3,6 @@
 
 mod sentences;
 
+pub use command_parts;
 pub use sentences::{put_sentence, put_unopened};
-
-#[cfg(test)]
-mod tests;
+pub use stream_edge;

@@ -7,9 +7,9 @@ ghost use Rattle.fault_sentences.specs.Sentences.{blocks_text, is_of_program, mi
 
 use arrayvec::ArrayString;
 use command_parts::Status;
+use command_parts::script_form::{Refusal, Why};
 use disk_trait::NoBlocks;
 use itoa::Buffer;
-use script_form::{Refusal, Why};
 use stream_edge::{Sink, SinkFault};
 
 /// A length that no text of two numbers exceeds.
@@ -125,7 +125,7 @@ pub fn put_sentence<W: Sink>(sink: &mut W, status: &Status) -> Result<(), SinkFa
     match status {
         Status::Done => Ok(()),
         Status::Usage => sink.put(
-            b"usage: hopper_program IMAGE COMMAND; a command is format N, with N from 2600 to 65536 blocks, run, show or report, and run reads a script from standard input (README.md)\n",
+            b"usage: hopper_program IMAGE COMMAND; a command is format N, with N from 2600 to 65536 blocks, run, run --trace, drill N, show, report or check-trace; run reads a script from standard input, and check-trace a script, a line --- and a trace (README.md)\n",
         ),
         Status::Script(refusal) => put_line(
             sink,

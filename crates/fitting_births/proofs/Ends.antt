@@ -6,19 +6,19 @@ use Rattle.std.proofs.lemmas.List.Elements.{All-cons, All-nil}
 use Rattle.hop_base.specs.declared.histories.Entry.{Entry}
 use Rattle.hop_base.specs.declared.histories.Event.{Event}
 use Rattle.hop_base.specs.declared.histories.Event.TheVariants.{Birth}
-use Rattle.hop_model.specs.Births.{birth_named, next_birth, next_birth_change}
-use Rattle.hop_model.specs.Changes.{Change, carried}
-use Rattle.hop_model.specs.Histories.{Run, births_owed, by_event, event_of, goes_on, never, run_after, start_run}
-use Rattle.hop_model.specs.Parts.{after_entry, is_event, next_of}
-use Rattle.hop_model.specs.Scripts.{ContainerTable, LocusTable, Script, container_named, locus_named, next_name, number_of}
-use Rattle.hop_model.specs.Serial.{all_births, birth_turn, births, made_and_owed, owed_stable}
-use Rattle.hop_model.specs.Soundness.{IsSound}
-use Rattle.hop_model.specs.State.{KernelState, Supply, Text, no_atlas}
-use Rattle.hop_model.specs.Steps.{atlas_in}
-use Rattle.hop_model.proofs.Basics.{some_of_map}
-use Rattle.hop_model.proofs.LegalRuns.{state_goes_on}
-use Rattle.script_form.specs.Rules.{IsScript}
-use Rattle.run_laws.proofs.Wishes.{run_append}
+use Rattle.sound_runs.specs.hop_model.Births.{birth_named, next_birth, next_birth_change}
+use Rattle.sound_runs.specs.hop_model.Changes.{Change, carried}
+use Rattle.sound_runs.specs.hop_model.Histories.{Run, births_owed, by_event, event_of, goes_on, never, run_after, start_run}
+use Rattle.sound_runs.specs.hop_model.Parts.{after_entry, is_event, next_of}
+use Rattle.sound_runs.specs.hop_model.Scripts.{ContainerTable, LocusTable, Script, container_named, locus_named, next_name, number_of}
+use Rattle.sound_runs.specs.hop_model.Serial.{all_births, birth_turn, births, made_and_owed, owed_stable}
+use Rattle.sound_runs.specs.hop_model.Soundness.{IsSound}
+use Rattle.sound_runs.specs.hop_model.State.{KernelState, Supply, Text, no_atlas}
+use Rattle.sound_runs.specs.hop_model.Steps.{atlas_in}
+use Rattle.sound_runs.proofs.hop_model_lemmas.Basics.{some_of_map}
+use Rattle.sound_runs.proofs.hop_model_lemmas.LegalRuns.{state_goes_on}
+use Rattle.sound_runs.specs.script_form.Rules.{IsScript}
+use Rattle.sound_runs.proofs.run_laws_lemmas.Wishes.{run_append}
 use Rattle.sound_runs.proofs.Births.{birth_leaves, names_in}
 use Rattle.fitting_births.specs.Fitting.{Fits, new_containers, new_loci}
 use Rattle.fitting_births.proofs.Growing.{born_atlas, fits_after, named_defined}

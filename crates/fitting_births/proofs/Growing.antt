@@ -4,16 +4,16 @@ use Rattle.std.specs.List.{All, list_all}
 use Rattle.std.proofs.lemmas.Bool.Decides.{nat_tests}
 use Rattle.std.proofs.lemmas.List.{length-append}
 use Rattle.std.proofs.lemmas.List.Elements.{All-cons, All-head, All-nil, All-tail}
-use Rattle.hop_model.specs.Births.{birth_named, container_birth, container_born, edges_from, knows_caps, knows_regions, locus_birth, locus_born, locus_in_host, with_container_name, with_locus_name}
-use Rattle.hop_model.specs.Changes.{Change, changed, ordered}
-use Rattle.hop_model.specs.Outcomes.{free_container, free_locus}
-use Rattle.hop_model.specs.Scripts.{ContainerTable, LocusTable, Script, atlas_name, container_named, container_table, locus_named, locus_table, number_in, number_of, place_of, text_eq}
-use Rattle.hop_model.specs.Soundness.{begins_with_letter, is_given_name, is_name_byte}
-use Rattle.hop_model.specs.State.{Supply, Text, AtlasState, Cell, AtlasCell, KernelState}
-use Rattle.hop_model.specs.Words.{or_else}
-use Rattle.hop_model.proofs.Faithful.{free_container_is, free_locus_is}
-use Rattle.hop_model.proofs.Writes.{cell_with, changed_cell}
-use Rattle.script_form.specs.Rules.{AreContainerTables, AreLocusTables, IsScript, container_names, is_among, locus_names}
+use Rattle.sound_runs.specs.hop_model.Births.{birth_named, container_birth, container_born, edges_from, knows_caps, knows_regions, locus_birth, locus_born, locus_in_host, with_container_name, with_locus_name}
+use Rattle.sound_runs.specs.hop_model.Changes.{Change, changed, ordered}
+use Rattle.sound_runs.specs.hop_model.Outcomes.{free_container, free_locus}
+use Rattle.sound_runs.specs.hop_model.Scripts.{ContainerTable, LocusTable, Script, atlas_name, container_named, container_table, locus_named, locus_table, number_in, number_of, place_of, text_eq}
+use Rattle.sound_runs.specs.hop_model.Soundness.{begins_with_letter, is_given_name, is_name_byte}
+use Rattle.sound_runs.specs.hop_model.State.{Supply, Text, AtlasState, Cell, AtlasCell, KernelState}
+use Rattle.sound_runs.specs.hop_model.Words.{or_else}
+use Rattle.sound_runs.proofs.hop_model_lemmas.Faithful.{free_container_is, free_locus_is}
+use Rattle.sound_runs.proofs.hop_model_lemmas.Writes.{cell_with, changed_cell}
+use Rattle.sound_runs.specs.script_form.Rules.{AreContainerTables, AreLocusTables, IsScript, container_names, is_among, locus_names}
 use Rattle.sound_runs.proofs.Tables.{container_named_born}
 use Rattle.sound_runs.proofs.TableEdges.{model_containers, model_loci}
 use Rattle.sound_runs.proofs.Found.{text_same}
@@ -124,7 +124,7 @@ born_atlas s script name w a c (OfContainer next none) is =
     let b = edges_from number n t.regions (with_container_name a t.name) in
     let cell : (changed w (ordered c.1.accesses) 0).cell ≡ AtlasCell b =
     changed_cell w c.1.accesses 0 ∙ ap (λ (d : ℕ × Change). cell_with d.1.accesses 0 (w 0).cell) (sym k.2)
-    ∙ ap (λ (q : Bool). if q then unwrap_or (Some (Rattle.hop_model.specs.State.ContainerCell (Rattle.hop_model.specs.Births.container_from s number t))) (AtlasCell b) else AtlasCell b) (above_0 n (free_container_is a n k.1).0) in
+    ∙ ap (λ (q : Bool). if q then unwrap_or (Some (Rattle.sound_runs.specs.hop_model.State.ContainerCell (Rattle.sound_runs.specs.hop_model.Births.container_from s number t))) (AtlasCell b) else AtlasCell b) (above_0 n (free_container_is a n k.1).0) in
     (b, cell, ByContainer next (model_containers number n t.regions (with_container_name a t.name) ∙ ap (λ (x : Text). a.containers ++ x ∷ []) (sym next.named)) (model_loci number n t.regions (with_container_name a t.name)))
 born_atlas s script name w a c (OfLocus next none known) is =
     let t = next.table in
@@ -136,8 +136,8 @@ born_atlas s script name w a c (OfLocus next none known) is =
     let me : (n == 0) ≡ false = above_0 n (let i = free_locus_is a n k.3 in omega (arith, i)) in
     let cell : (changed w (ordered c.1.accesses) 0).cell ≡ AtlasCell b =
     changed_cell w c.1.accesses 0 ∙ ap (λ (d : ℕ × Change). cell_with d.1.accesses 0 (w 0).cell) (sym k.4)
-    ∙ ap (λ (q : Bool). if (n == 0) then Rattle.hop_model.specs.State.LocusCell (Rattle.hop_model.specs.Births.locus_from (number_in a t.name n) t h (Rattle.hop_model.specs.Births.code_in (w h).cell)) else (if q then (w h).cell else AtlasCell b)) host
-    ∙ ap (λ (q : Bool). if q then Rattle.hop_model.specs.State.LocusCell (Rattle.hop_model.specs.Births.locus_from (number_in a t.name n) t h (Rattle.hop_model.specs.Births.code_in (w h).cell)) else AtlasCell b) me in
+    ∙ ap (λ (q : Bool). if (n == 0) then Rattle.sound_runs.specs.hop_model.State.LocusCell (Rattle.sound_runs.specs.hop_model.Births.locus_from (number_in a t.name n) t h (Rattle.sound_runs.specs.hop_model.Births.code_in (w h).cell)) else (if q then (w h).cell else AtlasCell b)) host
+    ∙ ap (λ (q : Bool). if q then Rattle.sound_runs.specs.hop_model.State.LocusCell (Rattle.sound_runs.specs.hop_model.Births.locus_from (number_in a t.name n) t h (Rattle.sound_runs.specs.hop_model.Births.code_in (w h).cell)) else AtlasCell b) me in
     (b, cell, ByLocus next refl (ap (λ (x : Text). a.loci ++ x ∷ []) (sym next.named)))
   where
     and_first : (p q : Bool) → (p && q) ≡ true → p ≡ true
@@ -310,7 +310,7 @@ all_loci_by P Q (t ∷ ts) f all =
     or_second false q e = e
 
 -- a name of the containers is none of the loci's
-apart_texts : (xs ys : List Text) (x y : Text) → Rattle.script_form.specs.Rules.AreDifferent (xs ++ ys) → IsTrue (is_among xs x) → IsTrue (is_among ys y) → text_eq x y ≡ false
+apart_texts : (xs ys : List Text) (x y : Text) → Rattle.sound_runs.specs.script_form.Rules.AreDifferent (xs ++ ys) → IsTrue (is_among xs x) → IsTrue (is_among ys y) → text_eq x y ≡ false
 apart_texts xs ys x y different front back = by_test (text_eq x y) refl
   where
     by_test : (b : Bool) → text_eq x y ≡ b → text_eq x y ≡ false

@@ -3,11 +3,11 @@ use Rattle.std.proofs.Common.{◌≡◌, ℕ, ◌+◌, ◌<◌, ◌≤◌, Bool,
 use Rattle.std.specs.List.{All}
 use Rattle.std.proofs.lemmas.List.Elements.{All-head, All-tail}
 use Rattle.std.proofs.lemmas.List.Sums.{sum_by-cons}
-use Rattle.hop_model.specs.Births.{knows_caps, knows_regions}
-use Rattle.hop_model.specs.Scripts.{CapTable, ContainerTable, LocusTable, RegionTable, Script, atlas_name, container_named, container_table, locus_named, locus_table, next_container_name, next_locus_name, next_name, number_in, number_of, text_eq}
-use Rattle.hop_model.specs.State.{Text, AtlasState}
-use Rattle.hop_model.specs.Words.{or_else}
-use Rattle.script_form.specs.Rules.{AreContainerTables, AreDifferent, AreLocusTables, IsCapTable, IsRegionTable, IsScript, container_names, is_among, locus_names}
+use Rattle.sound_runs.specs.hop_model.Births.{knows_caps, knows_regions}
+use Rattle.sound_runs.specs.hop_model.Scripts.{CapTable, ContainerTable, LocusTable, RegionTable, Script, atlas_name, container_named, container_table, locus_named, locus_table, next_container_name, next_locus_name, next_name, number_in, number_of, text_eq}
+use Rattle.sound_runs.specs.hop_model.State.{Text, AtlasState}
+use Rattle.sound_runs.specs.hop_model.Words.{or_else}
+use Rattle.sound_runs.specs.script_form.Rules.{AreContainerTables, AreDifferent, AreLocusTables, IsCapTable, IsRegionTable, IsScript, container_names, is_among, locus_names}
 use Rattle.sound_runs.proofs.Found.{text_same}
 use Rattle.fitting_births.specs.Fitting.{new_containers, new_loci}
 

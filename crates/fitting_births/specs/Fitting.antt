@@ -1,7 +1,7 @@
 -- Whether the new names of a script can be born into an atlas.
 use Rattle.std.specs.Prelude.{◌≡◌, ℕ, ◌+◌, ◌≤◌, List, length, count_by, None, is_none, All}
-use Rattle.hop_model.specs.Scripts.{ContainerTable, LocusTable, Script, container_named, locus_named, number_of}
-use Rattle.hop_model.specs.State.{AtlasState}
+use Rattle.sound_runs.specs.hop_model.Scripts.{ContainerTable, LocusTable, Script, container_named, locus_named, number_of}
+use Rattle.sound_runs.specs.hop_model.State.{AtlasState}
 
 -- no name of the script stands in the atlas with the other kind
 pub record AreOfOneKind (a : AtlasState) (script : Script) : Type 0 where

@@ -3,15 +3,17 @@
 
 ghost use Rattle.std.specs.Prelude.{◌≡◌, Some, false};
 ghost use Rattle.hop_base.specs.declared.histories.Entry.{Entry};
-ghost use Rattle.hop_model.specs.Births.{next_birth};
-ghost use Rattle.hop_model.specs.Histories.{births_owed, run_after, start_run};
-ghost use Rattle.hop_model.specs.Scripts.{Script, next_name};
-ghost use Rattle.hop_model.specs.Serial.{all_births};
-ghost use Rattle.hop_model.specs.Soundness.{IsSound};
-ghost use Rattle.hop_model.specs.State.{KernelState, Supply, Text, empty_state};
-ghost use Rattle.hop_model.specs.Steps.{atlas_in};
-ghost use Rattle.script_form.specs.Rules.{IsScript};
+ghost use Rattle.sound_runs.specs.hop_model.Births.{next_birth};
+ghost use Rattle.sound_runs.specs.hop_model.Histories.{births_owed, run_after, start_run};
+ghost use Rattle.sound_runs.specs.hop_model.Scripts.{Script, next_name};
+ghost use Rattle.sound_runs.specs.hop_model.Serial.{all_births};
+ghost use Rattle.sound_runs.specs.hop_model.Soundness.{IsSound};
+ghost use Rattle.sound_runs.specs.hop_model.State.{KernelState, Supply, Text, empty_state};
+ghost use Rattle.sound_runs.specs.hop_model.Steps.{atlas_in};
+ghost use Rattle.sound_runs.specs.script_form.Rules.{IsScript};
 ghost use Rattle.fitting_births.specs.Fitting.{Fits};
+
+pub use sound_runs::script_form;
 
 /// From a sound state each birth of an allowed script that fits is defined, and behind it the script still fits; so its births come
 /// to their end: no name of the script is owed behind them. Every allowed script fits where nothing but the atlas is born.

@@ -3,9 +3,9 @@ use Rattle.std.specs.Prelude.{◌≡◌, ◌⊎◌, ◌≤◌, ◌<◌, ℕ}
 use Rattle.disk_trait.specs.Disk.{Only}
 use Rattle.disk_trait.specs.Image.{Image, SameOutside}
 use Rattle.disk_trait.specs.declared.disk.NoBlocks.{NoBlocks}
-use Rattle.hop_model.specs.State.{Supply, empty_state}
-use Rattle.image_meaning.specs.Empty.{IsFormatted}
-use Rattle.image_meaning.specs.Meaning.{Means}
+use Rattle.command_parts.specs.hop_model.State.{Supply, empty_state}
+use Rattle.restart.specs.image_meaning.Empty.{IsFormatted}
+use Rattle.restart.specs.image_meaning.Meaning.{Means}
 use Rattle.restart.specs.Formats.{IsAreaGate, IsClosed, IsMade}
 use Rattle.command_parts.specs.Ends.{IsSilent, IsUnrun}
 use Rattle.command_parts.specs.Seen.{Gave, LeavesImages, SeenDisk, SeenSink}

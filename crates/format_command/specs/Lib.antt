@@ -1,1 +1,2 @@
 pub mod Formats
+pub use Rattle.restart.specs.image_meaning

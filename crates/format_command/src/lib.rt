@@ -4,6 +4,3 @@
 mod formatting;
 
 pub use formatting::format_image;
-
-#[cfg(test)]
-mod tests;

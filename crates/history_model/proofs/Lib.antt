@@ -23,3 +23,8 @@ pub mod MapLemmas
 pub mod MadeLemmas
 pub mod ReadyLemmas
 pub mod AtlasSteps
+pub use Rattle.hop_model.proofs as hop_model_lemmas
+pub use Rattle.sound_runs.proofs.run_laws_lemmas
+pub use Rattle.sound_runs.proofs as sound_runs_lemmas
+pub use Rattle.sound_runs.proofs.sound_steps_lemmas
+pub use Rattle.wanted_act.proofs as wanted_act_lemmas

@@ -20,7 +20,7 @@ use Rattle.hop_model.specs.State.{Supply, AtlasState, LocusState, Cell, NotBorn,
 use Rattle.hop_model.specs.Steps.{accesses_of, if_running, outcome_in, running}
 use Rattle.wanted_act.proofs.Ready.{ready}
 use Rattle.wanted_act.specs.Views.{IsReadyLocus, may_name_itself}
-use Rattle.sound_steps.proofs.Steps.{step_sound}
+use Rattle.sound_runs.proofs.sound_steps_lemmas.Steps.{step_sound}
 use Rattle.history_model.specs.Entries.{step_entry, versions_after}
 use Rattle.history_model.specs.Events.{StepsTo, state_with}
 use Rattle.history_model.specs.Lists.{IsActingAt}

@@ -10,10 +10,10 @@ use Rattle.hop_model.specs.Outcomes.{free_container}
 use Rattle.hop_model.specs.Scripts.{ContainerTable, LocusTable, Script, container_named, container_table, locus_table, number_in, number_of, text_eq}
 use Rattle.hop_model.specs.State.{Supply, Text, AtlasState, Cell, AtlasCell, KernelState}
 use Rattle.hop_model.specs.Steps.{atlas_in}
-use Rattle.script_form.specs.Rules.{IsScript, container_names}
-use Rattle.script_form.specs.Scripts.{container_of, locus_of}
-use Rattle.script_form.specs.declared.ScriptContainer.{ScriptContainer}
-use Rattle.script_form.specs.declared.ScriptLocus.{ScriptLocus}
+use Rattle.sound_runs.specs.script_form.Rules.{IsScript, container_names}
+use Rattle.sound_runs.specs.script_form.Scripts.{container_of, locus_of}
+use Rattle.sound_runs.specs.script_form.declared.ScriptContainer.{ScriptContainer}
+use Rattle.sound_runs.specs.script_form.declared.ScriptLocus.{ScriptLocus}
 use Rattle.history_model.specs.Born.{AreOfOneKind, BearsContainer, BearsLocus, BearsNoLocus, IsReadyContainerTable, IsReadyLocusTable, IsUndefined, KnowsContainer, KnowsLocus, KnowsNames}
 use Rattle.history_model.specs.Events.{Bears, state_with}
 use Rattle.sound_runs.proofs.Found.{IsFound, and_both, find_locus, found_container}

@@ -11,7 +11,7 @@ use Rattle.hop_model.specs.Outcomes.{free_container, free_locus}
 use Rattle.hop_model.specs.Scripts.{ContainerTable, LocusTable, RegionTable, Script, container_named, container_table, locus_named, locus_table, number_in, number_of}
 use Rattle.hop_model.specs.Soundness.{is_born_container}
 use Rattle.hop_model.specs.State.{Supply, Text, AtlasState, Cell}
-use Rattle.script_form.specs.Rules.{IsContainerTable, IsLocusTable}
+use Rattle.sound_runs.specs.script_form.Rules.{IsContainerTable, IsLocusTable}
 use Rattle.history_model.specs.Events.{Makes, state_with}
 use Rattle.history_model.specs.declared.plain.Edge.{Edge}
 use Rattle.history_model.specs.declared.plain.PlainAtlas.{PlainAtlas}

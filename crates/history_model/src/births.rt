@@ -3,8 +3,8 @@ ghost use Rattle.hop_model.specs.Outcomes.{free_container as free_container_numb
 ghost use Rattle.hop_model.specs.Scripts.{container_named as container_number};
 ghost use Rattle.hop_model.specs.Soundness.{IsSound};
 ghost use Rattle.hop_model.specs.State.{Supply};
-ghost use Rattle.script_form.specs.Rules.{IsScript};
-ghost use Rattle.script_form.specs.Scripts.{tables_of, container_of as container_table_of, locus_of as locus_table_of};
+ghost use Rattle.sound_runs.specs.script_form.Rules.{IsScript};
+ghost use Rattle.sound_runs.specs.script_form.Scripts.{tables_of, container_of as container_table_of, locus_of as locus_table_of};
 ghost use Rattle.history_model.specs.Born.{AreEdges, AreOfOneKind, BearsContainer, BearsLocus, BearsNoLocus, IsReadyContainerTable, IsReadyLocusTable, IsUndefined, KnowsNames, entry_of_container, entry_of_locus, risen};
 ghost use Rattle.history_model.specs.Events.{AreFewVersions, Bears, Stays};
 ghost use Rattle.history_model.specs.Plains.{atlas_of, cells_of};
@@ -15,7 +15,7 @@ use crate::names::{
 use crate::plain::{Edge, Plain, PlainContainer, PlainLocus};
 use crate::tables::{container_from, edges_from, locus_from};
 use hop_base::{Answer, Entity, Entry, Event, Touch, Touched};
-use script_form::{Script, ScriptContainer, ScriptLocus};
+use sound_runs::script_form::{Script, ScriptContainer, ScriptLocus};
 use std::alloc::{AllocError, Global};
 
 /// The version of a written entity rises.

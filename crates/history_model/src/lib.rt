@@ -26,4 +26,6 @@ pub use hop_model::{
 };
 pub use names::{container_named, number_among, number_of};
 pub use plain::{Edge, Plain, PlainAtlas, PlainContainer, PlainLocus};
+pub use sound_runs::script_form;
 pub use steps::plain_step;
+pub use wanted_act;

@@ -4,14 +4,14 @@ ghost use Rattle.hop_model.specs.Births.{caps_from as caps_by, regions_from as r
 ghost use Rattle.hop_model.specs.Scripts.{number_in};
 ghost use Rattle.hop_model.specs.State.{Supply};
 ghost use Rattle.hop_model.specs.Words.{insert_region as inserted};
-ghost use Rattle.script_form.specs.Scripts.{region_of, cap_of, container_of as container_table_of, locus_of as locus_table_of};
+ghost use Rattle.sound_runs.specs.script_form.Scripts.{region_of, cap_of, container_of as container_table_of, locus_of as locus_table_of};
 ghost use Rattle.history_model.specs.Born.{HasFewNames, edges_below};
 ghost use Rattle.history_model.specs.Plains.{atlas_of, container_of, locus_of};
 
 use crate::names::known_number;
 use crate::plain::{Edge, PlainAtlas, PlainContainer, PlainLocus};
 use hop_base::{Cap, Condition, Entity, Instr, MOST_CAPS, Region};
-use script_form::{ScriptCap, ScriptContainer, ScriptLocus, ScriptRegion};
+use sound_runs::script_form::{ScriptCap, ScriptContainer, ScriptLocus, ScriptRegion};
 use std::alloc::{AllocError, Global};
 use std::collections::BTreeMap;
 

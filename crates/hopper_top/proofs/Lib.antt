@@ -1,2 +1,2 @@
 mod Doing
-mod Worded
+pub use Rattle.format_command.proofs.image_meaning_lemmas

@@ -1,22 +1,29 @@
 -- What a call leaves, by its command and by how it ended.
-use Rattle.std.specs.Prelude.{◌≡◌, ◌⊎◌, ◌≤◌, List}
+use Rattle.std.specs.Prelude.{◌≡◌, ◌⊎◌, ◌≤◌, Bool, false, true, List}
 use Rattle.command_words.specs.Commands.{IsCommand}
 use Rattle.command_words.specs.declared.Command.{Command}
-use Rattle.command_words.specs.declared.Command.TheVariants.{Format, Report, Run, Show}
-use Rattle.hop_model.specs.State.{Text}
-use Rattle.image_meaning.specs.Meaning.{Accepted}
-use Rattle.command_parts.specs.Ends.{IsUnrun}
-use Rattle.command_parts.specs.Seen.{Call, Gave}
-use Rattle.command_parts.specs.Statuses.{ending, status_by}
-use Rattle.command_parts.specs.declared.faults.Fault.{Fault}
-use Rattle.command_parts.specs.declared.faults.Fault.TheVariants.{Memory as NoMemory, Usage as BadWords}
-use Rattle.command_parts.specs.declared.statuses.Status.{Status}
-use Rattle.command_parts.specs.declared.statuses.Status.TheVariants.{DiskFault, SinkFault, SourceFault}
+use Rattle.command_words.specs.declared.Command.TheVariants.{CheckTrace, Drill, Format, Report, Run, Show}
+use Rattle.run_command.specs.hop_model.State.{Text}
+use Rattle.format_command.specs.image_meaning.Meaning.{Accepted}
+use Rattle.reading_commands.specs.command_parts.Ends.{IsUnrun}
+use Rattle.reading_commands.specs.command_parts.Seen.{Call, Gave}
+use Rattle.reading_commands.specs.command_parts.Statuses.{ending, status_by}
+use Rattle.reading_commands.specs.command_parts.declared.faults.Fault.{Fault}
+use Rattle.reading_commands.specs.command_parts.declared.faults.Fault.TheVariants.{Memory as NoMemory, Usage as BadWords}
+use Rattle.reading_commands.specs.command_parts.declared.statuses.Status.{Status}
+use Rattle.reading_commands.specs.command_parts.declared.statuses.Status.TheVariants.{DiskFault, SinkFault, SourceFault}
 use Rattle.format_command.specs.Formats.{FormatLeaves}
 use Rattle.reading_commands.specs.Reports.{ReportLeaves}
 use Rattle.reading_commands.specs.Shows.{ShowLeaves}
+use Rattle.run_command.specs.Drilling.{CanDrill, DrillLeaves}
 use Rattle.run_command.specs.Leaving.{CanRun, RunLeaves}
 use Rattle.run_command.specs.Openings.{Managers}
+use Rattle.run_command.specs.Tellings.{lines_of}
+use Rattle.run_command.specs.declared.putting.Lines.{Lines}
+use Rattle.run_command.specs.declared.putting.Lines.TheVariants.{Entries, Printed}
+use Rattle.trace_command.specs.Leaving.{CanCheck, TraceLeaves}
+use Rattle.trace_command.specs.Sources.{from_source}
+use Rattle.trace_command.specs.Checkers.{Managers as Answers}
 
 -- STOPPED BEFORE ANY COMMAND by this fault: nothing was run, and neither source nor disk was touched
 pub record IsUntouched (call : Call) (gave : Gave) (fault : Fault) : Type 0 where
@@ -25,12 +32,23 @@ pub record IsUntouched (call : Call) (gave : Gave) (fault : Fault) : Type 0 wher
   pub source : call.source.same
   pub disk : call.disk.same
 
+-- which lines a run is asked for
+abbrev pub asked_lines : Bool → Lines
+asked_lines false = Printed
+asked_lines true = Entries
+
+-- the managers' answers, as a checker of traces asks for them
+abbrev pub answers_of : Managers → Answers
+answers_of m = record { word = m.supply; wish = m.policy }
+
 -- WHAT A COMMAND LEAVES
 abbrev pub CommandLeaves : Managers → Command → Call → Gave → Type 0
 CommandLeaves m (Format blocks) call gave = call.source.same × FormatLeaves blocks call.disk call.sink gave (ending gave.status)
 CommandLeaves m Show call gave = call.source.same × ShowLeaves m.supply call.disk call.sink gave (ending gave.status)
 CommandLeaves m Report call gave = call.source.same × ReportLeaves call.disk call.sink gave (ending gave.status)
-CommandLeaves m Run call gave = RunLeaves m call gave (ending gave.status)
+CommandLeaves m (Run trace) call gave = RunLeaves (lines_of (asked_lines trace)) m call gave (ending gave.status)
+CommandLeaves m (Drill number) call gave = call.source.same × DrillLeaves m number call.sink call.disk gave (ending gave.status)
+CommandLeaves m CheckTrace call gave = TraceLeaves (answers_of m) (from_source call.source) call.sink call.disk gave (ending gave.status)
 
 -- WHAT A CALL LEAVES whose words are this command: what the command leaves, or memory ran out for the words
 abbrev pub Leaves : Managers → Command → Call → Gave → Type 0
@@ -55,4 +73,6 @@ abbrev pub CanDo : Managers → Command → Call → Type 0
 CanDo m (Format blocks) call = blocks ≤ call.disk.before.blocks
 CanDo m Show call = call.disk.tells × Accepted call.disk.before.reading
 CanDo m Report call = call.disk.tells × Accepted call.disk.before.reading
-CanDo m Run call = CanRun m call
+CanDo m (Run trace) call = CanRun m call
+CanDo m (Drill number) call = CanDrill m number call.disk
+CanDo m CheckTrace call = CanCheck (answers_of m) call

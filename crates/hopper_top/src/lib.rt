@@ -1,6 +1,8 @@
-//! The whole system behind one call: an image is made, run, shown or reported, and lines go out.
+//! The whole system behind one call: an image is made, run, shown or reported, or a trace is checked against it, and lines go out.
 #![tactic(auto)]
 
 mod top;
 
+pub use reading_commands::{command_parts, script_form};
+pub use run_command::stream_edge;
 pub use top::hopper;

@@ -2,22 +2,34 @@
 ghost use Rattle.std.specs.Prelude.{◌≡◌, ◌≤◌, ◌<◌, ◌^◌, ℕ, Bool, map, string_bytes};
 ghost use Rattle.disk_trait.specs.Counts.{Rose};
 ghost use Rattle.disk_trait.specs.declared.disk.NoBlocks.{NoBlocks};
-ghost use Rattle.image_blocks.specs.Layout.{least_blocks, most_blocks};
+ghost use Rattle.reading_commands.specs.image_blocks.Layout.{least_blocks, most_blocks};
 ghost use Rattle.command_words.specs.Commands.{IsCommand};
 ghost use Rattle.command_words.specs.declared.Command.TheVariants.{Format as FormatCommand};
-ghost use Rattle.command_parts.specs.Seen.{gave, seen_disk, seen_sink, seen_source};
-ghost use Rattle.command_parts.specs.Statuses.{IsComplete};
+ghost use Rattle.reading_commands.specs.command_parts.Seen.{gave, seen_disk, seen_sink, seen_source};
+ghost use Rattle.reading_commands.specs.command_parts.Statuses.{IsComplete};
 ghost use Rattle.run_command.specs.Openings.{Managers};
-ghost use Rattle.hopper_top.specs.Leaving.{CanDo, CommandLeaves, HasCause, IsNoCommand, Leaves, UsageLeaves};
+ghost use Rattle.hopper_top.specs.Leaving.{CanDo, CommandLeaves, HasCause, IsNoCommand, Leaves, UsageLeaves, asked_lines as told_lines};
 
-use command_parts::{Fault, Outcome, Status, end_with};
 use command_words::{Command, read_command};
 use disk_trait::Disk;
 use format_command::format_image;
+use reading_commands::command_parts::{Fault, Outcome, Status, end_with};
 use reading_commands::{report_image, show_image};
-use run_command::run_script;
+use run_command::stream_edge::{Sink, Source};
+use run_command::{Lines, run_drill, run_script};
 use std::alloc::Global;
-use stream_edge::{Sink, Source};
+use trace_command::check_trace;
+
+// Which lines a run is asked for.
+fn asked_lines(trace: bool) -> Lines
+    ensures { result ≡ told_lines trace }
+{
+    if trace {
+        Lines::Entries
+    } else {
+        Lines::Printed
+    }
+}
 
 // Carries out a command.
 fn do_command<R: Source, W: Sink, D: Disk, S: Fn(u64, u32, u16) -> u64, P: Fn(u32, u64) -> bool>(
@@ -51,16 +63,23 @@ fn do_command<R: Source, W: Sink, D: Disk, S: Fn(u64, u32, u16) -> u64, P: Fn(u3
 {
     match command {
         Command::Format(blocks) => format_image(alloc, blocks, sink, disk),
-        Command::Run => run_script(alloc, source, sink, disk, supply, policy),
+        Command::Run { trace } => {
+            let lines = asked_lines(trace);
+            run_script(alloc, source, sink, disk, supply, policy, lines)
+        }
         Command::Show => show_image(alloc, sink, disk, supply),
         Command::Report => report_image(alloc, sink, disk, supply),
+        Command::Drill(number) => run_drill(alloc, number, sink, disk, supply, policy),
+        Command::CheckTrace => check_trace(alloc, source, sink, disk, supply, policy),
     }
 }
 
 /// Carries out the command that the words stand for on a disk: `format N` makes an empty image of N blocks, 2,600 to 65,536; `run` runs the
-/// script that the source stands for, from the state that the disk's image means, and keeps it up to each record; `show` puts that state,
-/// `report` the log with the cut. In a run the managers that the script brings answer for their numbers before the handed-in ones; `show`
-/// asks the handed-in ones alone.
+/// script that the source stands for, from the state that the disk's image means, and keeps it up to each record, and puts the lines that
+/// loci print, `run --trace` a line for each entry in their place; `drill N` runs the script that is drawn from the number N, and puts one
+/// line with its summary; `show` puts the state that the image means, `report` the log with the cut; `check-trace` tells whether the trace
+/// behind the script in the source is that of a legal history from that state. In a run and in a check of a trace the managers that the
+/// script brings answer for their numbers before the handed-in ones; `show` and `drill` ask the handed-in ones alone.
 ///
 /// What stops the call first decides: the words, the source, the image, the script against it, the run, the output; a sink that fails at the
 /// last line changes no status. After a fault of the disk the image has to be opened again.

@@ -9,3 +9,4 @@ pub mod Ranges
 pub mod LastVersions
 mod FirstBlock
 mod Worked
+pub use Rattle.hop_model.proofs as hop_model_lemmas

@@ -4,3 +4,4 @@ pub mod Bodies
 pub mod Checks
 pub mod Logs
 pub mod Examples
+pub use Rattle.hop_model.specs as hop_model

@@ -38,6 +38,3 @@ pub const LAST_NUMBER: u64 = 1 << 62;
 
 /// The greatest length of a blob in bytes.
 pub const MOST_LENGTH: u32 = 8192;
-
-#[cfg(test)]
-mod tests;

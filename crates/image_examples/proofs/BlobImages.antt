@@ -4,17 +4,17 @@ use Rattle.std.proofs.lemmas.List.{get_or-append_right}
 use Rattle.std.specs.Prelude.{slice_index}
 use Rattle.hop_base.specs.declared.entities.Kind.TheVariants.{Container}
 use Rattle.hop_base.specs.declared.records.Rec.{Rec}
-use Rattle.hop_model.specs.Choices.{covered, greatest}
-use Rattle.hop_model.specs.State.{ContainerState}
-use Rattle.blob_grammar.proofs.Smallest.{clash, empty_container, small_container}
-use Rattle.blob_grammar.specs.Forms.{IsSpelling, SpellsContainer}
-use Rattle.blob_grammar.specs.Places.{Begins, GoesPast, IsBadPlace}
-use Rattle.blob_grammar.specs.Spelling.{container_blob}
-use Rattle.image_blocks.specs.Bodies.{blob_in, blob_room, body_block, record_in}
-use Rattle.image_blocks.specs.Checks.{active_area, blocks_fault, log_in, records_fault, stamps_fault}
-use Rattle.image_blocks.specs.Layout.{header_block, open_gate, superblock}
-use Rattle.image_blocks.specs.Logs.{HasRecords}
-use Rattle.image_blocks.specs.declared.areas.Area.TheVariants.{A}
+use Rattle.image_meaning.specs.hop_model.Choices.{covered, greatest}
+use Rattle.image_meaning.specs.hop_model.State.{ContainerState}
+use Rattle.image_meaning.proofs.blob_grammar_lemmas.Smallest.{clash, empty_container, small_container}
+use Rattle.image_meaning.specs.blob_grammar.Forms.{IsSpelling, SpellsContainer}
+use Rattle.image_meaning.specs.blob_grammar.Places.{Begins, GoesPast, IsBadPlace}
+use Rattle.image_meaning.specs.blob_grammar.Spelling.{container_blob}
+use Rattle.image_meaning.specs.image_blocks.Bodies.{blob_in, blob_room, body_block, record_in}
+use Rattle.image_meaning.specs.image_blocks.Checks.{active_area, blocks_fault, log_in, records_fault, stamps_fault}
+use Rattle.image_meaning.specs.image_blocks.Layout.{header_block, open_gate, superblock}
+use Rattle.image_meaning.specs.image_blocks.Logs.{HasRecords}
+use Rattle.image_meaning.specs.image_blocks.declared.areas.Area.TheVariants.{A}
 use Rattle.image_meaning.specs.Foreign.{IsBadBlob, IsBadRest, IsBadSpelling, IsBodyBlock, IsFirstRest, IsForeign}
 use Rattle.image_meaning.specs.Parts.{chosen, cut_of}
 use Rattle.image_examples.specs.Examples.{bad_at}

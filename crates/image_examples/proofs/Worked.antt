@@ -7,20 +7,20 @@ use Rattle.disk_trait.specs.Image.{Image}
 use Rattle.hop_base.specs.declared.entities.Kind.TheVariants.{Atlas, Container}
 use Rattle.hop_base.specs.declared.instructions.Walk.{Walk}
 use Rattle.hop_base.specs.declared.records.Rec.{Rec}
-use Rattle.hop_model.specs.Soundness.{HasNoCircle, is_born, is_born_container}
-use Rattle.hop_model.specs.State.{AtlasState, ContainerState, Text, no_atlas}
-use Rattle.blob_grammar.specs.Examples.{small_atlas}
-use Rattle.blob_grammar.specs.Forms.{IsAtlasForm, IsContainerForm, IsSpelling}
-use Rattle.blob_grammar.specs.Places.{GoesPast, IsBadPlace}
-use Rattle.blob_grammar.specs.Spelling.{atlas_blob, container_blob}
-use Rattle.blob_grammar.proofs.Placing.{past_bad}
-use Rattle.blob_grammar.proofs.Smallest.{clash, empty_container, no_cap, none_all, small_container, zeros_small}
-use Rattle.blob_grammar.proofs.Values.{prefix_free}
-use Rattle.image_blocks.specs.Bodies.{blob_in, blob_room}
+use Rattle.image_meaning.specs.hop_model.Soundness.{HasNoCircle, is_born, is_born_container}
+use Rattle.image_meaning.specs.hop_model.State.{AtlasState, ContainerState, Text, no_atlas}
+use Rattle.image_meaning.specs.blob_grammar.Examples.{small_atlas}
+use Rattle.image_meaning.specs.blob_grammar.Forms.{IsAtlasForm, IsContainerForm, IsSpelling}
+use Rattle.image_meaning.specs.blob_grammar.Places.{GoesPast, IsBadPlace}
+use Rattle.image_meaning.specs.blob_grammar.Spelling.{atlas_blob, container_blob}
+use Rattle.image_meaning.proofs.blob_grammar_lemmas.Placing.{past_bad}
+use Rattle.image_meaning.proofs.blob_grammar_lemmas.Smallest.{clash, empty_container, no_cap, none_all, small_container, zeros_small}
+use Rattle.image_meaning.proofs.blob_grammar_lemmas.Values.{prefix_free}
+use Rattle.image_meaning.specs.image_blocks.Bodies.{blob_in, blob_room}
 use Rattle.image_meaning.specs.Fits.{IsFit, shown_by}
 use Rattle.image_meaning.specs.Foreign.{IsBadRest, IsBadSpelling, IsFirstRest}
 use Rattle.image_meaning.specs.Parts.{AtlasPart, ContainerPart, LocusPart, Part, chosen}
-use Rattle.hop_model.specs.Choices.{covered, greatest}
+use Rattle.image_meaning.specs.hop_model.Choices.{covered, greatest}
 use Rattle.image_examples.specs.Examples.{two_names, showing, WorkedBlobs, WorkedBlocks, WorkedFits, atlas_alone, atlas_record, bad_at, both, box, box_alone, box_record, dirty_block, long_front, one_name, region_onto, plain_box}
 
 -- WHAT FITS

@@ -4,15 +4,15 @@ use Rattle.std.proofs.lemmas.Bool.{false≢true}
 use Rattle.std.proofs.lemmas.Bool.Decides.{nat_tests}
 use Rattle.std.specs.Prelude.{All, MatchOption, drop, slice_set}
 use Rattle.hop_base.specs.declared.records.Rec.{Rec}
-use Rattle.hop_model.specs.Choices.{covered, greatest}
-use Rattle.blob_grammar.proofs.Smallest.{clash, empty_container, small_container}
-use Rattle.blob_grammar.specs.Forms.{SpellsContainer}
-use Rattle.blob_grammar.specs.Spelling.{container_blob}
-use Rattle.image_blocks.specs.Bodies.{body_block, record_in, blob_room}
-use Rattle.image_blocks.specs.Checks.{active_area, blocks_fault, count_in, log_in, records_fault, stamps_fault}
-use Rattle.image_blocks.specs.Layout.{header_block, open_gate, superblock}
-use Rattle.image_blocks.specs.Logs.{HasRecords}
-use Rattle.image_blocks.specs.declared.areas.Area.TheVariants.{A}
+use Rattle.image_meaning.specs.hop_model.Choices.{covered, greatest}
+use Rattle.image_meaning.proofs.blob_grammar_lemmas.Smallest.{clash, empty_container, small_container}
+use Rattle.image_meaning.specs.blob_grammar.Forms.{SpellsContainer}
+use Rattle.image_meaning.specs.blob_grammar.Spelling.{container_blob}
+use Rattle.image_meaning.specs.image_blocks.Bodies.{body_block, record_in, blob_room}
+use Rattle.image_meaning.specs.image_blocks.Checks.{active_area, blocks_fault, count_in, log_in, records_fault, stamps_fault}
+use Rattle.image_meaning.specs.image_blocks.Layout.{header_block, open_gate, superblock}
+use Rattle.image_meaning.specs.image_blocks.Logs.{HasRecords}
+use Rattle.image_meaning.specs.image_blocks.declared.areas.Area.TheVariants.{A}
 use Rattle.image_meaning.specs.Fits.{IsFit}
 use Rattle.image_meaning.specs.Foreign.{IsBodyBlock, IsForeign, IsUnfit}
 use Rattle.image_meaning.specs.Parts.{AreSpelt, ContainerPart, IsSpelt, Part, chosen, cut_of}

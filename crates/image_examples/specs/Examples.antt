@@ -6,9 +6,9 @@ use Rattle.hop_base.specs.declared.instructions.Condition.TheVariants.{Running}
 use Rattle.hop_base.specs.declared.instructions.Instr.{Instr}
 use Rattle.hop_base.specs.declared.instructions.Instr.TheVariants.{Load, Set}
 use Rattle.hop_base.specs.declared.records.Rec.{Rec}
-use Rattle.hop_model.specs.State.{AtlasState, ContainerState, LocusState, no_atlas}
-use Rattle.image_blocks.specs.Bodies.{blob_room}
-use Rattle.image_blocks.specs.Checks.{Bad}
+use Rattle.image_meaning.specs.hop_model.State.{AtlasState, ContainerState, LocusState, no_atlas}
+use Rattle.image_meaning.specs.image_blocks.Bodies.{blob_room}
+use Rattle.image_meaning.specs.image_blocks.Checks.{Bad}
 use Rattle.image_meaning.specs.Fits.{AreNamedOnce, IsFit, IsTied}
 use Rattle.image_meaning.specs.Foreign.{IsBadRest, IsBadSpelling, blob_bad}
 use Rattle.image_meaning.specs.Parts.{AtlasPart, ContainerPart, LocusPart, Part}

@@ -4,7 +4,7 @@ use Rattle.std.specs.List.{AllByRecursion}
 use Rattle.std.proofs.lemmas.Bool.Decides.{nat_tests}
 use Rattle.std.proofs.lemmas.List.{get_or_past}
 use Rattle.hop_base.specs.declared.records.Rec.{Rec}
-use Rattle.hop_model.specs.Choices.{IsNarrow}
+use Rattle.image_blocks.specs.hop_model.Choices.{IsNarrow}
 use Rattle.cut_laws.specs.Agreeing.{from_cut}
 use Rattle.cut_laws.specs.Records.{commit_of, commits_of, is_rec_from, recs_from}
 use Rattle.image_meaning.specs.Parts.{chosen_by}

@@ -3,9 +3,9 @@ use Rattle.std.proofs.Common.{◌≡◌, ℕ, ◌≤◌, ◌<◌, ◌^◌, ◌==
 use Rattle.std.proofs.lemmas.Bool.{false≢true, leb-true}
 use Rattle.disk_trait.specs.Image.{Image, block_at}
 use Rattle.hop_base.specs.declared.records.Rec.{Rec}
-use Rattle.hop_model.proofs.Basics.{and_left, and_right}
-use Rattle.hop_model.specs.State.{Supply, empty_state}
-use Rattle.hop_model.specs.Words.{first}
+use Rattle.image_blocks.proofs.hop_model_lemmas.Basics.{and_left, and_right}
+use Rattle.image_blocks.specs.hop_model.State.{Supply, empty_state}
+use Rattle.image_blocks.specs.hop_model.Words.{first}
 use Rattle.byteorder.specs.Numbers.{little_number-reads_back}
 use Rattle.image_blocks.specs.Bodies.{number_at}
 use Rattle.image_blocks.specs.Checks.{count_in, header_fault, in_block, is_count, superblock_fault, unless_at}

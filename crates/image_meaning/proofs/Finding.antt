@@ -8,7 +8,7 @@ use Rattle.hop_base.specs.Kinds.{kind_of}
 use Rattle.hop_base.specs.declared.entities.Kind.{Kind}
 use Rattle.hop_base.specs.declared.entities.Kind.TheVariants.{Atlas, Container, Locus}
 use Rattle.hop_base.specs.declared.records.Rec.{Rec}
-use Rattle.hop_model.specs.Words.{first}
+use Rattle.image_blocks.specs.hop_model.Words.{first}
 use Rattle.blob_grammar.specs.Forms.{IsSpelling}
 use Rattle.blob_grammar.specs.Places.{GoesPast, IsBadPlace}
 use Rattle.blob_grammar.proofs.Placing.{some_place}

@@ -7,9 +7,9 @@ use Rattle.std.proofs.lemmas.List.{get_or_past}
 use Rattle.disk_trait.specs.Image.{Image, block_at}
 use Rattle.hop_base.specs.declared.records.Rec.{Rec}
 use Rattle.cut_laws.proofs.Joins.{same_greatest}
-use Rattle.hop_model.proofs.Lowering.{greatest_is, greatest_one}
-use Rattle.hop_model.specs.Choices.{IsGreatest, IsNarrow}
-use Rattle.hop_model.specs.State.{Supply, KernelState, ContainerCell, empty_state}
+use Rattle.image_blocks.proofs.hop_model_lemmas.Lowering.{greatest_is, greatest_one}
+use Rattle.image_blocks.specs.hop_model.Choices.{IsGreatest, IsNarrow}
+use Rattle.image_blocks.specs.hop_model.State.{Supply, KernelState, ContainerCell, empty_state}
 use Rattle.cut_laws.specs.Agreeing.{from_cut, nothing}
 use Rattle.cut_laws.specs.Records.{commits_of}
 use Rattle.image_blocks.specs.Bodies.{number_at, record_in}

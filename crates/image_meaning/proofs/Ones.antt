@@ -3,7 +3,7 @@ use Rattle.std.proofs.Common.{◌≡◌, ℕ, List, Option, Some, None, refl, sy
 use Rattle.std.specs.Prelude.{MatchOption, slice_index}
 use Rattle.disk_trait.specs.Image.{Image, block_at}
 use Rattle.hop_base.specs.declared.records.Rec.{Rec}
-use Rattle.hop_model.specs.State.{Supply, KernelState}
+use Rattle.image_blocks.specs.hop_model.State.{Supply, KernelState}
 use Rattle.blob_grammar.proofs.Values.{one_atlas, one_container, one_locus}
 use Rattle.image_blocks.specs.Bodies.{blob_in}
 use Rattle.image_blocks.specs.Checks.{log_in}

@@ -4,7 +4,7 @@ use Rattle.std.specs.Prelude.{Contains}
 use Rattle.std.specs.Option.{ForSome}
 use Rattle.disk_trait.specs.Image.{Image}
 use Rattle.hop_base.specs.declared.records.Rec.{Rec}
-use Rattle.hop_model.specs.State.{AtlasState}
+use Rattle.image_blocks.specs.hop_model.State.{AtlasState}
 use Rattle.image_meaning.specs.Fits.{AreNamedOnce, IsFit, IsTied, shown_by}
 use Rattle.image_meaning.specs.Parts.{AreSpelt, AtlasPart, ContainerPart, LocusPart, Part, chosen, table_in}
 use Rattle.image_meaning.proofs.Fitting.{none_some, same_part}

@@ -6,9 +6,9 @@ use Rattle.disk_trait.specs.Image.{Image, block_at}
 use Rattle.hop_base.specs.Kinds.{kind_of}
 use Rattle.hop_base.specs.declared.entities.Kind.TheVariants as kinds
 use Rattle.hop_base.specs.declared.records.Rec.{Rec}
-use Rattle.hop_model.proofs.Basics.{and_left, and_right}
-use Rattle.hop_model.specs.Soundness.{AreSound, IsSound, IsSoundAtlas, IsSoundContainer, IsSoundLocus, is_born, is_born_container, is_born_locus, regions_onto}
-use Rattle.hop_model.specs.State.{Supply, AtlasState, ContainerState, LocusState, EntityState, KernelState, Cell, NotBorn, AtlasCell, ContainerCell, LocusCell, empty_state, no_atlas}
+use Rattle.image_blocks.proofs.hop_model_lemmas.Basics.{and_left, and_right}
+use Rattle.image_blocks.specs.hop_model.Soundness.{AreSound, IsSound, IsSoundAtlas, IsSoundContainer, IsSoundLocus, is_born, is_born_container, is_born_locus, regions_onto}
+use Rattle.image_blocks.specs.hop_model.State.{Supply, AtlasState, ContainerState, LocusState, EntityState, KernelState, Cell, NotBorn, AtlasCell, ContainerCell, LocusCell, empty_state, no_atlas}
 use Rattle.blob_grammar.proofs.Joins.{container_number}
 use Rattle.blob_grammar.specs.Forms.{IsContainerForm, IsLocusForm}
 use Rattle.image_blocks.specs.Bodies.{blob_in}

@@ -7,9 +7,9 @@ use Rattle.hop_base.specs.declared.capabilities.Region.{Region}
 use Rattle.hop_base.specs.declared.instructions.Call.{Call}
 use Rattle.hop_base.specs.declared.instructions.Walk.{Walk}
 use Rattle.hop_base.specs.declared.records.Rec.{Rec}
-use Rattle.hop_model.specs.State.{AtlasState, ContainerState, LocusState}
-use Rattle.hop_model.specs.Refusals.{instr_at}
-use Rattle.hop_model.specs.Soundness.{HasNoCircle, is_born, is_born_container, looks}
+use Rattle.image_blocks.specs.hop_model.State.{AtlasState, ContainerState, LocusState}
+use Rattle.image_blocks.specs.hop_model.Refusals.{instr_at}
+use Rattle.image_blocks.specs.hop_model.Soundness.{HasNoCircle, is_born, is_born_container, looks}
 use Rattle.image_blocks.specs.Bodies.{blob_blocks}
 use Rattle.image_blocks.specs.Layout.{pool_at}
 use Rattle.image_meaning.specs.Parts.{Part, AtlasPart, ContainerPart, LocusPart, chosen, table_in}

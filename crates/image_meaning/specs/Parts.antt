@@ -5,8 +5,8 @@ use Rattle.hop_base.specs.Kinds.{kind_of}
 use Rattle.hop_base.specs.declared.entities.Kind.{Kind}
 use Rattle.hop_base.specs.declared.entities.Kind.TheVariants.{Atlas, Container, Locus}
 use Rattle.hop_base.specs.declared.records.Rec.{Rec}
-use Rattle.hop_model.specs.State.{Supply, AtlasState, ContainerState, LocusState, Cell, AtlasCell, ContainerCell, LocusCell}
-use Rattle.hop_model.specs.Choices.{greatest}
+use Rattle.image_blocks.specs.hop_model.State.{Supply, AtlasState, ContainerState, LocusState, Cell, AtlasCell, ContainerCell, LocusCell}
+use Rattle.image_blocks.specs.hop_model.Choices.{greatest}
 use Rattle.cut_laws.specs.Agreeing.{nothing}
 use Rattle.cut_laws.specs.Records.{commits_of}
 use Rattle.blob_grammar.specs.Forms.{SpellsAtlas, SpellsContainer, SpellsLocus}

@@ -6,8 +6,8 @@
 ghost use Rattle.std.specs.Prelude.{◌≡◌, ℕ, List, []};
 ghost use Rattle.disk_trait.specs.Image.{Image};
 ghost use Rattle.hop_base.specs.declared.records.Rec.{Rec};
-ghost use Rattle.hop_model.specs.Soundness.{IsSound};
-ghost use Rattle.hop_model.specs.State.{KernelState, Supply, empty_state};
+ghost use Rattle.image_blocks.specs.hop_model.Soundness.{IsSound};
+ghost use Rattle.image_blocks.specs.hop_model.State.{KernelState, Supply, empty_state};
 ghost use Rattle.image_blocks.specs.Checks.{Bad};
 ghost use Rattle.image_blocks.specs.Logs.{HasRecords};
 ghost use Rattle.image_meaning.specs.Describing.{MeaningLaw};
@@ -15,6 +15,8 @@ ghost use Rattle.image_meaning.specs.Empty.{IsFormatted};
 ghost use Rattle.image_meaning.specs.Foreign.{IsForeign};
 ghost use Rattle.image_meaning.specs.Meaning.{Accepted, Means};
 ghost use Rattle.image_meaning.specs.Resting.{RestsOnLaw};
+
+pub use image_blocks;
 
 /// What an image means rests on a few of its blocks: an image of as many blocks that agrees there means the same.
 pub fn rests_on_law()

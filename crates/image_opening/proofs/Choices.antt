@@ -2,22 +2,22 @@
 use Rattle.std.proofs.Common.{◌≡◌, ◌≢◌, ℕ, zero, suc, ◌<◌, ◌≤◌, Bool, true, false, ◌&&◌, ◌==◌, if◌then◌else◌, List, [], ◌∷◌, ◌++◌, Option, Some, None, refl, sym, ap, subst, ◌∙◌, ⊎_elim, arith}
 use Rattle.std.specs.Prelude.{AllPairs}
 use Rattle.std.proofs.lemmas.Bool.{cases_lt}
-use Rattle.cut_laws.specs.Agreeing.{nothing}
-use Rattle.cut_laws.specs.Records.{commits_of}
+use Rattle.opened_cells.specs.cut_laws.Agreeing.{nothing}
+use Rattle.opened_cells.specs.cut_laws.Records.{commits_of}
 use Rattle.hop_base.specs.Edges.{upto}
 use Rattle.hop_base.specs.declared.records.Rec.{Rec}
-use Rattle.hop_model.proofs.Lowering.{greatest_is, greatest_one}
-use Rattle.hop_model.specs.Choices.{IsGreatest, IsNarrow}
-use Rattle.image_blocks.proofs.Firsts.{ne_test}
-use Rattle.image_meaning.specs.Parts.{chosen, chosen_by, cut_of}
-use Rattle.image_meaning.proofs.Finding.{passes}
-use Rattle.log_reading.specs.Logs.{AreInRange, IsOlder}
-use Rattle.page_shadow.specs.declared.ShadowTable.{ShadowTable}
-use Rattle.snapshot_store.specs.Choosing.{chosen_list, listed, with_tables}
-use Rattle.snapshot_store.specs.Keeping.{AreKept}
-use Rattle.snapshot_store.proofs.Chosen.{are_row, chosen_greatest, chosen_is, chosen_more}
-use Rattle.snapshot_store.proofs.Keep.{rows_kept, rows_recs}
-use Rattle.snapshot_store.proofs.Opened.{narrow_in_range}
+use Rattle.kernel_views.proofs.hop_model_lemmas.Lowering.{greatest_is, greatest_one}
+use Rattle.kernel_views.specs.hop_model.Choices.{IsGreatest, IsNarrow}
+use Rattle.opened_cells.proofs.image_blocks_lemmas.Firsts.{ne_test}
+use Rattle.opened_cells.specs.image_meaning.Parts.{chosen, chosen_by, cut_of}
+use Rattle.opened_cells.proofs.image_meaning_lemmas.Finding.{passes}
+use Rattle.kernel_views.specs.log_reading.Logs.{AreInRange, IsOlder}
+use Rattle.opened_cells.specs.page_shadow.declared.ShadowTable.{ShadowTable}
+use Rattle.kernel_views.specs.snapshot_store.Choosing.{chosen_list, listed, with_tables}
+use Rattle.kernel_views.specs.snapshot_store.Keeping.{AreKept}
+use Rattle.kernel_views.proofs.snapshot_store_lemmas.Chosen.{are_row, chosen_greatest, chosen_is, chosen_more}
+use Rattle.kernel_views.proofs.snapshot_store_lemmas.Keep.{rows_kept, rows_recs}
+use Rattle.kernel_views.proofs.snapshot_store_lemmas.Opened.{narrow_in_range}
 
 -- IN A LIST behind another
 

@@ -10,34 +10,34 @@ use Rattle.disk_trait.proofs.Phases.{LeavesOnly-start, LeavesOnly-then, LeavesOn
 use Rattle.disk_tally.proofs.Counting.{CountsOn-then}
 use Rattle.disk_tally.specs.Counts.{Begins, CountsOn, shown}
 use Rattle.hop_base.specs.declared.records.Rec.{Rec}
-use Rattle.image_blocks.specs.Checks.{Bad}
-use Rattle.image_blocks.specs.Layout.{epoch_in, last_number}
-use Rattle.image_blocks.specs.Logs.{Place}
-use Rattle.image_meaning.specs.Parts.{AreFormed, Part, AtlasPart, ContainerPart, LocusPart, Spells, table_in}
-use Rattle.image_meaning.specs.Meaning.{Accepted, Means}
-use Rattle.image_meaning.proofs.Firsts.{not_both}
-use Rattle.image_meaning.proofs.Ones.{one_log}
-use Rattle.image_parts.specs.Parts.{IsAcceptedWith}
-use Rattle.image_parts.specs.Tables.{blocks_in}
-use Rattle.image_parts.specs.declared.parts.ImageParts.{ImageParts}
-use Rattle.log_reading.specs.Logs.{AreInRange, IsKnown, IsLogOf, IsOlder}
-use Rattle.log_reading.specs.declared.log.ImageLog.{ImageLog}
-use Rattle.page_shadow.specs.declared.ShadowTable.{ShadowTable}
-use Rattle.part_checks.specs.Chosen.{parts_of}
-use Rattle.snapshot_store.specs.Choosing.{HasKept, IsKeeping, are_chosen}
-use Rattle.snapshot_store.specs.Opening.{IsFresh, IsOver, IsSynced, SyncsOnly}
-use Rattle.snapshot_store.specs.State.{State, books}
-use Rattle.snapshot_store.specs.OpenFaults.{why as why_of}
-use Rattle.snapshot_store.specs.declared.opening.OpenWhy.{OpenWhy}
-use Rattle.snapshot_store.specs.declared.opening.OpenWhy.TheVariants as why
-use Rattle.snapshot_store.proofs.Causes.{Rose-before}
+use Rattle.opened_cells.specs.image_blocks.Checks.{Bad}
+use Rattle.opened_cells.specs.image_blocks.Layout.{epoch_in, last_number}
+use Rattle.opened_cells.specs.image_blocks.Logs.{Place}
+use Rattle.opened_cells.specs.image_meaning.Parts.{AreFormed, Part, AtlasPart, ContainerPart, LocusPart, Spells, table_in}
+use Rattle.opened_cells.specs.image_meaning.Meaning.{Accepted, Means}
+use Rattle.opened_cells.proofs.image_meaning_lemmas.Firsts.{not_both}
+use Rattle.opened_cells.proofs.image_meaning_lemmas.Ones.{one_log}
+use Rattle.opened_cells.specs.image_parts.Parts.{IsAcceptedWith}
+use Rattle.opened_cells.specs.image_parts.Tables.{blocks_in}
+use Rattle.opened_cells.specs.image_parts.declared.parts.ImageParts.{ImageParts}
+use Rattle.kernel_views.specs.log_reading.Logs.{AreInRange, IsKnown, IsLogOf, IsOlder}
+use Rattle.kernel_views.specs.log_reading.declared.log.ImageLog.{ImageLog}
+use Rattle.opened_cells.specs.page_shadow.declared.ShadowTable.{ShadowTable}
+use Rattle.opened_cells.specs.part_checks.Chosen.{parts_of}
+use Rattle.kernel_views.specs.snapshot_store.Choosing.{HasKept, IsKeeping, are_chosen}
+use Rattle.kernel_views.specs.snapshot_store.Opening.{IsFresh, IsOver, IsSynced, SyncsOnly}
+use Rattle.kernel_views.specs.snapshot_store.State.{State, books}
+use Rattle.kernel_views.specs.snapshot_store.OpenFaults.{why as why_of}
+use Rattle.kernel_views.specs.snapshot_store.declared.opening.OpenWhy.{OpenWhy}
+use Rattle.kernel_views.specs.snapshot_store.declared.opening.OpenWhy.TheVariants as why
+use Rattle.kernel_views.proofs.snapshot_store_lemmas.Causes.{Rose-before}
 use Rattle.disk_tally.specs.declared.Tally.{Tally}
-use Rattle.log_reading.specs.Reads.{ReadsOnly}
-use Rattle.log_reading.specs.declared.faults.ReadingFault.{ReadingFault}
-use Rattle.log_reading.specs.declared.faults.ReadingFault.TheVariants.{Disk as OfDisk, Foreign as OfForeign, Memory as OfMemory}
-use Rattle.image_meaning.specs.Foreign.{IsBadMeaning}
-use Rattle.snapshot_store.proofs.Keep.{rows_recs}
-use Rattle.store_model.specs.Books.{AreTrue, IsBeforePool, logged_recs, recs_in}
+use Rattle.kernel_views.specs.log_reading.Reads.{ReadsOnly}
+use Rattle.kernel_views.specs.log_reading.declared.faults.ReadingFault.{ReadingFault}
+use Rattle.kernel_views.specs.log_reading.declared.faults.ReadingFault.TheVariants.{Disk as OfDisk, Foreign as OfForeign, Memory as OfMemory}
+use Rattle.opened_cells.specs.image_meaning.Foreign.{IsBadMeaning}
+use Rattle.kernel_views.proofs.snapshot_store_lemmas.Keep.{rows_recs}
+use Rattle.kernel_views.specs.store_model.Books.{AreTrue, IsBeforePool, logged_recs, recs_in}
 use Rattle.image_opening.specs.Images.{AreReadOf, HasImageCause, HasKeepCause, HasPartsCause, HasTurnLeft, HoldsImage, IsOpened, MeansSame, MeansSince}
 use Rattle.image_opening.specs.Opened.{IsRead}
 use Rattle.image_opening.proofs.Choices.{row_of}

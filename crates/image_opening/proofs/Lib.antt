@@ -7,3 +7,6 @@ pub mod Owned
 pub mod Clauses
 pub mod Starting
 pub mod Newest
+pub use Rattle.kernel_views.proofs.kernel_laws_lemmas
+pub use Rattle.opened_cells.proofs.meant_states_lemmas
+pub use Rattle.kernel_views.proofs.snapshot_store_lemmas

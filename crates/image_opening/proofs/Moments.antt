@@ -8,19 +8,19 @@ use Rattle.std.proofs.lemmas.List.{get_or-take, get_or_past, length-take}
 use Rattle.std.proofs.lemmas.Option.{slice_get-get_or}
 use Rattle.disk_trait.specs.Image.{Image, SameOutside, block_at}
 use Rattle.hop_base.specs.declared.records.Rec.{Rec}
-use Rattle.hop_model.specs.State.{KernelState, Supply}
-use Rattle.image_blocks.specs.Bodies.{blob_blocks, blob_in, blob_room, blocks_for}
-use Rattle.image_blocks.specs.Checks.{count_in}
-use Rattle.image_blocks.specs.Logs.{HasRecords, IsInRange}
-use Rattle.image_blocks.proofs.Ranges.{in_range_law}
-use Rattle.image_meaning.specs.Fits.{AreNamedOnce, IsFit, IsNamedOnce}
-use Rattle.image_meaning.specs.Meaning.{Means, entity_of}
-use Rattle.image_meaning.specs.Parts.{IsSpelt, Part, Spells, cell_of, chosen, cut_of, table_in}
-use Rattle.image_meaning.proofs.Finding.{slot_of}
-use Rattle.image_meaning.proofs.Meaning.{cell_same}
-use Rattle.image_meaning.specs.Stores.{IsHeld, Kept}
-use Rattle.store_commit.proofs.Stays.{all_by_index, held_same}
-use Rattle.store_model.specs.Books.{IsBeforePool, recs_in}
+use Rattle.kernel_views.specs.hop_model.State.{KernelState, Supply}
+use Rattle.opened_cells.specs.image_blocks.Bodies.{blob_blocks, blob_in, blob_room, blocks_for}
+use Rattle.opened_cells.specs.image_blocks.Checks.{count_in}
+use Rattle.opened_cells.specs.image_blocks.Logs.{HasRecords, IsInRange}
+use Rattle.opened_cells.proofs.image_blocks_lemmas.Ranges.{in_range_law}
+use Rattle.opened_cells.specs.image_meaning.Fits.{AreNamedOnce, IsFit, IsNamedOnce}
+use Rattle.opened_cells.specs.image_meaning.Meaning.{Means, entity_of}
+use Rattle.opened_cells.specs.image_meaning.Parts.{IsSpelt, Part, Spells, cell_of, chosen, cut_of, table_in}
+use Rattle.opened_cells.proofs.image_meaning_lemmas.Finding.{slot_of}
+use Rattle.opened_cells.proofs.image_meaning_lemmas.Meaning.{cell_same}
+use Rattle.opened_cells.specs.image_meaning.Stores.{IsHeld, Kept}
+use Rattle.kernel_views.proofs.store_commit_lemmas.Stays.{all_by_index, held_same}
+use Rattle.kernel_views.specs.store_model.Books.{IsBeforePool, recs_in}
 use Rattle.image_opening.specs.Keeping.{KeepingLaw}
 use Rattle.image_opening.proofs.Choices.{row_of, same_chosen}
 

@@ -5,12 +5,12 @@ use Rattle.std.proofs.lemmas.Bool.{cases_eq, cases_lt}
 use Rattle.std.proofs.lemmas.List.{get_or_past}
 use Rattle.std.proofs.lemmas.Option.{get_or_from_slice_get, slice_get-get_or, slice_get_within}
 use Rattle.hop_base.specs.declared.records.Rec.{Rec}
-use Rattle.image_blocks.specs.Bodies.{blob_blocks}
-use Rattle.image_blocks.specs.Layout.{pool_at}
-use Rattle.image_meaning.specs.Fits.{IsNamedOnce}
-use Rattle.image_meaning.specs.Parts.{Part, chosen, table_in}
-use Rattle.image_parts.specs.Tables.{blocks_in}
-use Rattle.part_checks.specs.Fits.{AreFit}
+use Rattle.opened_cells.specs.image_blocks.Bodies.{blob_blocks}
+use Rattle.opened_cells.specs.image_blocks.Layout.{pool_at}
+use Rattle.opened_cells.specs.image_meaning.Fits.{IsNamedOnce}
+use Rattle.opened_cells.specs.image_meaning.Parts.{Part, chosen, table_in}
+use Rattle.opened_cells.specs.image_parts.Tables.{blocks_in}
+use Rattle.opened_cells.specs.part_checks.Fits.{AreFit}
 
 module _ (count : ℕ) (recs : List Rec) (parts : ℕ → Option Part) (fit : AreFit count recs parts) where
   -- the page of an entity has the block

@@ -4,32 +4,32 @@ use Rattle.std.specs.Prelude.{All, AllPairs, Any, Contains, slice_get, slice_ind
 use Rattle.std.proofs.lemmas.Bool.{cases_lt}
 use Rattle.std.proofs.lemmas.List.{get_or_past}
 use Rattle.std.proofs.lemmas.List.Elements.{All-from_recursion, Contains-append_left, Contains-append_right}
-use Rattle.cut_laws.specs.Agreeing.{nothing}
-use Rattle.cut_laws.specs.Records.{commits_of}
+use Rattle.opened_cells.specs.cut_laws.Agreeing.{nothing}
+use Rattle.opened_cells.specs.cut_laws.Records.{commits_of}
 use Rattle.hop_base.specs.Edges.{upto}
 use Rattle.hop_base.specs.declared.records.Rec.{Rec}
-use Rattle.hop_model.proofs.Lowering.{greatest_is}
-use Rattle.hop_model.specs.Choices.{Among, Commit, IsBelow, IsGreatest}
-use Rattle.hop_model.specs.State.{EntityState, Supply}
-use Rattle.image_meaning.specs.Meaning.{entity_of}
-use Rattle.image_meaning.specs.Parts.{chosen, chosen_by, cut_of}
-use Rattle.kernel_records.specs.Keeping.{HasNewest}
-use Rattle.log_reading.specs.Logs.{AreInRange, IsOlder}
-use Rattle.part_checks.specs.Chosen.{entity_at, part_in, record_in}
-use Rattle.part_checks.specs.Fits.{AreChosen}
-use Rattle.part_checks.specs.declared.chosen.ChosenEntity.{ChosenEntity}
-use Rattle.kernel_cells.specs.declared.cells.Cell.{Cell}
-use Rattle.kernel_cells.specs.declared.cells.Wish.{Wish}
+use Rattle.kernel_views.proofs.hop_model_lemmas.Lowering.{greatest_is}
+use Rattle.kernel_views.specs.hop_model.Choices.{Among, Commit, IsBelow, IsGreatest}
+use Rattle.kernel_views.specs.hop_model.State.{EntityState, Supply}
+use Rattle.opened_cells.specs.image_meaning.Meaning.{entity_of}
+use Rattle.opened_cells.specs.image_meaning.Parts.{chosen, chosen_by, cut_of}
+use Rattle.kernel_views.specs.kernel_records.Keeping.{HasNewest}
+use Rattle.kernel_views.specs.log_reading.Logs.{AreInRange, IsOlder}
+use Rattle.opened_cells.specs.part_checks.Chosen.{entity_at, part_in, record_in}
+use Rattle.opened_cells.specs.part_checks.Fits.{AreChosen}
+use Rattle.opened_cells.specs.part_checks.declared.chosen.ChosenEntity.{ChosenEntity}
+use Rattle.kernel_views.specs.kernel_cells.declared.cells.Cell.{Cell}
+use Rattle.kernel_views.specs.kernel_cells.declared.cells.Wish.{Wish}
 use Rattle.kernel_views.specs.Views.{newest_at}
 use Rattle.opened_cells.specs.Opened.{AreChosenCells, IsChosenCell}
 use Rattle.opened_cells.proofs.Spread.{spread, spread_holds}
-use Rattle.snapshot_store.specs.Choosing.{chosen_list, listed}
-use Rattle.snapshot_store.proofs.Chosen.{are_row, chosen_is, chosen_more, picked}
-use Rattle.snapshot_store.proofs.Opened.{narrow_in_range}
-use Rattle.image_parts.specs.declared.parts.ImageParts.{ImageParts}
-use Rattle.kernel_records.proofs.Newest.{keeps_newest}
-use Rattle.snapshot_store.specs.State.{State, books}
-use Rattle.store_model.specs.Books.{recs_in}
+use Rattle.kernel_views.specs.snapshot_store.Choosing.{chosen_list, listed}
+use Rattle.kernel_views.proofs.snapshot_store_lemmas.Chosen.{are_row, chosen_is, chosen_more, picked}
+use Rattle.kernel_views.proofs.snapshot_store_lemmas.Opened.{narrow_in_range}
+use Rattle.opened_cells.specs.image_parts.declared.parts.ImageParts.{ImageParts}
+use Rattle.kernel_views.proofs.kernel_records_lemmas.Newest.{keeps_newest}
+use Rattle.kernel_views.specs.snapshot_store.State.{State, books}
+use Rattle.kernel_views.specs.store_model.Books.{recs_in}
 use Rattle.image_opening.specs.Images.{AreNewestIn, IsOpened}
 use Rattle.image_opening.proofs.Choices.{row_of}
 use Rattle.image_opening.proofs.Rows.{row_all}

@@ -7,21 +7,21 @@ use Rattle.std.proofs.lemmas.List.{get_or_default, get_or_past, map-append}
 use Rattle.std.proofs.lemmas.List.Folds.{Any-from_list_any, list_any-append, list_any_at}
 use Rattle.hop_base.specs.Edges.{upto}
 use Rattle.hop_base.specs.declared.records.Rec.{Rec}
-use Rattle.image_blocks.proofs.Firsts.{ne_test}
-use Rattle.image_meaning.specs.Parts.{Part, chosen, chosen_by, cut_of}
-use Rattle.image_parts.specs.Tables.{blocks_in}
-use Rattle.image_parts.specs.declared.parts.ImageParts.{ImageParts}
-use Rattle.log_reading.specs.declared.log.ImageLog.{ImageLog}
-use Rattle.page_shadow.specs.declared.ShadowTable.{ShadowTable}
-use Rattle.part_checks.specs.Chosen.{entity_at, part_in, parts_of, record_in}
-use Rattle.part_checks.specs.declared.chosen.ChosenEntity.{ChosenEntity}
-use Rattle.snapshot_store.specs.Choosing.{HasKept, chosen_list, kept_rows, listed, table_of, with_tables}
-use Rattle.snapshot_store.specs.Holds.{names_page}
-use Rattle.snapshot_store.specs.Naming.{is_use}
-use Rattle.snapshot_store.specs.State.{State, books}
-use Rattle.snapshot_store.proofs.Chosen.{chosen_is, chosen_more}
-use Rattle.store_model.specs.Books.{Logged, kept_in}
-use Rattle.store_model.specs.Owning.{AreOwned}
+use Rattle.opened_cells.proofs.image_blocks_lemmas.Firsts.{ne_test}
+use Rattle.opened_cells.specs.image_meaning.Parts.{Part, chosen, chosen_by, cut_of}
+use Rattle.opened_cells.specs.image_parts.Tables.{blocks_in}
+use Rattle.opened_cells.specs.image_parts.declared.parts.ImageParts.{ImageParts}
+use Rattle.kernel_views.specs.log_reading.declared.log.ImageLog.{ImageLog}
+use Rattle.opened_cells.specs.page_shadow.declared.ShadowTable.{ShadowTable}
+use Rattle.opened_cells.specs.part_checks.Chosen.{entity_at, part_in, parts_of, record_in}
+use Rattle.opened_cells.specs.part_checks.declared.chosen.ChosenEntity.{ChosenEntity}
+use Rattle.kernel_views.specs.snapshot_store.Choosing.{HasKept, chosen_list, kept_rows, listed, table_of, with_tables}
+use Rattle.kernel_views.specs.snapshot_store.Holds.{names_page}
+use Rattle.kernel_views.specs.snapshot_store.Naming.{is_use}
+use Rattle.kernel_views.specs.snapshot_store.State.{State, books}
+use Rattle.kernel_views.proofs.snapshot_store_lemmas.Chosen.{chosen_is, chosen_more}
+use Rattle.kernel_views.specs.store_model.Books.{Logged, kept_in}
+use Rattle.kernel_views.specs.store_model.Owning.{AreOwned}
 use Rattle.image_opening.specs.Opened.{HaveBlocks, IsRead}
 use Rattle.image_opening.proofs.Choices.{row_of}
 use Rattle.image_opening.proofs.Naming.{block_of, block_pool, no_blob, one_page}

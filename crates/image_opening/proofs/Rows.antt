@@ -4,15 +4,15 @@ use Rattle.std.specs.Prelude.{All, AllPairs, nat_le}
 use Rattle.std.specs.List.{AllByRecursion}
 use Rattle.hop_base.specs.Edges.{upto}
 use Rattle.hop_base.specs.declared.records.Rec.{Rec}
-use Rattle.image_meaning.specs.Parts.{chosen, chosen_by, cut_of}
-use Rattle.log_reading.specs.Logs.{AreInRange, IsOlder}
-use Rattle.page_shadow.specs.declared.ShadowTable.{ShadowTable}
-use Rattle.snapshot_store.specs.Choosing.{chosen_list, listed, table_of, with_tables}
-use Rattle.snapshot_store.specs.Shelves.{is_from}
-use Rattle.snapshot_store.proofs.Chosen.{chosen_is, chosen_more}
-use Rattle.snapshot_store.proofs.Keep.{rows_recs}
-use Rattle.store_commit.proofs.Stays.{all_more}
-use Rattle.store_model.specs.Books.{Books, Logged, kept_in, logged_recs}
+use Rattle.opened_cells.specs.image_meaning.Parts.{chosen, chosen_by, cut_of}
+use Rattle.kernel_views.specs.log_reading.Logs.{AreInRange, IsOlder}
+use Rattle.opened_cells.specs.page_shadow.declared.ShadowTable.{ShadowTable}
+use Rattle.kernel_views.specs.snapshot_store.Choosing.{chosen_list, listed, table_of, with_tables}
+use Rattle.kernel_views.specs.snapshot_store.Shelves.{is_from}
+use Rattle.kernel_views.proofs.snapshot_store_lemmas.Chosen.{chosen_is, chosen_more}
+use Rattle.kernel_views.proofs.snapshot_store_lemmas.Keep.{rows_recs}
+use Rattle.kernel_views.proofs.store_commit_lemmas.Stays.{all_more}
+use Rattle.kernel_views.specs.store_model.Books.{Books, Logged, kept_in, logged_recs}
 use Rattle.image_opening.proofs.Choices.{row_cut, row_kept, row_of}
 
 -- what is true of each chosen record is true of the row of them

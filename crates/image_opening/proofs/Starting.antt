@@ -4,32 +4,32 @@ use Rattle.std.specs.Prelude.{slice_get}
 use Rattle.disk_tally.specs.Counts.{Begins, shown}
 use Rattle.disk_trait.specs.Disk.{Ticks}
 use Rattle.disk_trait.specs.Image.{Image, SameOutside, block_at}
-use Rattle.hop_model.specs.Histories.{start_run}
-use Rattle.hop_model.specs.State.{KernelState, Supply}
-use Rattle.image_meaning.specs.Meaning.{Means, state_of}
-use Rattle.image_meaning.proofs.Ones.{one_meaning}
-use Rattle.image_meaning.specs.Stores.{Kept}
-use Rattle.image_parts.specs.Parts.{ArePartsOf, IsAcceptedWith}
-use Rattle.image_parts.specs.declared.parts.ImageParts.{ImageParts}
-use Rattle.log_reading.specs.declared.log.ImageLog.{ImageLog}
-use Rattle.part_checks.specs.Chosen.{parts_of}
-use Rattle.snapshot_store.specs.State.{State, books}
-use Rattle.snapshot_store.proofs.Paged.{kept_all}
-use Rattle.store_model.specs.Books.{AreSmall, IsBeforePool, kept_in, kept_of, words_of_bytes}
-use Rattle.kernel_cells.specs.declared.cells.Cell.{Cell}
-use Rattle.kernel_cells.specs.declared.cells.Part.{Part}
-use Rattle.kernel_cells.specs.declared.cells.Part.TheVariants as part
+use Rattle.kernel_views.specs.hop_model.Histories.{start_run}
+use Rattle.kernel_views.specs.hop_model.State.{KernelState, Supply}
+use Rattle.opened_cells.specs.image_meaning.Meaning.{Means, state_of}
+use Rattle.opened_cells.proofs.image_meaning_lemmas.Ones.{one_meaning}
+use Rattle.opened_cells.specs.image_meaning.Stores.{Kept}
+use Rattle.opened_cells.specs.image_parts.Parts.{ArePartsOf, IsAcceptedWith}
+use Rattle.opened_cells.specs.image_parts.declared.parts.ImageParts.{ImageParts}
+use Rattle.kernel_views.specs.log_reading.declared.log.ImageLog.{ImageLog}
+use Rattle.opened_cells.specs.part_checks.Chosen.{parts_of}
+use Rattle.kernel_views.specs.snapshot_store.State.{State, books}
+use Rattle.kernel_views.proofs.snapshot_store_lemmas.Paged.{kept_all}
+use Rattle.kernel_views.specs.store_model.Books.{AreSmall, IsBeforePool, kept_in, kept_of, words_of_bytes}
+use Rattle.kernel_views.specs.kernel_cells.declared.cells.Cell.{Cell}
+use Rattle.kernel_views.specs.kernel_cells.declared.cells.Part.{Part}
+use Rattle.kernel_views.specs.kernel_cells.declared.cells.Part.TheVariants as part
 use Rattle.vector_stamps.specs.Stamps.{component}
-use Rattle.hop_model.specs.State.{Cell as CellState}
-use Rattle.cell_laws.specs.Memories.{HasOwnMemory}
-use Rattle.cell_table.specs.Tables.{HasTableWishes, IsOrderly, entity_in, state_in, tables_in}
-use Rattle.kernel_records.proofs.Staying.{part_stays}
-use Rattle.record_laws.specs.Cells.{IsSoundIn, words_on}
-use Rattle.kernel_model.specs.Beginnings.{Beginning, BeginsRight, completed}
-use Rattle.kernel_model.specs.Live.{HoldsCommits}
-use Rattle.kernel_model.specs.Records.{AreKeptRecords}
-use Rattle.kernel_laws.specs.Opening.{StandsAtStart}
-use Rattle.kernel_laws.proofs.Opening.{opened_records}
+use Rattle.kernel_views.specs.hop_model.State.{Cell as CellState}
+use Rattle.kernel_views.specs.cell_laws.Memories.{HasOwnMemory}
+use Rattle.kernel_views.specs.cell_table.Tables.{HasTableWishes, IsOrderly, entity_in, state_in, tables_in}
+use Rattle.kernel_views.proofs.kernel_records_lemmas.Staying.{part_stays}
+use Rattle.opened_cells.specs.record_laws.Cells.{IsSoundIn, words_on}
+use Rattle.kernel_views.specs.kernel_model.Beginnings.{Beginning, BeginsRight, completed}
+use Rattle.kernel_views.specs.kernel_model.Live.{HoldsCommits}
+use Rattle.kernel_views.specs.kernel_model.Records.{AreKeptRecords}
+use Rattle.kernel_views.specs.kernel_laws.Opening.{StandsAtStart}
+use Rattle.kernel_views.proofs.kernel_laws_lemmas.Opening.{opened_records}
 use Rattle.kernel_views.specs.Views.{FollowsRun, view_of}
 use Rattle.kernel_views.proofs.Following.{follows}
 use Rattle.image_opening.specs.Images.{HasLowEpoch, HasTurnLeft, HoldsImage, IsOpened, MeansSince, StartsFrom}

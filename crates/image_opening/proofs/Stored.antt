@@ -8,27 +8,27 @@ use Rattle.std.proofs.lemmas.List.Elements.{All-contains}
 use Rattle.disk_trait.specs.Image.{Image}
 use Rattle.hop_base.specs.Edges.{upto}
 use Rattle.hop_base.specs.declared.records.Rec.{Rec}
-use Rattle.image_blocks.specs.Bodies.{blocks_for}
-use Rattle.image_blocks.specs.Layout.{pool_at}
-use Rattle.image_blocks.specs.Logs.{IsInRange}
-use Rattle.image_meaning.specs.Parts.{Part, chosen, cut_of}
-use Rattle.image_meaning.specs.Stores.{IsFound, IsHeld}
-use Rattle.image_meaning.proofs.Firsts.{spelt_at}
-use Rattle.image_parts.specs.Parts.{IsAcceptedWith}
-use Rattle.image_parts.specs.Tables.{IsTableOf, blocks_in}
-use Rattle.image_parts.specs.declared.parts.ImageParts.{ImageParts}
-use Rattle.image_parts.proofs.Placing.{tables_placed}
-use Rattle.kernel_laws.specs.Opening.{KeepsChosen, chosen_recs, rec_list}
-use Rattle.log_reading.specs.declared.log.ImageLog.{ImageLog}
-use Rattle.page_shadow.specs.declared.ShadowTable.{ShadowTable}
-use Rattle.part_checks.specs.Chosen.{parts_of}
-use Rattle.snapshot_store.specs.Choosing.{HasKept, are_chosen, books_kept, chosen_list, kept_rows, listed, table_of, with_tables}
-use Rattle.snapshot_store.specs.Naming.{IsPlaced}
-use Rattle.snapshot_store.specs.State.{State, books}
-use Rattle.snapshot_store.proofs.Chosen.{chosen_is}
-use Rattle.snapshot_store.proofs.Keep.{chosen_row, rows_recs}
-use Rattle.store_commit.proofs.Unused.{pages_all}
-use Rattle.store_model.specs.Books.{Books, Logged, kept_for, kept_in, kept_of, logged_recs}
+use Rattle.opened_cells.specs.image_blocks.Bodies.{blocks_for}
+use Rattle.opened_cells.specs.image_blocks.Layout.{pool_at}
+use Rattle.opened_cells.specs.image_blocks.Logs.{IsInRange}
+use Rattle.opened_cells.specs.image_meaning.Parts.{Part, chosen, cut_of}
+use Rattle.opened_cells.specs.image_meaning.Stores.{IsFound, IsHeld}
+use Rattle.opened_cells.proofs.image_meaning_lemmas.Firsts.{spelt_at}
+use Rattle.opened_cells.specs.image_parts.Parts.{IsAcceptedWith}
+use Rattle.opened_cells.specs.image_parts.Tables.{IsTableOf, blocks_in}
+use Rattle.opened_cells.specs.image_parts.declared.parts.ImageParts.{ImageParts}
+use Rattle.opened_cells.proofs.image_parts_lemmas.Placing.{tables_placed}
+use Rattle.kernel_views.specs.kernel_laws.Opening.{KeepsChosen, chosen_recs, rec_list}
+use Rattle.kernel_views.specs.log_reading.declared.log.ImageLog.{ImageLog}
+use Rattle.opened_cells.specs.page_shadow.declared.ShadowTable.{ShadowTable}
+use Rattle.opened_cells.specs.part_checks.Chosen.{parts_of}
+use Rattle.kernel_views.specs.snapshot_store.Choosing.{HasKept, are_chosen, books_kept, chosen_list, kept_rows, listed, table_of, with_tables}
+use Rattle.kernel_views.specs.snapshot_store.Naming.{IsPlaced}
+use Rattle.kernel_views.specs.snapshot_store.State.{State, books}
+use Rattle.kernel_views.proofs.snapshot_store_lemmas.Chosen.{chosen_is}
+use Rattle.kernel_views.proofs.snapshot_store_lemmas.Keep.{chosen_row, rows_recs}
+use Rattle.kernel_views.proofs.store_commit_lemmas.Unused.{pages_all}
+use Rattle.kernel_views.specs.store_model.Books.{Books, Logged, kept_for, kept_in, kept_of, logged_recs}
 use Rattle.image_opening.specs.Opened.{IsRead}
 use Rattle.image_opening.proofs.Choices.{row_of}
 use Rattle.image_opening.proofs.Rows.{IsRow, are_rows, row_all, rows_all, rows_stay}

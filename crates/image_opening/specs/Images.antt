@@ -4,34 +4,34 @@ use Rattle.disk_trait.specs.Counts.{Rose}
 use Rattle.disk_trait.specs.Disk.{LeavesNoMore, Only, Ticks}
 use Rattle.disk_tally.specs.Counts.{Begins, shown}
 use Rattle.disk_trait.specs.Image.{Image, SameOutside}
-use Rattle.hop_model.specs.State.{KernelState, Supply}
-use Rattle.image_blocks.specs.Checks.{active_area, count_in}
-use Rattle.image_blocks.specs.Layout.{epoch_in, last_number}
-use Rattle.image_blocks.specs.declared.areas.Area.{Area}
-use Rattle.image_meaning.specs.Foreign.{IsBadMeaning, IsForeign}
-use Rattle.image_meaning.specs.Meaning.{Accepted, Means}
-use Rattle.image_parts.specs.Parts.{ArePartsOf, IsAcceptedWith}
-use Rattle.image_parts.specs.Tables.{AreTablesOf}
-use Rattle.image_parts.specs.declared.parts.ImageParts.{ImageParts}
-use Rattle.kernel_laws.specs.Opening.{KeepsChosen, StandsAtStart, chosen_recs}
-use Rattle.log_reading.specs.Logs.{IsKnown, IsLogOf}
-use Rattle.log_reading.specs.declared.log.ImageLog.{ImageLog}
-use Rattle.page_shadow.specs.declared.ShadowTable.{ShadowTable}
-use Rattle.part_checks.specs.Chosen.{parts_of}
-use Rattle.record_laws.specs.Cells.{words_on}
-use Rattle.snapshot_store.specs.Opening.{SyncsOnly}
-use Rattle.snapshot_store.specs.State.{State, books}
-use Rattle.snapshot_store.specs.declared.opening.OpenWhy.{OpenWhy}
-use Rattle.snapshot_store.specs.declared.opening.OpenWhy.TheVariants.{Foreign, Memory, ReadFault, WriteFault}
-use Rattle.store_model.specs.Books.{AreTrue, Books, IsBeforePool, kept_in, recs_in}
-use Rattle.store_model.specs.Owning.{AreOwned}
-use Rattle.cell_table.specs.Tables.{AreClean, HasTableWishes, IsOrderly, state_in}
-use Rattle.hop_model.specs.Histories.{start_run}
-use Rattle.kernel_cells.specs.declared.cells.Cell.{Cell}
-use Rattle.kernel_model.specs.Beginnings.{Beginning, BeginsRight}
+use Rattle.kernel_views.specs.hop_model.State.{KernelState, Supply}
+use Rattle.opened_cells.specs.image_blocks.Checks.{active_area, count_in}
+use Rattle.opened_cells.specs.image_blocks.Layout.{epoch_in, last_number}
+use Rattle.opened_cells.specs.image_blocks.declared.areas.Area.{Area}
+use Rattle.opened_cells.specs.image_meaning.Foreign.{IsBadMeaning, IsForeign}
+use Rattle.opened_cells.specs.image_meaning.Meaning.{Accepted, Means}
+use Rattle.opened_cells.specs.image_parts.Parts.{ArePartsOf, IsAcceptedWith}
+use Rattle.opened_cells.specs.image_parts.Tables.{AreTablesOf}
+use Rattle.opened_cells.specs.image_parts.declared.parts.ImageParts.{ImageParts}
+use Rattle.kernel_views.specs.kernel_laws.Opening.{KeepsChosen, StandsAtStart, chosen_recs}
+use Rattle.kernel_views.specs.log_reading.Logs.{IsKnown, IsLogOf}
+use Rattle.kernel_views.specs.log_reading.declared.log.ImageLog.{ImageLog}
+use Rattle.opened_cells.specs.page_shadow.declared.ShadowTable.{ShadowTable}
+use Rattle.opened_cells.specs.part_checks.Chosen.{parts_of}
+use Rattle.opened_cells.specs.record_laws.Cells.{words_on}
+use Rattle.kernel_views.specs.snapshot_store.Opening.{SyncsOnly}
+use Rattle.kernel_views.specs.snapshot_store.State.{State, books}
+use Rattle.kernel_views.specs.snapshot_store.declared.opening.OpenWhy.{OpenWhy}
+use Rattle.kernel_views.specs.snapshot_store.declared.opening.OpenWhy.TheVariants.{Foreign, Memory, ReadFault, WriteFault}
+use Rattle.kernel_views.specs.store_model.Books.{AreTrue, Books, IsBeforePool, kept_in, recs_in}
+use Rattle.kernel_views.specs.store_model.Owning.{AreOwned}
+use Rattle.kernel_views.specs.cell_table.Tables.{AreClean, HasTableWishes, IsOrderly, state_in}
+use Rattle.kernel_views.specs.hop_model.Histories.{start_run}
+use Rattle.kernel_views.specs.kernel_cells.declared.cells.Cell.{Cell}
+use Rattle.kernel_views.specs.kernel_model.Beginnings.{Beginning, BeginsRight}
 use Rattle.kernel_views.specs.Views.{newest_at, view_of}
-use Rattle.kernel_records.specs.Keeping.{HasNewest}
-use Rattle.snapshot_store.specs.Shelves.{records_of}
+use Rattle.kernel_views.specs.kernel_records.Keeping.{HasNewest}
+use Rattle.kernel_views.specs.snapshot_store.Shelves.{records_of}
 use Rattle.opened_cells.specs.Held.{HoldsNamed}
 use Rattle.opened_cells.specs.Opened.{HaveFrames}
 use Rattle.image_opening.specs.Opened.{HaveBlocks}

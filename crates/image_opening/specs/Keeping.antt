@@ -2,13 +2,13 @@
 use Rattle.std.specs.Prelude.{◌≡◌, AllPairs}
 use Rattle.disk_trait.specs.Image.{Image}
 use Rattle.hop_base.specs.Edges.{upto}
-use Rattle.hop_model.specs.State.{Supply, KernelState}
-use Rattle.image_blocks.specs.Checks.{count_in}
-use Rattle.image_meaning.specs.Meaning.{Means}
-use Rattle.image_meaning.specs.Parts.{cut_of}
-use Rattle.log_reading.specs.Logs.{AreInRange, IsOlder}
-use Rattle.snapshot_store.specs.Choosing.{IsKeeping, chosen_list}
-use Rattle.store_model.specs.Books.{Books, recs_in}
+use Rattle.kernel_views.specs.hop_model.State.{Supply, KernelState}
+use Rattle.opened_cells.specs.image_blocks.Checks.{count_in}
+use Rattle.opened_cells.specs.image_meaning.Meaning.{Means}
+use Rattle.opened_cells.specs.image_meaning.Parts.{cut_of}
+use Rattle.kernel_views.specs.log_reading.Logs.{AreInRange, IsOlder}
+use Rattle.kernel_views.specs.snapshot_store.Choosing.{IsKeeping, chosen_list}
+use Rattle.kernel_views.specs.store_model.Books.{Books, recs_in}
 
 -- THE LAW: what stands on the disk at any moment, the log as it was found or the chosen records alone, and all else in the pool as it
 -- was, means what the image meant

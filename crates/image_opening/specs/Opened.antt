@@ -2,22 +2,22 @@
 use Rattle.std.specs.Prelude.{◌≡◌, ℕ, ◌≤◌, false, List, All, AllPairs, length, slice_index, Option}
 use Rattle.std.specs.List.{AllByRecursion}
 use Rattle.disk_trait.specs.Image.{Image}
-use Rattle.image_meaning.specs.Parts.{Part}
-use Rattle.image_parts.specs.Parts.{ArePartsOf, IsAcceptedWith}
-use Rattle.image_parts.specs.Tables.{AreTablesOf, blocks_in}
-use Rattle.image_parts.specs.declared.parts.ImageParts.{ImageParts}
-use Rattle.kernel_laws.specs.Opening.{KeepsChosen}
-use Rattle.log_reading.specs.Logs.{AreInRange, IsOlder}
-use Rattle.log_reading.specs.declared.log.ImageLog.{ImageLog}
-use Rattle.page_shadow.specs.declared.ShadowTable.{ShadowTable}
-use Rattle.part_checks.specs.Chosen.{parts_of}
-use Rattle.image_meaning.specs.Stores.{IsHeld}
-use Rattle.snapshot_store.specs.Choosing.{HasKept, are_chosen, books_kept, with_tables}
-use Rattle.snapshot_store.specs.Naming.{IsPlaced}
-use Rattle.snapshot_store.specs.Opening.{IsOver}
-use Rattle.snapshot_store.specs.State.{State, books}
-use Rattle.store_model.specs.Books.{kept_of}
-use Rattle.store_model.specs.Owning.{AreOwned}
+use Rattle.opened_cells.specs.image_meaning.Parts.{Part}
+use Rattle.opened_cells.specs.image_parts.Parts.{ArePartsOf, IsAcceptedWith}
+use Rattle.opened_cells.specs.image_parts.Tables.{AreTablesOf, blocks_in}
+use Rattle.opened_cells.specs.image_parts.declared.parts.ImageParts.{ImageParts}
+use Rattle.kernel_views.specs.kernel_laws.Opening.{KeepsChosen}
+use Rattle.kernel_views.specs.log_reading.Logs.{AreInRange, IsOlder}
+use Rattle.kernel_views.specs.log_reading.declared.log.ImageLog.{ImageLog}
+use Rattle.opened_cells.specs.page_shadow.declared.ShadowTable.{ShadowTable}
+use Rattle.opened_cells.specs.part_checks.Chosen.{parts_of}
+use Rattle.opened_cells.specs.image_meaning.Stores.{IsHeld}
+use Rattle.kernel_views.specs.snapshot_store.Choosing.{HasKept, are_chosen, books_kept, with_tables}
+use Rattle.kernel_views.specs.snapshot_store.Naming.{IsPlaced}
+use Rattle.kernel_views.specs.snapshot_store.Opening.{IsOver}
+use Rattle.kernel_views.specs.snapshot_store.State.{State, books}
+use Rattle.kernel_views.specs.store_model.Books.{kept_of}
+use Rattle.kernel_views.specs.store_model.Owning.{AreOwned}
 
 -- AN IMAGE WAS READ: its log, the parts of it with their page tables, and the store of the log. No container has more pages than a table.
 pub record IsRead {D : Type 0} (log : ImageLog) (parts : ImageParts) (tables : List ShadowTable) (st : State D) : Type 0 where

@@ -7,20 +7,20 @@ use Rattle.std.proofs.lemmas.List.Elements.{All-from_get_or}
 use Rattle.disk_trait.specs.Image.{Image}
 use Rattle.hop_base.specs.declared.records.Rec.{Rec}
 use Rattle.blob_loading.specs.Loading.{IsBadRecord}
-use Rattle.image_blocks.specs.Bodies.{blob_blocks, blocks_for}
-use Rattle.image_blocks.specs.Checks.{Bad}
-use Rattle.image_blocks.specs.Layout.{body_at}
-use Rattle.image_blocks.specs.Logs.{IsInRange}
-use Rattle.image_blocks.specs.declared.areas.Area.{Area}
-use Rattle.image_meaning.specs.Foreign.{IsBadBlob, IsBadRest, IsBadSpelling, IsBodyBlock}
-use Rattle.image_meaning.specs.Parts.{AreFormed, AreSpelt, IsFormed, IsSpelt, Part, chosen, chosen_by, cut_of}
-use Rattle.image_meaning.proofs.Finding.{slot_of}
-use Rattle.image_meaning.proofs.Firsts.{clash}
-use Rattle.log_reading.specs.Logs.{AreInRange}
-use Rattle.part_checks.specs.Chosen.{entity_at, part_in, part_of, parts_of, record_in, records_of}
-use Rattle.part_checks.specs.Fits.{AreChosen}
-use Rattle.part_checks.specs.declared.chosen.ChosenEntity.{ChosenEntity}
-use Rattle.part_checks.proofs.Choices.{none_past}
+use Rattle.blob_loading.specs.image_blocks.Bodies.{blob_blocks, blocks_for}
+use Rattle.blob_loading.specs.image_blocks.Checks.{Bad}
+use Rattle.blob_loading.specs.image_blocks.Layout.{body_at}
+use Rattle.blob_loading.specs.image_blocks.Logs.{IsInRange}
+use Rattle.blob_loading.specs.image_blocks.declared.areas.Area.{Area}
+use Rattle.blob_loading.specs.image_meaning.Foreign.{IsBadBlob, IsBadRest, IsBadSpelling, IsBodyBlock}
+use Rattle.blob_loading.specs.image_meaning.Parts.{AreFormed, AreSpelt, IsFormed, IsSpelt, Part, chosen, chosen_by, cut_of}
+use Rattle.blob_loading.proofs.image_meaning_lemmas.Finding.{slot_of}
+use Rattle.blob_loading.proofs.image_meaning_lemmas.Firsts.{clash}
+use Rattle.blob_loading.specs.log_reading.Logs.{AreInRange}
+use Rattle.blob_loading.specs.part_checks.Chosen.{entity_at, part_in, part_of, parts_of, record_in, records_of}
+use Rattle.blob_loading.specs.part_checks.Fits.{AreChosen}
+use Rattle.blob_loading.specs.part_checks.declared.chosen.ChosenEntity.{ChosenEntity}
+use Rattle.blob_loading.proofs.part_checks_lemmas.Choices.{none_past}
 use Rattle.image_parts.specs.Choosing.{IsBadEntity, IsBadSlot, IsChosenSlot}
 use Rattle.image_parts.proofs.Slots.{chosen_entity}
 

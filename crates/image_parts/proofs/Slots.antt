@@ -5,15 +5,15 @@ use Rattle.std.proofs.lemmas.Bool.{and_parts, cases_lt, false≢true}
 use Rattle.std.proofs.lemmas.List.{get_or_past}
 use Rattle.std.proofs.lemmas.Option.{slice_get_within}
 use Rattle.cut_finder.specs.Records.{IsAscending}
-use Rattle.cut_laws.specs.Agreeing.{nothing}
-use Rattle.cut_laws.specs.Records.{commits_of}
+use Rattle.cut_finder.specs.cut_laws.Agreeing.{nothing}
+use Rattle.cut_finder.specs.cut_laws.Records.{commits_of}
 use Rattle.hop_base.specs.declared.records.Rec.{Rec}
-use Rattle.hop_model.specs.Choices.{IsGreatest, IsNarrow}
-use Rattle.hop_model.proofs.Lowering.{greatest_is, greatest_one}
-use Rattle.image_meaning.specs.Parts.{chosen_by, cut_of}
-use Rattle.image_meaning.proofs.Finding.{passes}
-use Rattle.image_meaning.proofs.Firsts.{clash}
-use Rattle.log_reading.specs.Logs.{AreInRange, IsOlder}
+use Rattle.cut_finder.specs.hop_model.Choices.{IsGreatest, IsNarrow}
+use Rattle.cut_finder.proofs.hop_model_lemmas.Lowering.{greatest_is, greatest_one}
+use Rattle.blob_loading.specs.image_meaning.Parts.{chosen_by, cut_of}
+use Rattle.blob_loading.proofs.image_meaning_lemmas.Finding.{passes}
+use Rattle.blob_loading.proofs.image_meaning_lemmas.Firsts.{clash}
+use Rattle.blob_loading.specs.log_reading.Logs.{AreInRange, IsOlder}
 use Rattle.image_parts.specs.Choosing.{IsChosenSlot}
 
 -- THE CUT

@@ -2,19 +2,19 @@
 use Rattle.std.proofs.Common.{◌≡◌, ℕ, List, Option, Some, None, refl, sym, ap, subst, ◌∙◌, inl, inr}
 use Rattle.disk_trait.specs.Image.{Image}
 use Rattle.hop_base.specs.declared.records.Rec.{Rec}
-use Rattle.image_blocks.specs.Checks.{Bad, count_in}
-use Rattle.image_blocks.specs.Layout.{body_at}
-use Rattle.image_blocks.specs.declared.areas.Area.{Area}
-use Rattle.image_meaning.specs.Fits.{IsFit}
-use Rattle.image_meaning.specs.Foreign.{IsBadBlob, IsBadMeaning, IsUnfit}
-use Rattle.image_meaning.specs.Parts.{AreSpelt, Part, chosen, chosen_by, cut_of}
-use Rattle.image_meaning.proofs.Firsts.{clash}
-use Rattle.log_reading.specs.Logs.{IsLogOf}
-use Rattle.log_reading.specs.declared.log.ImageLog.{ImageLog}
-use Rattle.part_checks.specs.Chosen.{entity_at, parts_of, record_in}
-use Rattle.part_checks.specs.Fits.{AreChosen, AreFit, IsFirstUnfit}
-use Rattle.part_checks.specs.declared.chosen.ChosenEntity.{ChosenEntity}
-use Rattle.part_checks.proofs.Choices.{part_there}
+use Rattle.blob_loading.specs.image_blocks.Checks.{Bad, count_in}
+use Rattle.blob_loading.specs.image_blocks.Layout.{body_at}
+use Rattle.blob_loading.specs.image_blocks.declared.areas.Area.{Area}
+use Rattle.blob_loading.specs.image_meaning.Fits.{IsFit}
+use Rattle.blob_loading.specs.image_meaning.Foreign.{IsBadBlob, IsBadMeaning, IsUnfit}
+use Rattle.blob_loading.specs.image_meaning.Parts.{AreSpelt, Part, chosen, chosen_by, cut_of}
+use Rattle.blob_loading.proofs.image_meaning_lemmas.Firsts.{clash}
+use Rattle.blob_loading.specs.log_reading.Logs.{IsLogOf}
+use Rattle.blob_loading.specs.log_reading.declared.log.ImageLog.{ImageLog}
+use Rattle.blob_loading.specs.part_checks.Chosen.{entity_at, parts_of, record_in}
+use Rattle.blob_loading.specs.part_checks.Fits.{AreChosen, AreFit, IsFirstUnfit}
+use Rattle.blob_loading.specs.part_checks.declared.chosen.ChosenEntity.{ChosenEntity}
+use Rattle.blob_loading.proofs.part_checks_lemmas.Choices.{part_there}
 use Rattle.image_parts.specs.Choosing.{IsChosenSlot}
 use Rattle.image_parts.specs.Parts.{IsAcceptedWith}
 use Rattle.image_parts.proofs.Reading.{slot_body}

@@ -3,11 +3,11 @@ use Rattle.std.specs.Prelude.{◌≡◌, ◌⊎◌, ℕ, ◌<◌, List, Some, sl
 use Rattle.disk_trait.specs.Image.{Image}
 use Rattle.hop_base.specs.declared.records.Rec.{Rec}
 use Rattle.blob_loading.specs.Loading.{IsBadRecord}
-use Rattle.image_blocks.specs.Checks.{Bad}
-use Rattle.image_blocks.specs.Layout.{body_at}
-use Rattle.image_blocks.specs.declared.areas.Area.{Area}
-use Rattle.image_meaning.specs.Foreign.{IsBadRest, IsBadSpelling, IsBodyBlock}
-use Rattle.image_meaning.specs.Parts.{chosen_by}
+use Rattle.blob_loading.specs.image_blocks.Checks.{Bad}
+use Rattle.blob_loading.specs.image_blocks.Layout.{body_at}
+use Rattle.blob_loading.specs.image_blocks.declared.areas.Area.{Area}
+use Rattle.blob_loading.specs.image_meaning.Foreign.{IsBadRest, IsBadSpelling, IsBodyBlock}
+use Rattle.blob_loading.specs.image_meaning.Parts.{chosen_by}
 
 -- the first slot that has the record that a choice takes of an entity
 pub record IsChosenSlot (cut : ℕ → ℕ) (recs : List Rec) (x slot : ℕ) : Type 0 where

@@ -2,11 +2,11 @@
 use Rattle.std.specs.Prelude.{◌≡◌, ℕ, List, Option, length, slice_index}
 use Rattle.disk_trait.specs.Image.{Image}
 use Rattle.hop_base.specs.declared.records.Rec.{Rec}
-use Rattle.image_meaning.specs.Meaning.{Accepted}
-use Rattle.image_meaning.specs.Parts.{AreFormed, Part, cut_of}
-use Rattle.log_reading.specs.declared.log.ImageLog.{ImageLog}
-use Rattle.part_checks.specs.Chosen.{parts_of}
-use Rattle.part_checks.specs.Fits.{AreChosen, AreFit}
+use Rattle.blob_loading.specs.image_meaning.Meaning.{Accepted}
+use Rattle.blob_loading.specs.image_meaning.Parts.{AreFormed, Part, cut_of}
+use Rattle.blob_loading.specs.log_reading.declared.log.ImageLog.{ImageLog}
+use Rattle.blob_loading.specs.part_checks.Chosen.{parts_of}
+use Rattle.blob_loading.specs.part_checks.Fits.{AreChosen, AreFit}
 use Rattle.image_parts.specs.declared.parts.ImageParts.{ImageParts}
 
 -- THE PARTS OF A LOG: the cut is the greatest closed choice, what it takes stands at the place of its entity, has a

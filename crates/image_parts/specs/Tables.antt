@@ -1,11 +1,11 @@
 -- Page tables of 256 places.
 use Rattle.std.specs.Prelude.{◌≡◌, ◌≢◌, ℕ, ◌<◌, ◌≤◌, List, [], All, Option, Some, None, length, map, slice_index, slice_index_or}
-use Rattle.image_blocks.specs.Layout.{pool_at}
-use Rattle.image_meaning.specs.Parts.{Part, table_in}
-use Rattle.log_reading.specs.declared.log.ImageLog.{ImageLog}
+use Rattle.blob_loading.specs.image_blocks.Layout.{pool_at}
+use Rattle.blob_loading.specs.image_meaning.Parts.{Part, table_in}
+use Rattle.blob_loading.specs.log_reading.declared.log.ImageLog.{ImageLog}
 use Rattle.page_shadow.specs.declared.ShadowTable.{ShadowTable}
-use Rattle.part_checks.specs.Chosen.{parts_of}
-use Rattle.part_checks.specs.declared.chosen.ChosenEntity.{ChosenEntity}
+use Rattle.blob_loading.specs.part_checks.Chosen.{parts_of}
+use Rattle.blob_loading.specs.part_checks.declared.chosen.ChosenEntity.{ChosenEntity}
 
 -- the table has the blocks of these pages, and 0 past them
 pub record IsTableOf (blocks table : List ℕ) : Type 0 where

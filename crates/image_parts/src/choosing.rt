@@ -1,8 +1,8 @@
 //! Which records of a log are chosen, and the slots they stand in.
 ghost use Rattle.std.specs.Prelude.{◌≡◌, ◌≤◌, ◌&&◌, ◌==◌, AllPairs, None, IfSome, IfNone, length, slice_index};
-ghost use Rattle.image_blocks.specs.Layout.{slot_count};
-ghost use Rattle.image_meaning.specs.Parts.{chosen_by, cut_of};
-ghost use Rattle.log_reading.specs.Logs.{AreInRange, IsOlder};
+ghost use Rattle.blob_loading.specs.image_blocks.Layout.{slot_count};
+ghost use Rattle.blob_loading.specs.image_meaning.Parts.{chosen_by, cut_of};
+ghost use Rattle.blob_loading.specs.log_reading.Logs.{AreInRange, IsOlder};
 ghost use Rattle.image_parts.specs.Choosing.{IsChosenSlot};
 
 use cut_finder::greatest;

@@ -1,23 +1,23 @@
 //! The chosen entities of an image, read one behind another.
 ghost use Rattle.std.specs.Prelude.{◌≡◌, ◌<◌, IfOk, IfSome, IsErrOf, length, slice_get, slice_index, Some};
 ghost use Rattle.disk_trait.specs.Counts.{Rose};
-ghost use Rattle.image_blocks.specs.Checks.{Bad as BadPlace};
-ghost use Rattle.image_meaning.specs.Foreign.{IsBadBlob};
-ghost use Rattle.image_meaning.specs.Parts.{AreFormed, AreSpelt, IsFormed, IsSpelt, chosen, cut_of};
-ghost use Rattle.log_reading.specs.Logs.{IsKnown};
-ghost use Rattle.log_reading.specs.Reads.{ReadsOnly};
-ghost use Rattle.part_checks.specs.Chosen.{part_of, parts_of, record_in};
-ghost use Rattle.part_checks.specs.Fits.{AreChosen};
+ghost use Rattle.blob_loading.specs.image_blocks.Checks.{Bad as BadPlace};
+ghost use Rattle.blob_loading.specs.image_meaning.Foreign.{IsBadBlob};
+ghost use Rattle.blob_loading.specs.image_meaning.Parts.{AreFormed, AreSpelt, IsFormed, IsSpelt, chosen, cut_of};
+ghost use Rattle.blob_loading.specs.log_reading.Logs.{IsKnown};
+ghost use Rattle.blob_loading.specs.log_reading.Reads.{ReadsOnly};
+ghost use Rattle.blob_loading.specs.part_checks.Chosen.{part_of, parts_of, record_in};
+ghost use Rattle.blob_loading.specs.part_checks.Fits.{AreChosen};
 ghost use Rattle.image_parts.specs.Choosing.{IsBadEntity, IsBadSlot};
 
 use crate::choosing::chosen_slot;
+use blob_loading::image_blocks::body_of;
 use blob_loading::load;
+use blob_loading::log_reading::{ImageLog, ReadingFault};
+use blob_loading::part_checks::ChosenEntity;
 use block_code::Blob;
 use disk_trait::Disk;
 use hop_base::{Cut, Entity, MOST_ENTITIES};
-use image_blocks::body_of;
-use log_reading::{ImageLog, ReadingFault};
-use part_checks::ChosenEntity;
 use std::alloc::Global;
 
 // The record of a slot, with what its blob spells.

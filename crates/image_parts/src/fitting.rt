@@ -1,18 +1,18 @@
 //! Whether the chosen entities fit each other, and the place that is bad where one doesn't.
 ghost use Rattle.std.specs.Prelude.{◌≡◌, ◌≤◌, IfOk, IfSome, IfNone, length, slice_index};
 ghost use Rattle.disk_trait.specs.Image.{Image};
-ghost use Rattle.image_blocks.specs.Checks.{count_in};
-ghost use Rattle.image_blocks.specs.Layout.{slot_count};
-ghost use Rattle.image_meaning.specs.Foreign.{IsUnfit};
-ghost use Rattle.image_meaning.specs.Parts.{AreSpelt, cut_of};
-ghost use Rattle.part_checks.specs.Chosen.{parts_of};
-ghost use Rattle.part_checks.specs.Fits.{AreChosen, AreFit};
+ghost use Rattle.blob_loading.specs.image_blocks.Checks.{count_in};
+ghost use Rattle.blob_loading.specs.image_blocks.Layout.{slot_count};
+ghost use Rattle.blob_loading.specs.image_meaning.Foreign.{IsUnfit};
+ghost use Rattle.blob_loading.specs.image_meaning.Parts.{AreSpelt, cut_of};
+ghost use Rattle.blob_loading.specs.part_checks.Chosen.{parts_of};
+ghost use Rattle.blob_loading.specs.part_checks.Fits.{AreChosen, AreFit};
 
 use crate::choosing::chosen_slot;
+use blob_loading::image_blocks::{Bad, body_of};
+use blob_loading::log_reading::ImageLog;
+use blob_loading::part_checks::{ChosenEntity, first_unfit};
 use hop_base::{Cut, MOST_ENTITIES};
-use image_blocks::{Bad, body_of};
-use log_reading::ImageLog;
-use part_checks::{ChosenEntity, first_unfit};
 use std::alloc::{AllocError, Global};
 
 // The body of the first chosen entity that doesn't fit the others.

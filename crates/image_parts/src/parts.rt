@@ -1,20 +1,20 @@
 //! The parts of an image that is accepted, or its first bad place.
 ghost use Rattle.std.specs.Prelude.{IfOk, IsErrOf};
 ghost use Rattle.disk_trait.specs.Counts.{Rose};
-ghost use Rattle.image_blocks.specs.Checks.{Bad as BadPlace};
-ghost use Rattle.image_meaning.specs.Foreign.{IsBadMeaning};
-ghost use Rattle.log_reading.specs.Logs.{IsKnown, IsLogOf};
-ghost use Rattle.log_reading.specs.Reads.{ReadsOnly};
-ghost use Rattle.part_checks.specs.Chosen.{parts_of};
+ghost use Rattle.blob_loading.specs.image_blocks.Checks.{Bad as BadPlace};
+ghost use Rattle.blob_loading.specs.image_meaning.Foreign.{IsBadMeaning};
+ghost use Rattle.blob_loading.specs.log_reading.Logs.{IsKnown, IsLogOf};
+ghost use Rattle.blob_loading.specs.log_reading.Reads.{ReadsOnly};
+ghost use Rattle.blob_loading.specs.part_checks.Chosen.{parts_of};
 ghost use Rattle.image_parts.specs.Parts.{ArePartsOf, IsAcceptedWith};
 
 use crate::choosing::choice_of;
 use crate::entities::read_entities;
 use crate::fitting::unfit_place;
+use blob_loading::log_reading::{ImageLog, ReadingFault};
+use blob_loading::part_checks::ChosenEntity;
 use disk_trait::Disk;
 use hop_base::Cut;
-use log_reading::{ImageLog, ReadingFault};
-use part_checks::ChosenEntity;
 use std::alloc::Global;
 
 /// What the records of a log say together: the greatest closed choice over them, and for each of the 64 entities the record that it

@@ -1,14 +1,14 @@
 //! The page tables of chosen records, as a store keeps them.
 ghost use Rattle.std.specs.Prelude.{◌≡◌, ℕ, IfOk, length, slice_index};
-ghost use Rattle.image_meaning.specs.Parts.{table_in};
-ghost use Rattle.log_reading.specs.declared.log.ImageLog.{ImageLog};
-ghost use Rattle.part_checks.specs.Chosen.{part_in, part_of};
+ghost use Rattle.blob_loading.specs.image_meaning.Parts.{table_in};
+ghost use Rattle.blob_loading.specs.log_reading.declared.log.ImageLog.{ImageLog};
+ghost use Rattle.blob_loading.specs.part_checks.Chosen.{part_in, part_of};
 ghost use Rattle.image_parts.specs.Parts.{ArePartsOf};
 ghost use Rattle.image_parts.specs.Tables.{ArePlaced, AreTablesOf, IsTableOf, blocks_in};
 
 use crate::parts::ImageParts;
+use blob_loading::part_checks::{ChosenEntity, ChosenPart};
 use page_shadow::ShadowTable;
-use part_checks::{ChosenEntity, ChosenPart};
 use std::alloc::{AllocError, Global};
 
 /// The most pages of a container.

@@ -2,18 +2,18 @@
 use Rattle.std.proofs.Common.{◌≡◌, ℕ, ◌==◌, Bool, true, false, if◌then◌else◌, List, Option, Some, None, refl, sym, ap, subst, ◌∙◌}
 use Rattle.std.specs.Prelude.{MatchOption, slice_index}
 use Rattle.disk_trait.specs.Image.{Image, block_at}
-use Rattle.history_model.specs.Plains.{cells_of}
-use Rattle.history_model.specs.declared.plain.Plain.{Plain}
+use Rattle.plain_parts.specs.history_model.Plains.{cells_of}
+use Rattle.plain_parts.specs.history_model.declared.plain.Plain.{Plain}
 use Rattle.hop_base.specs.declared.records.Rec.{Rec}
-use Rattle.hop_model.specs.Soundness.{IsSound, IsSoundContainer, IsSoundLocus, regions_onto}
-use Rattle.hop_model.specs.State.{AtlasCell, AtlasState, Cell, ContainerCell, ContainerState, LocusCell, LocusState, NotBorn, Supply, no_atlas}
-use Rattle.image_meaning.specs.Meaning.{Accepted, entity_of, state_of}
-use Rattle.image_meaning.specs.Parts.{AreFormed, AreTaken, AtlasPart, ContainerPart, IsSpelt, LocusPart, Part, chosen, cut_of}
-use Rattle.image_meaning.proofs.Sounding.{sound_parts}
+use Rattle.plain_parts.specs.hop_model.Soundness.{IsSound, IsSoundContainer, IsSoundLocus, regions_onto}
+use Rattle.plain_parts.specs.hop_model.State.{AtlasCell, AtlasState, Cell, ContainerCell, ContainerState, LocusCell, LocusState, NotBorn, Supply, no_atlas}
+use Rattle.meant_states.specs.image_meaning.Meaning.{Accepted, entity_of, state_of}
+use Rattle.meant_states.specs.image_meaning.Parts.{AreFormed, AreTaken, AtlasPart, ContainerPart, IsSpelt, LocusPart, Part, chosen, cut_of}
+use Rattle.meant_states.proofs.image_meaning_lemmas.Sounding.{sound_parts}
 use Rattle.meant_states.proofs.Meant.{meant_versions}
-use Rattle.part_checks.specs.Chosen.{entity_at, part_in, part_of, parts_of, record_in}
-use Rattle.part_checks.specs.Fits.{AreChosen, AreFit}
-use Rattle.part_checks.specs.declared.chosen.ChosenEntity.{ChosenEntity}
+use Rattle.image_parts.specs.part_checks.Chosen.{entity_at, part_in, part_of, parts_of, record_in}
+use Rattle.image_parts.specs.part_checks.Fits.{AreChosen, AreFit}
+use Rattle.image_parts.specs.part_checks.declared.chosen.ChosenEntity.{ChosenEntity}
 use Rattle.image_tools.specs.Facts.{MeansState}
 use Rattle.image_tools.specs.States.{IsCellOf, cell_in, cell_with}
 

@@ -2,8 +2,8 @@
 use Rattle.std.proofs.Common.{◌≡◌, ℕ, ◌≤◌, Option, Some, None, refl, ap, arith, unwrap_or}
 use Rattle.std.specs.BTreeMap.{BTreeMap, get}
 use Rattle.std.specs.Ordering.{nat_cmp}
-use Rattle.hop_model.specs.Outcomes.{supplied}
-use Rattle.hop_model.specs.State.{Supply}
+use Rattle.plain_parts.specs.hop_model.Outcomes.{supplied}
+use Rattle.plain_parts.specs.hop_model.State.{Supply}
 use Rattle.plain_parts.specs.Words.{words_with}
 use Rattle.image_tools.specs.Words.{IsSparse}
 

@@ -4,10 +4,10 @@ use Rattle.std.specs.Prelude.{None, slice_get, slice_index_or}
 use Rattle.std.proofs.lemmas.Bool.{cases_lt}
 use Rattle.std.proofs.lemmas.List.{get_or_append_left, get_or_default, get_or_push, length-append}
 use Rattle.std.proofs.lemmas.Option.{slice_get-get_or}
-use Rattle.hop_model.specs.State.{Cell, Supply}
-use Rattle.image_meaning.specs.Parts.{Part}
-use Rattle.part_checks.specs.Chosen.{part_in, parts_of}
-use Rattle.part_checks.specs.declared.chosen.ChosenEntity.{ChosenEntity}
+use Rattle.plain_parts.specs.hop_model.State.{Cell, Supply}
+use Rattle.meant_states.specs.image_meaning.Parts.{Part}
+use Rattle.image_parts.specs.part_checks.Chosen.{part_in, parts_of}
+use Rattle.image_parts.specs.part_checks.declared.chosen.ChosenEntity.{ChosenEntity}
 use Rattle.image_tools.specs.States.{IsCellOf, cell_in}
 
 -- ITEMS

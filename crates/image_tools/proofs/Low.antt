@@ -3,14 +3,14 @@ use Rattle.std.proofs.Common.{◌≡◌, ℕ, zero, suc, ◌≤◌, ◌<◌, ◌
 use Rattle.std.specs.Prelude.{All, slice_get, slice_index}
 use Rattle.std.proofs.lemmas.List.{get_or_past}
 use Rattle.std.proofs.lemmas.List.Elements.{All-from_get_or}
-use Rattle.cut_laws.specs.Agreeing.{nothing}
-use Rattle.cut_laws.specs.Records.{commits_of}
+use Rattle.image_parts.specs.cut_laws.Agreeing.{nothing}
+use Rattle.image_parts.specs.cut_laws.Records.{commits_of}
 use Rattle.hop_base.specs.declared.records.Rec.{Rec}
-use Rattle.hop_model.specs.Choices.{Among, Commit, IsNarrow}
-use Rattle.hop_model.proofs.Lowering.{greatest_is}
-use Rattle.image_blocks.specs.Layout.{last_number}
-use Rattle.image_meaning.specs.Parts.{cut_of}
-use Rattle.log_reading.specs.Logs.{AreInRange}
+use Rattle.plain_parts.specs.hop_model.Choices.{Among, Commit, IsNarrow}
+use Rattle.plain_parts.proofs.hop_model_lemmas.Lowering.{greatest_is}
+use Rattle.report_lines.specs.image_blocks.Layout.{last_number}
+use Rattle.meant_states.specs.image_meaning.Parts.{cut_of}
+use Rattle.image_parts.specs.log_reading.Logs.{AreInRange}
 
 -- stamps of 64 components are narrow
 narrow_all : (recs : List Rec) → ((i : ℕ) (r : Rec) → slice_get recs i ≡ Some r → length r.stamp ≡ 64) → IsNarrow (commits_of recs)

@@ -6,19 +6,19 @@ use Rattle.std.proofs.lemmas.Bool.Decides.{nat_tests}
 use Rattle.std.proofs.lemmas.List.{length-map}
 use Rattle.std.proofs.lemmas.List.Elements.{All-from_get_or}
 use Rattle.std.proofs.lemmas.Option.{slice_get-get_or, slice_get_past}
-use Rattle.history_model.specs.Plains.{atlas_of, cells_by, container_cell, locus_cell}
-use Rattle.history_model.specs.declared.plain.PlainAtlas.{PlainAtlas}
-use Rattle.history_model.specs.declared.plain.PlainContainer.{PlainContainer}
-use Rattle.history_model.specs.declared.plain.PlainLocus.{PlainLocus}
+use Rattle.plain_parts.specs.history_model.Plains.{atlas_of, cells_by, container_cell, locus_cell}
+use Rattle.plain_parts.specs.history_model.declared.plain.PlainAtlas.{PlainAtlas}
+use Rattle.plain_parts.specs.history_model.declared.plain.PlainContainer.{PlainContainer}
+use Rattle.plain_parts.specs.history_model.declared.plain.PlainLocus.{PlainLocus}
 use Rattle.hop_base.specs.Kinds.{kind_of}
 use Rattle.hop_base.specs.declared.entities.Kind.TheVariants as kinds
 use Rattle.hop_base.specs.declared.records.Rec.{Rec}
-use Rattle.hop_model.specs.Soundness.{is_born, is_born_container, is_born_locus}
-use Rattle.hop_model.specs.State.{AtlasCell, AtlasState, NotBorn, Supply, no_atlas}
-use Rattle.image_meaning.specs.Fits.{IsTiedAtlas}
-use Rattle.image_meaning.specs.Parts.{AreFormed, AtlasPart, ContainerPart, LocusPart, Part, kind_in, table_in}
+use Rattle.plain_parts.specs.hop_model.Soundness.{is_born, is_born_container, is_born_locus}
+use Rattle.plain_parts.specs.hop_model.State.{AtlasCell, AtlasState, NotBorn, Supply, no_atlas}
+use Rattle.meant_states.specs.image_meaning.Fits.{IsTiedAtlas}
+use Rattle.meant_states.specs.image_meaning.Parts.{AreFormed, AtlasPart, ContainerPart, LocusPart, Part, kind_in, table_in}
 use Rattle.image_parts.specs.Tables.{blocks_in}
-use Rattle.part_checks.specs.Fits.{AreFit}
+use Rattle.image_parts.specs.part_checks.Fits.{AreFit}
 use Rattle.image_tools.specs.States.{AreOnDisk, IsCellOf, IsContainerPart, IsLocusPart, atlas_by, cell_in, cell_with}
 
 -- KINDS

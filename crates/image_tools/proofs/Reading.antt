@@ -5,12 +5,12 @@ use Rattle.std.specs.Prelude.{slice_index, take}
 use Rattle.std.proofs.lemmas.Bool.{cases_lt, ne_eqb}
 use Rattle.std.proofs.lemmas.List.{get_or-map, get_or-take, get_or_past, length-take}
 use Rattle.hop_base.specs.Edges.{upto}
-use Rattle.hop_model.specs.State.{Supply}
-use Rattle.image_blocks.proofs.Rest.{upto_get, upto_len}
-use Rattle.image_blocks.specs.Bodies.{number_at}
-use Rattle.image_meaning.specs.Parts.{word_in, words_in}
+use Rattle.plain_parts.specs.hop_model.State.{Supply}
+use Rattle.report_lines.proofs.image_blocks_lemmas.Rest.{upto_get, upto_len}
+use Rattle.report_lines.specs.image_blocks.Bodies.{number_at}
+use Rattle.meant_states.specs.image_meaning.Parts.{word_in, words_in}
 use Rattle.plain_parts.specs.Words.{words_with}
-use Rattle.store_model.specs.Books.{words_of_bytes}
+use Rattle.page_words.specs.store_model.Books.{words_of_bytes}
 use Rattle.image_tools.specs.States.{AreOnDisk}
 use Rattle.image_tools.specs.Words.{IsSparse}
 use Rattle.image_tools.proofs.Keeping.{supplied_past}

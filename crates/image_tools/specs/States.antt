@@ -1,8 +1,8 @@
 -- What the parts of an image are as a plain state.
 use Rattle.std.specs.Prelude.{◌≡◌, ◌≢◌, ℕ, ◌<◌, ◌*◌, All, List, Option, Some, None}
-use Rattle.history_model.specs.declared.plain.PlainContainer.{PlainContainer}
-use Rattle.hop_model.specs.State.{AtlasCell, AtlasState, Cell, ContainerCell, LocusCell, Supply, empty_state, no_atlas}
-use Rattle.image_meaning.specs.Parts.{AtlasPart, ContainerPart, LocusPart, Part, cell_of}
+use Rattle.plain_parts.specs.history_model.declared.plain.PlainContainer.{PlainContainer}
+use Rattle.plain_parts.specs.hop_model.State.{AtlasCell, AtlasState, Cell, ContainerCell, LocusCell, Supply, empty_state, no_atlas}
+use Rattle.meant_states.specs.image_meaning.Parts.{AtlasPart, ContainerPart, LocusPart, Part, cell_of}
 use Rattle.image_tools.specs.Words.{IsSparse}
 
 -- the cell of a part, over the bytes of its pages' blocks; where there is none, as in the state of nothing

@@ -2,8 +2,8 @@
 use Rattle.std.specs.Prelude.{◌≡◌, ◌≢◌, ℕ, ◌<◌, Some}
 use Rattle.std.specs.BTreeMap.{BTreeMap, get}
 use Rattle.std.specs.Ordering.{nat_cmp}
-use Rattle.hop_model.specs.Outcomes.{supplied}
-use Rattle.hop_model.specs.State.{Supply}
+use Rattle.plain_parts.specs.hop_model.Outcomes.{supplied}
+use Rattle.plain_parts.specs.hop_model.State.{Supply}
 
 -- each word that is kept stands below this address, and isn't the supplier's
 pub record IsSparse (s : Supply) (tag end : ℕ) (words : BTreeMap ℕ ℕ) : Type 0 where

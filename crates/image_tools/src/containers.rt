@@ -2,23 +2,23 @@
 ghost use Rattle.std.specs.Prelude.{◌≡◌, ◌<◌, ◌≤◌, ◌+◌, ◌^◌, ℕ, All, IfOk, IsErrOf, Some, length, slice_get};
 ghost use Rattle.disk_trait.specs.Counts.{Rose};
 ghost use Rattle.disk_trait.specs.Image.{block_at};
-ghost use Rattle.history_model.specs.Plains.{container_cell, container_of};
-ghost use Rattle.hop_model.specs.State.{ContainerCell, Supply};
-ghost use Rattle.image_meaning.specs.Parts.{table_in};
+ghost use Rattle.plain_parts.specs.history_model.Plains.{container_cell, container_of};
+ghost use Rattle.plain_parts.specs.hop_model.State.{ContainerCell, Supply};
+ghost use Rattle.meant_states.specs.image_meaning.Parts.{table_in};
 ghost use Rattle.image_parts.specs.Tables.{blocks_in};
-ghost use Rattle.log_reading.specs.Reads.{ReadsOnly};
-ghost use Rattle.part_checks.specs.Chosen.{part_in, part_of, parts_of};
-ghost use Rattle.part_checks.specs.declared.chosen.ChosenPart.TheVariants.{Container};
+ghost use Rattle.image_parts.specs.log_reading.Reads.{ReadsOnly};
+ghost use Rattle.image_parts.specs.part_checks.Chosen.{part_in, part_of, parts_of};
+ghost use Rattle.image_parts.specs.part_checks.declared.chosen.ChosenPart.TheVariants.{Container};
 ghost use Rattle.image_tools.specs.States.{AreOnDisk, IsCellOf, IsContainerPart, IsSparseContainer};
 
 use crate::faults::PagesFault;
 use crate::pages::words_of;
 use disk_trait::Disk;
-use history_model::PlainContainer;
 use hop_base::MOST_ENTITIES;
-use part_checks::{ChosenEntity, ChosenPart};
+use image_parts::part_checks::{ChosenEntity, ChosenPart};
+use image_parts::snapshot_reading::ContainerBlob;
+use plain_parts::history_model::PlainContainer;
 use plain_parts::plain_head;
-use snapshot_reading::ContainerBlob;
 use std::alloc::Global;
 
 // A container, with its words from the disk.

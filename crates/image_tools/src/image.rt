@@ -1,25 +1,25 @@
 //! An image, read whole.
 ghost use Rattle.std.specs.Prelude.{◌≡◌, ◌<◌, ◌≤◌, ◌^◌, ℕ, All, IfOk, IsErrOf, slice_index};
 ghost use Rattle.disk_trait.specs.Counts.{Rose};
-ghost use Rattle.history_model.specs.Born.{AreEdges};
-ghost use Rattle.history_model.specs.Plains.{cells_of};
-ghost use Rattle.hop_model.specs.Soundness.{IsSound};
-ghost use Rattle.hop_model.specs.State.{Supply};
-ghost use Rattle.image_blocks.specs.Checks.{Bad as BadPlace};
-ghost use Rattle.image_meaning.specs.Foreign.{IsForeign};
-ghost use Rattle.image_meaning.specs.Parts.{cut_of};
-ghost use Rattle.log_reading.specs.Logs.{IsLogOf};
-ghost use Rattle.log_reading.specs.Reads.{ReadsOnly};
+ghost use Rattle.plain_parts.specs.history_model.Born.{AreEdges};
+ghost use Rattle.plain_parts.specs.history_model.Plains.{cells_of};
+ghost use Rattle.plain_parts.specs.hop_model.Soundness.{IsSound};
+ghost use Rattle.plain_parts.specs.hop_model.State.{Supply};
+ghost use Rattle.report_lines.specs.image_blocks.Checks.{Bad as BadPlace};
+ghost use Rattle.meant_states.specs.image_meaning.Foreign.{IsForeign};
+ghost use Rattle.meant_states.specs.image_meaning.Parts.{cut_of};
+ghost use Rattle.image_parts.specs.log_reading.Logs.{IsLogOf};
+ghost use Rattle.image_parts.specs.log_reading.Reads.{ReadsOnly};
 ghost use Rattle.image_tools.specs.Facts.{MeansState};
 ghost use Rattle.image_tools.specs.States.{IsSparseContainer};
 
 use crate::faults::PagesFault;
 use crate::state::state_of;
 use disk_trait::Disk;
-use history_model::Plain;
 use hop_base::Cut;
+use image_parts::log_reading::{ImageLog, ReadingFault, read_log};
 use image_parts::read_parts;
-use log_reading::{ImageLog, ReadingFault, read_log};
+use plain_parts::history_model::Plain;
 use std::alloc::Global;
 
 /// What an image says: its log, the greatest closed choice over the log's records, and the state that it means. The version of each

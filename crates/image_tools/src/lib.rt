@@ -11,11 +11,9 @@ mod state;
 mod words;
 
 pub use image::{ImageFacts, read_image};
+pub use image_parts::cut_finder;
+pub use plain_parts::{history_model, locus_machine};
+pub use plain_show;
+pub use plain_show::stream_edge;
 pub use printing::{write_report, write_show};
-
-#[cfg(test)]
-mod flip_tests;
-#[cfg(test)]
-mod small_image;
-#[cfg(test)]
-mod tests;
+pub use report_lines::image_blocks;

@@ -1,14 +1,14 @@
 //! The atlas and the loci of an image in ordinary lists.
 ghost use Rattle.std.specs.Prelude.{◌≡◌, ◌<◌, ◌≤◌, ◌+◌, ℕ, IfOk, length, slice_get};
-ghost use Rattle.history_model.specs.Born.{AreEdges};
-ghost use Rattle.history_model.specs.Plains.{atlas_of, locus_cell, locus_of};
-ghost use Rattle.hop_model.specs.State.{LocusCell, no_atlas};
-ghost use Rattle.part_checks.specs.Chosen.{part_in, parts_of};
+ghost use Rattle.plain_parts.specs.history_model.Born.{AreEdges};
+ghost use Rattle.plain_parts.specs.history_model.Plains.{atlas_of, locus_cell, locus_of};
+ghost use Rattle.plain_parts.specs.hop_model.State.{LocusCell, no_atlas};
+ghost use Rattle.image_parts.specs.part_checks.Chosen.{part_in, parts_of};
 ghost use Rattle.image_tools.specs.States.{IsLocusPart, atlas_by, cell_with};
 
-use history_model::{PlainAtlas, PlainLocus};
 use hop_base::MOST_ENTITIES;
-use part_checks::{ChosenEntity, ChosenPart};
+use image_parts::part_checks::{ChosenEntity, ChosenPart};
+use plain_parts::history_model::{PlainAtlas, PlainLocus};
 use plain_parts::{plain_atlas, plain_locus};
 use std::alloc::{AllocError, Global};
 

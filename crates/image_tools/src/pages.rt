@@ -3,19 +3,19 @@ ghost use Rattle.std.specs.Prelude.{◌≡◌, ◌≢◌, ◌<◌, ◌≤◌, �
 ghost use Rattle.disk_trait.specs.Counts.{Rose};
 ghost use Rattle.disk_trait.specs.Disk.{HasCause};
 ghost use Rattle.disk_trait.specs.Image.{block_at};
-ghost use Rattle.hop_model.specs.State.{Supply};
-ghost use Rattle.image_meaning.specs.Parts.{word_in, words_in};
-ghost use Rattle.log_reading.specs.Reads.{ReadsOnly};
+ghost use Rattle.plain_parts.specs.hop_model.State.{Supply};
+ghost use Rattle.meant_states.specs.image_meaning.Parts.{word_in, words_in};
+ghost use Rattle.image_parts.specs.log_reading.Reads.{ReadsOnly};
 ghost use Rattle.plain_parts.specs.Words.{words_with};
-ghost use Rattle.store_model.specs.Books.{words_of_bytes};
+ghost use Rattle.page_words.specs.store_model.Books.{words_of_bytes};
 ghost use Rattle.image_tools.specs.States.{AreOnDisk};
 ghost use Rattle.image_tools.specs.Words.{IsSparse};
 
 use crate::faults::PagesFault;
 use crate::words::keep_page;
 use disk_trait::{Disk, DiskFault};
-use locus_machine::Head;
 use page_words::words_in;
+use plain_parts::locus_machine::Head;
 use std::alloc::Global;
 use std::collections::BTreeMap;
 

@@ -1,16 +1,16 @@
 //! What an image says, printed.
 ghost use Rattle.std.specs.Prelude.{◌≡◌, ◌≤◌, ◌<◌, ◌^◌, ℕ, OnErr};
 ghost use Rattle.disk_trait.specs.Counts.{Rose};
-ghost use Rattle.history_model.specs.Plains.{cells_of};
-ghost use Rattle.hop_model.specs.Soundness.{IsSound};
-ghost use Rattle.hop_model.specs.State.{Supply};
+ghost use Rattle.plain_parts.specs.history_model.Plains.{cells_of};
+ghost use Rattle.plain_parts.specs.hop_model.Soundness.{IsSound};
+ghost use Rattle.plain_parts.specs.hop_model.State.{Supply};
 ghost use Rattle.plain_show.specs.Show.{shown};
 ghost use Rattle.report_lines.specs.Reports.{report_text};
-ghost use Rattle.stream_edge.specs.Streams.{Puts};
+ghost use Rattle.plain_show.specs.stream_edge.Streams.{Puts};
 
 use crate::image::ImageFacts;
+use plain_show::stream_edge::{Sink, SinkFault};
 use report_lines::{LogFacts, put_report};
-use stream_edge::{Sink, SinkFault};
 
 /// Puts the report of an image: a line for its log, one for each record with its state, and one for each entity of which a version is
 /// chosen, each line in one call: 705 at most. It takes no memory. After a fault a front of the text was put.

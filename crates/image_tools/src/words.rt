@@ -1,6 +1,6 @@
 //! The words of a container, of which those are kept that differ from the supplier's.
 ghost use Rattle.std.specs.Prelude.{◌≡◌, ◌<◌, ◌≤◌, ◌+◌, ◌*◌, ◌^◌, ℕ, OnOk, slice_index};
-ghost use Rattle.hop_model.specs.State.{Supply};
+ghost use Rattle.plain_parts.specs.hop_model.State.{Supply};
 ghost use Rattle.plain_parts.specs.Words.{words_with};
 ghost use Rattle.image_tools.specs.Words.{IsSparse};
 

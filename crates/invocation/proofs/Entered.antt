@@ -7,14 +7,14 @@ use Rattle.hop_base.specs.declared.instructions.Instr.{Instr}
 use Rattle.hop_base.specs.declared.instructions.Instr.TheVariants.{Invoke, Leave, Return, Halt}
 use Rattle.hop_base.specs.declared.instructions.Reply.{Reply}
 use Rattle.hop_base.specs.declared.instructions.Reply.TheVariants.{Ok, NoEntry, ListFull, NoCaller}
-use Rattle.hop_model.specs.State.{Supply, AtlasState, ContainerState, LocusState, Cell, ContainerCell}
-use Rattle.hop_model.specs.Acts.{wanted}
-use Rattle.hop_model.specs.Outcomes.{Outcome, outcome, on_cell, invoke, invoke_at, leave, leave_at, back, back_to, enter, entered, finish, with_other}
-use Rattle.hop_model.specs.Refusals.{instr_at, refusal}
-use Rattle.hop_model.specs.Words.{last_call, but_last}
-use Rattle.wanted_act.specs.Views.{IsReadyLocus, may_name_itself}
-use Rattle.wanted_act.proofs.Allowed.{unless_none}
-use Rattle.wanted_act.proofs.Beside.{wanted_same, made_beside}
+use Rattle.locus_machine.specs.hop_model.State.{Supply, AtlasState, ContainerState, LocusState, Cell, ContainerCell}
+use Rattle.locus_machine.specs.hop_model.Acts.{wanted}
+use Rattle.locus_machine.specs.hop_model.Outcomes.{Outcome, outcome, on_cell, invoke, invoke_at, leave, leave_at, back, back_to, enter, entered, finish, with_other}
+use Rattle.locus_machine.specs.hop_model.Refusals.{instr_at, refusal}
+use Rattle.locus_machine.specs.hop_model.Words.{last_call, but_last}
+use Rattle.locus_machine.specs.wanted_act.Views.{IsReadyLocus, may_name_itself}
+use Rattle.locus_machine.proofs.wanted_act_lemmas.Allowed.{unless_none}
+use Rattle.locus_machine.proofs.wanted_act_lemmas.Beside.{wanted_same, made_beside}
 use Rattle.locus_machine.proofs.Alone.{wanted_says, place_within}
 use Rattle.invocation.specs.Entries.{is_invoke, is_leave, is_return, WantsBeside, Invoked}
 

@@ -1,1 +1,3 @@
 pub mod Entered
+pub use Rattle.locus_machine.proofs as locus_machine_lemmas
+pub use Rattle.locus_machine.proofs.wanted_act_lemmas

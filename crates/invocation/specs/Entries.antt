@@ -4,9 +4,9 @@ use Rattle.hop_base.specs.declared.histories.Answer.TheVariants.{Reply as Replie
 use Rattle.hop_base.specs.declared.instructions.Instr.{Instr}
 use Rattle.hop_base.specs.declared.instructions.Instr.TheVariants.{Invoke, Leave, Return}
 use Rattle.hop_base.specs.declared.instructions.Reply.{Reply}
-use Rattle.hop_model.specs.State.{ContainerState, LocusState, ContainerCell}
-use Rattle.hop_model.specs.Acts.{wanted}
-use Rattle.hop_model.specs.Outcomes.{Outcome}
+use Rattle.locus_machine.specs.hop_model.State.{ContainerState, LocusState, ContainerCell}
+use Rattle.locus_machine.specs.hop_model.Acts.{wanted}
+use Rattle.locus_machine.specs.hop_model.Outcomes.{Outcome}
 
 abbrev pub is_invoke : Instr → Bool
 is_invoke (Invoke c) = true

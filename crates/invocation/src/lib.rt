@@ -2,14 +2,16 @@
 #![tactic(auto)]
 
 ghost use Rattle.std.specs.Prelude.{◌≡◌, ℕ, ◌<◌};
-ghost use Rattle.hop_model.specs.Acts.{wanted};
-ghost use Rattle.hop_model.specs.Outcomes.{outcome, enter as entering, finish as finished};
-ghost use Rattle.hop_model.specs.State.{Supply, AtlasState, ContainerCell};
-ghost use Rattle.wanted_act.specs.Views.{IsReadyLocus};
+ghost use Rattle.locus_machine.specs.hop_model.Acts.{wanted};
+ghost use Rattle.locus_machine.specs.hop_model.Outcomes.{outcome, enter as entering, finish as finished};
+ghost use Rattle.locus_machine.specs.hop_model.State.{Supply, AtlasState, ContainerCell};
+ghost use Rattle.locus_machine.specs.wanted_act.Views.{IsReadyLocus};
 ghost use Rattle.locus_machine.specs.Loci.{locus_of, container_with};
 ghost use Rattle.invocation.specs.Entries.{is_invoke, is_leave, is_return, WantsBeside, Invoked};
 
 use hop_base::{Call, Entity, Reply};
+pub use locus_machine;
+pub use locus_machine::wanted_act;
 use locus_machine::{Code, Head, Locus, MOST_CALLS};
 
 /// Refuses the act.

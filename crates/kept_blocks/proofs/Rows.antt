@@ -8,28 +8,28 @@ use Rattle.std.proofs.lemmas.List.{get_or_past}
 use Rattle.std.proofs.lemmas.List.Folds.{list_any_at}
 use Rattle.hop_base.specs.Edges.{upto}
 use Rattle.hop_base.specs.declared.records.Rec.{Rec}
-use Rattle.hop_model.proofs.Lowering.{greatest_is, greatest_one}
-use Rattle.cut_laws.specs.Agreeing.{nothing}
-use Rattle.cut_laws.specs.Records.{commits_of}
-use Rattle.image_blocks.proofs.Rest.{upto_get, upto_len}
-use Rattle.image_meaning.specs.Parts.{AtlasPart, ContainerPart, IsFormed, LocusPart, Part, chosen_by, cut_of, table_in}
-use Rattle.image_meaning.proofs.Firsts.{clash}
-use Rattle.image_parts.specs.Parts.{ArePartsOf}
-use Rattle.image_parts.specs.Tables.{AreTablesOf, IsTableOf, blocks_in, table_at}
-use Rattle.image_parts.specs.declared.parts.ImageParts.{ImageParts}
-use Rattle.image_parts.proofs.Slots.{chosen_entity}
-use Rattle.log_reading.specs.declared.log.ImageLog.{ImageLog}
+use Rattle.snapshot_store.proofs.hop_model_lemmas.Lowering.{greatest_is, greatest_one}
+use Rattle.snapshot_store.specs.cut_laws.Agreeing.{nothing}
+use Rattle.snapshot_store.specs.cut_laws.Records.{commits_of}
+use Rattle.snapshot_store.proofs.image_blocks_lemmas.Rest.{upto_get, upto_len}
+use Rattle.opened_cells.specs.image_meaning.Parts.{AtlasPart, ContainerPart, IsFormed, LocusPart, Part, chosen_by, cut_of, table_in}
+use Rattle.opened_cells.proofs.image_meaning_lemmas.Firsts.{clash}
+use Rattle.opened_cells.specs.image_parts.Parts.{ArePartsOf}
+use Rattle.opened_cells.specs.image_parts.Tables.{AreTablesOf, IsTableOf, blocks_in, table_at}
+use Rattle.opened_cells.specs.image_parts.declared.parts.ImageParts.{ImageParts}
+use Rattle.opened_cells.proofs.image_parts_lemmas.Slots.{chosen_entity}
+use Rattle.snapshot_store.specs.log_reading.declared.log.ImageLog.{ImageLog}
 use Rattle.opened_cells.specs.Held.{HoldsNamed}
-use Rattle.page_shadow.specs.declared.ShadowTable.{ShadowTable}
-use Rattle.part_checks.specs.Chosen.{entity_at, part_in, part_of, parts_of, record_in}
-use Rattle.part_checks.specs.declared.chosen.ChosenEntity.{ChosenEntity}
-use Rattle.part_checks.proofs.Choices.{none_past}
+use Rattle.snapshot_store.specs.page_shadow.declared.ShadowTable.{ShadowTable}
+use Rattle.opened_cells.specs.part_checks.Chosen.{entity_at, part_in, part_of, parts_of, record_in}
+use Rattle.opened_cells.specs.part_checks.declared.chosen.ChosenEntity.{ChosenEntity}
+use Rattle.opened_cells.proofs.part_checks_lemmas.Choices.{none_past}
 use Rattle.snapshot_store.specs.Choosing.{HasKept, are_chosen, chosen_list, kept_rows, listed, table_of, with_tables}
 use Rattle.snapshot_store.specs.Holds.{names_page}
 use Rattle.snapshot_store.specs.Naming.{is_use}
 use Rattle.snapshot_store.specs.Opening.{IsFresh}
 use Rattle.snapshot_store.specs.State.{IsWhole, State, books}
-use Rattle.store_model.specs.Books.{recs_in}
+use Rattle.snapshot_store.specs.store_model.Books.{recs_in}
 
 -- a place at which a list passes a test
 place_of : (p : ℕ → Bool) (xs : List ℕ) → list_any p xs ≡ true → (k : ℕ) × (k < length xs) × (p (slice_index xs k) ≡ true)

@@ -3,17 +3,17 @@
 #![tactic(auto)]
 
 ghost use Rattle.std.specs.Prelude.{◌≡◌, List};
-ghost use Rattle.image_parts.specs.Parts.{ArePartsOf};
-ghost use Rattle.image_parts.specs.Tables.{AreTablesOf};
-ghost use Rattle.image_parts.specs.declared.parts.ImageParts.{ImageParts as Parts};
-ghost use Rattle.log_reading.specs.declared.log.ImageLog.{ImageLog as Log};
+ghost use Rattle.opened_cells.specs.image_parts.Parts.{ArePartsOf};
+ghost use Rattle.opened_cells.specs.image_parts.Tables.{AreTablesOf};
+ghost use Rattle.opened_cells.specs.image_parts.declared.parts.ImageParts.{ImageParts as Parts};
+ghost use Rattle.snapshot_store.specs.log_reading.declared.log.ImageLog.{ImageLog as Log};
 ghost use Rattle.opened_cells.specs.Held.{HoldsNamed};
-ghost use Rattle.page_shadow.specs.declared.ShadowTable.{ShadowTable};
-ghost use Rattle.part_checks.specs.Chosen.{parts_of};
+ghost use Rattle.snapshot_store.specs.page_shadow.declared.ShadowTable.{ShadowTable};
+ghost use Rattle.opened_cells.specs.part_checks.Chosen.{parts_of};
 ghost use Rattle.snapshot_store.specs.Choosing.{HasKept};
 ghost use Rattle.snapshot_store.specs.Opening.{IsFresh};
 ghost use Rattle.snapshot_store.specs.State.{IsWhole, State, books};
-ghost use Rattle.store_model.specs.Books.{recs_in};
+ghost use Rattle.snapshot_store.specs.store_model.Books.{recs_in};
 
 use disk_trait::Disk;
 

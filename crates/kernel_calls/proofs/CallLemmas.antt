@@ -8,16 +8,16 @@ use Rattle.hop_base.specs.declared.instructions.Instr.TheVariants.{Take, Give}
 use Rattle.hop_base.specs.declared.instructions.Reply.{Reply}
 use Rattle.hop_base.specs.declared.instructions.Reply.TheVariants.{NoSlot, ListFull}
 use Rattle.hop_base.specs.declared.instructions.Reply.TheVariants.{Ok as Fine}
-use Rattle.hop_model.specs.State.{Supply, AtlasState, ContainerState, LocusState, Cell, ContainerCell}
-use Rattle.hop_model.specs.Acts.{wanted}
-use Rattle.hop_model.specs.Outcomes.{Outcome, outcome, on_cell, take_cap, take_by, give, give_at, given_cap, set_reg, with_other, own_reply, finish}
-use Rattle.hop_model.specs.Refusals.{instr_at, reg}
-use Rattle.hop_model.specs.Words.{cap_at, free_slot, free_slot_from}
+use Rattle.invocation.specs.hop_model.State.{Supply, AtlasState, ContainerState, LocusState, Cell, ContainerCell}
+use Rattle.invocation.specs.hop_model.Acts.{wanted}
+use Rattle.invocation.specs.hop_model.Outcomes.{Outcome, outcome, on_cell, take_cap, take_by, give, give_at, given_cap, set_reg, with_other, own_reply, finish}
+use Rattle.invocation.specs.hop_model.Refusals.{instr_at, reg}
+use Rattle.invocation.specs.hop_model.Words.{cap_at, free_slot, free_slot_from}
 use Rattle.cap_list.specs.Slots.{free_from}
 use Rattle.cap_list.specs.Slots.{free_slot as lowest_empty}
 use Rattle.cap_list.specs.Slots.{cap_at as slot_at}
-use Rattle.locus_machine.proofs.Allowed.{same_cap}
-use Rattle.wanted_act.specs.Views.{may_name_itself}
+use Rattle.invocation.proofs.locus_machine_lemmas.Allowed.{same_cap}
+use Rattle.invocation.specs.wanted_act.Views.{may_name_itself}
 use Rattle.invocation.specs.Entries.{WantsBeside}
 use Rattle.invocation.proofs.Entered.{made_by}
 use Rattle.kernel_calls.specs.Calls.{is_take, is_give, CallMade}

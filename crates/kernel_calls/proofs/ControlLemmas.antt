@@ -4,11 +4,11 @@ use Rattle.hop_base.specs.declared.instructions.Condition.TheVariants.{Stopped}
 use Rattle.hop_base.specs.declared.instructions.Instr.{Instr}
 use Rattle.hop_base.specs.declared.instructions.Instr.TheVariants.{Stop, Go}
 use Rattle.hop_base.specs.declared.instructions.Reply.TheVariants.{Ok}
-use Rattle.hop_model.specs.State.{Supply, AtlasState, LocusState, Cell, LocusCell}
-use Rattle.hop_model.specs.Acts.{Act, alone, beside, beside_or_self, allowed, wanted}
-use Rattle.hop_model.specs.Outcomes.{outcome, on_cell, with_newborn, local_act, with_other, own_reply, stopped, going}
-use Rattle.hop_model.specs.Refusals.{instr_at, refusal, entity_of}
-use Rattle.locus_machine.proofs.Alone.{wanted_says, wanted_allowed}
+use Rattle.invocation.specs.hop_model.State.{Supply, AtlasState, LocusState, Cell, LocusCell}
+use Rattle.invocation.specs.hop_model.Acts.{Act, alone, beside, beside_or_self, allowed, wanted}
+use Rattle.invocation.specs.hop_model.Outcomes.{outcome, on_cell, with_newborn, local_act, with_other, own_reply, stopped, going}
+use Rattle.invocation.specs.hop_model.Refusals.{instr_at, refusal, entity_of}
+use Rattle.invocation.proofs.locus_machine_lemmas.Alone.{wanted_says, wanted_allowed}
 use Rattle.invocation.specs.Entries.{WantsBeside}
 use Rattle.invocation.proofs.Entered.{instr_is}
 use Rattle.kernel_calls.specs.Calls.{is_stop, is_go}

@@ -2,3 +2,5 @@ pub mod CallLemmas
 pub mod ControlLemmas
 pub mod BirthLemmas
 pub mod MapLemmas
+pub use Rattle.invocation.proofs.locus_machine_lemmas
+pub use Rattle.invocation.proofs.wanted_act_lemmas

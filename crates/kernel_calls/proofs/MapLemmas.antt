@@ -16,20 +16,20 @@ use Rattle.hop_base.specs.declared.instructions.Instr.TheVariants.{Map, Unmap}
 use Rattle.hop_base.specs.declared.instructions.Reply.{Reply}
 use Rattle.hop_base.specs.declared.instructions.Reply.TheVariants.{NoSlot, WrongKind, NoPage, Overlap, Circle, ListFull, NoRegion}
 use Rattle.hop_base.specs.declared.instructions.Reply.TheVariants.{Ok as Fine}
-use Rattle.hop_model.specs.State.{Supply, AtlasState, ContainerState, LocusState, Cell, ContainerCell}
-use Rattle.hop_model.specs.Acts.{wanted}
-use Rattle.hop_model.specs.Outcomes.{Outcome, outcome, on_cell, with_atlas, map_region, map_by, edge_put, unmap, unmap_at, finish}
-use Rattle.hop_model.specs.Refusals.{instr_at, refusal, reg, named, entity_of, no_cap, no_slot, no_container, lacks, no_page, new_region}
-use Rattle.hop_model.specs.Words.{unless, first, flat, overlaps, insert_region, put, is_container}
+use Rattle.invocation.specs.hop_model.State.{Supply, AtlasState, ContainerState, LocusState, Cell, ContainerCell}
+use Rattle.invocation.specs.hop_model.Acts.{wanted}
+use Rattle.invocation.specs.hop_model.Outcomes.{Outcome, outcome, on_cell, with_atlas, map_region, map_by, edge_put, unmap, unmap_at, finish}
+use Rattle.invocation.specs.hop_model.Refusals.{instr_at, refusal, reg, named, entity_of, no_cap, no_slot, no_container, lacks, no_page, new_region}
+use Rattle.invocation.specs.hop_model.Words.{unless, first, flat, overlaps, insert_region, put, is_container}
 use Rattle.region_map.specs.Regions.{begins_at, add_answer}
 use Rattle.region_map.specs.Regions.{insert_region as region_put}
 use Rattle.atlas_dir.specs.Directory.{Directory, edges_of, with_count, IsBornContainer}
 use Rattle.circle_law.specs.Containers.{IsAmongContainers}
 use Rattle.circle_law.proofs.Circles.{circle_found}
 use Rattle.atlas_dir.specs.Reached.{with_edge}
-use Rattle.wanted_act.specs.Views.{may_name_itself}
-use Rattle.wanted_act.proofs.Allowed.{unless_none, first_none}
-use Rattle.locus_machine.proofs.Alone.{wanted_says}
+use Rattle.invocation.specs.wanted_act.Views.{may_name_itself}
+use Rattle.invocation.proofs.wanted_act_lemmas.Allowed.{unless_none, first_none}
+use Rattle.invocation.proofs.locus_machine_lemmas.Alone.{wanted_says}
 use Rattle.invocation.specs.Entries.{WantsBeside}
 use Rattle.invocation.proofs.Entered.{made_by}
 use Rattle.kernel_calls.specs.Calls.{is_map, is_unmap, atlas_state, NamesBorn, AtlasCallMade}

@@ -5,13 +5,13 @@ use Rattle.hop_base.specs.declared.histories.Answer.TheVariants.{Reply as Replie
 use Rattle.hop_base.specs.declared.instructions.Instr.{Instr}
 use Rattle.hop_base.specs.declared.instructions.Instr.TheVariants.{Map, Unmap, Take, Give, Make, Spawn, Stop, Go}
 use Rattle.hop_base.specs.declared.instructions.Reply.{Reply}
-use Rattle.hop_model.specs.State.{Supply, AtlasState, LocusState, Cell, ContainerCell, LocusCell}
-use Rattle.hop_model.specs.Acts.{wanted}
-use Rattle.hop_model.specs.Outcomes.{Outcome, supplied}
-use Rattle.hop_model.specs.Words.{is_container}
-use Rattle.locus_machine.specs.Loci.{locus_of, container_with}
-use Rattle.locus_machine.specs.declared.loci.Head.{Head}
-use Rattle.locus_machine.specs.declared.loci.Locus.{Locus}
+use Rattle.invocation.specs.hop_model.State.{Supply, AtlasState, LocusState, Cell, ContainerCell, LocusCell}
+use Rattle.invocation.specs.hop_model.Acts.{wanted}
+use Rattle.invocation.specs.hop_model.Outcomes.{Outcome, supplied}
+use Rattle.invocation.specs.hop_model.Words.{is_container}
+use Rattle.invocation.specs.locus_machine.Loci.{locus_of, container_with}
+use Rattle.invocation.specs.locus_machine.declared.loci.Head.{Head}
+use Rattle.invocation.specs.locus_machine.declared.loci.Locus.{Locus}
 use Rattle.atlas_dir.specs.Directory.{Directory, edges_of, IsBornContainer}
 
 -- what the directory is in the model

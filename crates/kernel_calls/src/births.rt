@@ -2,20 +2,20 @@
 ghost use Rattle.std.specs.Prelude.{◌≡◌, ◌≢◌, ℕ, ◌<◌, ◌≤◌, IsTrue, is_some, replicate, [], None, true};
 ghost use Rattle.std.specs.Option.{ForSome};
 ghost use Rattle.hop_base.specs.Instructions.{IsPlace};
-ghost use Rattle.hop_model.specs.Acts.{wanted};
-ghost use Rattle.hop_model.specs.Outcomes.{outcome, holding, code_for, spawned, make as making, spawn as spawning};
-ghost use Rattle.hop_model.specs.Refusals.{reg};
-ghost use Rattle.hop_model.specs.State.{Supply, Cell};
-ghost use Rattle.hop_model.specs.Words.{free_slot};
-ghost use Rattle.wanted_act.specs.Views.{IsReadyLocus};
-ghost use Rattle.locus_machine.specs.Loci.{locus_of, container_with};
+ghost use Rattle.invocation.specs.hop_model.Acts.{wanted};
+ghost use Rattle.invocation.specs.hop_model.Outcomes.{outcome, holding, code_for, spawned, make as making, spawn as spawning};
+ghost use Rattle.invocation.specs.hop_model.Refusals.{reg};
+ghost use Rattle.invocation.specs.hop_model.State.{Supply, Cell};
+ghost use Rattle.invocation.specs.hop_model.Words.{free_slot};
+ghost use Rattle.invocation.specs.wanted_act.Views.{IsReadyLocus};
+ghost use Rattle.invocation.specs.locus_machine.Loci.{locus_of, container_with};
 ghost use Rattle.kernel_calls.specs.Calls.{is_make, is_spawn, atlas_state, born_head, born_locus, WantsBirth, AtlasCallMade};
 
 use crate::replies::reply_with;
 use atlas_dir::Atlas;
 use hop_base::{Cap, Condition, Entity, Instr, Kind, Reply, Rights};
-use locus_machine::{Chain, Code, Head, Locus, Privates};
-use wanted_act::fetch;
+use invocation::locus_machine::{Chain, Code, Head, Locus, Privates};
+use invocation::wanted_act::fetch;
 
 /// The lowest empty slot gets a capability on the newborn with all rights but Stabilise, and the register the slot.
 fn hold(locus: &mut Locus, d: u8, newborn: Entity)

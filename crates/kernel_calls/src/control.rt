@@ -1,17 +1,17 @@
 // Letting a locus stop, or go on.
 ghost use Rattle.std.specs.Prelude.{◌≡◌, ◌≢◌, ℕ, ◌<◌, Some, None};
 ghost use Rattle.hop_base.specs.declared.instructions.Condition.TheVariants.{Stopped as StoppedNow};
-ghost use Rattle.hop_model.specs.Acts.{wanted};
-ghost use Rattle.hop_model.specs.Outcomes.{outcome, finish as finished, stopped, going};
-ghost use Rattle.hop_model.specs.State.{Supply, AtlasState, Cell, LocusCell};
-ghost use Rattle.wanted_act.specs.Views.{IsReadyLocus};
-ghost use Rattle.locus_machine.specs.Loci.{locus_of};
+ghost use Rattle.invocation.specs.hop_model.Acts.{wanted};
+ghost use Rattle.invocation.specs.hop_model.Outcomes.{outcome, finish as finished, stopped, going};
+ghost use Rattle.invocation.specs.hop_model.State.{Supply, AtlasState, Cell, LocusCell};
+ghost use Rattle.invocation.specs.wanted_act.Views.{IsReadyLocus};
+ghost use Rattle.invocation.specs.locus_machine.Loci.{locus_of};
 ghost use Rattle.invocation.specs.Entries.{WantsBeside};
 ghost use Rattle.kernel_calls.specs.Calls.{is_stop, is_go, CallMade};
 
 use crate::replies::reply_with;
 use hop_base::{Condition, Reply};
-use locus_machine::Locus;
+use invocation::locus_machine::Locus;
 
 fn stopped_from(condition: Condition) -> Condition
     ensures { result ≡ stopped condition }

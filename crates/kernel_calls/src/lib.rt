@@ -9,5 +9,7 @@ mod sharing;
 
 pub use births::{make, spawn};
 pub use control::{go, go_itself, stop, stop_itself};
+pub use invocation;
+pub use invocation::locus_machine;
 pub use mappings::{map, unmap};
 pub use sharing::{give, take};

@@ -1,19 +1,19 @@
 // Regions of a container, and the edges that count them.
 ghost use Rattle.std.specs.Prelude.{◌≡◌, ℕ, ◌+◌, ◌<◌, ◌≤◌, ◌==◌, Some, None, count_by};
-ghost use Rattle.hop_model.specs.Acts.{wanted};
-ghost use Rattle.hop_model.specs.Outcomes.{outcome, map_region, unmap as unmapping};
-ghost use Rattle.hop_model.specs.State.{Supply, ContainerCell};
+ghost use Rattle.invocation.specs.hop_model.Acts.{wanted};
+ghost use Rattle.invocation.specs.hop_model.Outcomes.{outcome, map_region, unmap as unmapping};
+ghost use Rattle.invocation.specs.hop_model.State.{Supply, ContainerCell};
 ghost use Rattle.atlas_dir.specs.Directory.{edges_of, IsBornContainer};
-ghost use Rattle.wanted_act.specs.Views.{IsReadyLocus};
-ghost use Rattle.locus_machine.specs.Loci.{locus_of, container_with};
+ghost use Rattle.invocation.specs.wanted_act.Views.{IsReadyLocus};
+ghost use Rattle.invocation.specs.locus_machine.Loci.{locus_of, container_with};
 ghost use Rattle.invocation.specs.Entries.{WantsBeside};
 ghost use Rattle.kernel_calls.specs.Calls.{is_map, is_unmap, atlas_state, NamesBorn, AtlasCallMade};
 
 use crate::replies::reply_with;
 use atlas_dir::Atlas;
 use hop_base::{Entity, Instr, Region, Reply};
-use locus_machine::{Head, Locus};
-use wanted_act::{fetch, new_region};
+use invocation::locus_machine::{Head, Locus};
+use invocation::wanted_act::{fetch, new_region};
 
 fn map_into(
     locus: &mut Locus,

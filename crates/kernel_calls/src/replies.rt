@@ -1,9 +1,9 @@
 ghost use Rattle.std.specs.Prelude.{◌≡◌, ◌<◌};
-ghost use Rattle.hop_model.specs.Outcomes.{finish as finished};
-ghost use Rattle.locus_machine.specs.Loci.{locus_of};
+ghost use Rattle.invocation.specs.hop_model.Outcomes.{finish as finished};
+ghost use Rattle.invocation.specs.locus_machine.Loci.{locus_of};
 
 use hop_base::Reply;
-use locus_machine::Locus;
+use invocation::locus_machine::Locus;
 
 /// Ends the call with this reply.
 pub(crate) fn reply_with(locus: &mut Locus, reply: Reply) -> Reply

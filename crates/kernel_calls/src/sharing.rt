@@ -1,18 +1,18 @@
 // Copies of capabilities, between a locus and a container.
 ghost use Rattle.std.specs.Prelude.{◌≡◌, ℕ, ◌<◌, Some};
-ghost use Rattle.hop_model.specs.Acts.{wanted};
-ghost use Rattle.hop_model.specs.Outcomes.{outcome, take_cap, give as give_cap, given_cap};
-ghost use Rattle.hop_model.specs.Refusals.{reg};
-ghost use Rattle.hop_model.specs.State.{Supply, AtlasState, ContainerCell};
-ghost use Rattle.wanted_act.specs.Views.{IsReadyLocus};
-ghost use Rattle.locus_machine.specs.Loci.{locus_of, container_with};
+ghost use Rattle.invocation.specs.hop_model.Acts.{wanted};
+ghost use Rattle.invocation.specs.hop_model.Outcomes.{outcome, take_cap, give as give_cap, given_cap};
+ghost use Rattle.invocation.specs.hop_model.Refusals.{reg};
+ghost use Rattle.invocation.specs.hop_model.State.{Supply, AtlasState, ContainerCell};
+ghost use Rattle.invocation.specs.wanted_act.Views.{IsReadyLocus};
+ghost use Rattle.invocation.specs.locus_machine.Loci.{locus_of, container_with};
 ghost use Rattle.invocation.specs.Entries.{WantsBeside};
 ghost use Rattle.kernel_calls.specs.Calls.{is_take, is_give, CallMade};
 
 use crate::replies::reply_with;
 use hop_base::{Cap, Instr, Reply, Rights};
-use locus_machine::{Head, Locus};
-use wanted_act::{fetch, named_entity, named_rights};
+use invocation::locus_machine::{Head, Locus};
+use invocation::wanted_act::{fetch, named_entity, named_rights};
 
 fn take_from(locus: &mut Locus, head: &Head, d: u8, y: u8) -> Reply
     requires d { d < 8 }

@@ -4,13 +4,13 @@ use Rattle.hop_base.specs.declared.instructions.Instr.{Instr}
 use Rattle.hop_base.specs.declared.instructions.Instr.TheVariants.{Stop, Go, Snap}
 use Rattle.hop_base.specs.declared.instructions.Reply.{Reply}
 use Rattle.hop_base.specs.declared.instructions.Reply.TheVariants.{Ok}
-use Rattle.hop_model.specs.Acts.{Act, act_by, alone, allowed, wanted}
-use Rattle.hop_model.specs.Outcomes.{local_act, outcome, own_reply, with_newborn}
-use Rattle.hop_model.specs.Refusals.{instr_at, refusal}
-use Rattle.hop_model.specs.State.{Supply, AtlasState, LocusState, Cell}
-use Rattle.wanted_act.specs.Views.{IsReadyLocus, is_number, may_name_itself, seen_by}
-use Rattle.locus_machine.specs.Loci.{IsAlone}
-use Rattle.locus_machine.proofs.Alone.{place_within, seen_same, wanted_says}
+use Rattle.event_clocks.specs.hop_model.Acts.{Act, act_by, alone, allowed, wanted}
+use Rattle.event_clocks.specs.hop_model.Outcomes.{local_act, outcome, own_reply, with_newborn}
+use Rattle.event_clocks.specs.hop_model.Refusals.{instr_at, refusal}
+use Rattle.event_clocks.specs.hop_model.State.{Supply, AtlasState, LocusState, Cell}
+use Rattle.kernel_calls.specs.wanted_act.Views.{IsReadyLocus, is_number, may_name_itself, seen_by}
+use Rattle.kernel_calls.specs.locus_machine.Loci.{IsAlone}
+use Rattle.kernel_calls.proofs.locus_machine_lemmas.Alone.{place_within, seen_same, wanted_says}
 use Rattle.kernel_cells.specs.Itself.{WantsItself}
 
 some_none : {A : Type 0} {x : A} → Some x ≡ None → ⊥

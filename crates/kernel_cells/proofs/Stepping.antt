@@ -7,13 +7,13 @@ use Rattle.hop_base.specs.declared.instructions.Condition.TheVariants.{Running}
 use Rattle.hop_base.specs.declared.instructions.Instr.{Instr}
 use Rattle.hop_base.specs.declared.instructions.Instr.TheVariants.{Set, Copy, Add, Sub, Jump, Jz, Load, Store, Invoke, Leave, Return, Map, Unmap, Lmap, Lunmap, Take, Give, Drop, Make, Spawn, Stop, Go, Snap, Stabilise, Print, Halt}
 use Rattle.hop_base.specs.declared.instructions.Reply.{Reply}
-use Rattle.hop_model.specs.Acts.{Act, act_by, allowed, alone, beside, beside_or_self, wanted}
-use Rattle.hop_model.specs.Changes.{Access, Change, access_at, carried, carried_by, changed, entry_of, ordered}
-use Rattle.hop_model.specs.Outcomes.{Outcome, local_act, outcome, with_newborn}
-use Rattle.hop_model.specs.Refusals.{entity_of, instr_at, refusal}
-use Rattle.hop_model.specs.State.{Supply, AtlasState, LocusState, Cell as ModelCell, LocusCell, EntityState, KernelState}
-use Rattle.hop_model.specs.Steps.{accesses_of, change_by, change_of, if_running, numbered_change, outcome_in, running, seen_atlas, seen_other, step, step_change, with_atlas_access, with_newborn_access, with_other_access}
-use Rattle.locus_machine.specs.Loci.{IsAlone}
+use Rattle.event_clocks.specs.hop_model.Acts.{Act, act_by, allowed, alone, beside, beside_or_self, wanted}
+use Rattle.event_clocks.specs.hop_model.Changes.{Access, Change, access_at, carried, carried_by, changed, entry_of, ordered}
+use Rattle.event_clocks.specs.hop_model.Outcomes.{Outcome, local_act, outcome, with_newborn}
+use Rattle.event_clocks.specs.hop_model.Refusals.{entity_of, instr_at, refusal}
+use Rattle.event_clocks.specs.hop_model.State.{Supply, AtlasState, LocusState, Cell as ModelCell, LocusCell, EntityState, KernelState}
+use Rattle.event_clocks.specs.hop_model.Steps.{accesses_of, change_by, change_of, if_running, numbered_change, outcome_in, running, seen_atlas, seen_other, step, step_change, with_atlas_access, with_newborn_access, with_other_access}
+use Rattle.kernel_calls.specs.locus_machine.Loci.{IsAlone}
 use Rattle.event_clocks.specs.Clocks.{HasClock, writing, CarriesOne}
 use Rattle.event_clocks.proofs.Changing.{access_first, read_at, written_at}
 use Rattle.kernel_cells.specs.declared.cells.Cell.{Cell}

@@ -1,11 +1,11 @@
 -- What a cell of the kernel is in the model.
 use Rattle.std.specs.Prelude.{◌≡◌, ℕ, List, Option, Some, None}
 use Rattle.hop_base.specs.declared.instructions.Condition.TheVariants.{Running}
-use Rattle.hop_model.specs.State.{Supply, Cell as ModelCell, NotBorn, AtlasCell, ContainerCell, LocusCell, KernelState}
-use Rattle.wanted_act.specs.Views.{IsReadyLocus}
-use Rattle.locus_machine.specs.declared.loci.Head.{Head}
-use Rattle.locus_machine.specs.declared.loci.Locus.{Locus}
-use Rattle.locus_machine.specs.Loci.{locus_of, container_with}
+use Rattle.event_clocks.specs.hop_model.State.{Supply, Cell as ModelCell, NotBorn, AtlasCell, ContainerCell, LocusCell, KernelState}
+use Rattle.kernel_calls.specs.wanted_act.Views.{IsReadyLocus}
+use Rattle.kernel_calls.specs.locus_machine.declared.loci.Head.{Head}
+use Rattle.kernel_calls.specs.locus_machine.declared.loci.Locus.{Locus}
+use Rattle.kernel_calls.specs.locus_machine.Loci.{locus_of, container_with}
 use Rattle.kernel_calls.specs.Calls.{atlas_state}
 use Rattle.fault_paging.specs.declared.paged.PagedMemory.{PagedMemory}
 use Rattle.fault_paging.specs.Words.{words_of}

@@ -1,9 +1,9 @@
 -- Acts of a locus that name the locus itself.
 use Rattle.std.specs.Prelude.{◌≡◌, ℕ, IsTrue, Some, None}
 use Rattle.hop_base.specs.declared.instructions.Instr.{Instr}
-use Rattle.hop_model.specs.Acts.{alone, wanted}
-use Rattle.hop_model.specs.State.{LocusState}
-use Rattle.wanted_act.specs.Views.{may_name_itself}
+use Rattle.event_clocks.specs.hop_model.Acts.{alone, wanted}
+use Rattle.event_clocks.specs.hop_model.State.{LocusState}
+use Rattle.kernel_calls.specs.wanted_act.Views.{may_name_itself}
 
 -- the locus with the number me wants this act, which names itself, and touches it once
 pub record WantsItself (l : LocusState) (i : Instr) (me : ℕ) : Type 0 where

@@ -2,9 +2,9 @@
 use Rattle.std.specs.Prelude.{◌≡◌, ℕ, Some}
 use Rattle.hop_base.specs.declared.histories.Answer.{Answer}
 use Rattle.hop_base.specs.declared.histories.Entry.{Entry}
-use Rattle.hop_model.specs.Outcomes.{Outcome}
-use Rattle.hop_model.specs.State.{Supply, Cell, LocusCell, KernelState}
-use Rattle.hop_model.specs.Steps.{step}
+use Rattle.event_clocks.specs.hop_model.Outcomes.{Outcome}
+use Rattle.event_clocks.specs.hop_model.State.{Supply, Cell, LocusCell, KernelState}
+use Rattle.event_clocks.specs.hop_model.Steps.{step}
 
 -- the step of the locus in the state gives this entry, and a state of which P holds
 abbrev pub Steps : Supply → ℕ → KernelState → Entry → (KernelState → Type 0) → Type 0

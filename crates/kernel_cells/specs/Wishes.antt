@@ -1,7 +1,7 @@
 -- Wishes for snapshots, as cells keep them.
 use Rattle.std.specs.Prelude.{◌≡◌, ℕ, ◌+◌, ◌-◌, Bool, ◌&&◌, ◌||◌}
-use Rattle.hop_model.specs.State.{Cell as ModelCell}
-use Rattle.hop_model.specs.Histories.{Policy, Run, every_of}
+use Rattle.event_clocks.specs.hop_model.State.{Cell as ModelCell}
+use Rattle.event_clocks.specs.hop_model.Histories.{Policy, Run, every_of}
 use Rattle.kernel_cells.specs.declared.cells.Cell.{Cell}
 use Rattle.kernel_cells.specs.declared.cells.Wish.{Wish}
 

@@ -1,12 +1,12 @@
 // Steps that touch the locus alone.
 ghost use Rattle.std.specs.Prelude.{◌≡◌, ◌<◌, ◌^◌, ℕ, List, Some};
-ghost use Rattle.hop_model.specs.Acts.{wanted};
-ghost use Rattle.hop_model.specs.Outcomes.{outcome};
-ghost use Rattle.hop_model.specs.State.{AtlasState, Cell as ModelCell, KernelState, LocusCell, LocusState, Supply};
+ghost use Rattle.event_clocks.specs.hop_model.Acts.{wanted};
+ghost use Rattle.event_clocks.specs.hop_model.Outcomes.{outcome};
+ghost use Rattle.event_clocks.specs.hop_model.State.{AtlasState, Cell as ModelCell, KernelState, LocusCell, LocusState, Supply};
 ghost use Rattle.hop_base.specs.declared.instructions.Condition.TheVariants.{Running as RunningNow};
-ghost use Rattle.wanted_act.specs.Views.{IsReadyLocus};
-ghost use Rattle.locus_machine.specs.Loci.{locus_of, IsAlone};
-ghost use Rattle.locus_machine.specs.declared.loci.Locus.{Locus as ALocus};
+ghost use Rattle.kernel_calls.specs.wanted_act.Views.{IsReadyLocus};
+ghost use Rattle.kernel_calls.specs.locus_machine.Loci.{locus_of, IsAlone};
+ghost use Rattle.kernel_calls.specs.locus_machine.declared.loci.Locus.{Locus as ALocus};
 ghost use Rattle.kernel_cells.specs.Cells.{part_of, HasCell, IsRunning};
 ghost use Rattle.kernel_cells.specs.Itself.{WantsItself};
 ghost use Rattle.kernel_cells.specs.Steps.{MakesAlone, Steps};
@@ -14,8 +14,8 @@ ghost use Rattle.kernel_cells.specs.Steps.{MakesAlone, Steps};
 use crate::cells::{Cell, Part};
 use event_clocks::write_one;
 use hop_base::{Answer, Entity, Entry, Event, Instr, Reply};
+use kernel_calls::locus_machine::Locus;
 use kernel_calls::{go_itself, stop_itself};
-use locus_machine::Locus;
 
 /// An act of the locus with this number that names the locus itself.
 fn on_itself(me: Entity, locus: &mut Locus, instr: Instr) -> Answer

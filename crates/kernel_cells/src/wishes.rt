@@ -1,8 +1,8 @@
 // Wishes for snapshots.
 ghost use Rattle.std.specs.Prelude.{◌≡◌, ◌≤◌, ◌<◌, ◌-◌, ◌||◌, ℕ, List, Option, if◌then◌else◌, true};
-ghost use Rattle.hop_model.specs.Histories.{after_step, asked_by, every_of, has_wish, writes, Run};
-ghost use Rattle.hop_model.specs.State.{KernelState, LocusState, Supply};
-ghost use Rattle.wanted_act.specs.Views.{is_number};
+ghost use Rattle.event_clocks.specs.hop_model.Histories.{after_step, asked_by, every_of, has_wish, writes, Run};
+ghost use Rattle.event_clocks.specs.hop_model.State.{KernelState, LocusState, Supply};
+ghost use Rattle.kernel_calls.specs.wanted_act.Views.{is_number};
 ghost use Rattle.kernel_cells.specs.Cells.{part_of, HasCell};
 ghost use Rattle.kernel_cells.specs.Wishes.{HasWish, is_open};
 

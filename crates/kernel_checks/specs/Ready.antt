@@ -1,9 +1,9 @@
 -- A plain state from which events can be made.
-use Rattle.hop_model.specs.Soundness.{IsSound}
-use Rattle.hop_model.specs.State.{Supply}
-use Rattle.history_model.specs.Born.{AreEdges}
-use Rattle.history_model.specs.Plains.{cells_of}
-use Rattle.history_model.specs.declared.plain.Plain.{Plain}
+use Rattle.plain_run.specs.hop_model.Soundness.{IsSound}
+use Rattle.plain_run.specs.hop_model.State.{Supply}
+use Rattle.plain_run.specs.history_model.Born.{AreEdges}
+use Rattle.plain_run.specs.history_model.Plains.{cells_of}
+use Rattle.plain_run.specs.history_model.declared.plain.Plain.{Plain}
 
 -- it is sound, whatever the supplier, and its edges ascend
 pub record IsReady (p : Plain) : Type 0 where

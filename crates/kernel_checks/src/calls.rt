@@ -1,27 +1,27 @@
 //! What the tests call.
 ghost use Rattle.std.specs.Prelude.{◌≤◌, IfOk};
-ghost use Rattle.history_model.specs.Plains.{cells_of};
-ghost use Rattle.hop_model.specs.Soundness.{IsSound};
-ghost use Rattle.image_blocks.specs.Layout.{least_blocks, most_blocks};
+ghost use Rattle.plain_run.specs.history_model.Plains.{cells_of};
+ghost use Rattle.plain_run.specs.hop_model.Soundness.{IsSound};
+ghost use Rattle.image_tools.specs.image_blocks.Layout.{least_blocks, most_blocks};
 ghost use Rattle.manager_gate.specs.Managers.{counted_word};
-ghost use Rattle.script_form.specs.Rules.{IsScript};
-ghost use Rattle.script_form.specs.Scripts.{tables_of};
+ghost use Rattle.script_read.specs.script_form.Rules.{IsScript};
+ghost use Rattle.script_read.specs.script_form.Scripts.{tables_of};
 
 use crate::own::OwnKernel;
 use crate::scripts::names_of;
 use disk_trait::{DiskFault, MemoryDisk};
-use history_model::Plain;
+use entry_lines::stream_edge::MemorySink;
+use entry_lines::text_lines::NameLists;
 use hop_base::{Entity, Entry};
+use image_tools::plain_show::write_show;
 use image_tools::{ImageFacts, read_image, write_report};
-use kernel_core::Ended;
+use kernel_opening::kernel_core::Ended;
 use manager_gate::{CountedWords, Supplier};
-use plain_show::write_show;
+use plain_run::history_model::Plain;
 use restart::format;
-use script_form::Script;
+use script_read::script_form::Script;
 use std::alloc::Global;
 use std::test::Fail;
-use stream_edge::MemorySink;
-use text_lines::NameLists;
 
 /// A disk with an empty image of so many blocks, made by its first ten calls, which keeps so many writes and syncs.
 pub(crate) fn formatted(

@@ -1,8 +1,8 @@
 //! Disks each of whose calls fails in turn, and disks with too few blocks.
 ghost use Rattle.std.specs.Prelude.{◌≤◌, ◌<◌, length};
-ghost use Rattle.image_blocks.specs.Layout.{least_blocks, most_blocks};
-ghost use Rattle.script_form.specs.Rules.{IsScript};
-ghost use Rattle.script_form.specs.Scripts.{tables_of};
+ghost use Rattle.image_tools.specs.image_blocks.Layout.{least_blocks, most_blocks};
+ghost use Rattle.script_read.specs.script_form.Rules.{IsScript};
+ghost use Rattle.script_read.specs.script_form.Scripts.{tables_of};
 
 use crate::calls::{facts_of, formatted, kernel_of, run, run_whole, shown};
 use crate::clocks::commits_of;
@@ -13,8 +13,8 @@ use crate::scripts::{ALL_PAGES, FORTY_PAGES, FORTY_PAGES_STABLE, WISHES};
 use disk_trait::{MemoryDisk, NoBlocks};
 use drill_gen::drill_script;
 use hop_base::{Entity, Entry, Event};
-use kernel_core::{Ended, Stopped};
-use script_form::Script;
+use kernel_opening::kernel_core::{Ended, Stopped};
+use script_read::script_form::Script;
 use std::alloc::Global;
 use std::process::Abort;
 use std::test::Fail;

@@ -1,10 +1,10 @@
 //! Scripts read from a text, with other steps and frames.
 ghost use Rattle.std.specs.Prelude.{◌≤◌, IfOk};
-ghost use Rattle.script_form.specs.Rules.{IsScript};
-ghost use Rattle.script_form.specs.Scripts.{tables_of};
+ghost use Rattle.script_read.specs.script_form.Rules.{IsScript};
+ghost use Rattle.script_read.specs.script_form.Scripts.{tables_of};
 
-use script_form::Script;
 use script_read::read_script;
+use script_read::script_form::Script;
 use std::alloc::Global;
 use std::test::Fail;
 

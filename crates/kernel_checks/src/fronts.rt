@@ -1,14 +1,14 @@
 //! What an image may mean: the greatest closed choice over the first commits of a history, for so many of them.
-ghost use Rattle.script_form.specs.Rules.{IsScript};
-ghost use Rattle.script_form.specs.Scripts.{tables_of};
+ghost use Rattle.script_read.specs.script_form.Rules.{IsScript};
+ghost use Rattle.script_read.specs.script_form.Scripts.{tables_of};
 
 use crate::calls::{facts_of, shown};
 use crate::replays::part_of;
-use cut_finder::{MOST_RECORDS, greatest, is_ascending};
 use disk_trait::MemoryDisk;
 use hop_base::{Cut, Entry, Rec};
 use image_tools::ImageFacts;
-use script_form::Script;
+use image_tools::cut_finder::{MOST_RECORDS, greatest, is_ascending};
+use script_read::script_form::Script;
 use std::alloc::Global;
 use std::process::Abort;
 use std::test::Fail;

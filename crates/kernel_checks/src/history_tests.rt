@@ -6,8 +6,8 @@ use crate::scripts::{
     ALL_PAGES, ALWAYS_STABLE, COUNTS_ON, FIVE, LAST_NUMBER, STORES_AGAIN, STORES_BOTH, STORES_ONCE,
 };
 use hop_base::{Answer, Entity, Entry, Event, Reply};
-use image_blocks::Area;
-use kernel_core::{Idle, Looked};
+use image_tools::image_blocks::Area;
+use kernel_opening::kernel_core::{Idle, Looked};
 use std::alloc::Global;
 use std::test::Fail;
 

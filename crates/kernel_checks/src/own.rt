@@ -1,20 +1,20 @@
 // A kernel with managers of its own.
 ghost use Rattle.std.specs.Prelude.{◌≡◌, ◌<◌, ◌≤◌, [], true, None, Some, Err, IfErr, IfSome, OnOk};
-ghost use Rattle.fitting_births.specs.Fitting.{Fits};
-ghost use Rattle.kernel_core.specs.Bearing.{HasOpened};
-ghost use Rattle.script_form.specs.Rules.{IsScript};
-ghost use Rattle.script_form.specs.Scripts.{tables_of};
-ghost use Rattle.table_births.specs.Births.{atlas_state_in};
+ghost use Rattle.kernel_opening.specs.fitting_births.Fitting.{Fits};
+ghost use Rattle.kernel_opening.specs.kernel_core.Bearing.{HasOpened};
+ghost use Rattle.script_read.specs.script_form.Rules.{IsScript};
+ghost use Rattle.script_read.specs.script_form.Scripts.{tables_of};
+ghost use Rattle.kernel_opening.specs.table_births.Births.{atlas_state_in};
 
 use disk_trait::Disk;
 use hop_base::Entity;
-use kernel_core::{Ended, Kernel, Looked, Stopped};
+use kernel_opening::kernel_core::{Ended, Kernel, Looked, Stopped};
 use kernel_opening::open_image;
+use kernel_opening::script_against::against;
+use kernel_opening::snapshot_store::OpenFault;
 use kernel_runs::{finish, play};
 use manager_gate::{CountedWords, EveryVersions, Gate};
-use script_against::against;
-use script_form::Script;
-use snapshot_store::OpenFault;
+use script_read::script_form::Script;
 use std::alloc::Global;
 use std::marker::Model;
 
@@ -66,7 +66,7 @@ pub struct OwnKernel<D: Disk> {
 }
 
 impl<D: Disk> Model for OwnKernel<D> {
-    ghost use Rattle.kernel_core.specs.Kernels.{Held, StaysClean};
+    ghost use Rattle.kernel_opening.specs.kernel_core.Kernels.{Held, StaysClean};
     ghost use Rattle.manager_gate.specs.Managers.{counted_word};
 
     ghost Value = { Held D };

@@ -1,20 +1,20 @@
 //! Plain states on which the events of a history are made again.
 ghost use Rattle.std.specs.Prelude.{◌≡◌, true};
-ghost use Rattle.history_model.specs.Born.{AreEdges};
-ghost use Rattle.history_model.specs.Events.{AreFewVersions};
-ghost use Rattle.history_model.specs.Plains.{cells_of};
-ghost use Rattle.hop_model.specs.Soundness.{IsSound};
-ghost use Rattle.hop_model.specs.State.{Supply};
+ghost use Rattle.plain_run.specs.history_model.Born.{AreEdges};
+ghost use Rattle.plain_run.specs.history_model.Events.{AreFewVersions};
+ghost use Rattle.plain_run.specs.history_model.Plains.{cells_of};
+ghost use Rattle.plain_run.specs.hop_model.Soundness.{IsSound};
+ghost use Rattle.plain_run.specs.hop_model.State.{Supply};
 ghost use Rattle.manager_gate.specs.Managers.{counted_word};
-ghost use Rattle.script_form.specs.Rules.{IsScript};
-ghost use Rattle.script_form.specs.Scripts.{tables_of};
+ghost use Rattle.script_read.specs.script_form.Rules.{IsScript};
+ghost use Rattle.script_read.specs.script_form.Scripts.{tables_of};
 
 use crate::calls::shown_of;
-use history_model::{Plain, PlainAtlas, plain_birth, plain_step};
 use hop_base::{Cut, Entity, Entry, Event};
 use manager_gate::{CountedWords, Supplier};
+use plain_run::history_model::{Plain, PlainAtlas, plain_birth, plain_step};
 use plain_run::{against, next_name};
-use script_form::Script;
+use script_read::script_form::Script;
 use std::alloc::{AllocError, Global};
 use std::marker::Model;
 use std::process::Abort;

@@ -1,6 +1,6 @@
 //! Drawn programs, stepped by the kernel and by the plain kernel side by side.
-ghost use Rattle.script_form.specs.Rules.{IsScript};
-ghost use Rattle.script_form.specs.Scripts.{tables_of};
+ghost use Rattle.script_read.specs.script_form.Rules.{IsScript};
+ghost use Rattle.script_read.specs.script_form.Scripts.{tables_of};
 
 use crate::calls::{formatted, opened};
 use crate::clocks::{Clocks, commits_of};
@@ -9,12 +9,12 @@ use crate::own::OwnKernel;
 use crate::replays::{Replay, is_played};
 use disk_trait::MemoryDisk;
 use drill_gen::drill_script;
-use history_model::PlainLocus;
 use hop_base::{Entity, Entry};
-use kernel_cells::{Cell, Part};
-use kernel_core::Kernel;
-use locus_machine::Locus;
-use script_form::Script;
+use image_tools::locus_machine::Locus;
+use kernel_opening::kernel_cells::{Cell, Part};
+use kernel_opening::kernel_core::Kernel;
+use plain_run::history_model::PlainLocus;
+use script_read::script_form::Script;
 use std::alloc::Global;
 use std::process::Abort;
 use std::test::Fail;

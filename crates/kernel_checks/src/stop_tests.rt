@@ -1,8 +1,8 @@
 //! Runs stopped at each moment, torn in three ways: what is left means what the commits so far make.
 ghost use Rattle.std.specs.Prelude.{◌≤◌, ◌<◌};
 ghost use Rattle.disk_trait.specs.MemoryDisk.{moments_of};
-ghost use Rattle.script_form.specs.Rules.{IsScript};
-ghost use Rattle.script_form.specs.Scripts.{tables_of};
+ghost use Rattle.script_read.specs.script_form.Rules.{IsScript};
+ghost use Rattle.script_read.specs.script_form.Scripts.{tables_of};
 
 use crate::calls::{formatted, opened, run_whole, step_rounds};
 use crate::clocks::commits_of;
@@ -12,8 +12,8 @@ use crate::scripts::{STORES_BOTH, WISHES};
 use disk_trait::{MemoryDisk, Torn};
 use drill_gen::drill_script;
 use hop_base::Rec;
-use kernel_core::Ended;
-use script_form::Script;
+use kernel_opening::kernel_core::Ended;
+use script_read::script_form::Script;
 use std::alloc::Global;
 use std::process::Abort;
 use std::test::Fail;

@@ -8,13 +8,13 @@ use Rattle.hop_base.specs.declared.histories.Entry.{Entry}
 use Rattle.hop_base.specs.declared.histories.Touch.{Touch}
 use Rattle.hop_base.specs.Touches.{AllTouches, IsRising}
 use Rattle.hop_base.specs.declared.histories.Event.TheVariants.{Snap}
-use Rattle.hop_model.specs.Histories.{Policy, Run, has_wish, is_full, mark, run_after, start_run, version_of}
-use Rattle.hop_model.proofs.StableCuts.{run_append}
-use Rattle.serial_runs.specs.Serial.{IsBehind, wished_snap, wished_snaps, written_in}
-use Rattle.serial_runs.proofs.Calm.{snap_next, without}
+use Rattle.table_steps.specs.hop_model.Histories.{Policy, Run, has_wish, is_full, mark, run_after, start_run, version_of}
+use Rattle.table_steps.proofs.hop_model_lemmas.StableCuts.{run_append}
+use Rattle.serial_turns.specs.serial_runs.Serial.{IsBehind, wished_snap, wished_snaps, written_in}
+use Rattle.serial_turns.proofs.serial_runs_lemmas.Calm.{snap_next, without}
 use Rattle.serial_turns.specs.Turns.{IsStoppedIn}
 use Rattle.serial_turns.proofs.Stops.{stopped_behind, stopped_longer}
-use Rattle.kernel_model.specs.Beginnings.{Beginning, run_of}
+use Rattle.cell_books.specs.kernel_model.Beginnings.{Beginning, run_of}
 use Rattle.kernel_commits.specs.Lacking.{LacksIn}
 use Rattle.kernel_commits.specs.Parts.{Parts}
 use Rattle.kernel_commits.specs.Pieces.{StopsIn}

@@ -8,16 +8,16 @@ use Rattle.disk_trait.specs.Counts.{Rose}
 use Rattle.disk_trait.specs.declared.disk.NoBlocks.{NoBlocks as TooFewBlocks}
 use Rattle.hop_base.specs.declared.histories.Entry.{Entry}
 use Rattle.hop_base.specs.declared.histories.Event.TheVariants.{Snap, Tried}
-use Rattle.hop_model.specs.Histories.{mark}
-use Rattle.kernel_cells.specs.declared.cells.Cell.{Cell}
-use Rattle.cell_blobs.specs.Blobs.{is_recorded}
-use Rattle.cell_table.specs.Lending.{Lends}
-use Rattle.snapshot_store.specs.State.{State, books}
-use Rattle.snapshot_store.specs.declared.faults.StoreFault.{StoreFault}
-use Rattle.snapshot_store.specs.declared.faults.StoreFault.TheVariants.{NoBlocks, ReadFault, Shut, WriteFault}
-use Rattle.kernel_records.specs.Committing.{CellFaults, CommitCounts, IsTooFew}
-use Rattle.kernel_model.specs.Beginnings.{Beginning}
-use Rattle.kernel_model.specs.Live.{TooFew as TooFewStop}
+use Rattle.table_steps.specs.hop_model.Histories.{mark}
+use Rattle.table_steps.specs.kernel_cells.declared.cells.Cell.{Cell}
+use Rattle.table_steps.specs.cell_blobs.Blobs.{is_recorded}
+use Rattle.table_steps.specs.cell_table.Lending.{Lends}
+use Rattle.cell_books.specs.snapshot_store.State.{State, books}
+use Rattle.cell_books.specs.snapshot_store.declared.faults.StoreFault.{StoreFault}
+use Rattle.cell_books.specs.snapshot_store.declared.faults.StoreFault.TheVariants.{NoBlocks, ReadFault, Shut, WriteFault}
+use Rattle.cell_books.specs.kernel_records.Committing.{CellFaults, CommitCounts, IsTooFew}
+use Rattle.cell_books.specs.kernel_model.Beginnings.{Beginning}
+use Rattle.cell_books.specs.kernel_model.Live.{TooFew as TooFewStop}
 use Rattle.cell_books.specs.Matching.{version_of}
 use Rattle.kernel_commits.specs.Parts.{LivesAs, Noted, Parts, parts_of}
 use Rattle.kernel_commits.specs.Recording.{CanRecord, CommitsAmong, GoesOnBy, HasMade, HasNotMade, HasRecorded, HasTried, IsShort, MayRecord, why_of, with_fault}

@@ -5,21 +5,21 @@ use Rattle.std.proofs.lemmas.List.{length-take}
 use Rattle.byteorder.specs.Endian.{little_bytes}
 use Rattle.hop_base.specs.declared.entities.Kind.TheVariants.{Atlas as AtlasKind}
 use Rattle.hop_base.specs.declared.instructions.Walk.{Walk}
-use Rattle.hop_model.specs.State.{AtlasState, ContainerState, LocusState}
-use Rattle.blob_grammar.specs.Forms.{IsAtlasForm, IsNumber}
-use Rattle.blob_grammar.specs.Shapes.{IsContainerOver, IsLocusOver}
-use Rattle.blob_grammar.specs.Spelling.{atlas_blob, call_bytes, caps_bytes, container_blob, instr_bytes, is_short, listed, locus_blob, locus_front, locus_rest, private_bytes, region_bytes, walk_bytes}
-use Rattle.blob_grammar.proofs.KindSizes.{most}
-use Rattle.blob_grammar.proofs.Sizes.{caps_len, code_len, numbers_len, same_items}
-use Rattle.image_blocks.specs.Bodies.{blocks_for}
-use Rattle.locus_machine.specs.declared.loci.Head.{Head}
-use Rattle.locus_machine.specs.declared.loci.Locus.{Locus}
-use Rattle.locus_machine.specs.Loci.{container_with, locus_of}
-use Rattle.kernel_calls.specs.Calls.{atlas_state}
-use Rattle.fault_paging.specs.declared.paged.PagedMemory.{PagedMemory}
-use Rattle.kernel_cells.specs.declared.cells.Part.{Part}
-use Rattle.kernel_cells.specs.declared.cells.Part.TheVariants as part
-use Rattle.cell_blobs.specs.Blobs.{HasFormedHead, IsFormed, IsFormedLocus, blob_need, bytes_of, spelt_locus, spelt_storage}
+use Rattle.table_steps.specs.hop_model.State.{AtlasState, ContainerState, LocusState}
+use Rattle.cell_books.specs.blob_grammar.Forms.{IsAtlasForm, IsNumber}
+use Rattle.cell_books.specs.blob_grammar.Shapes.{IsContainerOver, IsLocusOver}
+use Rattle.cell_books.specs.blob_grammar.Spelling.{atlas_blob, call_bytes, caps_bytes, container_blob, instr_bytes, is_short, listed, locus_blob, locus_front, locus_rest, private_bytes, region_bytes, walk_bytes}
+use Rattle.cell_books.proofs.blob_grammar_lemmas.KindSizes.{most}
+use Rattle.cell_books.proofs.blob_grammar_lemmas.Sizes.{caps_len, code_len, numbers_len, same_items}
+use Rattle.cell_books.specs.image_blocks.Bodies.{blocks_for}
+use Rattle.table_steps.specs.locus_machine.declared.loci.Head.{Head}
+use Rattle.table_steps.specs.locus_machine.declared.loci.Locus.{Locus}
+use Rattle.table_steps.specs.locus_machine.Loci.{container_with, locus_of}
+use Rattle.table_steps.specs.kernel_calls.Calls.{atlas_state}
+use Rattle.table_steps.specs.fault_paging.declared.paged.PagedMemory.{PagedMemory}
+use Rattle.table_steps.specs.kernel_cells.declared.cells.Part.{Part}
+use Rattle.table_steps.specs.kernel_cells.declared.cells.Part.TheVariants as part
+use Rattle.table_steps.specs.cell_blobs.Blobs.{HasFormedHead, IsFormed, IsFormedLocus, blob_need, bytes_of, spelt_locus, spelt_storage}
 
 atlas_few : (a : AtlasState) → IsAtlasForm a → length (atlas_blob a) ≤ 8192
 atlas_few a f = let few = most AtlasKind (atlas_blob a) (a, record { form = f; is = refl }) in omega (arith, few)

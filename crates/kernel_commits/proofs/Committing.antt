@@ -5,24 +5,24 @@ use Rattle.std.proofs.lemmas.Bool.Decides.{nat_tests}
 use Rattle.std.proofs.lemmas.Option.{slice_get_within}
 use Rattle.disk_trait.specs.Image.{Image}
 use Rattle.disk_trait.specs.Moments.{LeavesOnly}
-use Rattle.hop_model.specs.State.{Supply}
-use Rattle.event_clocks.specs.declared.Clock.{Clock}
+use Rattle.table_steps.specs.hop_model.State.{Supply}
+use Rattle.table_steps.specs.event_clocks.declared.Clock.{Clock}
 use Rattle.hop_base.specs.declared.histories.Event.TheVariants.{Snap}
-use Rattle.hop_model.specs.Histories.{mark}
-use Rattle.kernel_cells.specs.declared.cells.Cell.{Cell}
-use Rattle.cell_blobs.specs.Blobs.{is_recorded}
-use Rattle.cell_table.specs.Lending.{Lends}
-use Rattle.cell_table.specs.Tables.{AreClean, IsOrderly}
+use Rattle.table_steps.specs.hop_model.Histories.{mark}
+use Rattle.table_steps.specs.kernel_cells.declared.cells.Cell.{Cell}
+use Rattle.table_steps.specs.cell_blobs.Blobs.{is_recorded}
+use Rattle.table_steps.specs.cell_table.Lending.{Lends}
+use Rattle.table_steps.specs.cell_table.Tables.{AreClean, IsOrderly}
 use Rattle.table_steps.proofs.Pairs.{lends_one}
-use Rattle.record_laws.specs.Cells.{IsSpellable, words_on}
-use Rattle.store_model.specs.Books.{AreSmall, AreTrue}
-use Rattle.snapshot_store.specs.Putting.{are_small}
-use Rattle.snapshot_store.specs.State.{State, books}
-use Rattle.snapshot_store.specs.declared.faults.StoreFault.{StoreFault}
-use Rattle.history_model.proofs.CellLemmas.{slice_get-set_same}
-use Rattle.kernel_records.specs.Committing.{CellFaults, HasCommitted, HasNotCommitted, MayCommit, StoresKeptOrCell}
-use Rattle.kernel_views.specs.Views.{newest_at}
-use Rattle.kernel_views.proofs.Leaving.{stay_clean}
+use Rattle.cell_books.specs.record_laws.Cells.{IsSpellable, words_on}
+use Rattle.cell_books.specs.store_model.Books.{AreSmall, AreTrue}
+use Rattle.cell_books.specs.snapshot_store.Putting.{are_small}
+use Rattle.cell_books.specs.snapshot_store.State.{State, books}
+use Rattle.cell_books.specs.snapshot_store.declared.faults.StoreFault.{StoreFault}
+use Rattle.table_steps.proofs.history_model_lemmas.CellLemmas.{slice_get-set_same}
+use Rattle.cell_books.specs.kernel_records.Committing.{CellFaults, HasCommitted, HasNotCommitted, MayCommit, StoresKeptOrCell}
+use Rattle.cell_books.specs.kernel_views.Views.{newest_at}
+use Rattle.cell_books.proofs.kernel_views_lemmas.Leaving.{stay_clean}
 use Rattle.cell_books.specs.Matching.{HasRoomFor, MatchesBooks, newest_of, version_at, version_of}
 use Rattle.cell_books.proofs.Committable.{may_commit, spellable}
 use Rattle.cell_books.proofs.Keeping.{again}

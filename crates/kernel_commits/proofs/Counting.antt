@@ -3,10 +3,10 @@ use Rattle.std.proofs.Common.{◌≡◌, inl, inr, ℕ, suc, ◌+◌, ◌*◌, �
 use Rattle.std.proofs.lemmas.Bool.{cases_lt}
 use Rattle.std.proofs.lemmas.Option.{slice_get_within}
 use Rattle.disk_tally.proofs.Counting.{CountsOn-stay, CountsOn-then}
-use Rattle.hop_model.specs.Histories.{Policy}
-use Rattle.snapshot_store.specs.State.{State, books}
-use Rattle.cell_table.specs.Tables.{AreNumbered}
-use Rattle.kernel_records.specs.Committing.{CommitCounts}
+use Rattle.table_steps.specs.hop_model.Histories.{Policy}
+use Rattle.cell_books.specs.snapshot_store.State.{State, books}
+use Rattle.table_steps.specs.cell_table.Tables.{AreNumbered}
+use Rattle.cell_books.specs.kernel_records.Committing.{CommitCounts}
 use Rattle.kernel_commits.specs.Parts.{Parts}
 use Rattle.kernel_commits.specs.Pieces.{CountsWithin}
 use Rattle.kernel_commits.specs.Snapping.{Snaps}

@@ -2,11 +2,11 @@
 use Rattle.std.proofs.Common.{◌≡◌, ℕ, List, [], ◌∷◌, ◌++◌, refl, sym, ap, subst, ◌∙◌, append_assoc}
 use Rattle.std.proofs.lemmas.List.{append-nil}
 use Rattle.hop_base.specs.declared.histories.Entry.{Entry}
-use Rattle.hop_model.specs.Serial.{looks_of}
-use Rattle.serial_runs.specs.Serial.{opening}
+use Rattle.table_steps.specs.hop_model.Serial.{looks_of}
+use Rattle.serial_turns.specs.serial_runs.Serial.{opening}
 use Rattle.serial_turns.specs.Turns.{ComeFirst, HasLooked, opened}
 use Rattle.serial_turns.proofs.Whereabouts.{looked_front, looked_opening}
-use Rattle.kernel_model.specs.Beginnings.{Beginning}
+use Rattle.cell_books.specs.kernel_model.Beginnings.{Beginning}
 use Rattle.kernel_commits.specs.Lacking.{IsDue, IsDueIn, LacksBlocks, LacksIn, MayWant}
 use Rattle.kernel_commits.specs.Parts.{Parts}
 

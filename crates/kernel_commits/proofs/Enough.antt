@@ -9,30 +9,30 @@ use Rattle.disk_trait.specs.Image.{Image}
 use Rattle.disk_trait.specs.declared.disk.NoBlocks.{NoBlocks as TooFewBlocks}
 use Rattle.frame_table.specs.FrameTable.{resident_changed}
 use Rattle.hop_base.specs.Edges.{upto}
-use Rattle.hop_model.specs.State.{KernelState, Supply}
-use Rattle.beside_steps.specs.Besides.{memory_of}
-use Rattle.locus_machine.specs.declared.loci.Head.{Head}
-use Rattle.locus_machine.specs.declared.loci.Locus.{Locus}
-use Rattle.fault_paging.specs.declared.paged.PagedMemory.{PagedMemory}
-use Rattle.fault_paging.specs.Words.{IsSoundTable, block_at, need_below, needs_block}
-use Rattle.kernel_cells.specs.declared.cells.Cell.{Cell}
-use Rattle.kernel_cells.specs.declared.cells.Part.{Part}
-use Rattle.kernel_cells.specs.declared.cells.Part.TheVariants as part
-use Rattle.kernel_cells.specs.declared.cells.Storage.{Storage}
-use Rattle.kernel_cells.specs.Cells.{container_cell, locus_cell, part_of}
-use Rattle.cell_blobs.specs.Blobs.{IsFormed, blob_need, is_recorded, need_in, page_need}
-use Rattle.cell_laws.specs.Memories.{HasOwnMemory, IsOwn, pages_of}
-use Rattle.cell_laws.proofs.FewBlocks.{part_few}
-use Rattle.cell_table.specs.Tables.{HasKind, IsOrderly, blocks_by, entity_in, memory_at, state_in, tables_in}
-use Rattle.record_laws.specs.Cells.{words_on}
-use Rattle.snapshot_store.specs.State.{books}
-use Rattle.store_model.specs.Books.{free_in, kept_names}
-use Rattle.kernel_model.specs.Beginnings.{Beginning, run_of, state_after}
-use Rattle.kernel_room.specs.Room.{AreTablesWithin, all_born, all_pages, enough_blocks, named_in, pages_in}
-use Rattle.kernel_room.proofs.Enough.{room_enough}
-use Rattle.kernel_room.proofs.Kept.{all_rooms}
-use Rattle.kernel_room.proofs.Widths.{cell_room}
-use Rattle.kernel_views.specs.Views.{view_of}
+use Rattle.table_steps.specs.hop_model.State.{KernelState, Supply}
+use Rattle.table_steps.specs.beside_steps.Besides.{memory_of}
+use Rattle.table_steps.specs.locus_machine.declared.loci.Head.{Head}
+use Rattle.table_steps.specs.locus_machine.declared.loci.Locus.{Locus}
+use Rattle.table_steps.specs.fault_paging.declared.paged.PagedMemory.{PagedMemory}
+use Rattle.table_steps.specs.fault_paging.Words.{IsSoundTable, block_at, need_below, needs_block}
+use Rattle.table_steps.specs.kernel_cells.declared.cells.Cell.{Cell}
+use Rattle.table_steps.specs.kernel_cells.declared.cells.Part.{Part}
+use Rattle.table_steps.specs.kernel_cells.declared.cells.Part.TheVariants as part
+use Rattle.table_steps.specs.kernel_cells.declared.cells.Storage.{Storage}
+use Rattle.table_steps.specs.kernel_cells.Cells.{container_cell, locus_cell, part_of}
+use Rattle.table_steps.specs.cell_blobs.Blobs.{IsFormed, blob_need, is_recorded, need_in, page_need}
+use Rattle.table_steps.specs.cell_laws.Memories.{HasOwnMemory, IsOwn, pages_of}
+use Rattle.table_steps.proofs.cell_laws_lemmas.FewBlocks.{part_few}
+use Rattle.table_steps.specs.cell_table.Tables.{HasKind, IsOrderly, blocks_by, entity_in, memory_at, state_in, tables_in}
+use Rattle.cell_books.specs.record_laws.Cells.{words_on}
+use Rattle.cell_books.specs.snapshot_store.State.{books}
+use Rattle.cell_books.specs.store_model.Books.{free_in, kept_names}
+use Rattle.cell_books.specs.kernel_model.Beginnings.{Beginning, run_of, state_after}
+use Rattle.cell_books.specs.kernel_room.Room.{AreTablesWithin, all_born, all_pages, enough_blocks, named_in, pages_in}
+use Rattle.cell_books.proofs.kernel_room_lemmas.Enough.{room_enough}
+use Rattle.cell_books.proofs.kernel_room_lemmas.Kept.{all_rooms}
+use Rattle.cell_books.proofs.kernel_room_lemmas.Widths.{cell_room}
+use Rattle.cell_books.specs.kernel_views.Views.{view_of}
 use Rattle.kernel_commits.specs.Lacking.{LacksBlocks}
 use Rattle.kernel_commits.specs.Parts.{Parts, StandsAs}
 use Rattle.kernel_commits.specs.Recording.{IsShort}

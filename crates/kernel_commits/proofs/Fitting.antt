@@ -6,29 +6,29 @@ use Rattle.std.proofs.lemmas.Bool.{false≢true}
 use Rattle.std.proofs.lemmas.Map.Views.{Contains-from_any}
 use Rattle.disk_trait.specs.Image.{Image}
 use Rattle.disk_trait.specs.declared.disk.NoBlocks.{NoBlocks as TooFewBlocks}
-use Rattle.event_clocks.specs.declared.Clock.{Clock}
-use Rattle.fault_paging.specs.declared.paged.PagedMemory.{PagedMemory}
-use Rattle.fault_paging.specs.Words.{block_at, need_below, needs_block}
+use Rattle.table_steps.specs.event_clocks.declared.Clock.{Clock}
+use Rattle.table_steps.specs.fault_paging.declared.paged.PagedMemory.{PagedMemory}
+use Rattle.table_steps.specs.fault_paging.Words.{block_at, need_below, needs_block}
 use Rattle.frame_table.specs.FrameTable.{changed_at}
-use Rattle.image_blocks.specs.Bodies.{blob_blocks}
-use Rattle.beside_steps.specs.Besides.{memory_of}
-use Rattle.kernel_cells.specs.declared.cells.Cell.{Cell}
-use Rattle.kernel_cells.specs.declared.cells.Part.{Part}
-use Rattle.kernel_cells.specs.declared.cells.Part.TheVariants as part
-use Rattle.kernel_cells.specs.declared.cells.Wish.{Wish}
-use Rattle.cell_blobs.specs.Blobs.{blob_need, is_recorded, need_in, page_need}
-use Rattle.cell_table.specs.Tables.{IsOrderly, blocks_by, memory_at, tables_in}
-use Rattle.record_laws.specs.Cells.{table_of}
-use Rattle.kernel_model.proofs.Naming.{place_in}
-use Rattle.kernel_room.proofs.Used.{and_both, or_cases}
-use Rattle.snapshot_store.specs.State.{books}
-use Rattle.store_model.specs.Books.{Books, Logged, free_in, kept_in, kept_names, names}
-use Rattle.kernel_records.specs.Committing.{HasCommitted}
-use Rattle.kernel_records.proofs.Freeing.{names_then}
-use Rattle.kernel_views.specs.Views.{newest_at}
-use Rattle.kernel_views.proofs.Behind.{order, recorded_founded}
-use Rattle.kernel_views.proofs.Leaving.{same_table}
-use Rattle.kernel_views.proofs.Others.{held_at, in_table}
+use Rattle.cell_books.specs.image_blocks.Bodies.{blob_blocks}
+use Rattle.table_steps.specs.beside_steps.Besides.{memory_of}
+use Rattle.table_steps.specs.kernel_cells.declared.cells.Cell.{Cell}
+use Rattle.table_steps.specs.kernel_cells.declared.cells.Part.{Part}
+use Rattle.table_steps.specs.kernel_cells.declared.cells.Part.TheVariants as part
+use Rattle.table_steps.specs.kernel_cells.declared.cells.Wish.{Wish}
+use Rattle.table_steps.specs.cell_blobs.Blobs.{blob_need, is_recorded, need_in, page_need}
+use Rattle.table_steps.specs.cell_table.Tables.{IsOrderly, blocks_by, memory_at, tables_in}
+use Rattle.cell_books.specs.record_laws.Cells.{table_of}
+use Rattle.cell_books.proofs.kernel_model_lemmas.Naming.{place_in}
+use Rattle.cell_books.proofs.kernel_room_lemmas.Used.{and_both, or_cases}
+use Rattle.cell_books.specs.snapshot_store.State.{books}
+use Rattle.cell_books.specs.store_model.Books.{Books, Logged, free_in, kept_in, kept_names, names}
+use Rattle.cell_books.specs.kernel_records.Committing.{HasCommitted}
+use Rattle.cell_books.proofs.kernel_records_lemmas.Freeing.{names_then}
+use Rattle.cell_books.specs.kernel_views.Views.{newest_at}
+use Rattle.cell_books.proofs.kernel_views_lemmas.Behind.{order, recorded_founded}
+use Rattle.cell_books.proofs.kernel_views_lemmas.Leaving.{same_table}
+use Rattle.cell_books.proofs.kernel_views_lemmas.Others.{held_at, in_table}
 use Rattle.cell_books.specs.Matching.{newest_of, version_at, version_of}
 use Rattle.kernel_commits.specs.Parts.{Parts}
 use Rattle.kernel_commits.specs.Recording.{HasRecorded, IsShort}

@@ -19,3 +19,8 @@ pub mod Needs
 pub mod Fitting
 pub mod Enough
 pub mod Dues
+pub use Rattle.cell_books.proofs as cell_books_lemmas
+pub use Rattle.table_steps.proofs.directory_laws_lemmas
+pub use Rattle.table_steps.proofs.hop_model_lemmas
+pub use Rattle.serial_turns.proofs as serial_turns_lemmas
+pub use Rattle.table_steps.proofs as table_steps_lemmas

@@ -3,14 +3,14 @@ use Rattle.std.proofs.Common.{◌≡◌, ℕ, zero, suc, ◌+◌, ◌<◌, ◌�
 use Rattle.std.specs.List.{sum_by}
 use Rattle.std.proofs.lemmas.List.Sums.{sum_by-cons, sum_by_more}
 use Rattle.std.proofs.lemmas.Option.{slice_get-get_or}
-use Rattle.kernel_cells.specs.declared.cells.Cell.{Cell}
-use Rattle.kernel_cells.specs.declared.cells.Part.{Part}
-use Rattle.kernel_cells.specs.declared.cells.Part.TheVariants as part
-use Rattle.cell_blobs.specs.Blobs.{IsFormed, blob_need, is_recorded, need_in, page_need}
-use Rattle.cell_blobs.proofs.Shortage.{few_pages}
-use Rattle.cell_laws.proofs.Formed.{cell_formed}
-use Rattle.cell_table.specs.Tables.{IsOrderly, state_in}
-use Rattle.cell_table.proofs.Having.{no_supply, no_words, state_has}
+use Rattle.table_steps.specs.kernel_cells.declared.cells.Cell.{Cell}
+use Rattle.table_steps.specs.kernel_cells.declared.cells.Part.{Part}
+use Rattle.table_steps.specs.kernel_cells.declared.cells.Part.TheVariants as part
+use Rattle.table_steps.specs.cell_blobs.Blobs.{IsFormed, blob_need, is_recorded, need_in, page_need}
+use Rattle.table_steps.proofs.cell_blobs_lemmas.Shortage.{few_pages}
+use Rattle.table_steps.proofs.cell_laws_lemmas.Formed.{cell_formed}
+use Rattle.table_steps.specs.cell_table.Tables.{IsOrderly, state_in}
+use Rattle.table_steps.proofs.cell_table_lemmas.Having.{no_supply, no_words, state_has}
 use Rattle.kernel_commits.proofs.BlobSizes.{blob_few}
 
 -- each cell of a table in order has a spelling

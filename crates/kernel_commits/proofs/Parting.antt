@@ -6,10 +6,10 @@ use Rattle.disk_trait.specs.Image.{Image}
 use Rattle.disk_trait.specs.declared.disk.NoBlocks.{NoBlocks as TooFewBlocks}
 use Rattle.hop_base.specs.declared.histories.Entry.{Entry}
 use Rattle.hop_base.specs.declared.histories.Event.TheVariants.{Stable, Tried}
-use Rattle.hop_model.specs.Histories.{Run, mark, next_changed, run_after, version_of as run_version}
+use Rattle.table_steps.specs.hop_model.Histories.{Run, mark, next_changed, run_after, version_of as run_version}
 use Rattle.serial_turns.specs.Turns.{IsStoppedIn}
 use Rattle.serial_turns.proofs.Stops.{cut_made, cut_stable, cut_stable_tried}
-use Rattle.kernel_model.specs.Beginnings.{Beginning, run_of}
+use Rattle.cell_books.specs.kernel_model.Beginnings.{Beginning, run_of}
 use Rattle.cell_books.specs.Matching.{version_of}
 use Rattle.kernel_commits.specs.Parts.{Parts}
 use Rattle.kernel_commits.specs.Pieces.{StopsIn}

@@ -2,11 +2,11 @@
 use Rattle.std.proofs.Common.{◌≡◌, ◌≢◌, ℕ, zero, suc, ◌+◌, ◌*◌, ◌≤◌, Bool, true, false, ◌||◌, nat_lt, if◌then◌else◌, List, [], ◌∷◌, ◌++◌, length, slice_get, Some, refl, sym, ap, ◌∙◌, arith, length-append}
 use Rattle.std.proofs.Math.Nat.{suc-mul}
 use Rattle.hop_base.specs.declared.histories.Entry.{Entry}
-use Rattle.kernel_cells.specs.declared.cells.Cell.{Cell}
-use Rattle.event_clocks.specs.declared.Clock.{Clock}
-use Rattle.kernel_cells.specs.declared.cells.Wish.{Wish}
-use Rattle.cell_table.specs.Lending.{Lends}
-use Rattle.wish_laws.specs.Founded.{IsRecordedNow}
+use Rattle.table_steps.specs.kernel_cells.declared.cells.Cell.{Cell}
+use Rattle.table_steps.specs.event_clocks.declared.Clock.{Clock}
+use Rattle.table_steps.specs.kernel_cells.declared.cells.Wish.{Wish}
+use Rattle.table_steps.specs.cell_table.Lending.{Lends}
+use Rattle.cell_books.specs.wish_laws.Founded.{IsRecordedNow}
 use Rattle.kernel_commits.specs.Steady.{entries_of, entries_taken, entries_to_come, steps_of, steps_to_come, total}
 
 pub taken_more : (es : List Entry) → length es + 65 ≤ entries_taken es

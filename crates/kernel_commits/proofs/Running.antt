@@ -4,24 +4,24 @@ use Rattle.disk_trait.specs.Image.{Image}
 use Rattle.hop_base.specs.declared.histories.Entry.{Entry}
 use Rattle.hop_base.specs.declared.histories.Event.{Event}
 use Rattle.hop_base.specs.declared.histories.Event.TheVariants.{Snap}
-use Rattle.hop_model.specs.Histories.{MayCommit, mark}
-use Rattle.kernel_cells.specs.declared.cells.Cell.{Cell}
-use Rattle.cell_table.specs.Tables.{AreClean, IsOrderly, state_in}
-use Rattle.record_laws.specs.Cells.{words_on}
-use Rattle.snapshot_store.specs.Putting.{are_small}
-use Rattle.snapshot_store.specs.State.{State, books}
-use Rattle.store_model.specs.Between.{Between-stay}
-use Rattle.kernel_model.specs.Beginnings.{Beginning, run_of, state_after}
-use Rattle.kernel_model.specs.Live.{IsRunning, Stopped}
-use Rattle.kernel_laws.proofs.Going.{snap_runs, stop_lives}
-use Rattle.kernel_laws.proofs.Numbers.{stamp_small, version_small}
-use Rattle.kernel_records.specs.Committing.{CommitCounts, HasPages}
-use Rattle.kernel_views.specs.Snaps.{CommitsOne, Stands}
-use Rattle.kernel_views.specs.Views.{view_of}
-use Rattle.kernel_views.proofs.Behind.{order, pages_order, recorded_founded}
-use Rattle.kernel_views.proofs.Leaving.{LeftCell, small_both}
-use Rattle.kernel_views.proofs.Snapping.{clean_on, made_snap}
-use Rattle.kernel_views.proofs.Stopping.{stops}
+use Rattle.table_steps.specs.hop_model.Histories.{MayCommit, mark}
+use Rattle.table_steps.specs.kernel_cells.declared.cells.Cell.{Cell}
+use Rattle.table_steps.specs.cell_table.Tables.{AreClean, IsOrderly, state_in}
+use Rattle.cell_books.specs.record_laws.Cells.{words_on}
+use Rattle.cell_books.specs.snapshot_store.Putting.{are_small}
+use Rattle.cell_books.specs.snapshot_store.State.{State, books}
+use Rattle.cell_books.specs.store_model.Between.{Between-stay}
+use Rattle.cell_books.specs.kernel_model.Beginnings.{Beginning, run_of, state_after}
+use Rattle.cell_books.specs.kernel_model.Live.{IsRunning, Stopped}
+use Rattle.cell_books.proofs.kernel_laws_lemmas.Going.{snap_runs, stop_lives}
+use Rattle.cell_books.proofs.kernel_laws_lemmas.Numbers.{stamp_small, version_small}
+use Rattle.cell_books.specs.kernel_records.Committing.{CommitCounts, HasPages}
+use Rattle.cell_books.specs.kernel_views.Snaps.{CommitsOne, Stands}
+use Rattle.cell_books.specs.kernel_views.Views.{view_of}
+use Rattle.cell_books.proofs.kernel_views_lemmas.Behind.{order, pages_order, recorded_founded}
+use Rattle.cell_books.proofs.kernel_views_lemmas.Leaving.{LeftCell, small_both}
+use Rattle.cell_books.proofs.kernel_views_lemmas.Snapping.{clean_on, made_snap}
+use Rattle.cell_books.proofs.kernel_views_lemmas.Stopping.{stops}
 use Rattle.cell_books.specs.Matching.{version_at, version_of}
 use Rattle.kernel_commits.specs.Parts.{LivesAs, Parts, StandsAs}
 use Rattle.kernel_commits.specs.Recording.{CanRecord, HasRecorded, MayRecord}
@@ -39,10 +39,10 @@ module _ {D : Type 0} (tells : Type 0) (clock faults : D → ℕ) (reading : D �
   small_cell c at m =
       let runs = m.stands.runs in
       let is : state_in b.supply (words_on (reading old.store.disk)) old.cells ≡ state_after b old.noted.entries = runs.follows.state in
-      let here = ap (Rattle.cell_table.specs.Tables.entity_in b.supply (words_on (reading old.store.disk)) x) at in
+      let here = ap (Rattle.table_steps.specs.cell_table.Tables.entity_in b.supply (words_on (reading old.store.disk)) x) at in
       small_both c.clock.version c.clock.stamp.0
-      (subst (λ n. n ≤ Rattle.image_blocks.specs.Layout.last_number) (sym (ap (λ w. (w x).version) is) ∙ ap (λ e. e.version) here) (version_small b old.noted.entries runs.begins runs.legal x))
-      (λ y. subst (λ n. n ≤ Rattle.image_blocks.specs.Layout.last_number) (sym (ap (λ w. (w x).stamp y) is) ∙ ap (λ e. e.stamp y) here) (stamp_small b old.noted.entries runs.begins runs.legal x y))
+      (subst (λ n. n ≤ Rattle.cell_books.specs.image_blocks.Layout.last_number) (sym (ap (λ w. (w x).version) is) ∙ ap (λ e. e.version) here) (version_small b old.noted.entries runs.begins runs.legal x))
+      (λ y. subst (λ n. n ≤ Rattle.cell_books.specs.image_blocks.Layout.last_number) (sym (ap (λ w. (w x).stamp y) is) ∙ ap (λ e. e.stamp y) here) (stamp_small b old.noted.entries runs.begins runs.legal x y))
 
   pub same_mark : (k : Event) (c : Cell) → c.clock.entity ≡ x → slice_get old.cells x ≡ Some c → mark k x (version_of old.cells x) ≡ mark k c.clock.entity c.clock.version
   same_mark k c number at = ap (λ y. mark k y (version_of old.cells x)) (sym number) ∙ ap (λ o. mark k c.clock.entity (version_at o)) at

@@ -3,15 +3,15 @@ use Rattle.std.proofs.Common.{◌≡◌, ℕ, suc, ◌<◌, true, false, nat_lt,
 use Rattle.std.proofs.lemmas.Bool.Decides.{nat_tests}
 use Rattle.disk_trait.specs.Image.{Image}
 use Rattle.hop_base.specs.declared.histories.Event.TheVariants.{Snap}
-use Rattle.hop_model.specs.Histories.{has_changed, mark, next_changed, version_of as run_version}
-use Rattle.hop_model.specs.State.{KernelState, Supply}
-use Rattle.kernel_cells.specs.declared.cells.Cell.{Cell}
-use Rattle.cell_table.specs.Tables.{entity_in}
-use Rattle.record_laws.specs.Cells.{words_on}
-use Rattle.snapshot_store.specs.State.{books}
-use Rattle.kernel_model.specs.Beginnings.{Beginning, run_of}
-use Rattle.kernel_views.specs.Views.{FollowsRun}
-use Rattle.kernel_views.proofs.Following.{cells_follow}
+use Rattle.table_steps.specs.hop_model.Histories.{has_changed, mark, next_changed, version_of as run_version}
+use Rattle.table_steps.specs.hop_model.State.{KernelState, Supply}
+use Rattle.table_steps.specs.kernel_cells.declared.cells.Cell.{Cell}
+use Rattle.table_steps.specs.cell_table.Tables.{entity_in}
+use Rattle.cell_books.specs.record_laws.Cells.{words_on}
+use Rattle.cell_books.specs.snapshot_store.State.{books}
+use Rattle.cell_books.specs.kernel_model.Beginnings.{Beginning, run_of}
+use Rattle.cell_books.specs.kernel_views.Views.{FollowsRun}
+use Rattle.cell_books.proofs.kernel_views_lemmas.Following.{cells_follow}
 use Rattle.cell_books.specs.Matching.{newest_of, version_at, version_of}
 use Rattle.kernel_commits.specs.Parts.{Parts, StandsAs}
 use Rattle.kernel_commits.specs.Recording.{HasRecorded, MayRecord}

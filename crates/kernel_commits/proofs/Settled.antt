@@ -5,10 +5,10 @@ use Rattle.std.proofs.lemmas.Option.{slice_get_within}
 use Rattle.disk_trait.specs.Image.{Image}
 use Rattle.hop_base.specs.declared.histories.Entry.{Entry}
 use Rattle.hop_base.specs.declared.histories.Event.TheVariants.{Stable}
-use Rattle.hop_model.specs.Histories.{mark}
-use Rattle.kernel_cells.specs.declared.cells.Cell.{Cell}
-use Rattle.snapshot_store.specs.State.{books}
-use Rattle.kernel_views.specs.Views.{newest_at}
+use Rattle.table_steps.specs.hop_model.Histories.{mark}
+use Rattle.table_steps.specs.kernel_cells.declared.cells.Cell.{Cell}
+use Rattle.cell_books.specs.snapshot_store.State.{books}
+use Rattle.cell_books.specs.kernel_views.Views.{newest_at}
 use Rattle.cell_books.specs.Matching.{AreRecorded, version_at}
 use Rattle.cell_books.proofs.Keeping.{fewer, settled}
 use Rattle.kernel_commits.specs.Parts.{Parts}
@@ -71,7 +71,7 @@ module _ {D : Type 0} (tells : Type 0) (clock faults : D → ℕ) (reading : D �
           matches = subst (λ st. Rattle.cell_books.specs.Matching.MatchesBooks (λ _. 4) (books st) new.cells) (sym store)
               (subst (λ cs. Rattle.cell_books.specs.Matching.MatchesBooks (λ _. 4) (books mid.store) cs) (sym cells) four);
           working = subst (λ st. (books st).shut ≡ false) (sym store) g.sound.working;
-          true_books = λ told. subst (λ st. Rattle.store_model.specs.Books.AreTrue reading may_leave (books st) st.disk) (sym store) (g.sound.true_books told);
+          true_books = λ told. subst (λ st. Rattle.cell_books.specs.store_model.Books.AreTrue reading may_leave (books st) st.disk) (sym store) (g.sound.true_books told);
         };
         few = record {
           versions = λ y.

@@ -4,18 +4,18 @@ use Rattle.std.proofs.lemmas.Option.{slice_get_within}
 use Rattle.disk_trait.specs.Image.{Image}
 use Rattle.hop_base.specs.declared.histories.Entry.{Entry}
 use Rattle.hop_base.specs.declared.histories.Event.TheVariants.{Stable}
-use Rattle.hop_model.specs.Histories.{Run, goes_on, mark, start_run, version_of as run_version}
-use Rattle.kernel_cells.specs.declared.cells.Cell.{Cell}
-use Rattle.kernel_cells.specs.Wishes.{HasWish}
-use Rattle.record_laws.specs.Cells.{words_on}
-use Rattle.snapshot_store.specs.State.{books}
-use Rattle.serial_runs.specs.Serial.{IsCalm}
-use Rattle.kernel_model.specs.Beginnings.{Beginning, IsLegal, run_of}
-use Rattle.kernel_laws.specs.Going.{MadeStable}
-use Rattle.kernel_laws.proofs.Snaps.{stable_runs}
-use Rattle.kernel_views.specs.Views.{FollowsRun, newest_at, view_of}
-use Rattle.kernel_views.proofs.Following.{cells_follow, follows}
-use Rattle.kernel_views.proofs.Legal.{legal_then, run_next}
+use Rattle.table_steps.specs.hop_model.Histories.{Run, goes_on, mark, start_run, version_of as run_version}
+use Rattle.table_steps.specs.kernel_cells.declared.cells.Cell.{Cell}
+use Rattle.table_steps.specs.kernel_cells.Wishes.{HasWish}
+use Rattle.cell_books.specs.record_laws.Cells.{words_on}
+use Rattle.cell_books.specs.snapshot_store.State.{books}
+use Rattle.serial_turns.specs.serial_runs.Serial.{IsCalm}
+use Rattle.cell_books.specs.kernel_model.Beginnings.{Beginning, IsLegal, run_of}
+use Rattle.cell_books.specs.kernel_laws.Going.{MadeStable}
+use Rattle.cell_books.proofs.kernel_laws_lemmas.Snaps.{stable_runs}
+use Rattle.cell_books.specs.kernel_views.Views.{FollowsRun, newest_at, view_of}
+use Rattle.cell_books.proofs.kernel_views_lemmas.Following.{cells_follow, follows}
+use Rattle.cell_books.proofs.kernel_views_lemmas.Legal.{legal_then, run_next}
 use Rattle.cell_books.specs.Matching.{version_at}
 use Rattle.kernel_commits.specs.Parts.{Parts, StandsAs}
 use Rattle.kernel_commits.specs.Stabilising.{OwesStable}
@@ -92,7 +92,7 @@ module _ {D : Type 0} (tells : Type 0) (clock faults : D → ℕ) (reading : D �
     tables = refl;
   }
 
-  stands_mid : Rattle.kernel_views.specs.Snaps.Stands tells clock faults reading may_leave left_since b mid.cells mid.store es (old.noted.marks ++ (books mid.store).begun ∷ [])
+  stands_mid : Rattle.cell_books.specs.kernel_views.Snaps.Stands tells clock faults reading may_leave left_since b mid.cells mid.store es (old.noted.marks ++ (books mid.store).begun ∷ [])
   stands_mid = record {
     runs = stable_runs b tells clock reading may_leave left_since (view_of reading b mid.cells mid.store mid.noted.entries mid.noted.marks None) _ mid.store.disk s u.stands.runs made;
     orderly = u.stands.orderly;
@@ -101,10 +101,10 @@ module _ {D : Type 0} (tells : Type 0) (clock faults : D → ℕ) (reading : D �
 
   pub stable_stands : StandsAs tells clock faults reading may_leave left_since b new
   stable_stands =
-      subst (λ st. Rattle.kernel_views.specs.Snaps.Stands tells clock faults reading may_leave left_since b new.cells st new.noted.entries new.noted.marks) (sym store)
-      (subst (λ cs. Rattle.kernel_views.specs.Snaps.Stands tells clock faults reading may_leave left_since b cs mid.store new.noted.entries new.noted.marks) (sym cells)
-      (subst (λ fs. Rattle.kernel_views.specs.Snaps.Stands tells clock faults reading may_leave left_since b mid.cells mid.store fs new.noted.marks) (sym entries)
-      (subst (λ ms. Rattle.kernel_views.specs.Snaps.Stands tells clock faults reading may_leave left_since b mid.cells mid.store es ms) (sym marks) stands_mid)))
+      subst (λ st. Rattle.cell_books.specs.kernel_views.Snaps.Stands tells clock faults reading may_leave left_since b new.cells st new.noted.entries new.noted.marks) (sym store)
+      (subst (λ cs. Rattle.cell_books.specs.kernel_views.Snaps.Stands tells clock faults reading may_leave left_since b cs mid.store new.noted.entries new.noted.marks) (sym cells)
+      (subst (λ fs. Rattle.cell_books.specs.kernel_views.Snaps.Stands tells clock faults reading may_leave left_since b mid.cells mid.store fs new.noted.marks) (sym entries)
+      (subst (λ ms. Rattle.cell_books.specs.kernel_views.Snaps.Stands tells clock faults reading may_leave left_since b mid.cells mid.store es ms) (sym marks) stands_mid)))
 
   pub stable_calm : IsCalm b.policy (run_of b new.noted.entries)
   stable_calm = subst (λ fs. IsCalm b.policy (run_of b fs)) (sym entries) (subst (IsCalm b.policy) (sym next) (record { owed = refl; short = owes.whole; tried = owes.untried; due = λ x. refl }))

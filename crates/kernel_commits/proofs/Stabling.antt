@@ -7,14 +7,14 @@ use Rattle.std.proofs.lemmas.List.Elements.{filter-append}
 use Rattle.hop_base.specs.Edges.{upto}
 use Rattle.hop_base.specs.declared.histories.Entry.{Entry}
 use Rattle.hop_base.specs.declared.histories.Event.TheVariants.{Snap, Stable}
-use Rattle.hop_model.specs.Histories.{MayCommit, Run, commit_of, commits_of, goes_on, has_changed, mark, next_changed, run_after, start_run, version_of}
-use Rattle.hop_model.specs.State.{KernelState}
-use Rattle.hop_model.proofs.StableCuts.{run_append}
-use Rattle.serial_runs.specs.Serial.{first_snaps}
+use Rattle.table_steps.specs.hop_model.Histories.{MayCommit, Run, commit_of, commits_of, goes_on, has_changed, mark, next_changed, run_after, start_run, version_of}
+use Rattle.table_steps.specs.hop_model.State.{KernelState}
+use Rattle.table_steps.proofs.hop_model_lemmas.StableCuts.{run_append}
+use Rattle.serial_turns.specs.serial_runs.Serial.{first_snaps}
 use Rattle.serial_turns.proofs.Stops.{one_more_snap}
-use Rattle.kernel_laws.specs.Going.{AreSnaps}
-use Rattle.kernel_model.specs.Beginnings.{Beginning, completed, run_of}
-use Rattle.kernel_views.proofs.Legal.{run_next}
+use Rattle.cell_books.specs.kernel_laws.Going.{AreSnaps}
+use Rattle.cell_books.specs.kernel_model.Beginnings.{Beginning, completed, run_of}
+use Rattle.cell_books.proofs.kernel_views_lemmas.Legal.{run_next}
 use Rattle.kernel_commits.specs.Through.{IsUnderway}
 
 -- THE FIRST NUMBER that passes

@@ -2,11 +2,11 @@
 use Rattle.std.proofs.Common.{◌≡◌, ◌≢◌, ◌⊎◌, inl, inr, ℕ, ◌+◌, ◌*◌, ◌<◌, ◌≤◌, ◌^◌, Bool, true, false, ◌&&◌, ◌||◌, ◌==◌, if◌then◌else◌, List, [], ◌∷◌, ◌++◌, length, slice_get, Some, refl, sym, ap, subst, ◌∙◌, arith, length-append, eq-eqb}
 use Rattle.disk_trait.specs.Image.{Image}
 use Rattle.hop_base.specs.declared.histories.Entry.{Entry}
-use Rattle.kernel_cells.specs.declared.cells.Cell.{Cell}
-use Rattle.snapshot_store.specs.Shelves.{records_of}
-use Rattle.snapshot_store.specs.State.{books}
-use Rattle.store_model.specs.Books.{kept_in}
-use Rattle.kernel_views.specs.Views.{newest_at}
+use Rattle.table_steps.specs.kernel_cells.declared.cells.Cell.{Cell}
+use Rattle.cell_books.specs.snapshot_store.Shelves.{records_of}
+use Rattle.cell_books.specs.snapshot_store.State.{books}
+use Rattle.cell_books.specs.store_model.Books.{kept_in}
+use Rattle.cell_books.specs.kernel_views.Views.{newest_at}
 use Rattle.cell_books.specs.Matching.{HasRoomFor, newest_of, version_at, version_of}
 use Rattle.cell_books.proofs.Keeping.{fewer, same_version}
 use Rattle.kernel_commits.specs.Parts.{Parts}
@@ -60,7 +60,7 @@ module _ {D : Type 0} (tells : Type 0) (clock faults : D → ℕ) (reading : D �
     taken : entries_taken new.noted.entries ≤ entries_taken old.noted.entries + 1
     taken = subst (λ (es : List Entry). entries_taken es ≤ entries_taken old.noted.entries + 1) (sym r.entries) (taken_next old.noted.entries _)
 
-    pub steady_again : (tells → Rattle.store_model.specs.Books.AreTrue reading may_leave (books new.store) new.store.disk) → Steady new
+    pub steady_again : (tells → Rattle.cell_books.specs.store_model.Books.AreTrue reading may_leave (books new.store) new.store.disk) → Steady new
     steady_again right = record {
       sound = record { matches = r.matches (λ _. 4) has_room; working = r.working; true_books = right };
       few = record {

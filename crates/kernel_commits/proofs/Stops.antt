@@ -6,10 +6,10 @@ use Rattle.disk_trait.specs.Counts.{Rose}
 use Rattle.disk_trait.specs.Image.{Image}
 use Rattle.disk_trait.specs.declared.disk.NoBlocks.{NoBlocks as TooFewBlocks}
 use Rattle.hop_base.specs.declared.histories.Entry.{Entry}
-use Rattle.cell_table.specs.Tables.{IsOrderly}
-use Rattle.snapshot_store.specs.State.{books}
-use Rattle.wish_laws.specs.Founded.{IsFoundedCell}
-use Rattle.kernel_views.proofs.Behind.{order}
+use Rattle.table_steps.specs.cell_table.Tables.{IsOrderly}
+use Rattle.cell_books.specs.snapshot_store.State.{books}
+use Rattle.cell_books.specs.wish_laws.Founded.{IsFoundedCell}
+use Rattle.cell_books.proofs.kernel_views_lemmas.Behind.{order}
 use Rattle.kernel_commits.specs.Parts.{Parts}
 use Rattle.kernel_commits.specs.Recording.{HasTried, IsShort}
 use Rattle.kernel_commits.specs.Stops.{LeavesStopped}

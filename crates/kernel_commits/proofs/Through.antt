@@ -5,16 +5,16 @@ use Rattle.std.proofs.lemmas.Bool.Decides.{nat_tests}
 use Rattle.disk_trait.specs.Image.{Image}
 use Rattle.hop_base.specs.declared.histories.Entry.{Entry}
 use Rattle.hop_base.specs.declared.histories.Event.TheVariants.{Snap}
-use Rattle.hop_model.specs.Histories.{mark}
-use Rattle.kernel_cells.specs.declared.cells.Cell.{Cell}
-use Rattle.kernel_cells.specs.declared.cells.Wish.{Wish}
-use Rattle.cell_table.specs.Tables.{IsOrderly}
-use Rattle.snapshot_store.specs.Shelves.{records_of}
-use Rattle.snapshot_store.specs.State.{books}
-use Rattle.store_model.specs.Books.{kept_in}
-use Rattle.kernel_records.specs.Committing.{CommitCounts}
-use Rattle.kernel_views.specs.Views.{newest_at}
-use Rattle.kernel_views.proofs.Flushing.{spot}
+use Rattle.table_steps.specs.hop_model.Histories.{mark}
+use Rattle.table_steps.specs.kernel_cells.declared.cells.Cell.{Cell}
+use Rattle.table_steps.specs.kernel_cells.declared.cells.Wish.{Wish}
+use Rattle.table_steps.specs.cell_table.Tables.{IsOrderly}
+use Rattle.cell_books.specs.snapshot_store.Shelves.{records_of}
+use Rattle.cell_books.specs.snapshot_store.State.{books}
+use Rattle.cell_books.specs.store_model.Books.{kept_in}
+use Rattle.cell_books.specs.kernel_records.Committing.{CommitCounts}
+use Rattle.cell_books.specs.kernel_views.Views.{newest_at}
+use Rattle.cell_books.proofs.kernel_views_lemmas.Flushing.{spot}
 use Rattle.cell_books.specs.Matching.{HasRoomFor, MatchesBooks, newest_of, version_at, version_of}
 use Rattle.cell_books.proofs.Keeping.{fewer, same_version}
 use Rattle.kernel_commits.specs.Parts.{Parts}

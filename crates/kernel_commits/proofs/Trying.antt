@@ -3,20 +3,20 @@ use Rattle.std.proofs.Common.{◌≡◌, ℕ, ◌≤◌, List, [], ◌∷◌, �
 use Rattle.disk_trait.specs.Image.{Image}
 use Rattle.hop_base.specs.declared.histories.Entry.{Entry}
 use Rattle.hop_base.specs.declared.histories.Event.TheVariants.{Tried}
-use Rattle.hop_model.specs.Histories.{MayCommit, mark}
-use Rattle.kernel_cells.specs.declared.cells.Cell.{Cell}
-use Rattle.cell_table.specs.Tables.{IsOrderly}
-use Rattle.snapshot_store.specs.State.{State, books}
-use Rattle.wish_laws.specs.Founded.{IsFoundedCell}
-use Rattle.kernel_model.specs.Beginnings.{Beginning, run_of}
-use Rattle.kernel_model.specs.Live.{Failed, IsRunning, Stopped, TooFew}
-use Rattle.kernel_laws.proofs.Going.{tried_lives}
-use Rattle.kernel_records.specs.Committing.{CommitCounts, HasPages}
-use Rattle.kernel_views.specs.Snaps.{LeavesOne}
-use Rattle.kernel_views.specs.Views.{view_of}
-use Rattle.kernel_views.proofs.Behind.{pages_order}
-use Rattle.kernel_views.proofs.Leaving.{LeftCell}
-use Rattle.kernel_views.proofs.Trying.{stopped}
+use Rattle.table_steps.specs.hop_model.Histories.{MayCommit, mark}
+use Rattle.table_steps.specs.kernel_cells.declared.cells.Cell.{Cell}
+use Rattle.table_steps.specs.cell_table.Tables.{IsOrderly}
+use Rattle.cell_books.specs.snapshot_store.State.{State, books}
+use Rattle.cell_books.specs.wish_laws.Founded.{IsFoundedCell}
+use Rattle.cell_books.specs.kernel_model.Beginnings.{Beginning, run_of}
+use Rattle.cell_books.specs.kernel_model.Live.{Failed, IsRunning, Stopped, TooFew}
+use Rattle.cell_books.proofs.kernel_laws_lemmas.Going.{tried_lives}
+use Rattle.cell_books.specs.kernel_records.Committing.{CommitCounts, HasPages}
+use Rattle.cell_books.specs.kernel_views.Snaps.{LeavesOne}
+use Rattle.cell_books.specs.kernel_views.Views.{view_of}
+use Rattle.cell_books.proofs.kernel_views_lemmas.Behind.{pages_order}
+use Rattle.cell_books.proofs.kernel_views_lemmas.Leaving.{LeftCell}
+use Rattle.cell_books.proofs.kernel_views_lemmas.Trying.{stopped}
 use Rattle.kernel_commits.specs.Parts.{LivesAs, Parts}
 use Rattle.kernel_commits.specs.Recording.{CanRecord, HasTried, MayRecord}
 use Rattle.kernel_commits.proofs.Committing.{spelt}
@@ -38,7 +38,7 @@ module _ {D : Type 0} (tells : Type 0) (clock faults : D → ℕ) (reading : D �
     d = r.failed.after
 
     abbrev Lives : List Entry → List ℕ → Type 0
-    Lives es marks = Rattle.kernel_model.specs.Live.IsLive b tells clock reading may_leave left_since (view_of reading b new.cells new.store es marks (Some Failed)) new.store.disk
+    Lives es marks = Rattle.cell_books.specs.kernel_model.Live.IsLive b tells clock reading may_leave left_since (view_of reading b new.cells new.store es marks (Some Failed)) new.store.disk
 
     number : c.clock.entity ≡ x
     number = r.failed.commits.number

@@ -7,26 +7,26 @@ use Rattle.disk_trait.specs.Image.{Image}
 use Rattle.disk_trait.specs.declared.disk.NoBlocks.{NoBlocks as TooFewBlocks}
 use Rattle.hop_base.specs.declared.histories.Entry.{Entry}
 use Rattle.hop_base.specs.declared.histories.Event.TheVariants.{Snap, Tried}
-use Rattle.hop_model.specs.Histories.{MayCommit, Policy, Run, goes_on, has_wish, is_full, mark, version_of}
-use Rattle.kernel_cells.specs.declared.cells.Cell.{Cell}
-use Rattle.hop_model.specs.State.{Supply}
-use Rattle.kernel_cells.specs.Cells.{HasCell, part_of}
-use Rattle.kernel_cells.specs.Wishes.{HasWish, is_open}
-use Rattle.cell_table.specs.Tables.{state_in}
-use Rattle.cell_table.proofs.Having.{no_supply, no_words, state_has}
-use Rattle.record_laws.specs.Cells.{words_on}
-use Rattle.snapshot_store.specs.State.{books}
-use Rattle.snapshot_store.specs.Shelves.{records_of}
-use Rattle.store_model.specs.Books.{kept_in}
-use Rattle.kernel_records.specs.Snapping.{has_room, is_snapped}
-use Rattle.serial_runs.specs.Serial.{wished_snap}
+use Rattle.table_steps.specs.hop_model.Histories.{MayCommit, Policy, Run, goes_on, has_wish, is_full, mark, version_of}
+use Rattle.table_steps.specs.kernel_cells.declared.cells.Cell.{Cell}
+use Rattle.table_steps.specs.hop_model.State.{Supply}
+use Rattle.table_steps.specs.kernel_cells.Cells.{HasCell, part_of}
+use Rattle.table_steps.specs.kernel_cells.Wishes.{HasWish, is_open}
+use Rattle.table_steps.specs.cell_table.Tables.{state_in}
+use Rattle.table_steps.proofs.cell_table_lemmas.Having.{no_supply, no_words, state_has}
+use Rattle.cell_books.specs.record_laws.Cells.{words_on}
+use Rattle.cell_books.specs.snapshot_store.State.{books}
+use Rattle.cell_books.specs.snapshot_store.Shelves.{records_of}
+use Rattle.cell_books.specs.store_model.Books.{kept_in}
+use Rattle.cell_books.specs.kernel_records.Snapping.{has_room, is_snapped}
+use Rattle.serial_turns.specs.serial_runs.Serial.{wished_snap}
 use Rattle.serial_turns.specs.Turns.{IsStoppedIn}
 use Rattle.serial_turns.proofs.Stops.{cut_tried}
-use Rattle.kernel_model.specs.Beginnings.{Beginning, run_of}
-use Rattle.kernel_views.specs.Views.{FollowsRun}
-use Rattle.kernel_views.proofs.Following.{cells_follow}
-use Rattle.kernel_views.proofs.Fullness.{full_same}
-use Rattle.kernel_views.proofs.Legal.{run_next}
+use Rattle.cell_books.specs.kernel_model.Beginnings.{Beginning, run_of}
+use Rattle.cell_books.specs.kernel_views.Views.{FollowsRun}
+use Rattle.cell_books.proofs.kernel_views_lemmas.Following.{cells_follow}
+use Rattle.cell_books.proofs.kernel_views_lemmas.Fullness.{full_same}
+use Rattle.cell_books.proofs.kernel_views_lemmas.Legal.{run_next}
 use Rattle.cell_books.specs.Matching.{version_at}
 use Rattle.kernel_commits.specs.Parts.{LivesAs, Parts, StandsAs, stop_of}
 use Rattle.kernel_commits.specs.Pieces.{StopsIn}
@@ -89,7 +89,7 @@ module _ {D : Type 0} (tells : Type 0) (clock faults : D → ℕ) (reading : D �
   full = full_same tells clock faults reading may_leave left_since b old.cells old.store old.noted.entries old.noted.marks x told free.stands
 
   version_is : version_of r x ≡ version_at (slice_get old.cells x)
-  version_is = ap (λ w. (w x).version) (sym follow.state) ∙ (ap (λ o. (Rattle.cell_table.specs.Tables.entity_in b.supply words x o).version) at ∙ sym (ap version_at at))
+  version_is = ap (λ w. (w x).version) (sym follow.state) ∙ (ap (λ o. (Rattle.table_steps.specs.cell_table.Tables.entity_in b.supply words x o).version) at ∙ sym (ap version_at at))
 
   abbrev test : Bool
   test = has_wish policy r x && not (is_full r x)

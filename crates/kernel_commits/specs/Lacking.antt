@@ -3,11 +3,11 @@ use Rattle.std.specs.Prelude.{◌≡◌, ◌<◌, ℕ, List, ◌∷◌, ◌++◌
 use Rattle.hop_base.specs.declared.histories.Entry.{Entry}
 use Rattle.hop_base.specs.declared.histories.Event.{Event}
 use Rattle.hop_base.specs.declared.histories.Event.TheVariants.{Snap, Stable, Step}
-use Rattle.look_steps.specs.Looking.{IsWordStep}
-use Rattle.serial_runs.specs.Serial.{serial_history}
-use Rattle.snapshot_store.specs.State.{books}
-use Rattle.kernel_model.specs.Beginnings.{Beginning, state_after}
-use Rattle.kernel_room.specs.Room.{enough_blocks}
+use Rattle.table_steps.specs.look_steps.Looking.{IsWordStep}
+use Rattle.serial_turns.specs.serial_runs.Serial.{serial_history}
+use Rattle.cell_books.specs.snapshot_store.State.{books}
+use Rattle.cell_books.specs.kernel_model.Beginnings.{Beginning, state_after}
+use Rattle.cell_books.specs.kernel_room.Room.{enough_blocks}
 use Rattle.kernel_commits.specs.Parts.{Parts}
 
 -- THE IMAGE LACKS BLOCKS: it has fewer than the pages and the born entities of the state may need

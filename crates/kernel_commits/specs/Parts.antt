@@ -2,12 +2,12 @@
 use Rattle.std.specs.Prelude.{ℕ, List, Option}
 use Rattle.disk_trait.specs.Image.{Image}
 use Rattle.hop_base.specs.declared.histories.Entry.{Entry}
-use Rattle.kernel_cells.specs.declared.cells.Cell.{Cell}
-use Rattle.snapshot_store.specs.State.{State}
-use Rattle.kernel_model.specs.Beginnings.{Beginning}
-use Rattle.kernel_model.specs.Live.{IsLive, Stopped as Stop, TooFew as TooFewBlocks, Failed as DiskFailed}
-use Rattle.kernel_views.specs.Snaps.{Stands}
-use Rattle.kernel_views.specs.Views.{view_of}
+use Rattle.table_steps.specs.kernel_cells.declared.cells.Cell.{Cell}
+use Rattle.cell_books.specs.snapshot_store.State.{State}
+use Rattle.cell_books.specs.kernel_model.Beginnings.{Beginning}
+use Rattle.cell_books.specs.kernel_model.Live.{IsLive, Stopped as Stop, TooFew as TooFewBlocks, Failed as DiskFailed}
+use Rattle.cell_books.specs.kernel_views.Snaps.{Stands}
+use Rattle.cell_books.specs.kernel_views.Views.{view_of}
 use Rattle.kernel_commits.specs.declared.stopping.Stopped.{Stopped}
 use Rattle.kernel_commits.specs.declared.stopping.Stopped.TheVariants.{Failed, TooFew}
 

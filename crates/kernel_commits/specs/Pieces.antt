@@ -3,8 +3,8 @@ use Rattle.std.specs.Prelude.{◌≡◌, ℕ, ◌+◌, ◌≤◌, List, ◌++◌
 use Rattle.disk_tally.specs.Counts.{CountsOn}
 use Rattle.hop_base.specs.declared.histories.Entry.{Entry}
 use Rattle.serial_turns.specs.Turns.{IsStoppedIn}
-use Rattle.snapshot_store.specs.State.{State, books}
-use Rattle.kernel_model.specs.Beginnings.{Beginning, run_of}
+use Rattle.cell_books.specs.snapshot_store.State.{State, books}
+use Rattle.cell_books.specs.kernel_model.Beginnings.{Beginning, run_of}
 
 -- WHERE A PIECE WAS STOPPED: behind the old history, `all` was to come in the run, and a part of it came
 pub record StopsIn (b : Beginning) (all old new : List Entry) : Type 0 where

@@ -6,17 +6,17 @@ use Rattle.disk_trait.specs.Moments.{LeavesOnly}
 use Rattle.disk_trait.specs.declared.disk.NoBlocks.{NoBlocks}
 use Rattle.hop_base.specs.declared.histories.Entry.{Entry}
 use Rattle.hop_base.specs.declared.histories.Event.TheVariants.{Snap, Tried}
-use Rattle.hop_model.specs.Histories.{MayCommit, mark}
-use Rattle.store_model.specs.Books.{AreSmall, AreTrue}
-use Rattle.snapshot_store.specs.Putting.{are_small}
-use Rattle.snapshot_store.specs.State.{State, books}
-use Rattle.kernel_cells.specs.declared.cells.Cell.{Cell}
-use Rattle.cell_table.specs.Lending.{Lends}
-use Rattle.kernel_records.specs.Committing.{HasCommitted, HasNotCommitted, IsTooFew, StoresKeptOrCell}
-use Rattle.kernel_model.specs.Beginnings.{Beginning, run_of}
+use Rattle.table_steps.specs.hop_model.Histories.{MayCommit, mark}
+use Rattle.cell_books.specs.store_model.Books.{AreSmall, AreTrue}
+use Rattle.cell_books.specs.snapshot_store.Putting.{are_small}
+use Rattle.cell_books.specs.snapshot_store.State.{State, books}
+use Rattle.table_steps.specs.kernel_cells.declared.cells.Cell.{Cell}
+use Rattle.table_steps.specs.cell_table.Lending.{Lends}
+use Rattle.cell_books.specs.kernel_records.Committing.{HasCommitted, HasNotCommitted, IsTooFew, StoresKeptOrCell}
+use Rattle.cell_books.specs.kernel_model.Beginnings.{Beginning, run_of}
 use Rattle.cell_books.specs.Matching.{HasRoomFor, MatchesBooks, newest_of, version_of}
-use Rattle.snapshot_store.specs.declared.faults.StoreFault.{StoreFault}
-use Rattle.snapshot_store.specs.declared.faults.StoreFault.TheVariants.{NoBlocks as NoBlocksAre, ReadFault, Shut, WriteFault}
+use Rattle.cell_books.specs.snapshot_store.declared.faults.StoreFault.{StoreFault}
+use Rattle.cell_books.specs.snapshot_store.declared.faults.StoreFault.TheVariants.{NoBlocks as NoBlocksAre, ReadFault, Shut, WriteFault}
 use Rattle.kernel_commits.specs.Parts.{LivesAs, Noted, Parts, StandsAs, stop_of}
 use Rattle.kernel_commits.specs.declared.stopping.Stopped.{Stopped}
 use Rattle.kernel_commits.specs.declared.stopping.Stopped.TheVariants.{Failed, TooFew}

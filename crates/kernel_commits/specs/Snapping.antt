@@ -1,15 +1,15 @@
 -- Snaps by wishes.
 use Rattle.std.specs.Prelude.{◌≡◌, ℕ, ◌<◌, Bool, true, not, ◌&&◌, ◌||◌, List, [], ◌++◌, None, Some, IfErr, OnOk, Result, slice_get}
 use Rattle.disk_trait.specs.Image.{Image}
-use Rattle.hop_model.specs.Histories.{Policy, Run, has_wish, is_full}
-use Rattle.hop_model.specs.State.{Supply}
-use Rattle.kernel_cells.specs.declared.cells.Cell.{Cell}
-use Rattle.kernel_records.specs.Snapping.{is_snapped}
-use Rattle.snapshot_store.specs.Shelves.{records_of}
-use Rattle.snapshot_store.specs.State.{books}
-use Rattle.store_model.specs.Books.{kept_in}
-use Rattle.kernel_model.specs.Beginnings.{Beginning, run_of}
-use Rattle.serial_runs.specs.Serial.{IsBehind, wished_snap, wished_snaps}
+use Rattle.table_steps.specs.hop_model.Histories.{Policy, Run, has_wish, is_full}
+use Rattle.table_steps.specs.hop_model.State.{Supply}
+use Rattle.table_steps.specs.kernel_cells.declared.cells.Cell.{Cell}
+use Rattle.cell_books.specs.kernel_records.Snapping.{is_snapped}
+use Rattle.cell_books.specs.snapshot_store.Shelves.{records_of}
+use Rattle.cell_books.specs.snapshot_store.State.{books}
+use Rattle.cell_books.specs.store_model.Books.{kept_in}
+use Rattle.cell_books.specs.kernel_model.Beginnings.{Beginning, run_of}
+use Rattle.serial_turns.specs.serial_runs.Serial.{IsBehind, wished_snap, wished_snaps}
 use Rattle.kernel_commits.specs.Parts.{LivesAs, Parts, StandsAs, stop_of}
 use Rattle.kernel_commits.specs.Recording.{CanRecord}
 use Rattle.kernel_commits.specs.declared.stopping.Stopped.{Stopped}

@@ -4,13 +4,13 @@ use Rattle.std.specs.List.{sum_by}
 use Rattle.disk_trait.specs.Image.{Image}
 use Rattle.disk_trait.specs.declared.disk.NoBlocks.{NoBlocks}
 use Rattle.hop_base.specs.declared.histories.Event.TheVariants.{Stable}
-use Rattle.hop_model.specs.Histories.{mark}
-use Rattle.cell_blobs.specs.Blobs.{need_in}
-use Rattle.kernel_cells.specs.declared.cells.Cell.{Cell}
-use Rattle.snapshot_store.specs.State.{books}
-use Rattle.store_model.specs.Books.{free_in, kept_names}
-use Rattle.kernel_model.specs.Beginnings.{Beginning, run_of}
-use Rattle.serial_runs.specs.Serial.{IsCalm}
+use Rattle.table_steps.specs.hop_model.Histories.{mark}
+use Rattle.table_steps.specs.cell_blobs.Blobs.{need_in}
+use Rattle.table_steps.specs.kernel_cells.declared.cells.Cell.{Cell}
+use Rattle.cell_books.specs.snapshot_store.State.{books}
+use Rattle.cell_books.specs.store_model.Books.{free_in, kept_names}
+use Rattle.cell_books.specs.kernel_model.Beginnings.{Beginning, run_of}
+use Rattle.serial_turns.specs.serial_runs.Serial.{IsCalm}
 use Rattle.cell_books.specs.Matching.{AreRecorded}
 use Rattle.kernel_commits.specs.Parts.{LivesAs, Parts, StandsAs, stop_of}
 use Rattle.kernel_commits.specs.declared.stopping.Stopped.{Stopped}

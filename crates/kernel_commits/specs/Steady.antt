@@ -2,9 +2,9 @@
 use Rattle.std.specs.Prelude.{◌≡◌, ℕ, ◌+◌, ◌*◌, ◌≤◌, ◌^◌, false, ◌||◌, if◌then◌else◌, List, [], ◌∷◌, length, nat_lt}
 use Rattle.disk_trait.specs.Image.{Image}
 use Rattle.hop_base.specs.declared.histories.Entry.{Entry}
-use Rattle.store_model.specs.Books.{AreTrue}
-use Rattle.snapshot_store.specs.State.{books}
-use Rattle.kernel_cells.specs.declared.cells.Cell.{Cell}
+use Rattle.cell_books.specs.store_model.Books.{AreTrue}
+use Rattle.cell_books.specs.snapshot_store.State.{books}
+use Rattle.table_steps.specs.kernel_cells.declared.cells.Cell.{Cell}
 use Rattle.cell_books.specs.Matching.{MatchesBooks, version_of}
 use Rattle.kernel_commits.specs.Parts.{Parts}
 

@@ -3,14 +3,14 @@ use Rattle.std.specs.Prelude.{◌≡◌, ℕ, ◌+◌, ◌*◌, ◌<◌, ◌≤�
 use Rattle.disk_trait.specs.Image.{Image}
 use Rattle.hop_base.specs.Edges.{upto}
 use Rattle.hop_base.specs.declared.histories.Entry.{Entry}
-use Rattle.hop_model.specs.Histories.{commits_of, has_changed}
-use Rattle.hop_model.specs.State.{Supply}
-use Rattle.cell_table.specs.Tables.{AreClean}
-use Rattle.record_laws.specs.Cells.{words_on}
-use Rattle.serial_runs.specs.Serial.{first_snaps}
-use Rattle.snapshot_store.specs.State.{books}
-use Rattle.kernel_laws.specs.Going.{AreSnaps}
-use Rattle.kernel_model.specs.Beginnings.{Beginning, completed, run_of}
+use Rattle.table_steps.specs.hop_model.Histories.{commits_of, has_changed}
+use Rattle.table_steps.specs.hop_model.State.{Supply}
+use Rattle.table_steps.specs.cell_table.Tables.{AreClean}
+use Rattle.cell_books.specs.record_laws.Cells.{words_on}
+use Rattle.serial_turns.specs.serial_runs.Serial.{first_snaps}
+use Rattle.cell_books.specs.snapshot_store.State.{books}
+use Rattle.cell_books.specs.kernel_laws.Going.{AreSnaps}
+use Rattle.cell_books.specs.kernel_model.Beginnings.{Beginning, completed, run_of}
 use Rattle.cell_books.specs.Matching.{newest_of, version_of}
 use Rattle.kernel_commits.specs.Parts.{Parts, StandsAs}
 use Rattle.kernel_commits.specs.Pieces.{CountsWithin}

@@ -1,10 +1,10 @@
 // What a kernel is made of.
 use crate::notes::Notes;
 use block_code::Blob;
+use cell_books::snapshot_store::Store;
 use disk_trait::Disk;
-use kernel_cells::Cell;
-use snapshot_store::Store;
 use std::marker::Model;
+use table_steps::kernel_cells::Cell;
 
 /// A kernel's store, its cells, room for one blob, and what was noted.
 #[derive(Drop)]

@@ -14,3 +14,5 @@ pub use notes::Notes;
 pub use snapping::{snap_one, snap_written};
 pub use stabilising::settle;
 pub use stopping::Stopped;
+pub use table_steps;
+pub use table_steps::{locus_machine, step_plans, wanted_act};

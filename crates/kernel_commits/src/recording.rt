@@ -3,25 +3,25 @@ ghost use Rattle.std.specs.Prelude.{◌≡◌, ◌↔◌, ◌<◌, ℕ, Bool, tr
 ghost use Rattle.disk_trait.specs.declared.disk.NoBlocks.{NoBlocks as TooFewBlocks};
 ghost use Rattle.cell_books.specs.Matching.{version_of};
 ghost use Rattle.hop_base.specs.declared.histories.Event.TheVariants as AnEvent;
-ghost use Rattle.hop_model.specs.Histories.{mark};
-ghost use Rattle.cell_blobs.specs.Blobs.{is_recorded};
-ghost use Rattle.kernel_cells.specs.declared.cells.Cell.{Cell as ACell};
+ghost use Rattle.table_steps.specs.hop_model.Histories.{mark};
+ghost use Rattle.table_steps.specs.cell_blobs.Blobs.{is_recorded};
+ghost use Rattle.table_steps.specs.kernel_cells.declared.cells.Cell.{Cell as ACell};
 ghost use Rattle.kernel_commits.specs.Lacking.{LacksBlocks};
 ghost use Rattle.kernel_commits.specs.Parts.{Parts};
 ghost use Rattle.kernel_commits.specs.Recording.{CanRecord, GoesOnBy, HasMade, HasNotMade, HasRecorded, HasTried, IsShort, MayRecord, why_of, with_fault};
 ghost use Rattle.kernel_commits.specs.declared.stopping.Stopped.{Stopped as AStop};
-ghost use Rattle.kernel_model.specs.Beginnings.{Beginning, run_of};
-ghost use Rattle.kernel_records.specs.Committing.{CellFaults, CommitCounts};
+ghost use Rattle.cell_books.specs.kernel_model.Beginnings.{Beginning, run_of};
+ghost use Rattle.cell_books.specs.kernel_records.Committing.{CellFaults, CommitCounts};
 
 use crate::cores::Core;
 use crate::notes::Notes;
 use crate::stopping::Stopped;
 use block_code::Blob;
+use cell_books::kernel_records::{commit_cell, mark_entry};
+use cell_books::snapshot_store::{Store, StoreFault};
 use disk_trait::Disk;
 use hop_base::{Entity, Event};
-use kernel_cells::Cell;
-use kernel_records::{commit_cell, mark_entry};
-use snapshot_store::{Store, StoreFault};
+use table_steps::kernel_cells::Cell;
 
 /// Commits a record of one of the cells, which has changed since its newest one.
 fn commit_among<D: Disk>(

@@ -1,13 +1,13 @@
 // Snaps of entities whose wishes are open.
 ghost use Rattle.std.specs.Prelude.{◌≡◌, ◌↔◌, ◌*◌, ℕ, List, Bool, true, false, IfErr, IsErrOf, Ok, OnErr, OnOk, Some, length, slice_get};
 ghost use Rattle.hop_base.specs.Touches.{IsRising};
-ghost use Rattle.hop_model.specs.Histories.{Run, has_wish};
-ghost use Rattle.hop_model.specs.State.{Supply};
-ghost use Rattle.kernel_cells.specs.Cells.{HasCell, part_of};
-ghost use Rattle.kernel_cells.specs.Wishes.{HasWish, is_open};
-ghost use Rattle.kernel_cells.specs.declared.cells.Cell.{Cell as ACell};
-ghost use Rattle.kernel_model.specs.Beginnings.{run_of};
-ghost use Rattle.wish_laws.specs.Founded.{IsFoundedCell};
+ghost use Rattle.table_steps.specs.hop_model.Histories.{Run, has_wish};
+ghost use Rattle.table_steps.specs.hop_model.State.{Supply};
+ghost use Rattle.table_steps.specs.kernel_cells.Cells.{HasCell, part_of};
+ghost use Rattle.table_steps.specs.kernel_cells.Wishes.{HasWish, is_open};
+ghost use Rattle.table_steps.specs.kernel_cells.declared.cells.Cell.{Cell as ACell};
+ghost use Rattle.cell_books.specs.kernel_model.Beginnings.{run_of};
+ghost use Rattle.cell_books.specs.wish_laws.Founded.{IsFoundedCell};
 ghost use Rattle.disk_trait.specs.declared.disk.NoBlocks.{NoBlocks as TooFewBlocks};
 ghost use Rattle.kernel_commits.specs.Lacking.{LacksIn};
 ghost use Rattle.kernel_commits.specs.Recording.{HasRecorded, HasTried, IsShort};
@@ -15,21 +15,21 @@ ghost use Rattle.kernel_commits.specs.Snapping.{CanSnap, RunsFree, Snaps, SnapsA
 ghost use Rattle.kernel_commits.specs.Steady.{IsSteady};
 ghost use Rattle.kernel_commits.specs.Stops.{LeavesStopped};
 ghost use Rattle.kernel_commits.specs.declared.stopping.Stopped.{Stopped as AStop};
-ghost use Rattle.kernel_model.specs.Beginnings.{Beginning};
-ghost use Rattle.kernel_records.specs.Committing.{CommitCounts};
-ghost use Rattle.serial_runs.specs.Serial.{wished_snap, wished_snaps, written_in};
-ghost use Rattle.cell_table.specs.Tables.{AreClean};
-ghost use Rattle.record_laws.specs.Cells.{words_on};
+ghost use Rattle.cell_books.specs.kernel_model.Beginnings.{Beginning};
+ghost use Rattle.cell_books.specs.kernel_records.Committing.{CommitCounts};
+ghost use Rattle.serial_turns.specs.serial_runs.Serial.{wished_snap, wished_snaps, written_in};
+ghost use Rattle.table_steps.specs.cell_table.Tables.{AreClean};
+ghost use Rattle.cell_books.specs.record_laws.Cells.{words_on};
 ghost use Rattle.kernel_commits.specs.Pieces.{CountsWithin, StopsIn};
 
 use crate::cores::Core;
 use crate::recording::record_one;
 use crate::stopping::Stopped;
+use cell_books::kernel_records::FULL;
 use disk_trait::Disk;
 use hop_base::{Entity, Entry, Touch};
-use kernel_cells::Cell;
-use kernel_records::FULL;
 use manager_gate::{Gate, Policy, Supplier};
+use table_steps::kernel_cells::Cell;
 
 /// Whether a record of one of the cells is wished.
 fn wishes_among<S: Supplier, P: Policy>(cells: &[Cell], entity: Entity, gate: &Gate<S, P>) -> bool

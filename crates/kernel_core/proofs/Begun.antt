@@ -2,23 +2,23 @@
 use Rattle.std.proofs.Common.{◌≡◌, ℕ, List, [], length, Option, None, refl, sym, ap, subst, ◌∙◌, arith}
 use Rattle.disk_trait.specs.Image.{Image}
 use Rattle.hop_base.specs.declared.histories.Entry.{Entry}
-use Rattle.hop_model.specs.Scripts.{Script}
-use Rattle.hop_model.specs.State.{AtlasState, KernelState}
-use Rattle.hop_model.specs.Steps.{atlas_in}
-use Rattle.script_form.specs.Rules.{IsScript}
-use Rattle.fitting_births.specs.Fitting.{Fits}
-use Rattle.serial_turns.specs.Turns.{IsBearing}
-use Rattle.serial_turns.proofs.Bearing.{begins}
-use Rattle.cell_table.specs.Tables.{AreClean, IsOrderly, state_in}
-use Rattle.record_laws.specs.Cells.{words_on}
-use Rattle.snapshot_store.specs.State.{books}
-use Rattle.kernel_model.specs.Beginnings.{Beginning, BeginsRight, state_after}
-use Rattle.kernel_model.specs.Live.{IsRunning, Stopped}
-use Rattle.kernel_laws.specs.Opening.{empty_script, with_script}
-use Rattle.kernel_laws.proofs.Starting.{script_runs}
-use Rattle.kernel_views.specs.Views.{view_of}
-use Rattle.table_births.specs.Births.{atlas_state_in}
-use Rattle.table_births.proofs.AtlasStates.{same_atlas}
+use Rattle.kernel_commits.specs.hop_model.Scripts.{Script}
+use Rattle.kernel_commits.specs.hop_model.State.{AtlasState, KernelState}
+use Rattle.kernel_commits.specs.hop_model.Steps.{atlas_in}
+use Rattle.birth_views.specs.script_form.Rules.{IsScript}
+use Rattle.birth_views.specs.fitting_births.Fitting.{Fits}
+use Rattle.kernel_commits.specs.serial_turns.Turns.{IsBearing}
+use Rattle.kernel_commits.proofs.serial_turns_lemmas.Bearing.{begins}
+use Rattle.birth_views.specs.cell_table.Tables.{AreClean, IsOrderly, state_in}
+use Rattle.birth_views.specs.record_laws.Cells.{words_on}
+use Rattle.birth_views.specs.snapshot_store.State.{books}
+use Rattle.birth_views.specs.kernel_model.Beginnings.{Beginning, BeginsRight, state_after}
+use Rattle.birth_views.specs.kernel_model.Live.{IsRunning, Stopped}
+use Rattle.birth_views.specs.kernel_laws.Opening.{empty_script, with_script}
+use Rattle.birth_views.proofs.kernel_laws_lemmas.Starting.{script_runs}
+use Rattle.birth_views.specs.kernel_views.Views.{view_of}
+use Rattle.birth_views.specs.table_births.Births.{atlas_state_in}
+use Rattle.birth_views.proofs.table_births_lemmas.AtlasStates.{same_atlas}
 use Rattle.kernel_core.specs.Bearing.{IsInBirths, RunsInBirths}
 use Rattle.kernel_commits.specs.Parts.{Parts}
 use Rattle.kernel_commits.specs.Steady.{IsSteady, entries_taken}

@@ -3,29 +3,29 @@ use Rattle.std.proofs.Common.{◌≡◌, ◌⊎◌, inl, inr, ℕ, zero, suc, �
 use Rattle.std.proofs.lemmas.List.{append-nil, append_assoc}
 use Rattle.disk_trait.specs.Image.{Image}
 use Rattle.hop_base.specs.declared.histories.Entry.{Entry}
-use Rattle.hop_model.specs.Births.{next_birth}
-use Rattle.hop_model.specs.Histories.{births_owed}
-use Rattle.hop_model.specs.Scripts.{Script}
-use Rattle.hop_model.specs.State.{Supply}
-use Rattle.fitting_births.specs.Fitting.{Fits}
-use Rattle.serial_turns.specs.Turns.{IsBearing}
-use Rattle.serial_turns.proofs.Bearing.{bearing_behind, bearing_last, bearing_more}
-use Rattle.kernel_cells.specs.declared.cells.Cell.{Cell}
-use Rattle.kernel_cells.specs.declared.cells.Wish.{Wish}
-use Rattle.cell_table.specs.Steps.{IsInOrder}
-use Rattle.cell_table.specs.Tables.{AreClean, IsOrderly, state_in}
-use Rattle.record_laws.specs.Cells.{words_on}
-use Rattle.wish_laws.specs.Founded.{TakesBirth}
-use Rattle.snapshot_store.specs.State.{State, books}
-use Rattle.kernel_model.specs.Beginnings.{Beginning, run_of}
-use Rattle.kernel_laws.proofs.Going.{event_runs}
-use Rattle.kernel_views.specs.Views.{FollowsRun, newest_at, view_of}
-use Rattle.kernel_views.proofs.Following.{cells_follow}
-use Rattle.table_births.specs.Births.{BearsOn, BearsQuietly, atlas_state_in, count_born}
+use Rattle.kernel_commits.specs.hop_model.Births.{next_birth}
+use Rattle.kernel_commits.specs.hop_model.Histories.{births_owed}
+use Rattle.kernel_commits.specs.hop_model.Scripts.{Script}
+use Rattle.kernel_commits.specs.hop_model.State.{Supply}
+use Rattle.birth_views.specs.fitting_births.Fitting.{Fits}
+use Rattle.kernel_commits.specs.serial_turns.Turns.{IsBearing}
+use Rattle.kernel_commits.proofs.serial_turns_lemmas.Bearing.{bearing_behind, bearing_last, bearing_more}
+use Rattle.birth_views.specs.kernel_cells.declared.cells.Cell.{Cell}
+use Rattle.birth_views.specs.kernel_cells.declared.cells.Wish.{Wish}
+use Rattle.birth_views.specs.cell_table.Steps.{IsInOrder}
+use Rattle.birth_views.specs.cell_table.Tables.{AreClean, IsOrderly, state_in}
+use Rattle.birth_views.specs.record_laws.Cells.{words_on}
+use Rattle.birth_views.specs.wish_laws.Founded.{TakesBirth}
+use Rattle.birth_views.specs.snapshot_store.State.{State, books}
+use Rattle.birth_views.specs.kernel_model.Beginnings.{Beginning, run_of}
+use Rattle.birth_views.proofs.kernel_laws_lemmas.Going.{event_runs}
+use Rattle.birth_views.specs.kernel_views.Views.{FollowsRun, newest_at, view_of}
+use Rattle.birth_views.proofs.kernel_views_lemmas.Following.{cells_follow}
+use Rattle.birth_views.specs.table_births.Births.{BearsOn, BearsQuietly, atlas_state_in, count_born}
 use Rattle.birth_views.specs.Births.{BearsOver}
 use Rattle.birth_views.proofs.Bearing.{clean_on, made_birth}
-use Rattle.cell_books.specs.Matching.{newest_of, version_at, version_of}
-use Rattle.cell_books.proofs.Keeping.{rises}
+use Rattle.kernel_commits.specs.cell_books.Matching.{newest_of, version_at, version_of}
+use Rattle.kernel_commits.proofs.cell_books_lemmas.Keeping.{rises}
 use Rattle.kernel_core.specs.Bearing.{AreBirths, HasBorne, HasBorneSome, IsAmongBirths, IsInBirths, RunsInBirths}
 use Rattle.kernel_commits.specs.Parts.{Noted, Parts, StandsAs, parts_of}
 use Rattle.kernel_commits.specs.Steady.{IsSteady, entries_of, entries_taken, entries_to_come}
@@ -110,7 +110,7 @@ module _ {D : Type 0} (tells : Type 0) (reading : D → Image) (may_leave : D �
       by (inr f) = ap newest_at f.1 ∙ sym (ap newest_at f.0)
 
   to_come : entries_to_come cs' ≤ entries_to_come cs
-  to_come = no_more_in cs cs' same_len (λ x c d at at'. no_more (Rattle.hop_model.specs.Histories.writes h.entry x) c d (h.bears.enters.takes x c d at at'))
+  to_come = no_more_in cs cs' same_len (λ x c d at at'. no_more (Rattle.kernel_commits.specs.hop_model.Histories.writes h.entry x) c d (h.bears.enters.takes x c d at at'))
 
   few_born : length old.noted.entries + 1 ≤ 63
   few_born = let a = h.bears.fits.containers in let b = h.bears.fits.loci in let n = k.few in let m = h.bears.more in omega (arith, a, b, n, m)

@@ -4,14 +4,14 @@ use Rattle.std.specs.Prelude.{IfErr, IsErrOf, OnOk, Result, ⊤}
 use Rattle.std.specs.Result.{result_err}
 use Rattle.disk_trait.specs.Counts.{Rose}
 use Rattle.disk_trait.specs.Image.{Image}
-use Rattle.hop_model.specs.Scripts.{Script}
-use Rattle.script_form.specs.Rules.{IsScript}
-use Rattle.fitting_births.specs.Fitting.{Fits}
-use Rattle.cell_table.specs.Tables.{IsOrderly}
-use Rattle.snapshot_store.specs.State.{books}
-use Rattle.table_births.specs.Births.{atlas_state_in}
-use Rattle.kernel_laws.specs.Opening.{empty_script, with_script}
-use Rattle.kernel_model.specs.Beginnings.{Beginning}
+use Rattle.kernel_commits.specs.hop_model.Scripts.{Script}
+use Rattle.birth_views.specs.script_form.Rules.{IsScript}
+use Rattle.birth_views.specs.fitting_births.Fitting.{Fits}
+use Rattle.birth_views.specs.cell_table.Tables.{IsOrderly}
+use Rattle.birth_views.specs.snapshot_store.State.{books}
+use Rattle.birth_views.specs.table_births.Births.{atlas_state_in}
+use Rattle.birth_views.specs.kernel_laws.Opening.{empty_script, with_script}
+use Rattle.birth_views.specs.kernel_model.Beginnings.{Beginning}
 use Rattle.kernel_core.specs.Bearing.{OpensRun, RunsInBirths}
 use Rattle.kernel_core.specs.Kernels.{Held, IsKept, Lives}
 use Rattle.kernel_commits.specs.Parts.{Parts, stop_of}

@@ -3,16 +3,16 @@ use Rattle.std.proofs.Common.{◌≡◌, ℕ, ◌+◌, ◌<◌, Bool, true, fals
 use Rattle.std.proofs.lemmas.Bool.Decides.{nat_tests}
 use Rattle.hop_base.specs.declared.instructions.Condition.{Condition}
 use Rattle.hop_base.specs.declared.instructions.Condition.TheVariants.{Halted, Running, Stopped as StoppedNow}
-use Rattle.hop_model.specs.State.{AtlasCell, Cell as ModelCell, ContainerCell, LocusCell, NotBorn, Supply, empty_state, no_atlas}
-use Rattle.hop_model.specs.Steps.{if_running, running}
-use Rattle.locus_machine.specs.declared.loci.Head.{Head}
-use Rattle.fault_paging.specs.declared.paged.PagedMemory.{PagedMemory}
-use Rattle.kernel_cells.specs.Cells.{container_cell, part_of}
-use Rattle.kernel_cells.specs.declared.cells.Part.{Part}
-use Rattle.kernel_cells.specs.declared.cells.Part.TheVariants as part
-use Rattle.step_plans.specs.Plans.{idle_by, idle_of}
-use Rattle.step_plans.specs.declared.idle.Idle.TheVariants.{Absent, Spent}
-use Rattle.cell_table.specs.Tables.{HasKind}
+use Rattle.kernel_commits.specs.hop_model.State.{AtlasCell, Cell as ModelCell, ContainerCell, LocusCell, NotBorn, Supply, empty_state, no_atlas}
+use Rattle.kernel_commits.specs.hop_model.Steps.{if_running, running}
+use Rattle.kernel_commits.specs.locus_machine.declared.loci.Head.{Head}
+use Rattle.birth_views.specs.fault_paging.declared.paged.PagedMemory.{PagedMemory}
+use Rattle.birth_views.specs.kernel_cells.Cells.{container_cell, part_of}
+use Rattle.birth_views.specs.kernel_cells.declared.cells.Part.{Part}
+use Rattle.birth_views.specs.kernel_cells.declared.cells.Part.TheVariants as part
+use Rattle.kernel_commits.specs.step_plans.Plans.{idle_by, idle_of}
+use Rattle.kernel_commits.specs.step_plans.declared.idle.Idle.TheVariants.{Absent, Spent}
+use Rattle.birth_views.specs.cell_table.Tables.{HasKind}
 
 -- nobody stands past the cells
 pub empty_idle : (x : ℕ) → idle_of 0 (empty_state x).cell ≡ Some Absent

@@ -7,13 +7,13 @@ use Rattle.disk_trait.specs.Image.{Image}
 use Rattle.disk_trait.specs.declared.disk.NoBlocks.{NoBlocks as TooFewBlocks}
 use Rattle.hop_base.specs.declared.histories.Entry.{Entry}
 use Rattle.hop_base.specs.declared.histories.Event.TheVariants.{Snap}
-use Rattle.hop_model.specs.Histories.{Policy, Run, births_owed, goes_on, has_wish, is_due, is_full, mark, version_of}
-use Rattle.run_laws.proofs.Wishes.{due_stays}
-use Rattle.cell_table.specs.Tables.{IsOrderly}
-use Rattle.snapshot_store.specs.State.{books}
-use Rattle.kernel_model.specs.Beginnings.{Beginning, run_of}
-use Rattle.kernel_model.specs.Live.{IsCalm}
-use Rattle.kernel_views.proofs.Legal.{run_next}
+use Rattle.kernel_commits.specs.hop_model.Histories.{Policy, Run, births_owed, goes_on, has_wish, is_due, is_full, mark, version_of}
+use Rattle.birth_views.proofs.run_laws_lemmas.Wishes.{due_stays}
+use Rattle.birth_views.specs.cell_table.Tables.{IsOrderly}
+use Rattle.birth_views.specs.snapshot_store.State.{books}
+use Rattle.birth_views.specs.kernel_model.Beginnings.{Beginning, run_of}
+use Rattle.birth_views.specs.kernel_model.Live.{IsCalm}
+use Rattle.birth_views.proofs.kernel_views_lemmas.Legal.{run_next}
 use Rattle.kernel_core.specs.Kernels.{IsKept, Lives}
 use Rattle.kernel_commits.specs.Parts.{Parts}
 use Rattle.kernel_commits.specs.Recording.{HasTried}
@@ -100,4 +100,4 @@ module _ {D : Type 0} (tells : Type 0) (clock faults : D → ℕ) (reading : D �
   })
     where
       entries : new.noted.entries ≡ old.noted.entries ++ snap_by b (lives.live.calm refl) (wants_in b.policy (run_of b old.noted.entries) x)
-      entries = s.entries ∙ ap (λ (q : Policy). old.noted.entries ++ Rattle.serial_runs.specs.Serial.wished_snap q (run_of b old.noted.entries) x) (sym same)
+      entries = s.entries ∙ ap (λ (q : Policy). old.noted.entries ++ Rattle.birth_views.specs.serial_runs.Serial.wished_snap q (run_of b old.noted.entries) x) (sym same)

@@ -10,3 +10,13 @@ pub mod Births
 pub mod Begun
 pub mod Opened
 pub mod BirthsKept
+pub use Rattle.kernel_commits.proofs.directory_laws_lemmas
+pub use Rattle.kernel_commits.proofs.hop_model_lemmas
+pub use Rattle.kernel_commits.proofs as kernel_commits_lemmas
+pub use Rattle.birth_views.proofs.run_laws_lemmas
+pub use Rattle.birth_views.proofs.script_against_lemmas
+pub use Rattle.birth_views.proofs.serial_runs_lemmas
+pub use Rattle.kernel_commits.proofs.serial_turns_lemmas
+pub use Rattle.birth_views.proofs.snapshot_store_lemmas
+pub use Rattle.birth_views.proofs.sound_runs_lemmas
+pub use Rattle.birth_views.proofs.table_births_lemmas

@@ -3,11 +3,11 @@ use Rattle.std.proofs.Common.{◌≡◌, inl, inr, ℕ, ◌++◌, Option, Ok, Er
 use Rattle.std.specs.Prelude.{IfErr, OnOk, Result}
 use Rattle.std.specs.Result.{result_err}
 use Rattle.disk_trait.specs.Image.{Image}
-use Rattle.hop_model.specs.Histories.{Policy}
-use Rattle.cell_table.specs.Tables.{IsOrderly}
-use Rattle.snapshot_store.specs.State.{books}
-use Rattle.kernel_model.specs.Beginnings.{Beginning, run_of}
-use Rattle.serial_runs.specs.Serial.{look}
+use Rattle.kernel_commits.specs.hop_model.Histories.{Policy}
+use Rattle.birth_views.specs.cell_table.Tables.{IsOrderly}
+use Rattle.birth_views.specs.snapshot_store.State.{books}
+use Rattle.birth_views.specs.kernel_model.Beginnings.{Beginning, run_of}
+use Rattle.birth_views.specs.serial_runs.Serial.{look}
 use Rattle.kernel_core.specs.Kernels.{IsKept, Lives}
 use Rattle.kernel_core.specs.Looking.{LooksInRun, StopsLook}
 use Rattle.kernel_core.specs.declared.looking.Looked.{Looked as Look}

@@ -7,22 +7,22 @@ use Rattle.hop_base.specs.declared.histories.Answer.TheVariants.{Reply as Replie
 use Rattle.hop_base.specs.declared.histories.Entry.{Entry}
 use Rattle.hop_base.specs.declared.instructions.Reply.TheVariants.{Ok as AnsweredOk}
 use Rattle.hop_base.specs.declared.histories.Event.TheVariants.{Stable}
-use Rattle.hop_model.specs.Histories.{Policy, Run, births_owed, goes_on, is_due, locus_in, mark, owed_by, start_run}
-use Rattle.hop_model.specs.Serial.{can_step}
-use Rattle.hop_model.specs.State.{KernelState, Supply}
-use Rattle.sound_runs.proofs.Naming.{births_over}
-use Rattle.cell_table.specs.Tables.{state_in}
-use Rattle.record_laws.specs.Cells.{words_on}
-use Rattle.snapshot_store.specs.State.{books}
-use Rattle.kernel_views.specs.Views.{FollowsRun}
-use Rattle.kernel_views.proofs.Following.{cells_follow}
-use Rattle.kernel_views.proofs.Legal.{run_next}
-use Rattle.kernel_model.specs.Beginnings.{Beginning, IsLegal, run_of}
-use Rattle.kernel_model.specs.Live.{IsCalm}
-use Rattle.serial_runs.specs.Serial.{IsBehind, IsCalm as IsQuiet, kept_behind, look, wished_snaps, written_in}
-use Rattle.serial_turns.specs.Turns.{IsStoppedIn}
-use Rattle.serial_turns.proofs.Looks.{look_behind, look_idle, look_made}
-use Rattle.serial_turns.proofs.Stops.{stopped_behind}
+use Rattle.kernel_commits.specs.hop_model.Histories.{Policy, Run, births_owed, goes_on, is_due, locus_in, mark, owed_by, start_run}
+use Rattle.kernel_commits.specs.hop_model.Serial.{can_step}
+use Rattle.kernel_commits.specs.hop_model.State.{KernelState, Supply}
+use Rattle.birth_views.proofs.sound_runs_lemmas.Naming.{births_over}
+use Rattle.birth_views.specs.cell_table.Tables.{state_in}
+use Rattle.birth_views.specs.record_laws.Cells.{words_on}
+use Rattle.birth_views.specs.snapshot_store.State.{books}
+use Rattle.birth_views.specs.kernel_views.Views.{FollowsRun}
+use Rattle.birth_views.proofs.kernel_views_lemmas.Following.{cells_follow}
+use Rattle.birth_views.proofs.kernel_views_lemmas.Legal.{run_next}
+use Rattle.birth_views.specs.kernel_model.Beginnings.{Beginning, IsLegal, run_of}
+use Rattle.birth_views.specs.kernel_model.Live.{IsCalm}
+use Rattle.birth_views.specs.serial_runs.Serial.{IsBehind, IsCalm as IsQuiet, kept_behind, look, wished_snaps, written_in}
+use Rattle.kernel_commits.specs.serial_turns.Turns.{IsStoppedIn}
+use Rattle.kernel_commits.proofs.serial_turns_lemmas.Looks.{look_behind, look_idle, look_made}
+use Rattle.kernel_commits.proofs.serial_turns_lemmas.Stops.{stopped_behind}
 use Rattle.kernel_commits.proofs.Dues.{lacks_behind}
 use Rattle.kernel_commits.proofs.Parting.{none_came}
 use Rattle.kernel_commits.specs.Lacking.{LacksIn}
@@ -33,7 +33,7 @@ use Rattle.kernel_core.specs.declared.looking.Looked.{Looked as Look}
 use Rattle.kernel_core.specs.declared.looking.Looked.TheVariants.{Idle as IdleLook, Stepped}
 use Rattle.kernel_core.specs.declared.stepping.Stepping.{Stepping}
 use Rattle.kernel_core.specs.declared.stepping.Stepping.TheVariants.{Idle as IdleStep, Made}
-use Rattle.step_plans.specs.declared.idle.Idle.{Idle as AnIdle}
+use Rattle.kernel_commits.specs.step_plans.declared.idle.Idle.{Idle as AnIdle}
 use Rattle.kernel_commits.specs.Snapping.{RunsFree, SnapsAll}
 use Rattle.kernel_commits.specs.Stabilising.{HasStabilised, OwesStable, Stabilises}
 use Rattle.kernel_core.specs.Stepping.{HasStepped, StepsInRun, is_ok}

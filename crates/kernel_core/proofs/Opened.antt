@@ -5,23 +5,23 @@ use Rattle.disk_trait.specs.Image.{Image}
 use Rattle.disk_trait.specs.declared.disk.NoBlocks.{NoBlocks}
 use Rattle.hop_base.specs.declared.histories.Entry.{Entry}
 use Rattle.hop_base.specs.declared.histories.Event.TheVariants.{Stable}
-use Rattle.hop_model.specs.Histories.{births_owed, mark, start_run}
-use Rattle.hop_model.specs.Scripts.{Script}
-use Rattle.hop_model.specs.State.{Supply}
-use Rattle.serial_runs.proofs.Openings.{new_calm}
-use Rattle.serial_runs.specs.Serial.{IsCalm as IsCalmRun, opening}
-use Rattle.serial_turns.specs.Turns.{IsStoppedIn}
-use Rattle.serial_turns.proofs.Bearing.{bearing_over, begins}
-use Rattle.serial_turns.proofs.Stops.{stopped_behind}
-use Rattle.cell_table.specs.Tables.{AreClean}
-use Rattle.record_laws.specs.Cells.{words_on}
-use Rattle.snapshot_store.specs.State.{State, books}
-use Rattle.kernel_model.specs.Beginnings.{Beginning, run_of}
-use Rattle.kernel_model.specs.Live.{IsCalm}
-use Rattle.kernel_views.specs.Views.{FollowsRun}
-use Rattle.kernel_views.proofs.Following.{cells_follow}
-use Rattle.kernel_views.proofs.Legal.{run_next}
-use Rattle.table_births.specs.Births.{NoBirthLeft}
+use Rattle.kernel_commits.specs.hop_model.Histories.{births_owed, mark, start_run}
+use Rattle.kernel_commits.specs.hop_model.Scripts.{Script}
+use Rattle.kernel_commits.specs.hop_model.State.{Supply}
+use Rattle.birth_views.proofs.serial_runs_lemmas.Openings.{new_calm}
+use Rattle.birth_views.specs.serial_runs.Serial.{IsCalm as IsCalmRun, opening}
+use Rattle.kernel_commits.specs.serial_turns.Turns.{IsStoppedIn}
+use Rattle.kernel_commits.proofs.serial_turns_lemmas.Bearing.{bearing_over, begins}
+use Rattle.kernel_commits.proofs.serial_turns_lemmas.Stops.{stopped_behind}
+use Rattle.birth_views.specs.cell_table.Tables.{AreClean}
+use Rattle.birth_views.specs.record_laws.Cells.{words_on}
+use Rattle.birth_views.specs.snapshot_store.State.{State, books}
+use Rattle.birth_views.specs.kernel_model.Beginnings.{Beginning, run_of}
+use Rattle.birth_views.specs.kernel_model.Live.{IsCalm}
+use Rattle.birth_views.specs.kernel_views.Views.{FollowsRun}
+use Rattle.birth_views.proofs.kernel_views_lemmas.Following.{cells_follow}
+use Rattle.birth_views.proofs.kernel_views_lemmas.Legal.{run_next}
+use Rattle.birth_views.specs.table_births.Births.{NoBirthLeft}
 use Rattle.kernel_commits.specs.Parts.{Parts}
 use Rattle.kernel_commits.specs.Lacking.{LacksIn}
 use Rattle.kernel_commits.specs.Pieces.{CountsWithin, StopsIn}

@@ -1,9 +1,9 @@
 -- Two tables of one length, cell by cell, and the versions of a steady kernel's cells.
 use Rattle.std.proofs.Common.{◌≡◌, ◌⊎◌, inl, inr, ℕ, zero, suc, List, [], ◌∷◌, length, slice_get, Some, None, refl, ap, arith}
 use Rattle.disk_trait.specs.Image.{Image}
-use Rattle.kernel_cells.specs.declared.cells.Cell.{Cell}
-use Rattle.cell_table.specs.Tables.{AreFewWrites}
-use Rattle.cell_books.specs.Matching.{version_at, version_of}
+use Rattle.birth_views.specs.kernel_cells.declared.cells.Cell.{Cell}
+use Rattle.birth_views.specs.cell_table.Tables.{AreFewWrites}
+use Rattle.kernel_commits.specs.cell_books.Matching.{version_at, version_of}
 use Rattle.kernel_commits.specs.Parts.{Parts}
 use Rattle.kernel_commits.specs.Steady.{IsSteady}
 use Rattle.kernel_commits.proofs.Steadying.{entry_room}

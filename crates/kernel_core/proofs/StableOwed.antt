@@ -6,12 +6,12 @@ use Rattle.hop_base.specs.declared.histories.Entry.{Entry}
 use Rattle.hop_base.specs.declared.histories.Event.{Event}
 use Rattle.hop_base.specs.declared.histories.Event.TheVariants.{Step}
 use Rattle.hop_base.specs.declared.instructions.Reply.TheVariants.{Ok}
-use Rattle.hop_model.specs.Histories.{Run, goes_on, locus_in, owed_by, went_on}
-use Rattle.hop_model.specs.Scripts.{Script}
-use Rattle.hop_model.specs.State.{LocusState, Supply}
-use Rattle.kernel_cells.specs.Cells.{part_of}
-use Rattle.kernel_cells.specs.declared.cells.Cell.{Cell}
-use Rattle.cell_table.specs.Tables.{entity_in, state_in}
+use Rattle.kernel_commits.specs.hop_model.Histories.{Run, goes_on, locus_in, owed_by, went_on}
+use Rattle.kernel_commits.specs.hop_model.Scripts.{Script}
+use Rattle.kernel_commits.specs.hop_model.State.{LocusState, Supply}
+use Rattle.birth_views.specs.kernel_cells.Cells.{part_of}
+use Rattle.birth_views.specs.kernel_cells.declared.cells.Cell.{Cell}
+use Rattle.birth_views.specs.cell_table.Tables.{entity_in, state_in}
 use Rattle.kernel_core.specs.Stepping.{is_ok}
 
 abbrev owing : ℕ → Bool → Option ℕ

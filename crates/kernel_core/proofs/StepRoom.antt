@@ -3,9 +3,9 @@ use Rattle.std.proofs.Common.{◌≡◌, ℕ, zero, suc, ◌+◌, ◌*◌, ◌<�
 use Rattle.std.specs.List.{list_any}
 use Rattle.std.proofs.lemmas.Bool.Decides.{nat_tests}
 use Rattle.hop_base.specs.declared.histories.Entry.{Entry}
-use Rattle.kernel_cells.specs.declared.cells.Cell.{Cell}
-use Rattle.cell_table.specs.Steps.{EntersStep}
-use Rattle.cell_table.specs.Tables.{AreNumbered}
+use Rattle.birth_views.specs.kernel_cells.declared.cells.Cell.{Cell}
+use Rattle.birth_views.specs.cell_table.Steps.{EntersStep}
+use Rattle.birth_views.specs.cell_table.Tables.{AreNumbered}
 use Rattle.kernel_commits.specs.Steady.{entries_of, entries_to_come, steps_of, steps_to_come, total}
 
 -- HOW MANY of n numbers from k on are z

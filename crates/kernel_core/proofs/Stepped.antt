@@ -7,44 +7,44 @@ use Rattle.disk_trait.specs.Image.{Image}
 use Rattle.disk_trait.specs.declared.disk.NoBlocks.{NoBlocks as TooFewBlocks}
 use Rattle.hop_base.specs.declared.histories.Entry.{Entry}
 use Rattle.hop_base.specs.declared.histories.Event.{Event}
-use Rattle.hop_model.specs.Histories.{May, Run, goes_on}
-use Rattle.hop_model.specs.Serial.{can_step}
-use Rattle.hop_model.specs.State.{KernelState, Supply, empty_state}
-use Rattle.hop_model.specs.Steps.{running, step}
-use Rattle.fault_paging.specs.Calls.{IsCausedBy}
-use Rattle.page_store.specs.declared.faults.PageFault.{PageFault}
-use Rattle.page_store.specs.declared.faults.PageFault.TheVariants as page
-use Rattle.store_model.specs.Books.{free_in}
-use Rattle.snapshot_store.specs.State.{State, books}
-use Rattle.kernel_cells.specs.declared.cells.Cell.{Cell}
-use Rattle.step_plans.specs.Plans.{idle_of}
-use Rattle.step_plans.specs.declared.idle.Idle.{Idle as AnIdle}
-use Rattle.step_plans.specs.declared.idle.Idle.TheVariants.{Absent}
-use Rattle.cell_table.specs.Steps.{EntersStep}
-use Rattle.cell_table.specs.Tables.{AreClean, IsOrderly, entity_in, left_of, state_in}
-use Rattle.record_laws.specs.Cells.{words_on}
-use Rattle.table_steps.specs.Wanting.{WantsWord}
-use Rattle.table_steps.specs.declared.stepping.StepFault.{StepFault}
-use Rattle.table_steps.specs.declared.stepping.StepFault.TheVariants.{Idle, Paging}
-use Rattle.kernel_model.specs.Beginnings.{Beginning, run_of, state_after}
-use Rattle.kernel_model.specs.Live.{IsCalm}
-use Rattle.kernel_laws.proofs.Going.{event_runs, stop_lives}
-use Rattle.kernel_room.specs.Room.{enough_blocks}
-use Rattle.kernel_room.proofs.Enough.{calm_whole}
-use Rattle.kernel_views.specs.Events.{StepsOver, StopsOver}
-use Rattle.kernel_views.specs.Views.{FollowsRun, newest_at, view_of}
-use Rattle.kernel_views.proofs.Following.{cells_follow}
-use Rattle.kernel_views.proofs.Legal.{run_next}
-use Rattle.kernel_views.proofs.Stepping.{clean_on, made_event}
-use Rattle.kernel_views.proofs.Stopping.{stops}
-use Rattle.look_steps.specs.Looking.{IsWordStep}
-use Rattle.serial_runs.specs.Serial.{IsBehind, IsCalm as IsQuiet, kept_behind, look, written_in}
-use Rattle.serial_runs.proofs.Calm.{step_behind, step_entry, step_may}
-use Rattle.serial_runs.proofs.Rounds.{step_some}
-use Rattle.serial_turns.proofs.Looks.{look_made}
+use Rattle.kernel_commits.specs.hop_model.Histories.{May, Run, goes_on}
+use Rattle.kernel_commits.specs.hop_model.Serial.{can_step}
+use Rattle.kernel_commits.specs.hop_model.State.{KernelState, Supply, empty_state}
+use Rattle.kernel_commits.specs.hop_model.Steps.{running, step}
+use Rattle.birth_views.specs.fault_paging.Calls.{IsCausedBy}
+use Rattle.birth_views.specs.page_store.declared.faults.PageFault.{PageFault}
+use Rattle.birth_views.specs.page_store.declared.faults.PageFault.TheVariants as page
+use Rattle.birth_views.specs.store_model.Books.{free_in}
+use Rattle.birth_views.specs.snapshot_store.State.{State, books}
+use Rattle.birth_views.specs.kernel_cells.declared.cells.Cell.{Cell}
+use Rattle.kernel_commits.specs.step_plans.Plans.{idle_of}
+use Rattle.kernel_commits.specs.step_plans.declared.idle.Idle.{Idle as AnIdle}
+use Rattle.kernel_commits.specs.step_plans.declared.idle.Idle.TheVariants.{Absent}
+use Rattle.birth_views.specs.cell_table.Steps.{EntersStep}
+use Rattle.birth_views.specs.cell_table.Tables.{AreClean, IsOrderly, entity_in, left_of, state_in}
+use Rattle.birth_views.specs.record_laws.Cells.{words_on}
+use Rattle.kernel_commits.specs.table_steps.Wanting.{WantsWord}
+use Rattle.kernel_commits.specs.table_steps.declared.stepping.StepFault.{StepFault}
+use Rattle.kernel_commits.specs.table_steps.declared.stepping.StepFault.TheVariants.{Idle, Paging}
+use Rattle.birth_views.specs.kernel_model.Beginnings.{Beginning, run_of, state_after}
+use Rattle.birth_views.specs.kernel_model.Live.{IsCalm}
+use Rattle.birth_views.proofs.kernel_laws_lemmas.Going.{event_runs, stop_lives}
+use Rattle.birth_views.specs.kernel_room.Room.{enough_blocks}
+use Rattle.birth_views.proofs.kernel_room_lemmas.Enough.{calm_whole}
+use Rattle.birth_views.specs.kernel_views.Events.{StepsOver, StopsOver}
+use Rattle.birth_views.specs.kernel_views.Views.{FollowsRun, newest_at, view_of}
+use Rattle.birth_views.proofs.kernel_views_lemmas.Following.{cells_follow}
+use Rattle.birth_views.proofs.kernel_views_lemmas.Legal.{run_next}
+use Rattle.birth_views.proofs.kernel_views_lemmas.Stepping.{clean_on, made_event}
+use Rattle.birth_views.proofs.kernel_views_lemmas.Stopping.{stops}
+use Rattle.birth_views.specs.look_steps.Looking.{IsWordStep}
+use Rattle.birth_views.specs.serial_runs.Serial.{IsBehind, IsCalm as IsQuiet, kept_behind, look, written_in}
+use Rattle.birth_views.proofs.serial_runs_lemmas.Calm.{step_behind, step_entry, step_may}
+use Rattle.birth_views.proofs.serial_runs_lemmas.Rounds.{step_some}
+use Rattle.kernel_commits.proofs.serial_turns_lemmas.Looks.{look_made}
 use Rattle.store_steps.specs.Leaving.{LeavesInOrder}
-use Rattle.cell_books.specs.Matching.{Rises, newest_of, version_at, version_of}
-use Rattle.cell_books.proofs.Keeping.{rises}
+use Rattle.kernel_commits.specs.cell_books.Matching.{Rises, newest_of, version_at, version_of}
+use Rattle.kernel_commits.proofs.cell_books_lemmas.Keeping.{rises}
 use Rattle.kernel_commits.specs.Parts.{Noted, Parts, StandsAs, parts_of, stop_of}
 use Rattle.kernel_commits.specs.Lacking.{IsDueIn, LacksBlocks, MayWant}
 use Rattle.kernel_commits.specs.Pieces.{CountsWithin}

@@ -4,16 +4,16 @@ use Rattle.disk_trait.specs.Image.{Image}
 use Rattle.disk_trait.specs.declared.disk.NoBlocks.{NoBlocks}
 use Rattle.hop_base.specs.declared.histories.Entry.{Entry}
 use Rattle.hop_base.specs.declared.histories.Event.TheVariants.{Stable}
-use Rattle.hop_model.specs.Histories.{births_owed, mark}
-use Rattle.hop_model.specs.Scripts.{Script}
-use Rattle.hop_model.specs.Steps.{atlas_in}
-use Rattle.fitting_births.specs.Fitting.{Fits}
-use Rattle.serial_runs.specs.Serial.{IsBehind, opening}
-use Rattle.serial_turns.specs.Turns.{IsBearing}
-use Rattle.kernel_cells.specs.declared.cells.Cell.{Cell}
-use Rattle.kernel_model.specs.Beginnings.{Beginning, run_of}
-use Rattle.kernel_model.specs.Live.{IsCalm}
-use Rattle.table_births.specs.Births.{BearsQuietly, NoBirthLeft, atlas_state_in, count_born}
+use Rattle.kernel_commits.specs.hop_model.Histories.{births_owed, mark}
+use Rattle.kernel_commits.specs.hop_model.Scripts.{Script}
+use Rattle.kernel_commits.specs.hop_model.Steps.{atlas_in}
+use Rattle.birth_views.specs.fitting_births.Fitting.{Fits}
+use Rattle.birth_views.specs.serial_runs.Serial.{IsBehind, opening}
+use Rattle.kernel_commits.specs.serial_turns.Turns.{IsBearing}
+use Rattle.birth_views.specs.kernel_cells.declared.cells.Cell.{Cell}
+use Rattle.birth_views.specs.kernel_model.Beginnings.{Beginning, run_of}
+use Rattle.birth_views.specs.kernel_model.Live.{IsCalm}
+use Rattle.birth_views.specs.table_births.Births.{BearsQuietly, NoBirthLeft, atlas_state_in, count_born}
 use Rattle.kernel_commits.specs.Parts.{LivesAs, Noted, Parts, StandsAs, stop_of}
 use Rattle.kernel_commits.specs.Lacking.{LacksIn}
 use Rattle.kernel_commits.specs.Pieces.{StopsIn}

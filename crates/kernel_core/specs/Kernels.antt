@@ -2,13 +2,13 @@
 use Rattle.std.specs.Prelude.{◌≡◌, ℕ, ◌+◌, ◌≤◌, ◌^◌, false, List, [], Option, Some, None, slice_get}
 use Rattle.std.specs.Option.{option_map}
 use Rattle.disk_trait.specs.Image.{Image}
-use Rattle.hop_model.specs.State.{Supply}
-use Rattle.kernel_cells.specs.declared.cells.Cell.{Cell}
-use Rattle.cell_table.specs.Tables.{AreClean, IsOrderly}
-use Rattle.record_laws.specs.Cells.{words_on}
-use Rattle.snapshot_store.specs.State.{State, books}
-use Rattle.kernel_model.specs.Beginnings.{Beginning}
-use Rattle.cell_books.specs.Matching.{version_of}
+use Rattle.kernel_commits.specs.hop_model.State.{Supply}
+use Rattle.birth_views.specs.kernel_cells.declared.cells.Cell.{Cell}
+use Rattle.birth_views.specs.cell_table.Tables.{AreClean, IsOrderly}
+use Rattle.birth_views.specs.record_laws.Cells.{words_on}
+use Rattle.birth_views.specs.snapshot_store.State.{State, books}
+use Rattle.birth_views.specs.kernel_model.Beginnings.{Beginning}
+use Rattle.kernel_commits.specs.cell_books.Matching.{version_of}
 use Rattle.kernel_commits.specs.Parts.{LivesAs, Parts, stop_of}
 use Rattle.kernel_commits.specs.Steady.{IsSound, IsSteady}
 use Rattle.kernel_commits.specs.declared.stopping.Stopped.{Stopped}

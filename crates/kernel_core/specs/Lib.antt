@@ -2,3 +2,18 @@ pub mod Kernels
 pub mod Stepping
 pub mod Looking
 pub mod Bearing
+pub use Rattle.kernel_commits.specs.cell_books
+pub use Rattle.birth_views.specs.cell_table
+pub use Rattle.birth_views.specs.fitting_births
+pub use Rattle.kernel_commits.specs.hop_model
+pub use Rattle.kernel_commits.specs.kernel_calls
+pub use Rattle.birth_views.specs.kernel_cells
+pub use Rattle.kernel_commits.specs as kernel_commits
+pub use Rattle.birth_views.specs.kernel_laws
+pub use Rattle.birth_views.specs.kernel_model
+pub use Rattle.birth_views.specs.record_laws
+pub use Rattle.birth_views.specs.script_against
+pub use Rattle.birth_views.specs.script_form
+pub use Rattle.birth_views.specs.serial_runs
+pub use Rattle.kernel_commits.specs.serial_turns
+pub use Rattle.birth_views.specs.table_births

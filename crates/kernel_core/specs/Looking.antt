@@ -2,10 +2,10 @@
 use Rattle.std.specs.Prelude.{◌≡◌, ◌⊎◌, ℕ, ◌++◌, Some, IfErr, OnOk, Result}
 use Rattle.disk_trait.specs.Image.{Image}
 use Rattle.hop_base.specs.declared.histories.Entry.{Entry}
-use Rattle.hop_model.specs.Histories.{Policy}
-use Rattle.kernel_model.specs.Beginnings.{Beginning, run_of}
-use Rattle.kernel_model.specs.Live.{IsCalm}
-use Rattle.serial_runs.specs.Serial.{look}
+use Rattle.kernel_commits.specs.hop_model.Histories.{Policy}
+use Rattle.birth_views.specs.kernel_model.Beginnings.{Beginning, run_of}
+use Rattle.birth_views.specs.kernel_model.Live.{IsCalm}
+use Rattle.birth_views.specs.serial_runs.Serial.{look}
 use Rattle.kernel_commits.specs.Parts.{LivesAs, Parts, StandsAs, stop_of}
 use Rattle.kernel_core.specs.Stepping.{HasStepped, StopsStep}
 use Rattle.kernel_commits.specs.Stops.{LeavesStopped}

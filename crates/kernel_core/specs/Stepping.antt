@@ -7,22 +7,22 @@ use Rattle.hop_base.specs.declared.histories.Answer.{Answer}
 use Rattle.hop_base.specs.declared.histories.Answer.TheVariants.{Reply as Replied}
 use Rattle.hop_base.specs.declared.histories.Entry.{Entry}
 use Rattle.hop_base.specs.declared.instructions.Reply.TheVariants.{Ok as AnsweredOk}
-use Rattle.hop_model.specs.Serial.{can_step}
-use Rattle.hop_model.specs.State.{KernelState, Supply}
-use Rattle.hop_model.specs.Steps.{step}
-use Rattle.page_store.specs.declared.faults.PageFault.{PageFault}
-use Rattle.page_store.specs.declared.faults.PageFault.TheVariants as page
-use Rattle.store_model.specs.Books.{free_in}
-use Rattle.snapshot_store.specs.State.{books}
-use Rattle.kernel_cells.specs.declared.cells.Cell.{Cell}
-use Rattle.step_plans.specs.Plans.{idle_of}
-use Rattle.step_plans.specs.declared.idle.Idle.{Idle}
-use Rattle.cell_table.specs.Steps.{EntersStep}
-use Rattle.cell_table.specs.Tables.{AreClean, IsOrderly, left_of, state_in}
-use Rattle.record_laws.specs.Cells.{words_on}
-use Rattle.kernel_model.specs.Beginnings.{Beginning, run_of}
-use Rattle.kernel_model.specs.Live.{IsCalm}
-use Rattle.serial_runs.specs.Serial.{IsBehind, look, written_in}
+use Rattle.kernel_commits.specs.hop_model.Serial.{can_step}
+use Rattle.kernel_commits.specs.hop_model.State.{KernelState, Supply}
+use Rattle.kernel_commits.specs.hop_model.Steps.{step}
+use Rattle.birth_views.specs.page_store.declared.faults.PageFault.{PageFault}
+use Rattle.birth_views.specs.page_store.declared.faults.PageFault.TheVariants as page
+use Rattle.birth_views.specs.store_model.Books.{free_in}
+use Rattle.birth_views.specs.snapshot_store.State.{books}
+use Rattle.birth_views.specs.kernel_cells.declared.cells.Cell.{Cell}
+use Rattle.kernel_commits.specs.step_plans.Plans.{idle_of}
+use Rattle.kernel_commits.specs.step_plans.declared.idle.Idle.{Idle}
+use Rattle.birth_views.specs.cell_table.Steps.{EntersStep}
+use Rattle.birth_views.specs.cell_table.Tables.{AreClean, IsOrderly, left_of, state_in}
+use Rattle.birth_views.specs.record_laws.Cells.{words_on}
+use Rattle.birth_views.specs.kernel_model.Beginnings.{Beginning, run_of}
+use Rattle.birth_views.specs.kernel_model.Live.{IsCalm}
+use Rattle.birth_views.specs.serial_runs.Serial.{IsBehind, look, written_in}
 use Rattle.kernel_commits.specs.Lacking.{LacksIn}
 use Rattle.kernel_commits.specs.Pieces.{CountsWithin}
 use Rattle.kernel_commits.specs.Parts.{LivesAs, Parts, StandsAs, stop_of}

@@ -1,26 +1,26 @@
 // The births of a script, and the Stable behind them.
 ghost use Rattle.std.specs.Prelude.{◌≡◌, ◌==◌, ◌*◌, ◌<◌, ◌≤◌, true, false, IfErr, OnOk, length};
-ghost use Rattle.hop_model.specs.State.{Supply};
-ghost use Rattle.fitting_births.specs.Fitting.{Fits};
-ghost use Rattle.script_form.specs.Rules.{IsScript};
-ghost use Rattle.script_form.specs.Scripts.{tables_of};
-ghost use Rattle.cell_table.specs.Steps.{IsInOrder};
-ghost use Rattle.cell_table.specs.Tables.{AreClean, AreFewWrites};
-ghost use Rattle.record_laws.specs.Cells.{words_on};
-ghost use Rattle.table_births.specs.Births.{AreUnderWay, NoBirthLeft, atlas_state_in};
+ghost use Rattle.kernel_commits.specs.hop_model.State.{Supply};
+ghost use Rattle.birth_views.specs.fitting_births.Fitting.{Fits};
+ghost use Rattle.birth_views.specs.script_form.Rules.{IsScript};
+ghost use Rattle.birth_views.specs.script_form.Scripts.{tables_of};
+ghost use Rattle.birth_views.specs.cell_table.Steps.{IsInOrder};
+ghost use Rattle.birth_views.specs.cell_table.Tables.{AreClean, AreFewWrites};
+ghost use Rattle.birth_views.specs.record_laws.Cells.{words_on};
+ghost use Rattle.birth_views.specs.table_births.Births.{AreUnderWay, NoBirthLeft, atlas_state_in};
 ghost use Rattle.kernel_commits.specs.Pieces.{CountsWithin};
 ghost use Rattle.kernel_commits.specs.Steady.{IsSteady};
 ghost use Rattle.kernel_commits.specs.Stops.{LeavesStopped};
 ghost use Rattle.kernel_core.specs.Bearing.{HasBorne, HasBorneAll, HasOpened, IsInBirths, IsShortBehind, OpensRun, RunsInBirths};
-ghost use Rattle.kernel_model.specs.Beginnings.{Beginning};
+ghost use Rattle.birth_views.specs.kernel_model.Beginnings.{Beginning};
 
+use birth_views::kernel_cells::Cell;
+use birth_views::script_against::Progress;
+use birth_views::script_form::Script;
+use birth_views::table_births::bear_next;
 use disk_trait::Disk;
 use hop_base::Entity;
-use kernel_cells::Cell;
 use kernel_commits::{Core, Notes, Stopped, settle};
-use script_against::Progress;
-use script_form::Script;
-use table_births::bear_next;
 
 // At most 63 entities are born, so one of so many searches finds none left.
 const MOST_SEARCHES: usize = 64;

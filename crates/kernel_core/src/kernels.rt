@@ -1,14 +1,14 @@
 // A running kernel.
 ghost use Rattle.std.specs.Prelude.{◌≡◌, ◌↔◌, ◌⊎◌, ◌+◌, ◌*◌, ◌^◌, ◌≤◌, ◌++◌, ℕ, List, [], true, false, None, Some, Ok, Err, IfErr, IfOk, IfSome, IsErrOf, OnErr, OnOk, length, slice_get};
-ghost use Rattle.hop_model.specs.State.{Supply};
+ghost use Rattle.kernel_commits.specs.hop_model.State.{Supply};
 ghost use Rattle.disk_trait.specs.declared.disk.NoBlocks.{NoBlocks as TooFewBlocks};
-ghost use Rattle.kernel_cells.specs.declared.cells.Cell.{Cell as ACell};
-ghost use Rattle.kernel_cells.specs.declared.cells.Part.{Part as APart};
-ghost use Rattle.fitting_births.specs.Fitting.{Fits};
-ghost use Rattle.script_form.specs.Rules.{IsScript};
-ghost use Rattle.script_form.specs.Scripts.{tables_of};
-ghost use Rattle.table_births.specs.Births.{atlas_state_in};
-ghost use Rattle.kernel_laws.specs.Opening.{empty_script, with_script};
+ghost use Rattle.birth_views.specs.kernel_cells.declared.cells.Cell.{Cell as ACell};
+ghost use Rattle.birth_views.specs.kernel_cells.declared.cells.Part.{Part as APart};
+ghost use Rattle.birth_views.specs.fitting_births.Fitting.{Fits};
+ghost use Rattle.birth_views.specs.script_form.Rules.{IsScript};
+ghost use Rattle.birth_views.specs.script_form.Scripts.{tables_of};
+ghost use Rattle.birth_views.specs.table_births.Births.{atlas_state_in};
+ghost use Rattle.birth_views.specs.kernel_laws.Opening.{empty_script, with_script};
 ghost use Rattle.kernel_core.specs.Bearing.{HasOpened, IsShortBehind};
 ghost use Rattle.kernel_core.specs.Kernels.{Lives, MayBegin, StaysClean};
 ghost use Rattle.kernel_commits.specs.Lacking.{LacksIn};
@@ -19,23 +19,23 @@ ghost use Rattle.kernel_commits.specs.Recording.{HasRecorded, HasTried, IsShort}
 ghost use Rattle.kernel_commits.specs.Snapping.{Snaps};
 ghost use Rattle.kernel_core.specs.Stepping.{idle_at};
 ghost use Rattle.kernel_core.specs.declared.looking.Looked.TheVariants as ALook;
-ghost use Rattle.step_plans.specs.declared.idle.Idle.{Idle as AnIdle};
+ghost use Rattle.kernel_commits.specs.step_plans.declared.idle.Idle.{Idle as AnIdle};
 ghost use Rattle.kernel_commits.specs.declared.stopping.Stopped.{Stopped as AStop};
-ghost use Rattle.kernel_model.specs.Beginnings.{Beginning, run_of};
-ghost use Rattle.kernel_records.specs.Committing.{CommitCounts};
-ghost use Rattle.serial_runs.specs.Serial.{look, opening, wished_snap};
+ghost use Rattle.birth_views.specs.kernel_model.Beginnings.{Beginning, run_of};
+ghost use Rattle.birth_views.specs.kernel_records.Committing.{CommitCounts};
+ghost use Rattle.birth_views.specs.serial_runs.Serial.{look, opening, wished_snap};
 
 use crate::bearing::open_core;
 use crate::looking::{Looked, look_core};
 use atlas_dir::Atlas;
+use birth_views::kernel_cells::{Cell, Part};
+use birth_views::script_form::Script;
+use birth_views::snapshot_store::{OpenFault, OpenWhy, Store};
 use block_code::Blob;
 use disk_trait::Disk;
 use hop_base::{Entity, Entry};
-use kernel_cells::{Cell, Part};
 use kernel_commits::{Core, Notes, Stopped, snap_one};
 use manager_gate::{Gate, Policy, Supplier};
-use script_form::Script;
-use snapshot_store::{OpenFault, OpenWhy, Store};
 use std::alloc::{AllocError, Global};
 use std::marker::Model;
 

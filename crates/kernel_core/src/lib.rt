@@ -7,7 +7,8 @@ mod looking;
 mod owing;
 mod stepping;
 
+pub use birth_views::{script_against, script_form};
 pub use kernel_commits::Stopped;
+pub use kernel_commits::step_plans::Idle;
 pub use kernels::{Ended, Kernel};
 pub use looking::Looked;
-pub use step_plans::Idle;

@@ -3,9 +3,9 @@ ghost use Rattle.std.specs.Prelude.{◌≡◌, ◌↔◌, ◌<◌, ◌*◌, ◌+
 ghost use Rattle.disk_trait.specs.Counts.{Rose};
 ghost use Rattle.disk_trait.specs.declared.disk.NoBlocks.{NoBlocks as TooFewBlocks};
 ghost use Rattle.hop_base.specs.declared.histories.Event.TheVariants as AnEvent;
-ghost use Rattle.hop_model.specs.Histories.{mark};
-ghost use Rattle.hop_model.specs.State.{Supply};
-ghost use Rattle.cell_table.specs.Tables.{AreClean};
+ghost use Rattle.kernel_commits.specs.hop_model.Histories.{mark};
+ghost use Rattle.kernel_commits.specs.hop_model.State.{Supply};
+ghost use Rattle.birth_views.specs.cell_table.Tables.{AreClean};
 ghost use Rattle.kernel_core.specs.Looking.{LooksInRun, StopsLook};
 ghost use Rattle.kernel_commits.specs.Lacking.{LacksIn};
 ghost use Rattle.kernel_commits.specs.Parts.{StandsAs};
@@ -17,19 +17,19 @@ ghost use Rattle.kernel_commits.specs.Stops.{LeavesStopped};
 ghost use Rattle.kernel_commits.specs.declared.stopping.Stopped.{Stopped as AStop};
 ghost use Rattle.kernel_core.specs.Stepping.{idle_at};
 ghost use Rattle.kernel_core.specs.declared.looking.Looked.TheVariants as ALook;
-ghost use Rattle.step_plans.specs.declared.idle.Idle.{Idle as AnIdle};
-ghost use Rattle.kernel_model.specs.Beginnings.{Beginning, run_of};
-ghost use Rattle.kernel_model.specs.Live.{IsCalm};
-ghost use Rattle.record_laws.specs.Cells.{words_on};
-ghost use Rattle.serial_runs.specs.Serial.{kept_behind, look, wished_snaps, written_in};
+ghost use Rattle.kernel_commits.specs.step_plans.declared.idle.Idle.{Idle as AnIdle};
+ghost use Rattle.birth_views.specs.kernel_model.Beginnings.{Beginning, run_of};
+ghost use Rattle.birth_views.specs.kernel_model.Live.{IsCalm};
+ghost use Rattle.birth_views.specs.record_laws.Cells.{words_on};
+ghost use Rattle.birth_views.specs.serial_runs.Serial.{kept_behind, look, wished_snaps, written_in};
 
 use crate::owing::{owes_stable, stabilises_at};
 use crate::stepping::{Stepping, step_core};
 use disk_trait::Disk;
 use hop_base::{Entity, Entry};
+use kernel_commits::step_plans::Idle;
 use kernel_commits::{Core, Stopped, settle, snap_written};
 use manager_gate::{Gate, Policy, Supplier};
-use step_plans::Idle;
 
 /// What a look at a locus came to.
 #[derive(Clone, Copy, Debug, PartialEq, Eq)]

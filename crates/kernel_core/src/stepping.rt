@@ -1,21 +1,21 @@
 // One look at a locus: its step, and what comes behind it.
 ghost use Rattle.std.specs.Prelude.{◌≡◌, ◌<◌, ◌++◌, ◌∷◌, [], length};
-ghost use Rattle.cell_table.specs.Tables.{AreClean};
+ghost use Rattle.birth_views.specs.cell_table.Tables.{AreClean};
 ghost use Rattle.kernel_commits.specs.Parts.{parts_of};
 ghost use Rattle.kernel_commits.specs.Steady.{IsSteady};
 ghost use Rattle.kernel_core.specs.Stepping.{StepsOnce, stop_by};
-ghost use Rattle.record_laws.specs.Cells.{words_on};
+ghost use Rattle.birth_views.specs.record_laws.Cells.{words_on};
 
+use birth_views::kernel_cells::Cell;
+use birth_views::page_store::PageFault;
+use birth_views::snapshot_store::Store;
 use disk_trait::Disk;
 use hop_base::{Entity, Entry};
-use kernel_cells::Cell;
+use kernel_commits::step_plans::Idle;
+use kernel_commits::table_steps::StepFault;
 use kernel_commits::{Core, Notes, Stopped};
 use manager_gate::{Gate, Policy, Supplier};
-use page_store::PageFault;
-use snapshot_store::Store;
-use step_plans::Idle;
 use store_steps::step_over;
-use table_steps::StepFault;
 
 /// What came of a step.
 #[derive(Clone, Copy)]

@@ -8,15 +8,15 @@ use Rattle.disk_trait.specs.Moments.{LeavesOnly}
 use Rattle.hop_base.specs.declared.histories.Entry.{Entry}
 use Rattle.hop_base.specs.declared.histories.Event.{Event}
 use Rattle.hop_base.specs.declared.histories.Event.TheVariants.{Birth, Step, Snap as SnapEvent, Stable, Tried}
-use Rattle.hop_model.specs.Choices.{Commit}
-use Rattle.hop_model.specs.Histories.{Run, goes_on, start_run, went_on}
-use Rattle.hop_model.proofs.StableCuts.{run_append}
-use Rattle.run_cuts.specs.Marks.{completes, is_completing, is_step}
-use Rattle.image_blocks.specs.Layout.{last_number}
-use Rattle.image_blocks.specs.Logs.{Place}
-use Rattle.image_meaning.specs.Stores.{Kept, Stores}
-use Rattle.store_model.specs.Between.{OnlyPages, stores_left}
-use Rattle.store_model.specs.Books.{kept_of}
+use Rattle.meant_states.specs.hop_model.Choices.{Commit}
+use Rattle.meant_states.specs.hop_model.Histories.{Run, goes_on, start_run, went_on}
+use Rattle.meant_states.proofs.hop_model_lemmas.StableCuts.{run_append}
+use Rattle.kernel_model.specs.run_cuts.Marks.{completes, is_completing, is_step}
+use Rattle.meant_states.specs.image_blocks.Layout.{last_number}
+use Rattle.meant_states.specs.image_blocks.Logs.{Place}
+use Rattle.meant_states.specs.image_meaning.Stores.{Kept, Stores}
+use Rattle.kernel_model.specs.store_model.Between.{OnlyPages, stores_left}
+use Rattle.kernel_model.specs.store_model.Books.{kept_of}
 use Rattle.kernel_model.specs.Beginnings.{Beginning, IsLegal, completed, run_of, with_tried}
 use Rattle.kernel_model.specs.Left.{LeavesCuts, marks_with}
 use Rattle.kernel_model.specs.Live.{HasMarks, HoldsCommits, IsLive, IsRunning, KernelView, Stopped}

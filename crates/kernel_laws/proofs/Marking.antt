@@ -2,7 +2,7 @@
 use Rattle.std.proofs.Common.{◌≡◌, ℕ, zero, suc, ◌+◌, ◌*◌, ◌≤◌, ◌<◌, true, false, cond, List, [], ◌∷◌, ◌++◌, count_by, length, slice_get, Some, refl, sym, ap, subst, ◌∙◌, arith, ◌⊎◌, inl, inr, length-append, append_assoc}
 use Rattle.std.proofs.lemmas.Bool.{false≢true}
 use Rattle.hop_base.specs.declared.histories.Entry.{Entry}
-use Rattle.run_cuts.specs.Marks.{AreMarks, completes, is_step}
+use Rattle.kernel_model.specs.run_cuts.Marks.{AreMarks, completes, is_step}
 use Rattle.kernel_model.specs.Beginnings.{Beginning, completed}
 use Rattle.kernel_model.proofs.Leaving.{count_append, count_cons, get_front}
 

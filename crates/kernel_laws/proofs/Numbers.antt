@@ -5,12 +5,12 @@ use Rattle.std.proofs.lemmas.List.Sums.{count_by-le-length, length-filter}
 use Rattle.hop_base.specs.Edges.{upto}
 use Rattle.hop_base.specs.declared.histories.Entry.{Entry}
 use Rattle.hop_base.specs.declared.histories.Event.TheVariants.{Birth, Step, Snap as SnapEvent, Stable, Tried}
-use Rattle.hop_model.specs.Histories.{Run, chosen_commits, commits_of, goes_on, has_changed, run_after, start_run, went_on, writes}
-use Rattle.hop_model.specs.State.{KernelState}
-use Rattle.image_blocks.specs.Layout.{last_number}
-use Rattle.run_laws.proofs.Tellings.{versions_told}
-use Rattle.sound_runs.proofs.Lengths.{length_bound}
-use Rattle.sound_states.proofs.States.{run_state}
+use Rattle.meant_states.specs.hop_model.Histories.{Run, chosen_commits, commits_of, goes_on, has_changed, run_after, start_run, went_on, writes}
+use Rattle.meant_states.specs.hop_model.State.{KernelState}
+use Rattle.meant_states.specs.image_blocks.Layout.{last_number}
+use Rattle.kernel_model.proofs.run_laws_lemmas.Tellings.{versions_told}
+use Rattle.kernel_model.proofs.sound_runs_lemmas.Lengths.{length_bound}
+use Rattle.kernel_model.proofs.sound_states_lemmas.States.{run_state}
 use Rattle.kernel_model.specs.Beginnings.{Beginning, BeginsRight, IsLegal, completed, state_after}
 
 commits_long : (r : Run) (xs : List ℕ) → length (commits_of r xs) ≡ length xs

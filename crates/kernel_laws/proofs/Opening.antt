@@ -8,22 +8,22 @@ use Rattle.std.proofs.lemmas.Option.{slice_get-get_or}
 use Rattle.disk_trait.specs.Image.{Image, block_at}
 use Rattle.hop_base.specs.Edges.{upto}
 use Rattle.hop_base.specs.declared.records.Rec.{Rec}
-use Rattle.hop_model.specs.Choices.{Commit, IsGreatest, greatest}
-use Rattle.hop_model.specs.Histories.{chosen_commits}
-use Rattle.hop_model.specs.State.{EntityState, KernelState, Supply, empty_state}
-use Rattle.hop_model.proofs.Lowering.{greatest_is}
-use Rattle.cut_laws.specs.Agreeing.{from_cut, nothing}
-use Rattle.cut_laws.specs.Records.{commit_of, commits_of}
-use Rattle.image_blocks.specs.Checks.{count_in}
-use Rattle.image_blocks.specs.Logs.{IsInRange}
-use Rattle.image_blocks.proofs.Ranges.{in_range_law}
-use Rattle.image_meaning.specs.Meaning.{Means, entity_of}
-use Rattle.image_meaning.specs.Parts.{IsSpelt, Part, chosen, cut_of, table_in}
-use Rattle.image_meaning.specs.Stores.{recs_of}
-use Rattle.image_meaning.proofs.Finding.{passes, slot_of}
-use Rattle.image_meaning.proofs.Firsts.{spelt_at}
-use Rattle.hop_model.proofs.Basics.{and_left}
-use Rattle.store_model.specs.Books.{Books, Logged, kept_for, kept_in, kept_of, logged_recs}
+use Rattle.meant_states.specs.hop_model.Choices.{Commit, IsGreatest, greatest}
+use Rattle.meant_states.specs.hop_model.Histories.{chosen_commits}
+use Rattle.meant_states.specs.hop_model.State.{EntityState, KernelState, Supply, empty_state}
+use Rattle.meant_states.proofs.hop_model_lemmas.Lowering.{greatest_is}
+use Rattle.meant_states.specs.cut_laws.Agreeing.{from_cut, nothing}
+use Rattle.meant_states.specs.cut_laws.Records.{commit_of, commits_of}
+use Rattle.meant_states.specs.image_blocks.Checks.{count_in}
+use Rattle.meant_states.specs.image_blocks.Logs.{IsInRange}
+use Rattle.meant_states.proofs.image_blocks_lemmas.Ranges.{in_range_law}
+use Rattle.meant_states.specs.image_meaning.Meaning.{Means, entity_of}
+use Rattle.meant_states.specs.image_meaning.Parts.{IsSpelt, Part, chosen, cut_of, table_in}
+use Rattle.meant_states.specs.image_meaning.Stores.{recs_of}
+use Rattle.meant_states.proofs.image_meaning_lemmas.Finding.{passes, slot_of}
+use Rattle.meant_states.proofs.image_meaning_lemmas.Firsts.{spelt_at}
+use Rattle.meant_states.proofs.hop_model_lemmas.Basics.{and_left}
+use Rattle.kernel_model.specs.store_model.Books.{Books, Logged, kept_for, kept_in, kept_of, logged_recs}
 use Rattle.kernel_model.specs.Beginnings.{Beginning, completed}
 use Rattle.kernel_model.specs.Records.{AreKeptRecords, IsKeptRecord}
 use Rattle.kernel_model.specs.Telling.{TellsOf}

@@ -8,18 +8,18 @@ use Rattle.std.proofs.lemmas.List.Sums.{sum_by-cons}
 use Rattle.disk_trait.specs.Image.{Image}
 use Rattle.hop_base.specs.declared.histories.Entry.{Entry}
 use Rattle.hop_base.specs.declared.histories.Event.TheVariants.{Stable}
-use Rattle.hop_model.specs.Choices.{Commit, IsGreatest}
-use Rattle.hop_model.specs.Histories.{Run, event_of, goes_on, run_after, start_run, went_on}
-use Rattle.hop_model.specs.Parts.{after, after_entry, is_event, next_of, part_of, within, writes_within}
-use Rattle.hop_model.specs.State.{EntityState, KernelState}
-use Rattle.hop_model.proofs.StableCuts.{run_append}
-use Rattle.run_cuts.specs.Marks.{completes, is_completing, is_step, is_step_event}
-use Rattle.run_cuts.proofs.Cutting.{after_append}
-use Rattle.run_cuts.proofs.Leaving.{comparable}
-use Rattle.run_laws.proofs.Places.{things_stay}
-use Rattle.image_meaning.specs.Stores.{Kept}
-use Rattle.store_model.specs.Books.{AreSmall, AreTrue, Books, kept_of}
-use Rattle.store_model.specs.Owning.{AreOwned}
+use Rattle.meant_states.specs.hop_model.Choices.{Commit, IsGreatest}
+use Rattle.meant_states.specs.hop_model.Histories.{Run, event_of, goes_on, run_after, start_run, went_on}
+use Rattle.meant_states.specs.hop_model.Parts.{after, after_entry, is_event, next_of, part_of, within, writes_within}
+use Rattle.meant_states.specs.hop_model.State.{EntityState, KernelState}
+use Rattle.meant_states.proofs.hop_model_lemmas.StableCuts.{run_append}
+use Rattle.kernel_model.specs.run_cuts.Marks.{completes, is_completing, is_step, is_step_event}
+use Rattle.kernel_model.proofs.run_cuts_lemmas.Cutting.{after_append}
+use Rattle.kernel_model.proofs.run_cuts_lemmas.Leaving.{comparable}
+use Rattle.kernel_model.proofs.run_laws_lemmas.Places.{things_stay}
+use Rattle.meant_states.specs.image_meaning.Stores.{Kept}
+use Rattle.kernel_model.specs.store_model.Books.{AreSmall, AreTrue, Books, kept_of}
+use Rattle.kernel_model.specs.store_model.Owning.{AreOwned}
 use Rattle.kernel_model.specs.Beginnings.{Beginning, IsLegal, completed, entity_at, first_commits, run_of, state_after, with_tried}
 use Rattle.kernel_model.specs.Left.{HoldAcknowledged, IsCutImage}
 use Rattle.kernel_model.specs.Live.{HasMarks, HoldsCommits, IsRunning, KernelView}

@@ -3,7 +3,7 @@ use Rattle.std.proofs.Common.{◌≡◌, ℕ, ◌+◌, ◌≤◌, List, ◌++◌
 use Rattle.std.proofs.Math.Seq.{take-append-add}
 use Rattle.disk_trait.specs.Image.{Image}
 use Rattle.hop_base.specs.declared.histories.Entry.{Entry}
-use Rattle.hop_model.specs.Choices.{Commit}
+use Rattle.meant_states.specs.hop_model.Choices.{Commit}
 use Rattle.kernel_model.specs.Beginnings.{Beginning, BeginsRight, IsLegal, completed, first_commits, with_tried}
 use Rattle.kernel_model.specs.Left.{HoldAcknowledged, IsCutImage}
 use Rattle.kernel_model.specs.Records.{StoresCommits, StoresSome}

@@ -4,15 +4,15 @@ use Rattle.std.specs.List.{AllByRecursion}
 use Rattle.std.proofs.lemmas.List.Elements.{All-nil}
 use Rattle.disk_trait.specs.Image.{Image}
 use Rattle.hop_base.specs.declared.histories.Entry.{Entry}
-use Rattle.hop_model.specs.Scripts.{ContainerTable, Script, locus_named}
-use Rattle.hop_model.specs.State.{KernelState}
-use Rattle.hop_model.specs.Steps.{atlas_in}
-use Rattle.script_form.specs.Rules.{IsScript}
-use Rattle.sound_runs.specs.Kinds.{NamesNoLocus}
-use Rattle.run_cuts.proofs.Reaching.{cut_at_start}
-use Rattle.image_meaning.specs.Meaning.{Means}
-use Rattle.image_meaning.specs.Stores.{Kept}
-use Rattle.store_model.specs.Books.{kept_of}
+use Rattle.meant_states.specs.hop_model.Scripts.{ContainerTable, Script, locus_named}
+use Rattle.meant_states.specs.hop_model.State.{KernelState}
+use Rattle.meant_states.specs.hop_model.Steps.{atlas_in}
+use Rattle.kernel_model.specs.script_form.Rules.{IsScript}
+use Rattle.kernel_model.specs.sound_runs.Kinds.{NamesNoLocus}
+use Rattle.kernel_model.proofs.run_cuts_lemmas.Reaching.{cut_at_start}
+use Rattle.meant_states.specs.image_meaning.Meaning.{Means}
+use Rattle.meant_states.specs.image_meaning.Stores.{Kept}
+use Rattle.kernel_model.specs.store_model.Books.{kept_of}
 use Rattle.kernel_model.specs.Beginnings.{Beginning, BeginsRight, IsLegal, completed, run_of, state_after}
 use Rattle.kernel_model.specs.Left.{IsCutImage}
 use Rattle.kernel_model.specs.Live.{Follows, HasMarks, HoldsCommits, IsCalm, IsLive, IsRunning, KernelView}

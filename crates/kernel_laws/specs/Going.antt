@@ -5,9 +5,9 @@ use Rattle.disk_trait.specs.Image.{Image}
 use Rattle.disk_trait.specs.Moments.{LeavesOnly}
 use Rattle.hop_base.specs.declared.histories.Entry.{Entry}
 use Rattle.hop_base.specs.declared.histories.Event.TheVariants.{Snap, Stable, Tried}
-use Rattle.run_cuts.specs.Marks.{completes, is_step}
-use Rattle.store_model.specs.Between.{OnlyPages}
-use Rattle.store_model.specs.Owning.{AreOwned}
+use Rattle.kernel_model.specs.run_cuts.Marks.{completes, is_step}
+use Rattle.kernel_model.specs.store_model.Between.{OnlyPages}
+use Rattle.kernel_model.specs.store_model.Owning.{AreOwned}
 use Rattle.kernel_model.specs.Beginnings.{Beginning, IsLegal, completed}
 use Rattle.kernel_model.specs.Left.{StoresNext}
 use Rattle.kernel_model.specs.Live.{Follows, HoldsCommits, KernelView, Stopped}

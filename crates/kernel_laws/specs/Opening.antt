@@ -4,11 +4,11 @@ use Rattle.std.specs.List.{flat_map}
 use Rattle.disk_trait.specs.Image.{Image}
 use Rattle.hop_base.specs.Edges.{upto}
 use Rattle.hop_base.specs.declared.records.Rec.{Rec}
-use Rattle.hop_model.specs.Histories.{births_owed, start_run}
-use Rattle.hop_model.specs.Scripts.{Script}
-use Rattle.image_meaning.specs.Meaning.{Accepted, Means}
-use Rattle.image_meaning.specs.Parts.{Part, chosen, table_in}
-use Rattle.store_model.specs.Books.{Books, Logged, kept_in, logged_recs}
+use Rattle.meant_states.specs.hop_model.Histories.{births_owed, start_run}
+use Rattle.meant_states.specs.hop_model.Scripts.{Script}
+use Rattle.meant_states.specs.image_meaning.Meaning.{Accepted, Means}
+use Rattle.meant_states.specs.image_meaning.Parts.{Part, chosen, table_in}
+use Rattle.kernel_model.specs.store_model.Books.{Books, Logged, kept_in, logged_recs}
 use Rattle.kernel_model.specs.Beginnings.{Beginning}
 use Rattle.kernel_model.specs.Live.{HoldsCommits, KernelView}
 

@@ -4,10 +4,10 @@ use Rattle.std.specs.Prelude.{Contains}
 use Rattle.std.specs.List.{list_any}
 use Rattle.std.proofs.lemmas.Bool.{false≢true}
 use Rattle.disk_trait.specs.Image.{Image}
-use Rattle.image_blocks.specs.Bodies.{blob_blocks}
-use Rattle.image_blocks.specs.Layout.{pool_at}
-use Rattle.image_meaning.specs.Describing.{HasPage}
-use Rattle.image_meaning.specs.Stores.{Kept}
+use Rattle.store_model.specs.image_blocks.Bodies.{blob_blocks}
+use Rattle.store_model.specs.image_blocks.Layout.{pool_at}
+use Rattle.store_model.specs.image_meaning.Describing.{HasPage}
+use Rattle.store_model.specs.image_meaning.Stores.{Kept}
 use Rattle.store_model.specs.Books.{Books, Logged, is_used, kept_for, kept_in, kept_names, kept_of, names}
 use Rattle.store_model.specs.Owning.{AreOwned, NamesPage}
 use Rattle.kernel_model.specs.Owning.{IsApartNew}

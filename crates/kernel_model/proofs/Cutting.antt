@@ -7,26 +7,26 @@ use Rattle.std.proofs.lemmas.Bool.{false≢true}
 use Rattle.std.proofs.lemmas.List.{get_or_past, take-append-drop}
 use Rattle.disk_trait.specs.Image.{Image}
 use Rattle.hop_base.specs.declared.histories.Entry.{Entry}
-use Rattle.hop_model.specs.Choices.{Commit, Among, IsBelow, IsGreatest, IsNarrow}
-use Rattle.hop_model.specs.Histories.{event_of, start_run}
-use Rattle.hop_model.specs.Parts.{IsClosed, after, part_of}
-use Rattle.hop_model.specs.State.{EntityState, KernelState, empty_state}
-use Rattle.hop_model.proofs.Basics.{and_left, and_right, both}
-use Rattle.hop_model.proofs.CommitStamps.{legal_greatest}
-use Rattle.hop_model.proofs.LegalRuns.{event_of_local, legal_played}
-use Rattle.hop_model.proofs.Lowering.{greatest_is, greatest_one}
-use Rattle.hop_model.proofs.PartStates.{part_state}
-use Rattle.cut_laws.specs.Agreeing.{HoldsStart, nothing}
-use Rattle.cut_laws.specs.Records.{commits_of}
-use Rattle.cut_laws.proofs.Joins.{from_nothing, same_greatest}
-use Rattle.run_laws.proofs.Starts.{starts_first, starts_held}
-use Rattle.sound_runs.proofs.Runs.{part_sound}
+use Rattle.store_model.specs.hop_model.Choices.{Commit, Among, IsBelow, IsGreatest, IsNarrow}
+use Rattle.store_model.specs.hop_model.Histories.{event_of, start_run}
+use Rattle.store_model.specs.hop_model.Parts.{IsClosed, after, part_of}
+use Rattle.store_model.specs.hop_model.State.{EntityState, KernelState, empty_state}
+use Rattle.store_model.proofs.hop_model_lemmas.Basics.{and_left, and_right, both}
+use Rattle.store_model.proofs.hop_model_lemmas.CommitStamps.{legal_greatest}
+use Rattle.store_model.proofs.hop_model_lemmas.LegalRuns.{event_of_local, legal_played}
+use Rattle.store_model.proofs.hop_model_lemmas.Lowering.{greatest_is, greatest_one}
+use Rattle.store_model.proofs.hop_model_lemmas.PartStates.{part_state}
+use Rattle.store_model.specs.cut_laws.Agreeing.{HoldsStart, nothing}
+use Rattle.store_model.specs.cut_laws.Records.{commits_of}
+use Rattle.store_model.proofs.cut_laws_lemmas.Joins.{from_nothing, same_greatest}
+use Rattle.run_cuts.proofs.run_laws_lemmas.Starts.{starts_first, starts_held}
+use Rattle.run_cuts.proofs.sound_runs_lemmas.Runs.{part_sound}
 use Rattle.sound_states.proofs.Empty.{none_beyond}
-use Rattle.image_meaning.specs.Describing.{Describes, DescribesEntity}
-use Rattle.image_meaning.specs.Meaning.{Means}
-use Rattle.image_meaning.specs.Parts.{Part, cut_of}
-use Rattle.image_meaning.specs.Stores.{Kept, kept_by, recs_of}
-use Rattle.image_meaning.proofs.Meaning.{meaning_law}
+use Rattle.store_model.specs.image_meaning.Describing.{Describes, DescribesEntity}
+use Rattle.store_model.specs.image_meaning.Meaning.{Means}
+use Rattle.store_model.specs.image_meaning.Parts.{Part, cut_of}
+use Rattle.store_model.specs.image_meaning.Stores.{Kept, kept_by, recs_of}
+use Rattle.store_model.proofs.image_meaning_lemmas.Meaning.{meaning_law}
 use Rattle.run_cuts.specs.Cuts.{IsCutState}
 use Rattle.kernel_model.specs.Beginnings.{Beginning, BeginsRight, IsLegal, completed, entity_at, first_commits, with_tried}
 use Rattle.kernel_model.specs.Records.{IsKeptRecord, StoresCommits}

@@ -8,16 +8,16 @@ use Rattle.std.proofs.lemmas.List.Elements.{filter-append}
 use Rattle.disk_trait.specs.Image.{Image}
 use Rattle.hop_base.specs.declared.histories.Entry.{Entry}
 use Rattle.hop_base.specs.declared.records.Rec.{Rec}
-use Rattle.hop_model.specs.Choices.{Commit, IsBelow, IsGreatest, IsNarrow, greatest}
-use Rattle.hop_model.proofs.Lowering.{greatest_is, greatest_one, rising_cut}
-use Rattle.cut_laws.specs.Agreeing.{from_cut, nothing}
-use Rattle.cut_laws.specs.Records.{commit_of, commits_of}
-use Rattle.cut_laws.proofs.Filters.{kept, more}
-use Rattle.cut_laws.proofs.Joins.{same_greatest}
-use Rattle.image_blocks.specs.Bodies.{body_block, record_in}
-use Rattle.image_blocks.specs.Logs.{AreFitting}
-use Rattle.image_meaning.proofs.Choosing.{from_commits}
-use Rattle.image_meaning.specs.Stores.{Kept, recs_of}
+use Rattle.store_model.specs.hop_model.Choices.{Commit, IsBelow, IsGreatest, IsNarrow, greatest}
+use Rattle.store_model.proofs.hop_model_lemmas.Lowering.{greatest_is, greatest_one, rising_cut}
+use Rattle.store_model.specs.cut_laws.Agreeing.{from_cut, nothing}
+use Rattle.store_model.specs.cut_laws.Records.{commit_of, commits_of}
+use Rattle.store_model.proofs.cut_laws_lemmas.Filters.{kept, more}
+use Rattle.store_model.proofs.cut_laws_lemmas.Joins.{same_greatest}
+use Rattle.store_model.specs.image_blocks.Bodies.{body_block, record_in}
+use Rattle.store_model.specs.image_blocks.Logs.{AreFitting}
+use Rattle.store_model.proofs.image_meaning_lemmas.Choosing.{from_commits}
+use Rattle.store_model.specs.image_meaning.Stores.{Kept, recs_of}
 use Rattle.store_model.specs.Books.{Books, Logged, cut_in, kept_for, kept_in, kept_of, logged_recs, recs_in}
 use Rattle.store_model.proofs.Keeping.{kept_recs}
 use Rattle.kernel_model.specs.Beginnings.{Beginning}

@@ -7,16 +7,16 @@ use Rattle.std.proofs.lemmas.List.Sums.{sum_by-append, sum_by-cons}
 use Rattle.disk_trait.specs.Image.{Image}
 use Rattle.hop_base.specs.declared.histories.Entry.{Entry}
 use Rattle.hop_base.specs.declared.histories.Event.TheVariants.{Birth, Step, Snap as SnapEvent, Stable, Tried}
-use Rattle.hop_model.specs.Choices.{Commit, IsGreatest}
-use Rattle.hop_model.specs.Fronts.{IsChoice}
-use Rattle.hop_model.specs.Histories.{Run, IsLegalFrom, May, event_of, goes_on, run_after, start_run, went_on}
-use Rattle.hop_model.specs.Parts.{after, part_of}
-use Rattle.hop_model.proofs.Among.{among_map}
-use Rattle.hop_model.proofs.StableCuts.{run_append}
+use Rattle.store_model.specs.hop_model.Choices.{Commit, IsGreatest}
+use Rattle.store_model.specs.hop_model.Fronts.{IsChoice}
+use Rattle.store_model.specs.hop_model.Histories.{Run, IsLegalFrom, May, event_of, goes_on, run_after, start_run, went_on}
+use Rattle.store_model.specs.hop_model.Parts.{after, part_of}
+use Rattle.store_model.proofs.hop_model_lemmas.Among.{among_map}
+use Rattle.store_model.proofs.hop_model_lemmas.StableCuts.{run_append}
 use Rattle.run_cuts.specs.Marks.{completes, is_completing}
 use Rattle.run_cuts.proofs.Leaving.{comparable}
-use Rattle.run_laws.proofs.Places.{cuts_stay, first_stay}
-use Rattle.run_laws.proofs.Wishes.{legal_front}
+use Rattle.run_cuts.proofs.run_laws_lemmas.Places.{cuts_stay, first_stay}
+use Rattle.run_cuts.proofs.run_laws_lemmas.Wishes.{legal_front}
 use Rattle.kernel_model.specs.Beginnings.{Beginning, BeginsRight, IsLegal, completed, first_commits, run_of, with_tried}
 use Rattle.kernel_model.specs.Left.{HoldAcknowledged, IsCutImage, marks_with}
 use Rattle.kernel_model.specs.Records.{StoresCommits}
@@ -172,7 +172,7 @@ module _ (b : Beginning) (es : List Entry) (e : Entry) (legal : IsLegal b (es ++
         let few : i.k ≤ length (completed b es) = (let some = i.holds.some in let same = ap length sure_before in omega (arith, some, same)) in
         let first : first_commits b (es ++ e ∷ []) i.k ≡ first_commits b es i.k = first_stay b.supply b.policy b.script b.state es (e ∷ []) i.k few in
         let choice : IsChoice start (first_commits b es i.k) i.cut.cut =
-        λ x. elim (i.cut.greatest.closed x) as (λ _. (i.cut.cut x ≡ start x) ⊎ Rattle.hop_model.specs.Choices.Among (first_commits b es i.k) (λ d. (d.entity ≡ x) × (d.version ≡ i.cut.cut x))) [
+        λ x. elim (i.cut.greatest.closed x) as (λ _. (i.cut.cut x ≡ start x) ⊎ Rattle.store_model.specs.hop_model.Choices.Among (first_commits b es i.k) (λ d. (d.entity ≡ x) × (d.version ≡ i.cut.cut x))) [
           | inl same ↦ inl same
           | inr some ↦ inr (among_map (first_commits b es i.k) _ _ (λ d h. (h.0, h.1)) some)
         ] in

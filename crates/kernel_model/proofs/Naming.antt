@@ -6,13 +6,13 @@ use Rattle.std.proofs.lemmas.List.{get_or_default}
 use Rattle.std.proofs.lemmas.Option.{slice_get_within, slice_get-get_or}
 use Rattle.hop_base.specs.declared.histories.Entry.{Entry}
 use Rattle.hop_base.specs.declared.records.Rec.{Rec}
-use Rattle.hop_model.proofs.Basics.{and_left}
-use Rattle.image_blocks.specs.Bodies.{blob_blocks}
-use Rattle.image_meaning.specs.Describing.{HasPage}
-use Rattle.image_meaning.specs.Fits.{AreNamedOnce}
-use Rattle.image_meaning.specs.Parts.{Part, chosen, chosen_by, cut_of, table_in}
-use Rattle.image_meaning.specs.Stores.{Kept, recs_of}
-use Rattle.image_meaning.proofs.Firsts.{clash}
+use Rattle.store_model.proofs.hop_model_lemmas.Basics.{and_left}
+use Rattle.store_model.specs.image_blocks.Bodies.{blob_blocks}
+use Rattle.store_model.specs.image_meaning.Describing.{HasPage}
+use Rattle.store_model.specs.image_meaning.Fits.{AreNamedOnce}
+use Rattle.store_model.specs.image_meaning.Parts.{Part, chosen, chosen_by, cut_of, table_in}
+use Rattle.store_model.specs.image_meaning.Stores.{Kept, recs_of}
+use Rattle.store_model.proofs.image_meaning_lemmas.Firsts.{clash}
 use Rattle.kernel_model.specs.Beginnings.{Beginning}
 use Rattle.kernel_model.specs.Records.{ArePagesApart, IsKeptRecord}
 

@@ -4,8 +4,8 @@ use Rattle.std.specs.Prelude.{Contains, slice_index}
 use Rattle.std.specs.List.{flat_map}
 use Rattle.std.proofs.lemmas.Bool.{false≢true}
 use Rattle.disk_trait.specs.Image.{Image, block_at}
-use Rattle.image_meaning.specs.Describing.{HasPage, bytes_of}
-use Rattle.image_meaning.specs.Stores.{Page}
+use Rattle.store_model.specs.image_meaning.Describing.{HasPage, bytes_of}
+use Rattle.store_model.specs.image_meaning.Stores.{Page}
 use Rattle.store_model.specs.Books.{page_for}
 use Rattle.store_model.specs.Owning.{NamesPage}
 use Rattle.kernel_model.proofs.Naming.{behind, first_in}

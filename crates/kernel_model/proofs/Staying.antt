@@ -3,15 +3,15 @@ use Rattle.std.proofs.Common.{◌≡◌, ℕ, ◌≤◌, List, [], ◌∷◌, �
 use Rattle.std.specs.List.{AllByRecursion}
 use Rattle.disk_trait.specs.Image.{Image}
 use Rattle.hop_base.specs.declared.histories.Entry.{Entry}
-use Rattle.hop_model.specs.Choices.{Commit}
-use Rattle.hop_model.specs.Histories.{Run, event_of, start_run}
-use Rattle.hop_model.specs.Parts.{IsPlayed, after, after_entry}
-use Rattle.hop_model.specs.State.{EntityState, KernelState}
-use Rattle.hop_model.proofs.LegalRuns.{event_of_local, event_of_stamped, legal_played}
-use Rattle.hop_model.proofs.StableCuts.{commits_grow, run_append, versions_rise_over}
+use Rattle.store_model.specs.hop_model.Choices.{Commit}
+use Rattle.store_model.specs.hop_model.Histories.{Run, event_of, start_run}
+use Rattle.store_model.specs.hop_model.Parts.{IsPlayed, after, after_entry}
+use Rattle.store_model.specs.hop_model.State.{EntityState, KernelState}
+use Rattle.store_model.proofs.hop_model_lemmas.LegalRuns.{event_of_local, event_of_stamped, legal_played}
+use Rattle.store_model.proofs.hop_model_lemmas.StableCuts.{commits_grow, run_append, versions_rise_over}
 use Rattle.run_cuts.proofs.Cutting.{after_append}
-use Rattle.run_laws.proofs.Places.{things_stay}
-use Rattle.image_meaning.specs.Stores.{Kept}
+use Rattle.run_cuts.proofs.run_laws_lemmas.Places.{things_stay}
+use Rattle.store_model.specs.image_meaning.Stores.{Kept}
 use Rattle.kernel_model.specs.Beginnings.{Beginning, IsLegal, completed, entity_at, run_of, state_after}
 use Rattle.kernel_model.specs.Records.{AreKeptRecords, IsKeptRecord, StoresCommits}
 

@@ -3,18 +3,18 @@ use Rattle.std.proofs.Common.{◌≡◌, ◌≢◌, ℕ, ◌≤◌, true, false,
 use Rattle.std.specs.Prelude.{slice_index}
 use Rattle.disk_trait.specs.Image.{Image, block_at}
 use Rattle.hop_base.specs.declared.histories.Entry.{Entry}
-use Rattle.hop_model.specs.Histories.{event_of, start_run}
-use Rattle.hop_model.specs.LocalEvents.{IsLocal}
-use Rattle.hop_model.specs.Parts.{IsPlayed, after, after_entry, thing_at}
-use Rattle.hop_model.specs.State.{EntityState, KernelState}
-use Rattle.hop_model.specs.Vectors.{IsStamped}
-use Rattle.hop_model.proofs.ChosenVectors.{Moves, moves}
-use Rattle.hop_model.proofs.LegalRuns.{event_of_local, event_of_stamped, legal_played}
-use Rattle.hop_model.proofs.StableCuts.{versions_rise_over}
-use Rattle.image_meaning.specs.Describing.{HasPage, bytes_of}
-use Rattle.image_meaning.specs.Parts.{table_in}
-use Rattle.image_meaning.specs.Stores.{Kept, Page}
-use Rattle.image_meaning.proofs.Meaning.{cell_same}
+use Rattle.store_model.specs.hop_model.Histories.{event_of, start_run}
+use Rattle.store_model.specs.hop_model.LocalEvents.{IsLocal}
+use Rattle.store_model.specs.hop_model.Parts.{IsPlayed, after, after_entry, thing_at}
+use Rattle.store_model.specs.hop_model.State.{EntityState, KernelState}
+use Rattle.store_model.specs.hop_model.Vectors.{IsStamped}
+use Rattle.store_model.proofs.hop_model_lemmas.ChosenVectors.{Moves, moves}
+use Rattle.store_model.proofs.hop_model_lemmas.LegalRuns.{event_of_local, event_of_stamped, legal_played}
+use Rattle.store_model.proofs.hop_model_lemmas.StableCuts.{versions_rise_over}
+use Rattle.store_model.specs.image_meaning.Describing.{HasPage, bytes_of}
+use Rattle.store_model.specs.image_meaning.Parts.{table_in}
+use Rattle.store_model.specs.image_meaning.Stores.{Kept, Page}
+use Rattle.store_model.proofs.image_meaning_lemmas.Meaning.{cell_same}
 use Rattle.kernel_model.specs.Beginnings.{Beginning, IsLegal, entity_at, state_after}
 use Rattle.kernel_model.specs.Records.{IsKeptRecord}
 use Rattle.kernel_model.specs.Telling.{TellsOf}

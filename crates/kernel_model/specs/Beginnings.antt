@@ -1,14 +1,14 @@
 -- What a run of the kernel begins from, and what its rules say of it.
 use Rattle.std.specs.Prelude.{◌≡◌, ℕ, ◌≤◌, ◌^◌, List, take}
 use Rattle.hop_base.specs.declared.histories.Entry.{Entry}
-use Rattle.hop_model.specs.Choices.{Commit}
-use Rattle.hop_model.specs.Fronts.{tried_commits}
-use Rattle.hop_model.specs.Histories.{Policy, IsLegalRun, Run, commits_in, event_of, run_after, start_run}
-use Rattle.hop_model.specs.Parts.{after, thing_at}
-use Rattle.hop_model.specs.Scripts.{Script}
-use Rattle.hop_model.specs.State.{EntityState, KernelState, Supply, empty_state}
-use Rattle.script_form.specs.Rules.{IsScript}
-use Rattle.sound_runs.specs.Kinds.{NamesNoLocus}
+use Rattle.store_model.specs.hop_model.Choices.{Commit}
+use Rattle.store_model.specs.hop_model.Fronts.{tried_commits}
+use Rattle.store_model.specs.hop_model.Histories.{Policy, IsLegalRun, Run, commits_in, event_of, run_after, start_run}
+use Rattle.store_model.specs.hop_model.Parts.{after, thing_at}
+use Rattle.store_model.specs.hop_model.Scripts.{Script}
+use Rattle.store_model.specs.hop_model.State.{EntityState, KernelState, Supply, empty_state}
+use Rattle.run_cuts.specs.script_form.Rules.{IsScript}
+use Rattle.run_cuts.specs.sound_runs.Kinds.{NamesNoLocus}
 use Rattle.sound_states.specs.States.{IsSoundState}
 
 -- THE BEGINNING of a run: the managers' answers, the script, and the state that the opened image means. Marks count from the moment

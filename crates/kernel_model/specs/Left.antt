@@ -2,8 +2,8 @@
 use Rattle.std.specs.Prelude.{◌≡◌, ◌≤◌, ◌<◌, ◌+◌, ◌-◌, ◌^◌, ℕ, List, [], ◌++◌, count_by, length, slice_get, Some, if◌then◌else◌, ◌∷◌, ◌⊎◌}
 use Rattle.disk_trait.specs.Image.{Image}
 use Rattle.hop_base.specs.declared.histories.Entry.{Entry}
-use Rattle.hop_model.specs.State.{KernelState}
-use Rattle.image_meaning.specs.Meaning.{Means}
+use Rattle.store_model.specs.hop_model.State.{KernelState}
+use Rattle.store_model.specs.image_meaning.Meaning.{Means}
 use Rattle.run_cuts.specs.Cuts.{IsCutState}
 use Rattle.run_cuts.specs.Marks.{completes}
 use Rattle.kernel_model.specs.Beginnings.{Beginning, completed, first_commits, with_tried}

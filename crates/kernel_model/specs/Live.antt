@@ -2,8 +2,8 @@
 use Rattle.std.specs.Prelude.{◌≡◌, ℕ, ◌+◌, ◌-◌, ◌*◌, ◌<◌, ◌≤◌, ◌^◌, Bool, false, List, [], length, count_by, Option, Some, None, slice_get}
 use Rattle.disk_trait.specs.Image.{Image}
 use Rattle.hop_base.specs.declared.histories.Entry.{Entry}
-use Rattle.hop_model.specs.Histories.{births_owed, is_due}
-use Rattle.hop_model.specs.State.{KernelState}
+use Rattle.store_model.specs.hop_model.Histories.{births_owed, is_due}
+use Rattle.store_model.specs.hop_model.State.{KernelState}
 use Rattle.run_cuts.specs.Marks.{AreMarks, is_step}
 use Rattle.store_model.specs.Books.{AreSmall, AreTrue, Books, kept_of}
 use Rattle.store_model.specs.Owning.{AreOwned}

@@ -1,9 +1,9 @@
 -- Whose the blocks of a new record are.
 use Rattle.std.specs.Prelude.{◌≡◌, ℕ, ◌≤◌, ◌<◌, true, false, List, Contains}
-use Rattle.image_blocks.specs.Bodies.{blob_blocks}
-use Rattle.image_blocks.specs.Layout.{pool_at}
-use Rattle.image_meaning.specs.Describing.{HasPage}
-use Rattle.image_meaning.specs.Stores.{Kept}
+use Rattle.store_model.specs.image_blocks.Bodies.{blob_blocks}
+use Rattle.store_model.specs.image_blocks.Layout.{pool_at}
+use Rattle.store_model.specs.image_meaning.Describing.{HasPage}
+use Rattle.store_model.specs.image_meaning.Stores.{Kept}
 use Rattle.store_model.specs.Books.{Books, is_used}
 use Rattle.store_model.specs.Owning.{NamesPage}
 

@@ -3,14 +3,14 @@ use Rattle.std.specs.Prelude.{◌≡◌, ◌≢◌, ℕ, ◌<◌, ◌≤◌, Lis
 use Rattle.std.specs.List.{AllByRecursion}
 use Rattle.disk_trait.specs.Image.{Image}
 use Rattle.hop_base.specs.declared.histories.Entry.{Entry}
-use Rattle.hop_model.specs.Choices.{Commit}
-use Rattle.cut_laws.specs.Agreeing.{AgreeFromCut, nothing}
-use Rattle.cut_laws.specs.Records.{commits_of}
-use Rattle.image_blocks.specs.Bodies.{blob_blocks}
-use Rattle.image_blocks.specs.Layout.{pool_at}
-use Rattle.image_meaning.specs.Describing.{DescribesEntity, HasPage}
-use Rattle.image_meaning.specs.Parts.{Part, table_in}
-use Rattle.image_meaning.specs.Stores.{Kept, Stores, recs_of}
+use Rattle.store_model.specs.hop_model.Choices.{Commit}
+use Rattle.store_model.specs.cut_laws.Agreeing.{AgreeFromCut, nothing}
+use Rattle.store_model.specs.cut_laws.Records.{commits_of}
+use Rattle.store_model.specs.image_blocks.Bodies.{blob_blocks}
+use Rattle.store_model.specs.image_blocks.Layout.{pool_at}
+use Rattle.store_model.specs.image_meaning.Describing.{DescribesEntity, HasPage}
+use Rattle.store_model.specs.image_meaning.Parts.{Part, table_in}
+use Rattle.store_model.specs.image_meaning.Stores.{Kept, Stores, recs_of}
 use Rattle.kernel_model.specs.Beginnings.{Beginning, entity_at, state_after}
 
 -- The record says what its entity is at its version in the run, which the run has reached. Its pages are those of the part's table,

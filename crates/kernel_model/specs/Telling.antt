@@ -2,9 +2,9 @@
 use Rattle.std.specs.Prelude.{◌≡◌, ℕ, List, length, slice_index}
 use Rattle.std.specs.List.{flat_map}
 use Rattle.disk_trait.specs.Image.{Image, block_at}
-use Rattle.hop_model.specs.State.{KernelState, Supply}
-use Rattle.image_meaning.specs.Parts.{IsOf, Part, Spells, cell_of, table_in}
-use Rattle.image_meaning.specs.Stores.{Kept}
+use Rattle.store_model.specs.hop_model.State.{KernelState, Supply}
+use Rattle.store_model.specs.image_meaning.Parts.{IsOf, Part, Spells, cell_of, table_in}
+use Rattle.store_model.specs.image_meaning.Stores.{Kept}
 use Rattle.store_model.specs.Books.{AreApart, page_for}
 
 -- The record has its entity's version and clock in the state, its blob spells the entity, and its pages are those that the table names,

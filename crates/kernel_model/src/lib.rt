@@ -6,12 +6,12 @@ ghost use Rattle.std.specs.Prelude.{[], ◌∷◌, ◌++◌, ◌≡◌, ◌≤�
 ghost use Rattle.disk_trait.specs.Image.{Image};
 ghost use Rattle.disk_trait.specs.Moments.{LeavesOnly};
 ghost use Rattle.hop_base.specs.declared.histories.Entry.{Entry};
-ghost use Rattle.hop_model.specs.Choices.{Commit};
-ghost use Rattle.hop_model.specs.State.{KernelState};
-ghost use Rattle.cut_laws.specs.Records.{commit_of};
-ghost use Rattle.image_blocks.specs.Logs.{AreFitting};
-ghost use Rattle.image_meaning.specs.Meaning.{Means};
-ghost use Rattle.image_meaning.specs.Stores.{Kept};
+ghost use Rattle.store_model.specs.hop_model.Choices.{Commit};
+ghost use Rattle.store_model.specs.hop_model.State.{KernelState};
+ghost use Rattle.store_model.specs.cut_laws.Records.{commit_of};
+ghost use Rattle.store_model.specs.image_blocks.Logs.{AreFitting};
+ghost use Rattle.store_model.specs.image_meaning.Meaning.{Means};
+ghost use Rattle.store_model.specs.image_meaning.Stores.{Kept};
 ghost use Rattle.run_cuts.specs.Cuts.{IsCutState};
 ghost use Rattle.run_cuts.specs.Marks.{completes};
 ghost use Rattle.store_model.specs.Books.{Books, Logged, kept_for, kept_in, kept_of, recs_in};

@@ -7,30 +7,30 @@ use Rattle.disk_tally.specs.Counts.{Begins}
 use Rattle.disk_trait.specs.Disk.{Ticks}
 use Rattle.disk_trait.specs.Image.{Image}
 use Rattle.hop_base.specs.declared.histories.Entry.{Entry}
-use Rattle.hop_model.specs.Histories.{births_owed, start_run}
-use Rattle.hop_model.specs.Scripts.{Script}
-use Rattle.hop_model.specs.State.{Supply}
-use Rattle.image_meaning.specs.Meaning.{Means}
-use Rattle.kernel_cells.specs.declared.cells.Cell.{Cell}
-use Rattle.cell_table.specs.Tables.{AreClean}
+use Rattle.kernel_core.specs.hop_model.Histories.{births_owed, start_run}
+use Rattle.kernel_core.specs.hop_model.Scripts.{Script}
+use Rattle.kernel_core.specs.hop_model.State.{Supply}
+use Rattle.image_opening.specs.image_meaning.Meaning.{Means}
+use Rattle.image_opening.specs.kernel_cells.declared.cells.Cell.{Cell}
+use Rattle.image_opening.specs.cell_table.Tables.{AreClean}
 use Rattle.image_opening.specs.Images.{AreOfImage, IsOpenedTable, StartsFrom}
 use Rattle.kernel_core.specs.Kernels.{Held, StaysClean}
-use Rattle.kernel_commits.specs.Parts.{stop_of}
-use Rattle.kernel_commits.specs.declared.stopping.Stopped.{Stopped}
-use Rattle.kernel_laws.specs.Opening.{HasNoBirths, empty_script}
-use Rattle.kernel_laws.proofs.Opening.{meant_unwritten}
-use Rattle.kernel_laws.proofs.Starting.{empty_names, empty_rules, start_lives}
-use Rattle.kernel_model.specs.Beginnings.{Beginning, BeginsRight}
-use Rattle.kernel_model.specs.Live.{IsLive}
+use Rattle.kernel_core.specs.kernel_commits.Parts.{stop_of}
+use Rattle.kernel_core.specs.kernel_commits.declared.stopping.Stopped.{Stopped}
+use Rattle.image_opening.specs.kernel_laws.Opening.{HasNoBirths, empty_script}
+use Rattle.image_opening.proofs.kernel_laws_lemmas.Opening.{meant_unwritten}
+use Rattle.image_opening.proofs.kernel_laws_lemmas.Starting.{empty_names, empty_rules, start_lives}
+use Rattle.image_opening.specs.kernel_model.Beginnings.{Beginning, BeginsRight}
+use Rattle.image_opening.specs.kernel_model.Live.{IsLive}
 use Rattle.kernel_opening.specs.Starts.{HasLowNumbers, LivesFrom, Opens}
-use Rattle.kernel_views.specs.Views.{view_of}
-use Rattle.meant_states.proofs.Meant.{meant_state}
-use Rattle.record_laws.specs.Cells.{words_on}
-use Rattle.script_form.specs.Rules.{IsScript}
-use Rattle.sound_runs.specs.Kinds.{NamesNoLocus}
-use Rattle.snapshot_store.specs.State.{State}
-use Rattle.snapshot_store.specs.declared.opening.OpenWhy.{OpenWhy}
-use Rattle.snapshot_store.specs.declared.opening.OpenWhy.TheVariants.{Memory}
+use Rattle.image_opening.specs.kernel_views.Views.{view_of}
+use Rattle.image_opening.proofs.meant_states_lemmas.Meant.{meant_state}
+use Rattle.image_opening.specs.record_laws.Cells.{words_on}
+use Rattle.image_opening.specs.script_form.Rules.{IsScript}
+use Rattle.image_opening.specs.sound_runs.Kinds.{NamesNoLocus}
+use Rattle.image_opening.specs.snapshot_store.State.{State}
+use Rattle.image_opening.specs.snapshot_store.declared.opening.OpenWhy.{OpenWhy}
+use Rattle.image_opening.specs.snapshot_store.declared.opening.OpenWhy.TheVariants.{Memory}
 
 -- a run of nobody may begin with what an image means
 module _ (b : Beginning) (steps : ℕ) (is : b.script ≡ empty_script steps) where

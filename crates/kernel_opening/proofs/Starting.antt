@@ -4,23 +4,23 @@ use Rattle.std.specs.Prelude.{All, Any, slice_get}
 use Rattle.std.proofs.lemmas.List.Elements.{All-from_recursion, All-get_or}
 use Rattle.disk_trait.specs.Image.{Image}
 use Rattle.hop_base.specs.declared.records.Rec.{Rec}
-use Rattle.hop_model.specs.Histories.{start_run}
-use Rattle.hop_model.specs.State.{KernelState, Supply}
-use Rattle.kernel_cells.specs.declared.cells.Cell.{Cell}
-use Rattle.kernel_cells.specs.Wishes.{HasWish}
-use Rattle.cell_books.specs.Matching.{MatchesBooks, newest_of, version_of}
-use Rattle.cell_table.specs.Tables.{entity_in, state_in}
+use Rattle.kernel_core.specs.hop_model.Histories.{start_run}
+use Rattle.kernel_core.specs.hop_model.State.{KernelState, Supply}
+use Rattle.image_opening.specs.kernel_cells.declared.cells.Cell.{Cell}
+use Rattle.image_opening.specs.kernel_cells.Wishes.{HasWish}
+use Rattle.kernel_core.specs.cell_books.Matching.{MatchesBooks, newest_of, version_of}
+use Rattle.image_opening.specs.cell_table.Tables.{entity_in, state_in}
 use Rattle.image_opening.specs.Images.{IsOpened, IsOpenedTable}
 use Rattle.image_opening.proofs.Choices.{row_of}
 use Rattle.image_opening.proofs.Rows.{row_all}
 use Rattle.image_opening.proofs.Stored.{same_lists}
-use Rattle.image_meaning.specs.Parts.{cut_of}
+use Rattle.image_opening.specs.image_meaning.Parts.{cut_of}
 use Rattle.kernel_core.specs.Kernels.{MayBegin}
-use Rattle.kernel_laws.specs.Opening.{chosen_recs}
-use Rattle.log_reading.specs.Logs.{AreInRange}
-use Rattle.snapshot_store.proofs.Chosen.{chosen_is}
-use Rattle.snapshot_store.specs.State.{State, books}
-use Rattle.store_model.specs.Books.{AreTrue, recs_in}
+use Rattle.image_opening.specs.kernel_laws.Opening.{chosen_recs}
+use Rattle.image_opening.specs.log_reading.Logs.{AreInRange}
+use Rattle.image_opening.proofs.snapshot_store_lemmas.Chosen.{chosen_is}
+use Rattle.image_opening.specs.snapshot_store.State.{State, books}
+use Rattle.image_opening.specs.store_model.Books.{AreTrue, recs_in}
 
 -- no version of a chosen record is too large
 low_row : (count : ℕ) (recs : List Rec) → AreInRange count recs → All (λ (r : Rec). r.version ≤ 2 ^ 62) (chosen_recs recs)
@@ -47,7 +47,7 @@ module _ {D : Type 0} (tells : Type 0) (reading : D → Image) (may_leave : D �
   same_version : (x : ℕ) → newest_of cs x ≡ version_of cs x
   same_version x = by_cell (slice_get cs x) refl
     where
-      by_cell : (o : Option Cell) → slice_get cs x ≡ o → Rattle.kernel_views.specs.Views.newest_at o ≡ Rattle.cell_books.specs.Matching.version_at o
+      by_cell : (o : Option Cell) → slice_get cs x ≡ o → Rattle.image_opening.specs.kernel_views.Views.newest_at o ≡ Rattle.kernel_core.specs.cell_books.Matching.version_at o
       by_cell None is = refl
       by_cell (Some c) is = sym (wish x c is).newest ∙ (ap (λ y. (at_start y).version) (t.orderly.numbers.each x c is) ∙ ap (λ o. (entity_in (λ t p a. 0) (λ n. []) x o).version) is)
 

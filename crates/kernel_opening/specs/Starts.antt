@@ -2,12 +2,12 @@
 use Rattle.std.specs.Prelude.{◌≡◌, ℕ, ◌<◌, ◌≤◌, ◌^◌}
 use Rattle.disk_trait.specs.Disk.{Ticks}
 use Rattle.disk_trait.specs.Image.{Image}
-use Rattle.hop_model.specs.State.{KernelState}
-use Rattle.image_meaning.specs.Meaning.{Means}
+use Rattle.kernel_core.specs.hop_model.State.{KernelState}
+use Rattle.image_opening.specs.image_meaning.Meaning.{Means}
 use Rattle.image_opening.specs.Images.{AreOfImage, HasLowEpoch}
 use Rattle.kernel_core.specs.Kernels.{Held, Lives}
-use Rattle.kernel_laws.specs.Opening.{HasNoBirths, empty_script}
-use Rattle.kernel_model.specs.Beginnings.{Beginning, BeginsRight}
+use Rattle.image_opening.specs.kernel_laws.Opening.{HasNoBirths, empty_script}
+use Rattle.image_opening.specs.kernel_model.Beginnings.{Beginning, BeginsRight}
 
 -- THE KERNEL IS LIVE in each run that begins with what the image means and whose script has no births, counted from the moment before
 -- the opening, with stops looked at from the end of its sync on

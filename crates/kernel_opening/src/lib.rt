@@ -3,5 +3,7 @@
 
 mod opening;
 
-pub use kernel_core::{Ended, Kernel, Stopped};
+pub use image_opening::{kernel_cells, snapshot_store};
+pub use kernel_core;
+pub use kernel_core::{Ended, Kernel, Stopped, script_against};
 pub use opening::open_image;

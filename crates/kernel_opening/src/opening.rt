@@ -2,18 +2,18 @@
 ghost use Rattle.std.specs.Prelude.{◌≡◌, ◌⊎◌, ◌+◌, ◌*◌, ◌≤◌, ◌<◌, [], None, IfOk, IfErr, MatchResult};
 ghost use Rattle.disk_tally.specs.Counts.{Begins, shown};
 ghost use Rattle.disk_trait.specs.Moments.{LeavesOnly};
-ghost use Rattle.hop_model.specs.State.{Supply};
-ghost use Rattle.image_blocks.specs.Checks.{Bad as BadPlace};
-ghost use Rattle.image_meaning.specs.Meaning.{Accepted};
+ghost use Rattle.kernel_core.specs.hop_model.State.{Supply};
+ghost use Rattle.image_opening.specs.image_blocks.Checks.{Bad as BadPlace};
+ghost use Rattle.image_opening.specs.image_meaning.Meaning.{Accepted};
 ghost use Rattle.image_opening.specs.Images.{HasBegun, HasImageCause, HasTurnLeft, IsOpenedTable, MeansSame, MeansSince, StopsShort, WasRefused};
 ghost use Rattle.kernel_core.specs.Kernels.{StaysClean};
 ghost use Rattle.kernel_opening.specs.Starts.{LivesFrom, Opens};
-ghost use Rattle.snapshot_store.specs.State.{books};
+ghost use Rattle.image_opening.specs.snapshot_store.State.{books};
 
 use disk_trait::Disk;
 use image_opening::open_parts;
+use image_opening::snapshot_store::{OpenFault, OpenWhy};
 use kernel_core::Kernel;
-use snapshot_store::{OpenFault, OpenWhy};
 use std::alloc::Global;
 
 /// Opens the image that a disk holds into a kernel. The disk is synced, and the image is checked. Its log is turned to the chosen records

@@ -3,14 +3,14 @@ use Rattle.std.proofs.Common.{◌≡◌, ◌⊎◌, inl, inr, ℕ, ◌<◌, Bool
 use Rattle.std.specs.Prelude.{IsErrOf, Result}
 use Rattle.std.proofs.lemmas.Bool.Decides.{nat_tests}
 use Rattle.disk_trait.specs.declared.disk.NoBlocks.{NoBlocks as TooFew}
-use Rattle.hop_model.specs.Histories.{Policy}
-use Rattle.hop_model.specs.State.{Supply}
-use Rattle.kernel_cells.specs.declared.cells.Cell.{Cell}
-use Rattle.kernel_cells.specs.Cells.{part_of}
-use Rattle.kernel_cells.specs.Wishes.{is_open}
+use Rattle.snapshot_store.specs.hop_model.Histories.{Policy}
+use Rattle.snapshot_store.specs.hop_model.State.{Supply}
+use Rattle.wish_laws.specs.kernel_cells.declared.cells.Cell.{Cell}
+use Rattle.wish_laws.specs.kernel_cells.Cells.{part_of}
+use Rattle.wish_laws.specs.kernel_cells.Wishes.{is_open}
 use Rattle.wish_laws.specs.Founded.{IsFoundedCell}
-use Rattle.cell_blobs.specs.Blobs.{is_recorded}
-use Rattle.store_model.specs.Books.{Books, kept_in}
+use Rattle.record_laws.specs.cell_blobs.Blobs.{is_recorded}
+use Rattle.record_laws.specs.store_model.Books.{Books, kept_in}
 use Rattle.snapshot_store.specs.Shelves.{records_of}
 use Rattle.snapshot_store.specs.State.{State}
 use Rattle.snapshot_store.specs.declared.faults.StoreFault.{StoreFault as Fault}

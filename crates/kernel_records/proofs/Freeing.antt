@@ -5,11 +5,11 @@ use Rattle.std.specs.List.{list_any, range_with_len}
 use Rattle.std.proofs.lemmas.Bool.{false≢true}
 use Rattle.std.proofs.lemmas.List.{length-take}
 use Rattle.std.proofs.lemmas.Map.Views.{Contains-from_any}
-use Rattle.image_blocks.specs.Bodies.{blob_blocks, blocks_for}
-use Rattle.image_blocks.specs.Layout.{pool_at}
+use Rattle.snapshot_store.specs.image_blocks.Bodies.{blob_blocks, blocks_for}
+use Rattle.snapshot_store.specs.image_blocks.Layout.{pool_at}
 use Rattle.snapshot_store.specs.Committed.{HasNewRecord}
-use Rattle.store_model.specs.Books.{AreHeldPages, Books, Logged, free_in, is_used, kept_in, kept_names, names}
-use Rattle.kernel_model.proofs.Naming.{place_in}
+use Rattle.record_laws.specs.store_model.Books.{AreHeldPages, Books, Logged, free_in, is_used, kept_in, kept_names, names}
+use Rattle.record_laws.proofs.kernel_model_lemmas.Naming.{place_in}
 use Rattle.kernel_room.proofs.Counting.{count_le, count_or}
 use Rattle.kernel_room.proofs.Used.{and_both, blocks_count, or_cases, or_left, or_right}
 use Rattle.kernel_records.proofs.Fewer.{counts_cons, kept_log, kept_more, own}

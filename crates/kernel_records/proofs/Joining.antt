@@ -5,20 +5,20 @@ use Rattle.disk_trait.specs.Counts.{Rose}
 use Rattle.disk_trait.specs.Image.{Image}
 use Rattle.disk_trait.specs.Moments.{LeavesOnly}
 use Rattle.hop_base.specs.declared.records.Rec.{Rec}
-use Rattle.image_blocks.specs.Layout.{last_number, slot_count}
-use Rattle.image_blocks.specs.Logs.{Place}
-use Rattle.image_meaning.specs.Stores.{Stores}
-use Rattle.store_model.specs.Between.{LeavesOnly-join, OnlyPages}
-use Rattle.store_model.specs.Books.{AreSmall, AreTrue, Books, Logged, kept_in, kept_of, logged_recs}
+use Rattle.snapshot_store.specs.image_blocks.Layout.{last_number, slot_count}
+use Rattle.snapshot_store.specs.image_blocks.Logs.{Place}
+use Rattle.record_laws.specs.image_meaning.Stores.{Stores}
+use Rattle.record_laws.specs.store_model.Between.{LeavesOnly-join, OnlyPages}
+use Rattle.record_laws.specs.store_model.Books.{AreSmall, AreTrue, Books, Logged, kept_in, kept_of, logged_recs}
 use Rattle.snapshot_store.specs.Committed.{StoresKeptOrMore}
 use Rattle.snapshot_store.specs.State.{State, books}
-use Rattle.page_store.specs.Pages.{IsWriteFault}
-use Rattle.page_store.specs.declared.faults.PageFault.{PageFault}
-use Rattle.page_store.specs.declared.faults.PageFault.TheVariants.{NoBlocks, ReadFault, Shut, WriteFault}
-use Rattle.fault_paging.specs.Calls.{IsCausedBy}
-use Rattle.kernel_cells.specs.declared.cells.Cell.{Cell}
-use Rattle.kernel_cells.specs.declared.cells.Wish.{Wish}
-use Rattle.cell_blobs.specs.Blobs.{bytes_of, spelt_in}
+use Rattle.snapshot_store.specs.page_store.Pages.{IsWriteFault}
+use Rattle.snapshot_store.specs.page_store.declared.faults.PageFault.{PageFault}
+use Rattle.snapshot_store.specs.page_store.declared.faults.PageFault.TheVariants.{NoBlocks, ReadFault, Shut, WriteFault}
+use Rattle.wish_laws.specs.fault_paging.Calls.{IsCausedBy}
+use Rattle.wish_laws.specs.kernel_cells.declared.cells.Cell.{Cell}
+use Rattle.wish_laws.specs.kernel_cells.declared.cells.Wish.{Wish}
+use Rattle.record_laws.specs.cell_blobs.Blobs.{bytes_of, spelt_in}
 use Rattle.record_laws.specs.Cells.{IsSettled, IsSoundIn, table_of}
 use Rattle.kernel_records.specs.Committing.{HasPages, IsSpelt, MayCommit, StoresKeptOrCell}
 use Rattle.kernel_records.specs.Flushing.{Flushes}

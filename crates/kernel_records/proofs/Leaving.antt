@@ -1,16 +1,16 @@
 -- What a commit leaves, from what its stages leave.
 use Rattle.std.proofs.Common.{◌≡◌, inl, ℕ, ◌+◌, ◌≤◌, Bool, true, false, List, refl, ◌∙◌, arith}
 use Rattle.disk_trait.specs.Image.{Image}
-use Rattle.store_model.specs.Between.{Between-stay}
-use Rattle.cell_blobs.specs.Blobs.{IsFormed, blob_need, page_need}
-use Rattle.store_model.specs.Books.{free_in, kept_names}
+use Rattle.record_laws.specs.store_model.Between.{Between-stay}
+use Rattle.record_laws.specs.cell_blobs.Blobs.{IsFormed, blob_need, page_need}
+use Rattle.record_laws.specs.store_model.Books.{free_in, kept_names}
 use Rattle.snapshot_store.specs.Committed.{HasFailedShut, SameUsed}
 use Rattle.snapshot_store.specs.State.{HoldsPoolBlocks, State, books}
-use Rattle.fault_paging.specs.Calls.{Keeps}
-use Rattle.fault_paging.specs.declared.paged.PagedMemory.{PagedMemory}
-use Rattle.kernel_cells.specs.declared.cells.Cell.{Cell}
-use Rattle.kernel_cells.specs.declared.cells.Part.{Part}
-use Rattle.kernel_cells.specs.declared.cells.Part.TheVariants as part
+use Rattle.wish_laws.specs.fault_paging.Calls.{Keeps}
+use Rattle.wish_laws.specs.fault_paging.declared.paged.PagedMemory.{PagedMemory}
+use Rattle.wish_laws.specs.kernel_cells.declared.cells.Cell.{Cell}
+use Rattle.wish_laws.specs.kernel_cells.declared.cells.Part.{Part}
+use Rattle.wish_laws.specs.kernel_cells.declared.cells.Part.TheVariants as part
 use Rattle.record_laws.specs.Cells.{IsSettled, IsSoundIn, words_on}
 use Rattle.kernel_records.specs.Committing.{HasCommitted, HasNotCommitted, HasPages, HasRecord, HoldsSame, IsSpelt, LeavesCell}
 use Rattle.kernel_records.specs.Flushing.{Flushes}

@@ -9,3 +9,10 @@ pub mod Raising
 pub mod Fewer
 pub mod Newest
 pub mod Freeing
+pub use Rattle.snapshot_store.proofs.hop_model_lemmas
+pub use Rattle.kernel_room.proofs as kernel_room_lemmas
+pub use Rattle.record_laws.proofs as record_laws_lemmas
+pub use Rattle.wish_laws.proofs.run_laws_lemmas
+pub use Rattle.snapshot_store.proofs as snapshot_store_lemmas
+pub use Rattle.snapshot_store.proofs.store_commit_lemmas
+pub use Rattle.wish_laws.proofs as wish_laws_lemmas

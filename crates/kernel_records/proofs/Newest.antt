@@ -10,15 +10,15 @@ use Rattle.std.proofs.lemmas.List.Elements.{All-filter, All-from_recursion, All-
 use Rattle.std.proofs.lemmas.List.Kept.{AllPairs-filter}
 use Rattle.std.proofs.lemmas.List.Quantifiers.{Any-push, all_pairs_push}
 use Rattle.hop_base.specs.declared.records.Rec.{Rec}
-use Rattle.cut_laws.specs.Agreeing.{nothing}
-use Rattle.cut_laws.specs.Records.{commits_of, is_rec_from}
-use Rattle.hop_model.specs.Choices.{Among, IsBelow}
-use Rattle.hop_model.specs.Words.{put}
-use Rattle.image_meaning.specs.Parts.{cut_of}
-use Rattle.log_reading.specs.Logs.{IsOlder}
+use Rattle.wish_laws.specs.cut_laws.Agreeing.{nothing}
+use Rattle.wish_laws.specs.cut_laws.Records.{commits_of, is_rec_from}
+use Rattle.snapshot_store.specs.hop_model.Choices.{Among, IsBelow}
+use Rattle.snapshot_store.specs.hop_model.Words.{put}
+use Rattle.record_laws.specs.image_meaning.Parts.{cut_of}
+use Rattle.snapshot_store.specs.log_reading.Logs.{IsOlder}
 use Rattle.snapshot_store.specs.Committed.{HasNewRecord}
 use Rattle.snapshot_store.specs.Shelves.{is_from, records_of}
-use Rattle.store_model.specs.Books.{Books, Logged, cut_in, kept_in, logged_recs, recs_in}
+use Rattle.record_laws.specs.store_model.Books.{Books, Logged, cut_in, kept_in, logged_recs, recs_in}
 use Rattle.kernel_records.specs.Keeping.{HasNewest, KeepsNewest}
 use Rattle.kernel_records.proofs.Fewer.{counts_cons, own}
 use Rattle.kernel_records.proofs.Raising.{greatest_above, greatest_closed, narrowed, narrowed_high, narrowed_low, narrows}

@@ -3,11 +3,11 @@ use Rattle.std.proofs.Common.{◌≡◌, ℕ, zero, suc, ◌<◌, ◌≤◌, Boo
 use Rattle.std.proofs.lemmas.Bool.Decides.{nat_tests}
 use Rattle.std.proofs.lemmas.List.{length-map, map-append}
 use Rattle.hop_base.specs.declared.records.Rec.{Rec}
-use Rattle.cut_laws.specs.Agreeing.{nothing}
-use Rattle.cut_laws.specs.Records.{commit_of, commits_of}
-use Rattle.hop_model.specs.Choices.{Commit, IsBelow, IsClosedChoice, IsGreatest, IsNarrow, all_below, covered, greatest, lower, lowered, top}
-use Rattle.hop_model.proofs.Lowering.{greatest_is, rising_cut}
-use Rattle.image_meaning.specs.Parts.{cut_of}
+use Rattle.wish_laws.specs.cut_laws.Agreeing.{nothing}
+use Rattle.wish_laws.specs.cut_laws.Records.{commit_of, commits_of}
+use Rattle.snapshot_store.specs.hop_model.Choices.{Commit, IsBelow, IsClosedChoice, IsGreatest, IsNarrow, all_below, covered, greatest, lower, lowered, top}
+use Rattle.snapshot_store.proofs.hop_model_lemmas.Lowering.{greatest_is, rising_cut}
+use Rattle.record_laws.specs.image_meaning.Parts.{cut_of}
 
 -- THE SAME COMMITS with nothing past the last entity in their stamps
 

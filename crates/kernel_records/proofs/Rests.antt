@@ -6,11 +6,11 @@ use Rattle.std.proofs.lemmas.List.{same_from_push}
 use Rattle.disk_trait.specs.Counts.{Rose}
 use Rattle.disk_trait.specs.Image.{Image}
 use Rattle.hop_base.specs.declared.records.Rec.{Rec}
-use Rattle.image_blocks.specs.Bodies.{blob_in, blocks_for}
-use Rattle.kernel_cells.specs.declared.cells.Cell.{Cell}
-use Rattle.kernel_cells.specs.declared.cells.Part.{Part}
-use Rattle.kernel_cells.specs.declared.cells.Part.TheVariants as part
-use Rattle.cell_blobs.specs.Blobs.{bytes_of, spelt_in}
+use Rattle.snapshot_store.specs.image_blocks.Bodies.{blob_in, blocks_for}
+use Rattle.wish_laws.specs.kernel_cells.declared.cells.Cell.{Cell}
+use Rattle.wish_laws.specs.kernel_cells.declared.cells.Part.{Part}
+use Rattle.wish_laws.specs.kernel_cells.declared.cells.Part.TheVariants as part
+use Rattle.record_laws.specs.cell_blobs.Blobs.{bytes_of, spelt_in}
 use Rattle.record_laws.specs.Cells.{IsSoundIn, table_of}
 use Rattle.record_laws.proofs.Telling.{no_blocks}
 use Rattle.snapshot_store.specs.CommitAnswers.{CommitAnswers}
@@ -19,7 +19,7 @@ use Rattle.snapshot_store.specs.Putting.{are_small}
 use Rattle.snapshot_store.specs.State.{State, books}
 use Rattle.snapshot_store.specs.declared.faults.StoreFault.{StoreFault as Fault}
 use Rattle.snapshot_store.specs.declared.faults.StoreFault.TheVariants.{NoBlocks, ReadFault, Shut, WriteFault}
-use Rattle.store_model.specs.Books.{Logged, free_in, kept_in}
+use Rattle.record_laws.specs.store_model.Books.{Logged, free_in, kept_in}
 use Rattle.kernel_records.specs.Committing.{HasRecord}
 
 -- the blocks of a part's table are held

@@ -3,21 +3,21 @@ use Rattle.std.proofs.Common.{◌≡◌, ℕ, ◌+◌, ◌*◌, ◌≤◌, Bool,
 use Rattle.std.specs.List.{flat_map}
 use Rattle.std.proofs.lemmas.List.{length-take-le}
 use Rattle.hop_base.specs.declared.entities.Kind.TheVariants.{Atlas as AtlasKind, Container as ContainerKind, Locus as LocusKind}
-use Rattle.hop_model.specs.State.{ContainerState}
-use Rattle.blob_grammar.specs.Spelling.{caps_bytes, container_blob, entry_byte, instr_bytes, listed, region_bytes}
+use Rattle.snapshot_store.specs.hop_model.State.{ContainerState}
+use Rattle.record_laws.specs.blob_grammar.Spelling.{caps_bytes, container_blob, entry_byte, instr_bytes, listed, region_bytes}
 use Rattle.byteorder.specs.Endian.{little_bytes}
-use Rattle.blob_grammar.proofs.KindSizes.{some}
-use Rattle.blob_grammar.proofs.Sizes.{numbers_len}
-use Rattle.image_blocks.specs.Bodies.{blocks_for}
-use Rattle.image_meaning.specs.Parts.{Part as Spelt, AtlasPart, ContainerPart, LocusPart, IsOf, Spells}
-use Rattle.locus_machine.specs.declared.loci.Head.{Head}
-use Rattle.locus_machine.specs.Loci.{container_with}
-use Rattle.fault_paging.specs.declared.paged.PagedMemory.{PagedMemory}
-use Rattle.fault_paging.specs.Words.{IsSoundTable}
-use Rattle.kernel_cells.specs.declared.cells.Cell.{Cell}
-use Rattle.kernel_cells.specs.declared.cells.Part.{Part}
-use Rattle.kernel_cells.specs.declared.cells.Part.TheVariants as part
-use Rattle.cell_blobs.specs.Blobs.{HasFormedHead, IsFormed, blob_need, bytes_of, spelt_in, spelt_storage}
+use Rattle.record_laws.proofs.blob_grammar_lemmas.KindSizes.{some}
+use Rattle.record_laws.proofs.blob_grammar_lemmas.Sizes.{numbers_len}
+use Rattle.snapshot_store.specs.image_blocks.Bodies.{blocks_for}
+use Rattle.record_laws.specs.image_meaning.Parts.{Part as Spelt, AtlasPart, ContainerPart, LocusPart, IsOf, Spells}
+use Rattle.record_laws.specs.locus_machine.declared.loci.Head.{Head}
+use Rattle.record_laws.specs.locus_machine.Loci.{container_with}
+use Rattle.wish_laws.specs.fault_paging.declared.paged.PagedMemory.{PagedMemory}
+use Rattle.wish_laws.specs.fault_paging.Words.{IsSoundTable}
+use Rattle.wish_laws.specs.kernel_cells.declared.cells.Cell.{Cell}
+use Rattle.wish_laws.specs.kernel_cells.declared.cells.Part.{Part}
+use Rattle.wish_laws.specs.kernel_cells.declared.cells.Part.TheVariants as part
+use Rattle.record_laws.specs.cell_blobs.Blobs.{HasFormedHead, IsFormed, blob_need, bytes_of, spelt_in, spelt_storage}
 use Rattle.record_laws.specs.Cells.{IsSoundIn, IsSpellable}
 use Rattle.kernel_records.specs.Flushing.{Flushes}
 

@@ -2,18 +2,18 @@
 use Rattle.std.proofs.Common.{◌≡◌, ◌≢◌, ℕ, ◌/◌, ◌%◌, ◌≤◌, ◌==◌, ◌||◌, inl, inr, Bool, true, if◌then◌else◌, List, slice_index, Option, Some, None, refl, sym, ap, subst, ◌∙◌}
 use Rattle.std.proofs.lemmas.Bool.{cases_eq}
 use Rattle.disk_trait.specs.Image.{Image}
-use Rattle.hop_model.specs.State.{ContainerCell, Supply}
-use Rattle.image_blocks.specs.Layout.{pool_at}
-use Rattle.store_model.specs.Books.{Books, kept_names, words_of_bytes}
+use Rattle.snapshot_store.specs.hop_model.State.{ContainerCell, Supply}
+use Rattle.snapshot_store.specs.image_blocks.Layout.{pool_at}
+use Rattle.record_laws.specs.store_model.Books.{Books, kept_names, words_of_bytes}
 use Rattle.snapshot_store.specs.Committed.{SameUsed}
 use Rattle.frame_table.specs.FrameTable.{Resident, page_at}
-use Rattle.locus_machine.specs.declared.loci.Head.{Head}
-use Rattle.locus_machine.specs.Loci.{container_with}
-use Rattle.fault_paging.specs.declared.paged.PagedMemory.{PagedMemory}
-use Rattle.fault_paging.specs.Words.{IsSoundTable, block_at as page_block, stored_word, word_by, words_of}
-use Rattle.kernel_cells.specs.declared.cells.Part.{Part}
-use Rattle.kernel_cells.specs.declared.cells.Part.TheVariants as part
-use Rattle.kernel_cells.specs.Cells.{container_cell, part_of}
+use Rattle.record_laws.specs.locus_machine.declared.loci.Head.{Head}
+use Rattle.record_laws.specs.locus_machine.Loci.{container_with}
+use Rattle.wish_laws.specs.fault_paging.declared.paged.PagedMemory.{PagedMemory}
+use Rattle.wish_laws.specs.fault_paging.Words.{IsSoundTable, block_at as page_block, stored_word, word_by, words_of}
+use Rattle.wish_laws.specs.kernel_cells.declared.cells.Part.{Part}
+use Rattle.wish_laws.specs.kernel_cells.declared.cells.Part.TheVariants as part
+use Rattle.wish_laws.specs.kernel_cells.Cells.{container_cell, part_of}
 use Rattle.record_laws.specs.Cells.{IsCleanIn, IsSoundIn, words_on}
 
 module _ (s : Supply) (held : ℕ → Bool) (words words' : ℕ → List ℕ) (same : (n : ℕ) → held n ≡ true → words' n ≡ words n) where

@@ -2,16 +2,16 @@
 use Rattle.std.proofs.Common.{ℕ, Bool, List, length, refl, sym, ap, subst, ◌∙◌}
 use Rattle.std.specs.Prelude.{IfSome}
 use Rattle.disk_trait.specs.Image.{Image}
-use Rattle.hop_model.specs.State.{KernelState, Supply}
-use Rattle.image_meaning.specs.Parts.{Spells}
-use Rattle.image_meaning.specs.Stores.{Kept}
-use Rattle.store_model.specs.Books.{kept_for, kept_names}
+use Rattle.snapshot_store.specs.hop_model.State.{KernelState, Supply}
+use Rattle.record_laws.specs.image_meaning.Parts.{Spells}
+use Rattle.record_laws.specs.image_meaning.Stores.{Kept}
+use Rattle.record_laws.specs.store_model.Books.{kept_for, kept_names}
 use Rattle.snapshot_store.specs.State.{State, books}
-use Rattle.event_clocks.specs.declared.Clock.{Clock}
-use Rattle.event_clocks.specs.Clocks.{HasClock}
-use Rattle.kernel_cells.specs.declared.cells.Cell.{Cell}
-use Rattle.kernel_cells.specs.Cells.{HasCell}
-use Rattle.cell_blobs.specs.Blobs.{spelt_in}
+use Rattle.wish_laws.specs.event_clocks.declared.Clock.{Clock}
+use Rattle.wish_laws.specs.event_clocks.Clocks.{HasClock}
+use Rattle.wish_laws.specs.kernel_cells.declared.cells.Cell.{Cell}
+use Rattle.wish_laws.specs.kernel_cells.Cells.{HasCell}
+use Rattle.record_laws.specs.cell_blobs.Blobs.{spelt_in}
 use Rattle.record_laws.specs.Cells.{IsCleanIn, IsSoundIn, IsSpellable, table_of, words_on}
 use Rattle.record_laws.proofs.Telling.{told}
 use Rattle.kernel_records.specs.Committing.{HasCommitted, LeavesCell}

@@ -5,24 +5,24 @@ use Rattle.disk_trait.specs.Counts.{Rose}
 use Rattle.disk_trait.specs.Image.{Image}
 use Rattle.disk_trait.specs.declared.disk.NoBlocks.{NoBlocks as TooFew}
 use Rattle.hop_base.specs.declared.records.Rec.{Rec}
-use Rattle.hop_model.specs.State.{Supply}
-use Rattle.image_blocks.specs.Bodies.{blob_in}
-use Rattle.image_blocks.specs.Layout.{slot_count}
-use Rattle.image_meaning.specs.Parts.{Spells}
-use Rattle.image_meaning.specs.Stores.{Stores}
-use Rattle.store_model.specs.Between.{OnlyPages}
-use Rattle.store_model.specs.Books.{Books, free_in, kept_in, kept_names, kept_of, recs_in}
+use Rattle.snapshot_store.specs.hop_model.State.{Supply}
+use Rattle.snapshot_store.specs.image_blocks.Bodies.{blob_in}
+use Rattle.snapshot_store.specs.image_blocks.Layout.{slot_count}
+use Rattle.record_laws.specs.image_meaning.Parts.{Spells}
+use Rattle.record_laws.specs.image_meaning.Stores.{Stores}
+use Rattle.record_laws.specs.store_model.Between.{OnlyPages}
+use Rattle.record_laws.specs.store_model.Books.{Books, free_in, kept_in, kept_names, kept_of, recs_in}
 use Rattle.snapshot_store.specs.Committed.{HasNewRecord, SameUsed, StoresMoreInFreeBlocks}
 use Rattle.snapshot_store.specs.Putting.{are_small}
 use Rattle.snapshot_store.specs.State.{HoldsPoolBlocks, State, books}
 use Rattle.snapshot_store.specs.declared.faults.StoreFault.{StoreFault}
 use Rattle.snapshot_store.specs.declared.faults.StoreFault.TheVariants.{NoBlocks, ReadFault, Shut, WriteFault}
 use Rattle.vector_stamps.specs.Stamps.{component}
-use Rattle.kernel_cells.specs.declared.cells.Cell.{Cell}
-use Rattle.kernel_cells.specs.declared.cells.Part.{Part}
-use Rattle.kernel_cells.specs.Cells.{part_of}
+use Rattle.wish_laws.specs.kernel_cells.declared.cells.Cell.{Cell}
+use Rattle.wish_laws.specs.kernel_cells.declared.cells.Part.{Part}
+use Rattle.wish_laws.specs.kernel_cells.Cells.{part_of}
 use Rattle.wish_laws.specs.Founded.{IsRecordedNow}
-use Rattle.cell_blobs.specs.Blobs.{blob_need, bytes_of, need_in, page_need, spelt_in}
+use Rattle.record_laws.specs.cell_blobs.Blobs.{blob_need, bytes_of, need_in, page_need, spelt_in}
 use Rattle.record_laws.specs.Cells.{IsCleanIn, IsSettled, IsSoundIn, IsSpellable, table_of, words_on}
 use Rattle.kernel_records.specs.Flushing.{Flushes}
 

@@ -1,9 +1,9 @@
 -- What the writing of a part's changed pages leaves.
 use Rattle.std.specs.Prelude.{◌≡◌, ℕ, Bool, true, List, ◌+◌, ◌≤◌}
-use Rattle.fault_paging.specs.Calls.{Keeps, KeepsPages}
-use Rattle.kernel_cells.specs.declared.cells.Part.{Part}
-use Rattle.kernel_cells.specs.declared.cells.Part.TheVariants as part
-use Rattle.kernel_cells.specs.declared.cells.Storage.{Storage}
+use Rattle.wish_laws.specs.fault_paging.Calls.{Keeps, KeepsPages}
+use Rattle.wish_laws.specs.kernel_cells.declared.cells.Part.{Part}
+use Rattle.wish_laws.specs.kernel_cells.declared.cells.Part.TheVariants as part
+use Rattle.wish_laws.specs.kernel_cells.declared.cells.Storage.{Storage}
 
 -- the same container with the same head, of whose pages some have other blocks; other blocks are held as before and keep their words
 pub record FlushesStorage {B : Type 0} (tells : Type 0) (held kept : B → ℕ → Bool) (words : B → ℕ → List ℕ) (a b : Storage) (old new : B) : Type 0 where

@@ -1,11 +1,11 @@
 -- LAWS of how many records are kept, whatever the disk tells.
 use Rattle.std.specs.Prelude.{◌≡◌, ◌⊎◌, ℕ, ◌+◌, ◌*◌, ◌<◌, ◌≤◌, ◌==◌, if◌then◌else◌, All, AllPairs, Any, List, length, slice_index}
 use Rattle.hop_base.specs.declared.records.Rec.{Rec}
-use Rattle.hop_model.specs.Words.{put}
-use Rattle.log_reading.specs.Logs.{IsOlder}
+use Rattle.snapshot_store.specs.hop_model.Words.{put}
+use Rattle.snapshot_store.specs.log_reading.Logs.{IsOlder}
 use Rattle.snapshot_store.specs.Committed.{HasNewRecord}
 use Rattle.snapshot_store.specs.Shelves.{records_of}
-use Rattle.store_model.specs.Books.{Books, Logged, kept_in, recs_in}
+use Rattle.record_laws.specs.store_model.Books.{Books, Logged, kept_in, recs_in}
 
 -- one record more at most is kept, of the entity whose it is
 pub record KeepsOneMore (entity : ℕ) (old new : Books) : Type 0 where

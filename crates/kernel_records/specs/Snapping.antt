@@ -1,12 +1,12 @@
 -- When a snapshot of a cell is made.
 use Rattle.std.specs.Prelude.{ℕ, Bool, ◌&&◌, List, nat_lt}
-use Rattle.hop_model.specs.Histories.{Policy}
-use Rattle.hop_model.specs.State.{Supply}
-use Rattle.kernel_cells.specs.declared.cells.Cell.{Cell}
-use Rattle.kernel_cells.specs.Cells.{part_of}
-use Rattle.kernel_cells.specs.Wishes.{is_open}
+use Rattle.snapshot_store.specs.hop_model.Histories.{Policy}
+use Rattle.snapshot_store.specs.hop_model.State.{Supply}
+use Rattle.wish_laws.specs.kernel_cells.declared.cells.Cell.{Cell}
+use Rattle.wish_laws.specs.kernel_cells.Cells.{part_of}
+use Rattle.wish_laws.specs.kernel_cells.Wishes.{is_open}
 use Rattle.snapshot_store.specs.Shelves.{records_of}
-use Rattle.store_model.specs.Books.{Books, kept_in}
+use Rattle.record_laws.specs.store_model.Books.{Books, kept_in}
 
 -- FULL: the store keeps four records of the entity or more
 abbrev pub has_room : Books → ℕ → Bool

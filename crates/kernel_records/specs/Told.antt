@@ -2,12 +2,12 @@
 use Rattle.std.specs.Prelude.{ℕ}
 use Rattle.disk_trait.specs.Image.{Image}
 use Rattle.hop_base.specs.declared.records.Rec.{Rec}
-use Rattle.hop_model.specs.State.{KernelState, Supply}
-use Rattle.store_model.specs.Books.{kept_for}
-use Rattle.kernel_model.specs.Telling.{TellsOf}
+use Rattle.snapshot_store.specs.hop_model.State.{KernelState, Supply}
+use Rattle.record_laws.specs.store_model.Books.{kept_for}
+use Rattle.record_laws.specs.kernel_model.Telling.{TellsOf}
 use Rattle.snapshot_store.specs.State.{State, books}
-use Rattle.kernel_cells.specs.declared.cells.Cell.{Cell}
-use Rattle.kernel_cells.specs.Cells.{HasCell}
+use Rattle.wish_laws.specs.kernel_cells.declared.cells.Cell.{Cell}
+use Rattle.wish_laws.specs.kernel_cells.Cells.{HasCell}
 use Rattle.record_laws.specs.Cells.{IsCleanIn, IsSoundIn, IsSpellable, table_of, words_on}
 use Rattle.kernel_records.specs.Committing.{HasCommitted, LeavesCell}
 

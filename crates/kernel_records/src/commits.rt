@@ -3,20 +3,20 @@ ghost use Rattle.std.specs.Prelude.{◌≡◌, ◌↔◌, ◌⊎◌, ◌+◌, �
 ghost use Rattle.disk_trait.specs.Counts.{Rose};
 ghost use Rattle.disk_trait.specs.Disk.{Only};
 ghost use Rattle.disk_trait.specs.Moments.{LeavesOnly};
-ghost use Rattle.cell_blobs.specs.Blobs.{blob_need, is_recorded, page_need};
+ghost use Rattle.record_laws.specs.cell_blobs.Blobs.{blob_need, is_recorded, page_need};
 ghost use Rattle.kernel_records.specs.Committing.{CellFaults, CommitCounts, HasCommitted, HasNotCommitted, MayCommit, StoresKeptOrCell};
 ghost use Rattle.snapshot_store.specs.Putting.{are_small};
 ghost use Rattle.snapshot_store.specs.State.{books};
 ghost use Rattle.snapshot_store.specs.declared.faults.StoreFault.{StoreFault as Fault};
-ghost use Rattle.store_model.specs.Books.{AreSmall, AreTrue, free_in, kept_names};
+ghost use Rattle.record_laws.specs.store_model.Books.{AreSmall, AreTrue, free_in, kept_names};
 
 use crate::flushing::flush_part;
 use crate::recording::record_cell;
 use block_code::Blob;
-use cell_blobs::{is_recorded, need_cell};
 use disk_trait::{Disk, NoBlocks};
-use kernel_cells::{Cell, Wish};
+use record_laws::cell_blobs::{is_recorded, need_cell};
 use snapshot_store::{Store, StoreFault};
+use wish_laws::kernel_cells::{Cell, Wish};
 
 /// Writes the changed pages of a cell and commits a record of it, for all of which enough blocks are free. Then no record is wished.
 fn put_cell<D: Disk>(

@@ -1,15 +1,15 @@
 // The changed pages of a part, written.
 ghost use Rattle.std.specs.Prelude.{◌≡◌, ◌≤◌, ◌+◌, ℕ, OnOk, IfErr};
-ghost use Rattle.hop_model.specs.State.{Supply};
-ghost use Rattle.page_store.specs.Pages.{IsWriteFault};
-ghost use Rattle.fault_paging.specs.Calls.{IsCausedBy};
-ghost use Rattle.kernel_cells.specs.Cells.{part_of};
-ghost use Rattle.cell_blobs.specs.Blobs.{page_need};
+ghost use Rattle.snapshot_store.specs.hop_model.State.{Supply};
+ghost use Rattle.snapshot_store.specs.page_store.Pages.{IsWriteFault};
+ghost use Rattle.wish_laws.specs.fault_paging.Calls.{IsCausedBy};
+ghost use Rattle.wish_laws.specs.kernel_cells.Cells.{part_of};
+ghost use Rattle.record_laws.specs.cell_blobs.Blobs.{page_need};
 ghost use Rattle.record_laws.specs.Cells.{IsCleanIn, IsSettled, IsSoundIn};
 ghost use Rattle.kernel_records.specs.Flushing.{FewWrites, Flushes};
 
-use kernel_cells::Part;
-use page_store::{PageFault, PageStore};
+use snapshot_store::page_store::{PageFault, PageStore};
+use wish_laws::kernel_cells::Part;
 
 /// Writes the changed pages of a container, for which enough blocks are free. What has no pages is left as it is.
 ///

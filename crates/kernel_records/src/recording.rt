@@ -4,21 +4,21 @@ ghost use Rattle.disk_tally.specs.Counts.{Begins, shown};
 ghost use Rattle.disk_trait.specs.Counts.{Rose};
 ghost use Rattle.disk_trait.specs.Disk.{Only};
 ghost use Rattle.disk_trait.specs.Moments.{LeavesOnly};
-ghost use Rattle.cell_blobs.specs.Blobs.{blob_need, bytes_of, spelt_in};
+ghost use Rattle.record_laws.specs.cell_blobs.Blobs.{blob_need, bytes_of, spelt_in};
 ghost use Rattle.record_laws.specs.Cells.{table_of};
 ghost use Rattle.kernel_records.specs.Committing.{HasRecord, IsSpelt, MayCommit};
 ghost use Rattle.snapshot_store.specs.Committed.{HasFailedShut, SameUsed, StoresKeptOrMore};
 ghost use Rattle.snapshot_store.specs.Putting.{are_small};
 ghost use Rattle.snapshot_store.specs.State.{books};
 ghost use Rattle.snapshot_store.specs.declared.faults.StoreFault.{StoreFault as Fault};
-ghost use Rattle.store_model.specs.Books.{AreSmall, AreTrue, free_in};
+ghost use Rattle.record_laws.specs.store_model.Books.{AreSmall, AreTrue, free_in};
 
 use block_code::Blob;
-use cell_blobs::write_part;
 use disk_trait::Disk;
-use kernel_cells::{Cell, Part};
-use page_shadow::ShadowTable;
+use record_laws::cell_blobs::write_part;
+use snapshot_store::page_shadow::ShadowTable;
 use snapshot_store::{Store, StoreFault};
+use wish_laws::kernel_cells::{Cell, Part};
 
 /// The block of each page, 0 for none; of what has no pages 0 for each.
 fn table_of(part: &Part) -> ShadowTable

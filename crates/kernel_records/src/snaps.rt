@@ -3,22 +3,22 @@ ghost use Rattle.std.specs.Prelude.{◌≡◌, ◌↔◌, ◌⊎◌, ◌+◌, �
 ghost use Rattle.disk_trait.specs.Disk.{Only};
 ghost use Rattle.disk_trait.specs.Moments.{LeavesOnly};
 ghost use Rattle.hop_base.specs.declared.histories.Event.TheVariants.{Snap};
-ghost use Rattle.hop_model.specs.Histories.{mark};
-ghost use Rattle.hop_model.specs.State.{Supply};
+ghost use Rattle.snapshot_store.specs.hop_model.Histories.{mark};
+ghost use Rattle.snapshot_store.specs.hop_model.State.{Supply};
 ghost use Rattle.kernel_records.specs.Committing.{CellFaults, CommitCounts, HasCommitted, HasNotCommitted, MayCommit, StoresKeptOrCell};
 ghost use Rattle.kernel_records.specs.Snapping.{is_snapped};
 ghost use Rattle.snapshot_store.specs.Putting.{are_small};
 ghost use Rattle.snapshot_store.specs.State.{books};
-ghost use Rattle.store_model.specs.Books.{AreSmall, AreTrue};
+ghost use Rattle.record_laws.specs.store_model.Books.{AreSmall, AreTrue};
 ghost use Rattle.wish_laws.specs.Founded.{IsFoundedCell};
 
 use crate::commits::commit_cell;
 use block_code::Blob;
 use disk_trait::Disk;
 use hop_base::{Answer, Entity, Entry, Event, Touched};
-use kernel_cells::Cell;
 use manager_gate::{Gate, Policy, Supplier};
 use snapshot_store::{Store, StoreFault};
+use wish_laws::kernel_cells::Cell;
 
 /// An entity with so many kept records has no further snapshot made.
 pub const FULL: u16 = 4;

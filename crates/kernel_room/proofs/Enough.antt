@@ -4,13 +4,13 @@ use Rattle.std.proofs.lemmas.Bool.{false≢true}
 use Rattle.hop_base.specs.declared.histories.Entry.{Entry}
 use Rattle.disk_trait.specs.Image.{Image}
 use Rattle.hop_base.specs.Edges.{upto}
-use Rattle.hop_model.specs.Histories.{commits_above}
-use Rattle.image_blocks.specs.Layout.{pool_at}
-use Rattle.image_blocks.specs.Logs.{AreFitting}
-use Rattle.run_laws.proofs.Few.{Few, few_after}
-use Rattle.sound_runs.proofs.Standing.{legal_below}
-use Rattle.sound_states.proofs.Empty.{none_beyond}
-use Rattle.store_model.specs.Books.{Logged, free_in, kept_in, recs_in}
+use Rattle.kernel_model.specs.hop_model.Histories.{commits_above}
+use Rattle.kernel_model.specs.image_blocks.Layout.{pool_at}
+use Rattle.kernel_model.specs.image_blocks.Logs.{AreFitting}
+use Rattle.kernel_model.proofs.run_laws_lemmas.Few.{Few, few_after}
+use Rattle.kernel_model.proofs.sound_runs_lemmas.Standing.{legal_below}
+use Rattle.kernel_model.proofs.sound_states_lemmas.Empty.{none_beyond}
+use Rattle.kernel_model.specs.store_model.Books.{Logged, free_in, kept_in, recs_in}
 use Rattle.kernel_model.specs.Beginnings.{Beginning, BeginsRight, IsLegal, completed, run_of, state_after}
 use Rattle.kernel_model.specs.Live.{HoldsCommits, KernelView}
 use Rattle.kernel_room.specs.Room.{AreTablesWithin, all_born, all_pages, enough_blocks, kept_blocks, named_in, pages_in, working_blocks}

@@ -7,27 +7,27 @@ use Rattle.disk_trait.specs.Image.{Image, block_at}
 use Rattle.hop_base.specs.Edges.{upto}
 use Rattle.hop_base.specs.declared.histories.Entry.{Entry}
 use Rattle.hop_base.specs.declared.records.Rec.{Rec}
-use Rattle.hop_model.specs.Choices.{Commit, IsGreatest, greatest}
-use Rattle.hop_model.specs.Histories.{commits_above, start_run}
-use Rattle.hop_model.specs.State.{AtlasCell, Cell, ContainerCell, KernelState, LocusCell, NotBorn, Supply}
-use Rattle.hop_model.proofs.CommitStamps.{AllCommits}
-use Rattle.hop_model.proofs.Lowering.{greatest_is, greatest_one}
-use Rattle.cut_laws.specs.Agreeing.{from_cut, is_from, nothing}
-use Rattle.cut_laws.specs.Records.{commit_of, commits_of}
-use Rattle.cut_laws.proofs.Filters.{kept}
-use Rattle.cut_laws.proofs.Joins.{same_greatest}
-use Rattle.image_blocks.specs.Bodies.{blob_blocks, blocks_for, body_block, record_in}
-use Rattle.image_blocks.specs.Logs.{AreFitting}
-use Rattle.image_meaning.specs.Describing.{bytes_of}
-use Rattle.image_meaning.specs.Parts.{AtlasPart, ContainerPart, LocusPart, Part, Spells, cell_of, table_in}
-use Rattle.image_meaning.specs.Stores.{Page, recs_of}
-use Rattle.image_meaning.proofs.Choosing.{from_commits}
-use Rattle.run_laws.proofs.Cuts.{cut_exists, cut_kept}
-use Rattle.sound_runs.proofs.Kept.{kept_few as kept_all, small_after}
-use Rattle.sound_runs.proofs.Standing.{legal_below}
-use Rattle.sound_states.proofs.Empty.{none_beyond}
-use Rattle.store_model.specs.Books.{Books, Logged, cut_in, kept_for, kept_in, kept_of, logged_recs, recs_in}
-use Rattle.store_model.proofs.Keeping.{kept_recs}
+use Rattle.kernel_model.specs.hop_model.Choices.{Commit, IsGreatest, greatest}
+use Rattle.kernel_model.specs.hop_model.Histories.{commits_above, start_run}
+use Rattle.kernel_model.specs.hop_model.State.{AtlasCell, Cell, ContainerCell, KernelState, LocusCell, NotBorn, Supply}
+use Rattle.kernel_model.proofs.hop_model_lemmas.CommitStamps.{AllCommits}
+use Rattle.kernel_model.proofs.hop_model_lemmas.Lowering.{greatest_is, greatest_one}
+use Rattle.kernel_model.specs.cut_laws.Agreeing.{from_cut, is_from, nothing}
+use Rattle.kernel_model.specs.cut_laws.Records.{commit_of, commits_of}
+use Rattle.kernel_model.proofs.cut_laws_lemmas.Filters.{kept}
+use Rattle.kernel_model.proofs.cut_laws_lemmas.Joins.{same_greatest}
+use Rattle.kernel_model.specs.image_blocks.Bodies.{blob_blocks, blocks_for, body_block, record_in}
+use Rattle.kernel_model.specs.image_blocks.Logs.{AreFitting}
+use Rattle.kernel_model.specs.image_meaning.Describing.{bytes_of}
+use Rattle.kernel_model.specs.image_meaning.Parts.{AtlasPart, ContainerPart, LocusPart, Part, Spells, cell_of, table_in}
+use Rattle.kernel_model.specs.image_meaning.Stores.{Page, recs_of}
+use Rattle.kernel_model.proofs.image_meaning_lemmas.Choosing.{from_commits}
+use Rattle.kernel_model.proofs.run_laws_lemmas.Cuts.{cut_exists, cut_kept}
+use Rattle.kernel_model.proofs.sound_runs_lemmas.Kept.{kept_few as kept_all, small_after}
+use Rattle.kernel_model.proofs.sound_runs_lemmas.Standing.{legal_below}
+use Rattle.kernel_model.proofs.sound_states_lemmas.Empty.{none_beyond}
+use Rattle.kernel_model.specs.store_model.Books.{Books, Logged, cut_in, kept_for, kept_in, kept_of, logged_recs, recs_in}
+use Rattle.kernel_model.proofs.store_model_lemmas.Keeping.{kept_recs}
 use Rattle.kernel_model.specs.Beginnings.{Beginning, BeginsRight, IsLegal, completed, first_commits, run_of, state_after}
 use Rattle.kernel_model.specs.Records.{AreKeptRecords, IsKeptRecord}
 use Rattle.kernel_model.proofs.Cutting.{from_start}

@@ -2,20 +2,20 @@
 use Rattle.std.proofs.Common.{◌≡◌, ℕ, zero, suc, ◌≤◌, ◌<◌, Bool, true, false, ◌||◌, nat_le, if◌then◌else◌, inl, inr, ◌⊎◌, List, [], ◌∷◌, ◌++◌, filter, refl, sym, ap, subst, ◌∙◌, arith}
 use Rattle.std.specs.Prelude.{Contains, slice_index}
 use Rattle.std.proofs.lemmas.Bool.{false≢true, le-leb, leb-true}
-use Rattle.hop_model.specs.Choices.{Commit, IsBelow, IsGreatest}
-use Rattle.hop_model.proofs.Lowering.{greatest_is, rising_cut}
-use Rattle.cut_laws.specs.Agreeing.{from_cut, nothing}
-use Rattle.cut_laws.specs.Records.{commit_of, commits_of}
-use Rattle.cut_laws.proofs.Filters.{kept}
-use Rattle.cut_laws.proofs.Joins.{same_greatest}
+use Rattle.kernel_model.specs.hop_model.Choices.{Commit, IsBelow, IsGreatest}
+use Rattle.kernel_model.proofs.hop_model_lemmas.Lowering.{greatest_is, rising_cut}
+use Rattle.kernel_model.specs.cut_laws.Agreeing.{from_cut, nothing}
+use Rattle.kernel_model.specs.cut_laws.Records.{commit_of, commits_of}
+use Rattle.kernel_model.proofs.cut_laws_lemmas.Filters.{kept}
+use Rattle.kernel_model.proofs.cut_laws_lemmas.Joins.{same_greatest}
 use Rattle.hop_base.specs.declared.records.Rec.{Rec}
-use Rattle.image_blocks.specs.Bodies.{blob_blocks}
-use Rattle.image_blocks.specs.Layout.{pool_at}
-use Rattle.image_blocks.specs.Logs.{AreFitting}
-use Rattle.image_meaning.proofs.Choosing.{from_commits}
-use Rattle.image_meaning.proofs.Resting.{one_of}
-use Rattle.store_model.specs.Books.{Books, Logged, cut_in, is_used, kept_in, kept_names, logged_recs, names, recs_in}
-use Rattle.store_model.specs.Owning.{AreOwned, NamesPage}
+use Rattle.kernel_model.specs.image_blocks.Bodies.{blob_blocks}
+use Rattle.kernel_model.specs.image_blocks.Layout.{pool_at}
+use Rattle.kernel_model.specs.image_blocks.Logs.{AreFitting}
+use Rattle.kernel_model.proofs.image_meaning_lemmas.Choosing.{from_commits}
+use Rattle.kernel_model.proofs.image_meaning_lemmas.Resting.{one_of}
+use Rattle.kernel_model.specs.store_model.Books.{Books, Logged, cut_in, is_used, kept_in, kept_names, logged_recs, names, recs_in}
+use Rattle.kernel_model.specs.store_model.Owning.{AreOwned, NamesPage}
 use Rattle.kernel_model.proofs.Apart.{any_passes, page_names}
 use Rattle.kernel_model.proofs.Growing.{fitting_narrow, recs_more}
 use Rattle.kernel_model.proofs.Naming.{behind, first_in, place_in}

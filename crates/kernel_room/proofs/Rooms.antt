@@ -2,21 +2,21 @@
 use Rattle.std.proofs.Common.{◌≡◌, ℕ, ◌≤◌, ◌&&◌, ◌==◌, Bool, true, false, if◌then◌else◌, List, [], ◌∷◌, Option, Some, None, is_none, option_and_then, refl, ap, subst, ◌∙◌, arith}
 use Rattle.hop_base.specs.declared.histories.Entry.{Entry}
 use Rattle.hop_base.specs.declared.histories.Event.TheVariants.{Birth, Step, Snap as SnapEvent, Stable, Tried}
-use Rattle.hop_model.specs.Acts.{wanted}
-use Rattle.hop_model.specs.Births.{birth_from, birth_named, container_birth, container_born, knows_caps, knows_regions, locus_birth, locus_born, locus_in_host, next_birth, next_birth_change}
-use Rattle.hop_model.specs.Changes.{Change, carried, changed, ordered}
-use Rattle.hop_model.specs.Histories.{Policy, IsLegalFrom, Run, by_event, event_of, goes_on}
-use Rattle.hop_model.specs.Outcomes.{free_container, free_locus}
-use Rattle.hop_model.specs.Parts.{after, after_entry, is_event, next_of, thing_at}
-use Rattle.hop_model.specs.Scripts.{ContainerTable, LocusTable, Script, container_named, container_table, locus_table, next_name, number_in, number_of}
-use Rattle.hop_model.specs.Soundness.{IsSound}
-use Rattle.hop_model.specs.State.{EntityState, KernelState, Supply, Text}
-use Rattle.hop_model.specs.Steps.{accesses_of, atlas_in, change_of, numbered_change, outcome_in, running, step, step_change}
-use Rattle.hop_model.proofs.Basics.{some_of_map}
-use Rattle.hop_model.proofs.LegalRuns.{state_goes_on}
-use Rattle.run_laws.proofs.Writing.{running_is}
-use Rattle.script_form.specs.Rules.{IsScript}
-use Rattle.sound_runs.proofs.Standing.{IsStanding, standing_next}
+use Rattle.kernel_model.specs.hop_model.Acts.{wanted}
+use Rattle.kernel_model.specs.hop_model.Births.{birth_from, birth_named, container_birth, container_born, knows_caps, knows_regions, locus_birth, locus_born, locus_in_host, next_birth, next_birth_change}
+use Rattle.kernel_model.specs.hop_model.Changes.{Change, carried, changed, ordered}
+use Rattle.kernel_model.specs.hop_model.Histories.{Policy, IsLegalFrom, Run, by_event, event_of, goes_on}
+use Rattle.kernel_model.specs.hop_model.Outcomes.{free_container, free_locus}
+use Rattle.kernel_model.specs.hop_model.Parts.{after, after_entry, is_event, next_of, thing_at}
+use Rattle.kernel_model.specs.hop_model.Scripts.{ContainerTable, LocusTable, Script, container_named, container_table, locus_table, next_name, number_in, number_of}
+use Rattle.kernel_model.specs.hop_model.Soundness.{IsSound}
+use Rattle.kernel_model.specs.hop_model.State.{EntityState, KernelState, Supply, Text}
+use Rattle.kernel_model.specs.hop_model.Steps.{accesses_of, atlas_in, change_of, numbered_change, outcome_in, running, step, step_change}
+use Rattle.kernel_model.proofs.hop_model_lemmas.Basics.{some_of_map}
+use Rattle.kernel_model.proofs.hop_model_lemmas.LegalRuns.{state_goes_on}
+use Rattle.kernel_model.proofs.run_laws_lemmas.Writing.{running_is}
+use Rattle.kernel_model.specs.script_form.Rules.{IsScript}
+use Rattle.kernel_model.proofs.sound_runs_lemmas.Standing.{IsStanding, standing_next}
 use Rattle.kernel_room.proofs.Widths.{AreWide, atlas_room, cell_room, changed_wide, free_container_unborn, free_locus_unborn, step_wide, unborn_room}
 
 -- A BIRTH

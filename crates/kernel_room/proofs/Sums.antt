@@ -4,7 +4,7 @@ use Rattle.std.specs.List.{AllByRecursion, sum_by}
 use Rattle.std.proofs.lemmas.Bool.{cases_lt}
 use Rattle.std.proofs.lemmas.List.Sums.{sum_by-cons, sum_by_push}
 use Rattle.hop_base.specs.Edges.{upto}
-use Rattle.sound_runs.proofs.Counting.{total, total_mono}
+use Rattle.kernel_model.proofs.sound_runs_lemmas.Counting.{total, total_mono}
 use Rattle.kernel_room.proofs.Counting.{count_more}
 
 pub total_upto : (f : ℕ → ℕ) (n : ℕ) → sum_by f (upto n) ≡ total f n

@@ -5,10 +5,10 @@ use Rattle.std.specs.List.{list_any, range_with_len}
 use Rattle.std.proofs.lemmas.Bool.{cases_lt, false≢true}
 use Rattle.std.proofs.lemmas.List.FromFn.{length-range_with_len}
 use Rattle.hop_base.specs.Edges.{upto}
-use Rattle.image_blocks.specs.Bodies.{blob_blocks}
-use Rattle.image_blocks.specs.Layout.{pool_at}
-use Rattle.store_model.specs.Books.{Books, Logged, free_in, is_used, kept_in, kept_names, names}
-use Rattle.store_model.specs.Owning.{AreOwned, NamesPage}
+use Rattle.kernel_model.specs.image_blocks.Bodies.{blob_blocks}
+use Rattle.kernel_model.specs.image_blocks.Layout.{pool_at}
+use Rattle.kernel_model.specs.store_model.Books.{Books, Logged, free_in, is_used, kept_in, kept_names, names}
+use Rattle.kernel_model.specs.store_model.Owning.{AreOwned, NamesPage}
 use Rattle.kernel_room.specs.Room.{blocks_of, kept_blocks, named_in, working_blocks}
 use Rattle.kernel_room.proofs.Counting.{count_any, count_le, count_more, count_none, count_not, count_one, count_or, sum_le}
 

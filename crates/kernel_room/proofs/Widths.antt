@@ -9,15 +9,15 @@ use Rattle.hop_base.specs.declared.instructions.Instr.{Instr}
 use Rattle.hop_base.specs.declared.instructions.Instr.TheVariants.{Load, Store, Invoke, Leave, Return, Map, Unmap, Take, Give, Make, Spawn, Stop, Go, Snap}
 use Rattle.hop_base.specs.declared.instructions.Reply.{Reply}
 use Rattle.hop_base.specs.declared.instructions.Reply.TheVariants.{Deep, ListFull, NoPage}
-use Rattle.hop_model.specs.State.{Supply, AtlasCell, AtlasState, ContainerState, LocusState, Cell, ContainerCell, LocusCell, KernelState, NotBorn}
-use Rattle.hop_model.specs.Soundness.{IsSound, is_born}
-use Rattle.hop_model.specs.Words.{cap_at, covers, denied, free_slot, last_call}
-use Rattle.hop_model.specs.Refusals.{reg, instr_at, entity_of, new_region, refusal}
-use Rattle.hop_model.specs.Acts.{Act, alone, beside, beside_or_self, allowed, act_by, wanted}
-use Rattle.hop_model.specs.Outcomes.{Outcome, back, back_to, by_refused, enter, entered, free_container, free_locus, give, give_at, given_cap, hop_to, invoke, invoke_at, leave, leave_at, load, look_address, look_hops, looked, looked_by, make, make_at, map_by, map_refusal, map_region, on_cell, outcome, own_reply, spawn, spawn_at, store, take_by, take_cap, through, unmap, unmap_at, with_newborn, with_other}
-use Rattle.hop_model.specs.Changes.{Access, access_at, accessed, changed, insert_access, joined, merged, ordered, touches_of, written}
-use Rattle.hop_model.specs.Steps.{accesses_of, outcome_in, seen_atlas, seen_other, with_atlas_access, with_newborn_access, with_other_access}
-use Rattle.hop_model.proofs.Faithful.{IsNewborn, wanted_is}
+use Rattle.kernel_model.specs.hop_model.State.{Supply, AtlasCell, AtlasState, ContainerState, LocusState, Cell, ContainerCell, LocusCell, KernelState, NotBorn}
+use Rattle.kernel_model.specs.hop_model.Soundness.{IsSound, is_born}
+use Rattle.kernel_model.specs.hop_model.Words.{cap_at, covers, denied, free_slot, last_call}
+use Rattle.kernel_model.specs.hop_model.Refusals.{reg, instr_at, entity_of, new_region, refusal}
+use Rattle.kernel_model.specs.hop_model.Acts.{Act, alone, beside, beside_or_self, allowed, act_by, wanted}
+use Rattle.kernel_model.specs.hop_model.Outcomes.{Outcome, back, back_to, by_refused, enter, entered, free_container, free_locus, give, give_at, given_cap, hop_to, invoke, invoke_at, leave, leave_at, load, look_address, look_hops, looked, looked_by, make, make_at, map_by, map_refusal, map_region, on_cell, outcome, own_reply, spawn, spawn_at, store, take_by, take_cap, through, unmap, unmap_at, with_newborn, with_other}
+use Rattle.kernel_model.specs.hop_model.Changes.{Access, access_at, accessed, changed, insert_access, joined, merged, ordered, touches_of, written}
+use Rattle.kernel_model.specs.hop_model.Steps.{accesses_of, outcome_in, seen_atlas, seen_other, with_atlas_access, with_newborn_access, with_other_access}
+use Rattle.kernel_model.proofs.hop_model_lemmas.Faithful.{IsNewborn, wanted_is}
 
 -- the room of an entity: a container's pages, and eight blocks of a blob
 abbrev pub cell_room : Cell → ℕ
@@ -259,12 +259,12 @@ module _ (s : Supply) (w : KernelState) (sound : IsSound (λ x. (w x).cell)) whe
         let act = wanted me l in
         let seen : AtlasState = seen_atlas w act.atlas in
         let f = newborn_is s me l seen (seen_other w act.other) b (few_seen act.atlas) is in
-        let same : seen ≡ sound.0 = ap (seen_atlas w) f.0 ∙ ap Rattle.hop_model.specs.Steps.atlas_in sound.1.atlas in
+        let same : seen ≡ sound.0 = ap (seen_atlas w) f.0 ∙ ap Rattle.kernel_model.specs.hop_model.Steps.atlas_in sound.1.atlas in
         let free = newborn_free s me l seen (seen_other w act.other) b (few_seen act.atlas) is in
         unborn_room b.0 (cell_room b.1) (subst (λ (a : AtlasState). is_born a b.0 ≡ false) same free)
       where
         few_seen : (t : Bool) → length (seen_atlas w t).containers ≤ 40
-        few_seen true = subst (λ (c : Cell). length (Rattle.hop_model.specs.Steps.atlas_in c).containers ≤ 40) (sym sound.1.atlas) sound.1.names.few_containers
+        few_seen true = subst (λ (c : Cell). length (Rattle.kernel_model.specs.hop_model.Steps.atlas_in c).containers ≤ 40) (sym sound.1.atlas) sound.1.names.few_containers
         few_seen false = omega arith
 
     pub step_wide : AreWide w (accesses_of me (wanted me l) (outcome_in s l (wanted me l) w))

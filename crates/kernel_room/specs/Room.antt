@@ -2,10 +2,10 @@
 use Rattle.std.specs.Prelude.{◌≡◌, ℕ, ◌+◌, ◌*◌, ◌≤◌, Bool, true, false, not, ◌==◌, List, [], length, count_by}
 use Rattle.std.specs.List.{sum_by}
 use Rattle.hop_base.specs.Edges.{upto}
-use Rattle.hop_model.specs.State.{AtlasCell, Cell, ContainerCell, KernelState, LocusCell, NotBorn}
-use Rattle.image_blocks.specs.Bodies.{blob_blocks}
-use Rattle.image_blocks.specs.Layout.{pool_at}
-use Rattle.store_model.specs.Books.{Books, Logged, kept_in}
+use Rattle.kernel_model.specs.hop_model.State.{AtlasCell, Cell, ContainerCell, KernelState, LocusCell, NotBorn}
+use Rattle.kernel_model.specs.image_blocks.Bodies.{blob_blocks}
+use Rattle.kernel_model.specs.image_blocks.Layout.{pool_at}
+use Rattle.kernel_model.specs.store_model.Books.{Books, Logged, kept_in}
 
 -- the blocks that a page table names, each place counted
 abbrev pub named_in : List ℕ → ℕ

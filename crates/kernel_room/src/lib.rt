@@ -4,11 +4,11 @@
 
 ghost use Rattle.std.specs.Prelude.{◌==◌, count_by, [], ◌∷◌, ◌++◌, ◌≡◌, ◌≤◌, ◌+◌, ◌*◌, ◌⊎◌, ℕ, Contains, List, None, false, length};
 ghost use Rattle.hop_base.specs.declared.histories.Entry.{Entry};
-ghost use Rattle.hop_model.specs.Histories.{commits_above};
-ghost use Rattle.image_blocks.specs.Layout.{pool_at};
-ghost use Rattle.image_blocks.specs.Logs.{AreFitting};
-ghost use Rattle.store_model.specs.Books.{Books, Logged, free_in, kept_in, recs_in};
-ghost use Rattle.store_model.specs.Owning.{AreOwned};
+ghost use Rattle.kernel_model.specs.hop_model.Histories.{commits_above};
+ghost use Rattle.kernel_model.specs.image_blocks.Layout.{pool_at};
+ghost use Rattle.kernel_model.specs.image_blocks.Logs.{AreFitting};
+ghost use Rattle.kernel_model.specs.store_model.Books.{Books, Logged, free_in, kept_in, recs_in};
+ghost use Rattle.kernel_model.specs.store_model.Owning.{AreOwned};
 ghost use Rattle.kernel_model.specs.Beginnings.{Beginning, BeginsRight, IsLegal, completed, run_of, state_after};
 ghost use Rattle.kernel_model.specs.Live.{HoldsCommits, KernelView};
 ghost use Rattle.kernel_room.specs.Owning.{PutsRecord};

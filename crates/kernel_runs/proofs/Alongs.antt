@@ -4,30 +4,30 @@ use Rattle.std.specs.Prelude.{Result}
 use Rattle.disk_trait.specs.Image.{Image}
 use Rattle.disk_trait.specs.declared.disk.NoBlocks.{NoBlocks as TooFewBlocks}
 use Rattle.hop_base.specs.declared.histories.Entry.{Entry}
-use Rattle.hop_model.specs.Histories.{Policy}
-use Rattle.hop_model.specs.Scripts.{Script, locus_named}
-use Rattle.hop_model.specs.Serial.{looks_of}
-use Rattle.hop_model.specs.State.{Supply, Text}
-use Rattle.hop_model.specs.Steps.{atlas_in}
-use Rattle.fitting_births.specs.Fitting.{Fits}
-use Rattle.serial_runs.specs.Serial.{IsStopped, opening}
-use Rattle.serial_turns.specs.Turns.{ComeFirst, HasLooked, before_locus, before_pick}
-use Rattle.serial_turns.proofs.Course.{loci_first, locus_more, picks_first}
-use Rattle.serial_turns.proofs.Picks.{pick_now}
-use Rattle.serial_turns.proofs.Stops.{stopped_opening}
-use Rattle.serial_turns.proofs.Whereabouts.{looked_opening}
-use Rattle.table_births.proofs.AtlasStates.{same_atlas}
-use Rattle.table_births.specs.Births.{atlas_state_in}
-use Rattle.record_laws.specs.Cells.{words_on}
-use Rattle.kernel_laws.specs.Opening.{empty_script, with_script}
-use Rattle.kernel_model.specs.Beginnings.{Beginning, run_of, state_after}
+use Rattle.kernel_core.specs.hop_model.Histories.{Policy}
+use Rattle.kernel_core.specs.hop_model.Scripts.{Script, locus_named}
+use Rattle.kernel_core.specs.hop_model.Serial.{looks_of}
+use Rattle.kernel_core.specs.hop_model.State.{Supply, Text}
+use Rattle.kernel_core.specs.hop_model.Steps.{atlas_in}
+use Rattle.kernel_core.specs.fitting_births.Fitting.{Fits}
+use Rattle.kernel_core.specs.serial_runs.Serial.{IsStopped, opening}
+use Rattle.kernel_core.specs.serial_turns.Turns.{ComeFirst, HasLooked, before_locus, before_pick}
+use Rattle.kernel_core.proofs.serial_turns_lemmas.Course.{loci_first, locus_more, picks_first}
+use Rattle.kernel_core.proofs.serial_turns_lemmas.Picks.{pick_now}
+use Rattle.kernel_core.proofs.serial_turns_lemmas.Stops.{stopped_opening}
+use Rattle.kernel_core.proofs.serial_turns_lemmas.Whereabouts.{looked_opening}
+use Rattle.kernel_core.proofs.table_births_lemmas.AtlasStates.{same_atlas}
+use Rattle.kernel_core.specs.table_births.Births.{atlas_state_in}
+use Rattle.kernel_core.specs.record_laws.Cells.{words_on}
+use Rattle.kernel_core.specs.kernel_laws.Opening.{empty_script, with_script}
+use Rattle.kernel_core.specs.kernel_model.Beginnings.{Beginning, run_of, state_after}
 use Rattle.kernel_core.specs.Kernels.{Held, Lives}
-use Rattle.kernel_commits.specs.Lacking.{LacksIn}
-use Rattle.kernel_commits.specs.Pieces.{StopsIn}
-use Rattle.kernel_commits.specs.declared.stopping.Stopped.{Stopped}
-use Rattle.kernel_commits.specs.declared.stopping.Stopped.TheVariants.{TooFew}
-use Rattle.kernel_commits.proofs.Dues.{due_opening}
-use Rattle.kernel_commits.proofs.Wishing.{fault_in}
+use Rattle.kernel_core.specs.kernel_commits.Lacking.{LacksIn}
+use Rattle.kernel_core.specs.kernel_commits.Pieces.{StopsIn}
+use Rattle.kernel_core.specs.kernel_commits.declared.stopping.Stopped.{Stopped}
+use Rattle.kernel_core.specs.kernel_commits.declared.stopping.Stopped.TheVariants.{TooFew}
+use Rattle.kernel_core.proofs.kernel_commits_lemmas.Dues.{due_opening}
+use Rattle.kernel_core.proofs.kernel_commits_lemmas.Wishing.{fault_in}
 use Rattle.kernel_runs.specs.Running.{HasStopped, IsOver, IsRunBy, RunsAlong, TakesOn, opened_in}
 use Rattle.kernel_runs.proofs.Course.{over}
 

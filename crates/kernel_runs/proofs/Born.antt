@@ -2,16 +2,16 @@
 use Rattle.std.proofs.Common.{◌≡◌, ℕ, zero, suc, ◌+◌, ◌-◌, ◌<◌, ◌≤◌, false, ◌&&◌, nat_lt, List, length, Option, None, is_some, sym, ap, subst, arith}
 use Rattle.std.proofs.lemmas.Bool.Decides.{nat_tests}
 use Rattle.hop_base.specs.declared.histories.Entry.{Entry}
-use Rattle.hop_model.specs.Histories.{start_run}
-use Rattle.hop_model.specs.Serial.{can_step, looks_of}
-use Rattle.hop_model.specs.Soundness.{AreSound, is_born}
-use Rattle.hop_model.specs.State.{AtlasState, Cell, LocusState}
-use Rattle.hop_model.specs.Steps.{atlas_in, running}
-use Rattle.sound_runs.proofs.Standing.{standing_over}
-use Rattle.serial_turns.specs.Turns.{HasLooked, before_locus}
-use Rattle.serial_turns.proofs.Course.{rounded}
-use Rattle.serial_turns.proofs.Whereabouts.{looked_idle}
-use Rattle.kernel_model.specs.Beginnings.{Beginning, BeginsRight, IsLegal, run_of}
+use Rattle.kernel_core.specs.hop_model.Histories.{start_run}
+use Rattle.kernel_core.specs.hop_model.Serial.{can_step, looks_of}
+use Rattle.kernel_core.specs.hop_model.Soundness.{AreSound, is_born}
+use Rattle.kernel_core.specs.hop_model.State.{AtlasState, Cell, LocusState}
+use Rattle.kernel_core.specs.hop_model.Steps.{atlas_in, running}
+use Rattle.kernel_core.proofs.sound_runs_lemmas.Standing.{standing_over}
+use Rattle.kernel_core.specs.serial_turns.Turns.{HasLooked, before_locus}
+use Rattle.kernel_core.proofs.serial_turns_lemmas.Course.{rounded}
+use Rattle.kernel_core.proofs.serial_turns_lemmas.Whereabouts.{looked_idle}
+use Rattle.kernel_core.specs.kernel_model.Beginnings.{Beginning, BeginsRight, IsLegal, run_of}
 use Rattle.kernel_runs.specs.Running.{end_of, opened_in}
 use Rattle.kernel_runs.proofs.Alongs.{locus_next}
 

@@ -2,22 +2,22 @@
 use Rattle.std.proofs.Common.{◌≡◌, ℕ, ◌+◌, ◌≤◌, true, false, ◌&&◌, if◌then◌else◌, nat_lt, nat_le, List, [], ◌∷◌, length, Option, None, Some, is_some, slice_get, refl, sym, ap, subst, ◌∙◌, arith}
 use Rattle.std.proofs.lemmas.Bool.Decides.{nat_tests}
 use Rattle.disk_trait.specs.Image.{Image}
-use Rattle.hop_model.specs.Histories.{start_run}
-use Rattle.hop_model.specs.Scripts.{atlas_name, container_named, locus_named, number_of, place_of, text_eq}
-use Rattle.hop_model.specs.State.{KernelState, Supply, Text}
-use Rattle.hop_model.specs.Steps.{atlas_in}
-use Rattle.hop_model.specs.Words.{or_else}
-use Rattle.hop_model.proofs.LegalRuns.{state_after as state_run}
+use Rattle.kernel_core.specs.hop_model.Histories.{start_run}
+use Rattle.kernel_core.specs.hop_model.Scripts.{atlas_name, container_named, locus_named, number_of, place_of, text_eq}
+use Rattle.kernel_core.specs.hop_model.State.{KernelState, Supply, Text}
+use Rattle.kernel_core.specs.hop_model.Steps.{atlas_in}
+use Rattle.kernel_core.specs.hop_model.Words.{or_else}
+use Rattle.kernel_core.proofs.hop_model_lemmas.LegalRuns.{state_after as state_run}
 use Rattle.atlas_dir.specs.Directory.{Directory, IsDirectory, entity_named}
-use Rattle.directory_laws.proofs.NameLaws.{numbers_same}
-use Rattle.kernel_calls.specs.Calls.{atlas_state}
-use Rattle.kernel_cells.specs.declared.cells.Cell.{Cell}
-use Rattle.kernel_cells.specs.declared.cells.Part.TheVariants as part
-use Rattle.kernel_cells.specs.Cells.{part_of}
-use Rattle.cell_table.specs.Tables.{entity_in, state_in}
-use Rattle.script_against.proofs.ByKind.{container_test, locus_test, no_locus}
-use Rattle.record_laws.specs.Cells.{words_on}
-use Rattle.kernel_model.specs.Beginnings.{Beginning, run_of}
+use Rattle.kernel_core.proofs.directory_laws_lemmas.NameLaws.{numbers_same}
+use Rattle.kernel_core.specs.kernel_calls.Calls.{atlas_state}
+use Rattle.kernel_core.specs.kernel_cells.declared.cells.Cell.{Cell}
+use Rattle.kernel_core.specs.kernel_cells.declared.cells.Part.TheVariants as part
+use Rattle.kernel_core.specs.kernel_cells.Cells.{part_of}
+use Rattle.kernel_core.specs.cell_table.Tables.{entity_in, state_in}
+use Rattle.kernel_core.proofs.script_against_lemmas.ByKind.{container_test, locus_test, no_locus}
+use Rattle.kernel_core.specs.record_laws.Cells.{words_on}
+use Rattle.kernel_core.specs.kernel_model.Beginnings.{Beginning, run_of}
 use Rattle.kernel_core.specs.Kernels.{Held, Lives}
 
 none_some : {l : ℕ} → None ≡ Some l → ⊥

@@ -2,21 +2,21 @@
 use Rattle.std.proofs.Common.{◌≡◌, ℕ, ◌+◌, ◌≤◌, List, [], ◌∷◌, ◌++◌, length, refl, sym, ap, subst, ◌∙◌, arith}
 use Rattle.std.proofs.lemmas.List.{append-nil, length-append}
 use Rattle.hop_base.specs.declared.histories.Entry.{Entry}
-use Rattle.hop_model.specs.Histories.{Policy, Run, run_after, start_run}
-use Rattle.hop_model.specs.Scripts.{Script}
-use Rattle.hop_model.specs.Serial.{all_loci, looks_of}
-use Rattle.hop_model.specs.Soundness.{IsSound}
-use Rattle.hop_model.specs.State.{KernelState, Supply}
-use Rattle.hop_model.specs.Steps.{atlas_in}
-use Rattle.script_form.specs.Rules.{IsScript}
-use Rattle.fitting_births.specs.Fitting.{Fits}
-use Rattle.serial_runs.specs.Serial.{IsStopped, IsWhole, look, looks, opening}
-use Rattle.run_laws.proofs.Wishes.{run_append}
-use Rattle.serial_runs.proofs.Histories.{looks_append}
-use Rattle.serial_turns.specs.Turns.{ComeFirst, HasLooked, IsStoppedIn, opened}
-use Rattle.serial_turns.proofs.Course.{rounded}
-use Rattle.serial_turns.proofs.Stops.{stopped_looks}
-use Rattle.serial_turns.proofs.Whereabouts.{looked_more, round_idle, whole}
+use Rattle.kernel_core.specs.hop_model.Histories.{Policy, Run, run_after, start_run}
+use Rattle.kernel_core.specs.hop_model.Scripts.{Script}
+use Rattle.kernel_core.specs.hop_model.Serial.{all_loci, looks_of}
+use Rattle.kernel_core.specs.hop_model.Soundness.{IsSound}
+use Rattle.kernel_core.specs.hop_model.State.{KernelState, Supply}
+use Rattle.kernel_core.specs.hop_model.Steps.{atlas_in}
+use Rattle.kernel_core.specs.script_form.Rules.{IsScript}
+use Rattle.kernel_core.specs.fitting_births.Fitting.{Fits}
+use Rattle.kernel_core.specs.serial_runs.Serial.{IsStopped, IsWhole, look, looks, opening}
+use Rattle.kernel_core.proofs.run_laws_lemmas.Wishes.{run_append}
+use Rattle.kernel_core.proofs.serial_runs_lemmas.Histories.{looks_append}
+use Rattle.kernel_core.specs.serial_turns.Turns.{ComeFirst, HasLooked, IsStoppedIn, opened}
+use Rattle.kernel_core.proofs.serial_turns_lemmas.Course.{rounded}
+use Rattle.kernel_core.proofs.serial_turns_lemmas.Stops.{stopped_looks}
+use Rattle.kernel_core.proofs.serial_turns_lemmas.Whereabouts.{looked_more, round_idle, whole}
 
 module _ (s : Supply) (policy : Policy) (script : Script) (w : KernelState) where
   abbrev run : List Entry → Run

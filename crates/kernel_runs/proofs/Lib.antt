@@ -3,3 +3,4 @@ pub mod Called
 pub mod Alongs
 pub mod Born
 pub mod Caused
+pub use Rattle.kernel_core.proofs.table_births_lemmas

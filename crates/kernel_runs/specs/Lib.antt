@@ -1,1 +1,3 @@
 pub mod Running
+pub use Rattle.kernel_core.specs.kernel_commits
+pub use Rattle.kernel_core.specs.table_births

@@ -2,17 +2,17 @@
 use Rattle.std.specs.Prelude.{◌≡◌, ℕ, ◌+◌, ◌*◌, List, length, Some, OnErr, OnOk, Result}
 use Rattle.disk_trait.specs.Image.{Image}
 use Rattle.disk_trait.specs.declared.disk.NoBlocks.{NoBlocks}
-use Rattle.hop_model.specs.Histories.{Policy, Run}
-use Rattle.hop_model.specs.State.{AtlasState, Supply}
-use Rattle.hop_model.specs.Steps.{atlas_in}
-use Rattle.fitting_births.specs.Fitting.{Fits}
-use Rattle.serial_runs.specs.Serial.{IsStopped, IsWhole}
-use Rattle.serial_turns.specs.Turns.{HasLooked, opened}
-use Rattle.kernel_model.specs.Beginnings.{Beginning}
+use Rattle.kernel_core.specs.hop_model.Histories.{Policy, Run}
+use Rattle.kernel_core.specs.hop_model.State.{AtlasState, Supply}
+use Rattle.kernel_core.specs.hop_model.Steps.{atlas_in}
+use Rattle.kernel_core.specs.fitting_births.Fitting.{Fits}
+use Rattle.kernel_core.specs.serial_runs.Serial.{IsStopped, IsWhole}
+use Rattle.kernel_core.specs.serial_turns.Turns.{HasLooked, opened}
+use Rattle.kernel_core.specs.kernel_model.Beginnings.{Beginning}
 use Rattle.kernel_core.specs.Kernels.{Held, Lives}
-use Rattle.kernel_commits.specs.Lacking.{IsDue, LacksBlocks}
-use Rattle.kernel_commits.specs.declared.stopping.Stopped.{Stopped}
-use Rattle.kernel_commits.specs.declared.stopping.Stopped.TheVariants.{TooFew}
+use Rattle.kernel_core.specs.kernel_commits.Lacking.{IsDue, LacksBlocks}
+use Rattle.kernel_core.specs.kernel_commits.declared.stopping.Stopped.{Stopped}
+use Rattle.kernel_core.specs.kernel_commits.declared.stopping.Stopped.TheVariants.{TooFew}
 
 -- these managers answer in the run, and its script fits the atlas of its state
 pub record IsRunBy (supply : Supply) (policy : Policy) (b : Beginning) : Type 0 where

@@ -1,14 +1,14 @@
 // Looks at loci, by number and by name.
 ghost use Rattle.std.specs.Prelude.{◌≡◌, ◌+◌, ◌*◌, ◌++◌, ◌∷◌, [], ℕ, List, None, Some, Err, IfErr, IfSome, OnOk, length, map, slice_get, string_bytes};
-ghost use Rattle.hop_model.specs.Scripts.{locus_named};
-ghost use Rattle.hop_model.specs.Serial.{looks_of};
-ghost use Rattle.hop_model.specs.Steps.{atlas_in};
-ghost use Rattle.kernel_commits.specs.Pieces.{CountsWithin};
-ghost use Rattle.kernel_commits.specs.Stops.{IsCause};
+ghost use Rattle.kernel_core.specs.hop_model.Scripts.{locus_named};
+ghost use Rattle.kernel_core.specs.hop_model.Serial.{looks_of};
+ghost use Rattle.kernel_core.specs.hop_model.Steps.{atlas_in};
+ghost use Rattle.kernel_core.specs.kernel_commits.Pieces.{CountsWithin};
+ghost use Rattle.kernel_core.specs.kernel_commits.Stops.{IsCause};
 ghost use Rattle.kernel_core.specs.Kernels.{Lives, StaysClean};
-ghost use Rattle.kernel_model.specs.Beginnings.{Beginning, run_of};
+ghost use Rattle.kernel_core.specs.kernel_model.Beginnings.{Beginning, run_of};
 ghost use Rattle.kernel_runs.specs.Running.{IsRunBy, RunsAlong, TakesOn, look_most, opened_in};
-ghost use Rattle.serial_turns.specs.Turns.{ComeFirst, before_pick};
+ghost use Rattle.kernel_core.specs.serial_turns.Turns.{ComeFirst, before_pick};
 
 use disk_trait::Disk;
 use hop_base::{Entity, Kind};

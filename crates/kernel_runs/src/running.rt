@@ -1,22 +1,22 @@
 // A whole run of a script.
 ghost use Rattle.std.specs.Prelude.{◌≡◌, ◌+◌, ◌*◌, ◌^◌, [], None, Some, Err, IfErr, IfSome, OnOk, length};
-ghost use Rattle.fitting_births.specs.Fitting.{Fits};
-ghost use Rattle.kernel_commits.specs.Pieces.{CountsWithin};
-ghost use Rattle.kernel_commits.specs.Stops.{IsCause};
+ghost use Rattle.kernel_core.specs.fitting_births.Fitting.{Fits};
+ghost use Rattle.kernel_core.specs.kernel_commits.Pieces.{CountsWithin};
+ghost use Rattle.kernel_core.specs.kernel_commits.Stops.{IsCause};
 ghost use Rattle.kernel_core.specs.Kernels.{Lives, StaysClean};
-ghost use Rattle.kernel_laws.specs.Opening.{empty_script, with_script};
-ghost use Rattle.kernel_model.specs.Beginnings.{Beginning};
+ghost use Rattle.kernel_core.specs.kernel_laws.Opening.{empty_script, with_script};
+ghost use Rattle.kernel_core.specs.kernel_model.Beginnings.{Beginning};
 ghost use Rattle.kernel_runs.specs.Running.{EndsRun, look_most};
-ghost use Rattle.script_form.specs.Rules.{IsScript};
-ghost use Rattle.script_form.specs.Scripts.{tables_of};
-ghost use Rattle.table_births.specs.Births.{atlas_state_in};
+ghost use Rattle.kernel_core.specs.script_form.Rules.{IsScript};
+ghost use Rattle.kernel_core.specs.script_form.Scripts.{tables_of};
+ghost use Rattle.kernel_core.specs.table_births.Births.{atlas_state_in};
 
 use crate::looking::play;
 use crate::rounds::finish;
 use disk_trait::Disk;
+use kernel_core::script_form::Script;
 use kernel_core::{Kernel, Stopped};
 use manager_gate::{Gate, Policy, Supplier};
-use script_form::Script;
 
 /// Runs a script: its births, the picks of its order, and rounds over the loci until none can step. A kernel that has stopped does
 /// nothing, and tells why it stopped; one that a fault meets stops there.

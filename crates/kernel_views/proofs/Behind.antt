@@ -2,14 +2,14 @@
 use Rattle.std.proofs.Common.{◌≡◌, ℕ, Bool, ◌||◌, List, [], ◌∷◌, sym, ap, subst, arith}
 use Rattle.std.proofs.lemmas.Bool.{false≢true}
 use Rattle.disk_trait.specs.Image.{Image}
-use Rattle.event_clocks.specs.declared.Clock.{Clock}
-use Rattle.snapshot_store.specs.State.{State, books}
-use Rattle.kernel_cells.specs.declared.cells.Cell.{Cell}
-use Rattle.kernel_cells.specs.declared.cells.Wish.{Wish}
+use Rattle.kernel_records.specs.event_clocks.declared.Clock.{Clock}
+use Rattle.kernel_records.specs.snapshot_store.State.{State, books}
+use Rattle.kernel_records.specs.kernel_cells.declared.cells.Cell.{Cell}
+use Rattle.kernel_records.specs.kernel_cells.declared.cells.Wish.{Wish}
 use Rattle.cell_table.specs.Lending.{Lends}
 use Rattle.cell_table.specs.Tables.{IsOrderly}
-use Rattle.wish_laws.specs.Founded.{IsFounded, IsFoundedCell, IsRecordedNow}
-use Rattle.record_laws.specs.Cells.{words_on}
+use Rattle.kernel_records.specs.wish_laws.Founded.{IsFounded, IsFoundedCell, IsRecordedNow}
+use Rattle.kernel_records.specs.record_laws.Cells.{words_on}
 use Rattle.kernel_records.specs.Committing.{HasPages, LeavesCell}
 use Rattle.kernel_views.proofs.Ordering.{orderly_again}
 

@@ -3,21 +3,21 @@ use Rattle.std.proofs.Common.{◌≡◌, ◌≢◌, ◌⊎◌, ◌↔◌, inl, i
 use Rattle.std.specs.Prelude.{Contains}
 use Rattle.std.proofs.lemmas.Bool.{cases_eq}
 use Rattle.disk_trait.specs.Image.{Image}
-use Rattle.image_blocks.specs.Bodies.{blob_blocks}
-use Rattle.image_blocks.specs.Layout.{pool_at}
-use Rattle.store_model.specs.Books.{Books, Logged, kept_in, kept_names, names}
-use Rattle.store_model.specs.Owning.{AreOwned, NamesPage}
-use Rattle.snapshot_store.specs.State.{State, books}
-use Rattle.fault_paging.specs.declared.paged.PagedMemory.{PagedMemory}
-use Rattle.fault_paging.specs.Calls.{IsOfTable, Keeps}
-use Rattle.kernel_cells.specs.declared.cells.Cell.{Cell}
-use Rattle.kernel_cells.specs.declared.cells.Part.{Part}
-use Rattle.kernel_cells.specs.declared.cells.Part.TheVariants as part
-use Rattle.beside_steps.specs.Besides.{memory_of}
+use Rattle.kernel_records.specs.image_blocks.Bodies.{blob_blocks}
+use Rattle.kernel_records.specs.image_blocks.Layout.{pool_at}
+use Rattle.kernel_laws.specs.store_model.Books.{Books, Logged, kept_in, kept_names, names}
+use Rattle.kernel_laws.specs.store_model.Owning.{AreOwned, NamesPage}
+use Rattle.kernel_records.specs.snapshot_store.State.{State, books}
+use Rattle.kernel_records.specs.fault_paging.declared.paged.PagedMemory.{PagedMemory}
+use Rattle.kernel_records.specs.fault_paging.Calls.{IsOfTable, Keeps}
+use Rattle.kernel_records.specs.kernel_cells.declared.cells.Cell.{Cell}
+use Rattle.kernel_records.specs.kernel_cells.declared.cells.Part.{Part}
+use Rattle.kernel_records.specs.kernel_cells.declared.cells.Part.TheVariants as part
+use Rattle.cell_table.specs.beside_steps.Besides.{memory_of}
 use Rattle.cell_table.specs.Tables.{HasNews, IsOrderly, blocks_by, memory_at, tables_in}
 use Rattle.cell_table.specs.Lending.{Lends}
-use Rattle.kernel_model.proofs.Apart.{page_names}
-use Rattle.kernel_model.proofs.Naming.{place_in}
+use Rattle.kernel_laws.proofs.kernel_model_lemmas.Apart.{page_names}
+use Rattle.kernel_laws.proofs.kernel_model_lemmas.Naming.{place_in}
 use Rattle.kernel_records.specs.Flushing.{Flushes}
 use Rattle.kernel_views.proofs.Keeping.{blob_named, kept_named}
 use Rattle.kernel_views.proofs.Others.{held_at}

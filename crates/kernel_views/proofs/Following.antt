@@ -4,20 +4,20 @@ use Rattle.std.specs.List.{list_any}
 use Rattle.std.proofs.lemmas.List.Sums.{sum_by-cons}
 use Rattle.disk_trait.specs.Image.{Image}
 use Rattle.hop_base.specs.declared.histories.Entry.{Entry}
-use Rattle.hop_model.specs.Histories.{Run, start_run, version_of, writes}
-use Rattle.hop_model.specs.State.{KernelState}
-use Rattle.hop_model.proofs.LegalRuns.{state_after as state_run}
-use Rattle.run_laws.proofs.Wishes.{steps_stay}
-use Rattle.run_laws.proofs.Tellings.{versions_told}
-use Rattle.kernel_cells.specs.declared.cells.Cell.{Cell}
-use Rattle.kernel_cells.specs.Wishes.{HasWish}
-use Rattle.wish_laws.specs.Founded.{IsFoundedIn}
-use Rattle.wish_laws.proofs.Founding.{founded}
+use Rattle.kernel_records.specs.hop_model.Histories.{Run, start_run, version_of, writes}
+use Rattle.kernel_records.specs.hop_model.State.{KernelState}
+use Rattle.kernel_records.proofs.hop_model_lemmas.LegalRuns.{state_after as state_run}
+use Rattle.kernel_records.proofs.run_laws_lemmas.Wishes.{steps_stay}
+use Rattle.kernel_records.proofs.run_laws_lemmas.Tellings.{versions_told}
+use Rattle.kernel_records.specs.kernel_cells.declared.cells.Cell.{Cell}
+use Rattle.kernel_records.specs.kernel_cells.Wishes.{HasWish}
+use Rattle.kernel_records.specs.wish_laws.Founded.{IsFoundedIn}
+use Rattle.kernel_records.proofs.wish_laws_lemmas.Founding.{founded}
 use Rattle.cell_table.specs.Tables.{AreNumbered, entity_in}
-use Rattle.record_laws.specs.Cells.{words_on}
-use Rattle.store_model.specs.Books.{Books}
-use Rattle.kernel_model.specs.Beginnings.{Beginning, IsLegal, run_of}
-use Rattle.kernel_model.specs.Live.{Follows, Stopped}
+use Rattle.kernel_records.specs.record_laws.Cells.{words_on}
+use Rattle.kernel_laws.specs.store_model.Books.{Books}
+use Rattle.kernel_laws.specs.kernel_model.Beginnings.{Beginning, IsLegal, run_of}
+use Rattle.kernel_laws.specs.kernel_model.Live.{Follows, Stopped}
 use Rattle.kernel_views.specs.Views.{FollowsRun, asked_at, by_step_at, left_at, newest_at, view_in}
 
 -- an entity without an open mark and a newest record at no version

@@ -3,14 +3,14 @@ use Rattle.std.proofs.Common.{◌≡◌, ℕ, Bool, true, false, not, nat_lt, na
 use Rattle.std.proofs.lemmas.Bool.Decides.{nat_tests}
 use Rattle.disk_trait.specs.Image.{Image}
 use Rattle.hop_base.specs.declared.histories.Entry.{Entry}
-use Rattle.hop_model.specs.Histories.{is_full}
-use Rattle.snapshot_store.specs.Shelves.{records_of}
-use Rattle.snapshot_store.specs.State.{State, books}
-use Rattle.store_model.specs.Books.{kept_in}
-use Rattle.kernel_cells.specs.declared.cells.Cell.{Cell}
+use Rattle.kernel_records.specs.hop_model.Histories.{is_full}
+use Rattle.kernel_records.specs.snapshot_store.Shelves.{records_of}
+use Rattle.kernel_records.specs.snapshot_store.State.{State, books}
+use Rattle.kernel_laws.specs.store_model.Books.{kept_in}
+use Rattle.kernel_records.specs.kernel_cells.declared.cells.Cell.{Cell}
 use Rattle.kernel_records.specs.Snapping.{has_room}
-use Rattle.kernel_model.specs.Beginnings.{Beginning, run_of}
-use Rattle.kernel_room.proofs.Enough.{each_kept}
+use Rattle.kernel_laws.specs.kernel_model.Beginnings.{Beginning, run_of}
+use Rattle.kernel_records.proofs.kernel_room_lemmas.Enough.{each_kept}
 use Rattle.kernel_views.specs.Snaps.{Stands}
 use Rattle.kernel_views.specs.Views.{view_of}
 

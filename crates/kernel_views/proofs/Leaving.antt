@@ -4,27 +4,27 @@ use Rattle.std.specs.List.{list_all}
 use Rattle.std.proofs.lemmas.Bool.{le-leb}
 use Rattle.disk_trait.specs.Image.{Image}
 use Rattle.hop_base.specs.declared.histories.Entry.{Entry}
-use Rattle.hop_model.specs.Histories.{Run, version_of}
-use Rattle.hop_model.specs.State.{KernelState, Supply}
-use Rattle.image_blocks.specs.Layout.{last_number}
-use Rattle.snapshot_store.specs.Putting.{are_small}
-use Rattle.snapshot_store.specs.State.{State, books}
-use Rattle.event_clocks.specs.declared.Clock.{Clock}
+use Rattle.kernel_records.specs.hop_model.Histories.{Run, version_of}
+use Rattle.kernel_records.specs.hop_model.State.{KernelState, Supply}
+use Rattle.kernel_records.specs.image_blocks.Layout.{last_number}
+use Rattle.kernel_records.specs.snapshot_store.Putting.{are_small}
+use Rattle.kernel_records.specs.snapshot_store.State.{State, books}
+use Rattle.kernel_records.specs.event_clocks.declared.Clock.{Clock}
 use Rattle.vector_stamps.specs.Stamps.{component}
-use Rattle.kernel_cells.specs.declared.cells.Cell.{Cell}
-use Rattle.kernel_cells.specs.declared.cells.Part.{Part}
-use Rattle.kernel_cells.specs.declared.cells.Part.TheVariants as part
-use Rattle.kernel_cells.specs.Cells.{HasCell}
-use Rattle.fault_paging.specs.declared.paged.PagedMemory.{PagedMemory}
-use Rattle.fault_paging.specs.Words.{AreCleanTrue}
-use Rattle.beside_steps.specs.Besides.{memory_of}
+use Rattle.kernel_records.specs.kernel_cells.declared.cells.Cell.{Cell}
+use Rattle.kernel_records.specs.kernel_cells.declared.cells.Part.{Part}
+use Rattle.kernel_records.specs.kernel_cells.declared.cells.Part.TheVariants as part
+use Rattle.kernel_records.specs.kernel_cells.Cells.{HasCell}
+use Rattle.kernel_records.specs.fault_paging.declared.paged.PagedMemory.{PagedMemory}
+use Rattle.kernel_records.specs.fault_paging.Words.{AreCleanTrue}
+use Rattle.cell_table.specs.beside_steps.Besides.{memory_of}
 use Rattle.cell_table.specs.Tables.{AreClean, AreNumbered, IsOrderly, blocks_by, entity_by, entity_in, memory_at, state_in}
 use Rattle.cell_table.proofs.Having.{state_has}
-use Rattle.record_laws.specs.Cells.{IsCleanIn, IsSpellable, table_of, words_on}
-use Rattle.record_laws.proofs.Telling.{no_blocks}
+use Rattle.kernel_records.specs.record_laws.Cells.{IsCleanIn, IsSpellable, table_of, words_on}
+use Rattle.kernel_records.proofs.record_laws_lemmas.Telling.{no_blocks}
 use Rattle.kernel_records.specs.Committing.{LeavesCell}
 use Rattle.cell_table.specs.Lending.{Lends}
-use Rattle.kernel_model.specs.Beginnings.{Beginning, run_of}
+use Rattle.kernel_laws.specs.kernel_model.Beginnings.{Beginning, run_of}
 use Rattle.kernel_views.specs.Views.{FollowsRun}
 use Rattle.kernel_views.specs.Snaps.{Stands}
 use Rattle.kernel_views.proofs.Flushing.{spot}

@@ -2,27 +2,27 @@
 use Rattle.std.proofs.Common.{◌≡◌, ◌≢◌, ◌⊎◌, inl, inr, ℕ, Bool, true, false, ◌==◌, if◌then◌else◌, List, [], ◌∷◌, slice_get, slice_index, Option, Some, None, refl, sym, ap, subst, ◌∙◌}
 use Rattle.std.proofs.lemmas.Bool.{cases_eq}
 use Rattle.disk_trait.specs.Image.{Image}
-use Rattle.hop_model.specs.State.{AtlasCell, ContainerCell, ContainerState, NotBorn, Supply, empty_state, no_atlas}
-use Rattle.event_clocks.specs.declared.Clock.{Clock}
+use Rattle.kernel_records.specs.hop_model.State.{AtlasCell, ContainerCell, ContainerState, NotBorn, Supply, empty_state, no_atlas}
+use Rattle.kernel_records.specs.event_clocks.declared.Clock.{Clock}
 use Rattle.vector_stamps.specs.Stamps.{component}
-use Rattle.locus_machine.specs.declared.loci.Head.{Head}
-use Rattle.snapshot_store.specs.State.{State, books}
-use Rattle.store_model.specs.Books.{kept_names}
-use Rattle.fault_paging.specs.declared.paged.PagedMemory.{PagedMemory}
-use Rattle.fault_paging.specs.Words.{block_at}
-use Rattle.fault_paging.specs.Calls.{IsOfTable}
-use Rattle.kernel_cells.specs.declared.cells.Cell.{Cell}
-use Rattle.kernel_cells.specs.declared.cells.Part.{Part}
-use Rattle.kernel_cells.specs.declared.cells.Part.TheVariants as part
-use Rattle.kernel_cells.specs.declared.cells.Storage.{Storage}
-use Rattle.kernel_cells.specs.Cells.{container_cell, part_of}
-use Rattle.beside_steps.specs.Besides.{memory_of}
-use Rattle.cell_laws.specs.Memories.{HasOwnMemory, IsOwn}
-use Rattle.wish_laws.specs.Founded.{IsFoundedCell}
-use Rattle.sound_states.specs.States.{IsSoundState, IsSupplied}
+use Rattle.kernel_records.specs.locus_machine.declared.loci.Head.{Head}
+use Rattle.kernel_records.specs.snapshot_store.State.{State, books}
+use Rattle.kernel_laws.specs.store_model.Books.{kept_names}
+use Rattle.kernel_records.specs.fault_paging.declared.paged.PagedMemory.{PagedMemory}
+use Rattle.kernel_records.specs.fault_paging.Words.{block_at}
+use Rattle.kernel_records.specs.fault_paging.Calls.{IsOfTable}
+use Rattle.kernel_records.specs.kernel_cells.declared.cells.Cell.{Cell}
+use Rattle.kernel_records.specs.kernel_cells.declared.cells.Part.{Part}
+use Rattle.kernel_records.specs.kernel_cells.declared.cells.Part.TheVariants as part
+use Rattle.kernel_records.specs.kernel_cells.declared.cells.Storage.{Storage}
+use Rattle.kernel_records.specs.kernel_cells.Cells.{container_cell, part_of}
+use Rattle.cell_table.specs.beside_steps.Besides.{memory_of}
+use Rattle.cell_table.specs.cell_laws.Memories.{HasOwnMemory, IsOwn}
+use Rattle.kernel_records.specs.wish_laws.Founded.{IsFoundedCell}
+use Rattle.cell_table.specs.sound_states.States.{IsSoundState, IsSupplied}
 use Rattle.cell_table.specs.Lending.{Lends}
 use Rattle.cell_table.specs.Tables.{AreNumbered, HasKind, IsOrderly, blocks_by, entity_in, memory_at, state_in, tables_in}
-use Rattle.record_laws.specs.Cells.{IsSoundIn}
+use Rattle.kernel_records.specs.record_laws.Cells.{IsSoundIn}
 use Rattle.kernel_records.specs.Flushing.{Flushes}
 use Rattle.cell_table.proofs.Blocks.{seek}
 use Rattle.cell_table.proofs.Looked.{own_supplied}

@@ -1,20 +1,20 @@
 -- What a commit of one cell leaves of the others.
 use Rattle.std.proofs.Common.{◌≡◌, ◌≢◌, ℕ, Bool, true, List, slice_get, slice_index, Option, Some, None, refl, sym, ap, subst, ◌∙◌}
 use Rattle.disk_trait.specs.Image.{Image}
-use Rattle.hop_model.specs.State.{Supply}
-use Rattle.store_model.specs.Books.{kept_names}
-use Rattle.snapshot_store.specs.State.{State, books}
-use Rattle.fault_paging.specs.declared.paged.PagedMemory.{PagedMemory}
-use Rattle.fault_paging.specs.Words.{AreCleanTrue, IsSoundTable, block_at}
-use Rattle.fault_paging.specs.Calls.{IsOfTable}
-use Rattle.kernel_cells.specs.declared.cells.Cell.{Cell}
-use Rattle.kernel_cells.specs.declared.cells.Part.{Part}
-use Rattle.kernel_cells.specs.declared.cells.Part.TheVariants as part
-use Rattle.kernel_cells.specs.Cells.{part_of}
-use Rattle.beside_steps.specs.Besides.{memory_of}
-use Rattle.cell_laws.specs.Memories.{HasOwnMemory}
+use Rattle.kernel_records.specs.hop_model.State.{Supply}
+use Rattle.kernel_laws.specs.store_model.Books.{kept_names}
+use Rattle.kernel_records.specs.snapshot_store.State.{State, books}
+use Rattle.kernel_records.specs.fault_paging.declared.paged.PagedMemory.{PagedMemory}
+use Rattle.kernel_records.specs.fault_paging.Words.{AreCleanTrue, IsSoundTable, block_at}
+use Rattle.kernel_records.specs.fault_paging.Calls.{IsOfTable}
+use Rattle.kernel_records.specs.kernel_cells.declared.cells.Cell.{Cell}
+use Rattle.kernel_records.specs.kernel_cells.declared.cells.Part.{Part}
+use Rattle.kernel_records.specs.kernel_cells.declared.cells.Part.TheVariants as part
+use Rattle.kernel_records.specs.kernel_cells.Cells.{part_of}
+use Rattle.cell_table.specs.beside_steps.Besides.{memory_of}
+use Rattle.cell_table.specs.cell_laws.Memories.{HasOwnMemory}
 use Rattle.cell_table.specs.Tables.{IsOrderly, blocks_by, memory_at, tables_in}
-use Rattle.record_laws.specs.Cells.{words_on}
+use Rattle.kernel_records.specs.record_laws.Cells.{words_on}
 use Rattle.kernel_records.specs.Committing.{LeavesCell}
 use Rattle.kernel_records.specs.Flushing.{Flushes}
 use Rattle.kernel_views.proofs.Words.{clean_same, part_same}

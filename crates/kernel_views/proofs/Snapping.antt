@@ -3,36 +3,36 @@ use Rattle.std.proofs.Common.{◌≡◌, inl, inr, ℕ, ◌+◌, ◌≤◌, ◌^
 use Rattle.disk_trait.specs.Image.{Image}
 use Rattle.hop_base.specs.declared.histories.Entry.{Entry}
 use Rattle.hop_base.specs.declared.histories.Event.TheVariants.{Snap}
-use Rattle.hop_model.specs.Choices.{Commit}
-use Rattle.hop_model.specs.Histories.{MayCommit, Run, goes_on, mark, start_run}
-use Rattle.hop_model.specs.State.{KernelState}
-use Rattle.hop_model.proofs.LegalRuns.{state_after as state_run}
-use Rattle.image_blocks.specs.Logs.{AreFitting, Place}
-use Rattle.image_meaning.specs.Parts.{Spells}
-use Rattle.store_model.specs.Books.{AreApartFrom, AreSmall, IsBeforePool, Logged, kept_for, kept_of, logged_recs, recs_in}
-use Rattle.store_model.specs.Owning.{AreOwned}
-use Rattle.snapshot_store.specs.Putting.{are_small}
-use Rattle.snapshot_store.specs.State.{State, books}
-use Rattle.event_clocks.specs.declared.Clock.{Clock}
+use Rattle.kernel_records.specs.hop_model.Choices.{Commit}
+use Rattle.kernel_records.specs.hop_model.Histories.{MayCommit, Run, goes_on, mark, start_run}
+use Rattle.kernel_records.specs.hop_model.State.{KernelState}
+use Rattle.kernel_records.proofs.hop_model_lemmas.LegalRuns.{state_after as state_run}
+use Rattle.kernel_records.specs.image_blocks.Logs.{AreFitting, Place}
+use Rattle.kernel_laws.specs.image_meaning.Parts.{Spells}
+use Rattle.kernel_laws.specs.store_model.Books.{AreApartFrom, AreSmall, IsBeforePool, Logged, kept_for, kept_of, logged_recs, recs_in}
+use Rattle.kernel_laws.specs.store_model.Owning.{AreOwned}
+use Rattle.kernel_records.specs.snapshot_store.Putting.{are_small}
+use Rattle.kernel_records.specs.snapshot_store.State.{State, books}
+use Rattle.kernel_records.specs.event_clocks.declared.Clock.{Clock}
 use Rattle.vector_stamps.specs.Stamps.{component}
-use Rattle.kernel_cells.specs.declared.cells.Cell.{Cell}
-use Rattle.kernel_cells.specs.Wishes.{HasWish}
-use Rattle.cell_blobs.specs.Blobs.{spelt_in}
+use Rattle.kernel_records.specs.kernel_cells.declared.cells.Cell.{Cell}
+use Rattle.kernel_records.specs.kernel_cells.Wishes.{HasWish}
+use Rattle.kernel_records.specs.cell_blobs.Blobs.{spelt_in}
 use Rattle.cell_table.specs.Tables.{AreClean, IsOrderly, tables_in}
-use Rattle.record_laws.specs.Cells.{table_of, words_on}
-use Rattle.record_laws.specs.Telling.{IsRecordOf}
+use Rattle.kernel_records.specs.record_laws.Cells.{table_of, words_on}
+use Rattle.kernel_records.specs.record_laws.Telling.{IsRecordOf}
 use Rattle.kernel_records.specs.Committing.{HasCommitted, HasPages, StoresKeptOrCell}
-use Rattle.kernel_model.specs.Beginnings.{Beginning, IsLegal, completed, run_of}
-use Rattle.kernel_model.specs.Left.{StoresNext}
-use Rattle.kernel_model.specs.Live.{HoldsCommits}
-use Rattle.kernel_model.specs.Records.{AreKeptRecords}
-use Rattle.kernel_model.proofs.Growing.{books_grow, fitting_narrow}
+use Rattle.kernel_laws.specs.kernel_model.Beginnings.{Beginning, IsLegal, completed, run_of}
+use Rattle.kernel_laws.specs.kernel_model.Left.{StoresNext}
+use Rattle.kernel_laws.specs.kernel_model.Live.{HoldsCommits}
+use Rattle.kernel_laws.specs.kernel_model.Records.{AreKeptRecords}
+use Rattle.kernel_laws.proofs.kernel_model_lemmas.Growing.{books_grow, fitting_narrow}
 use Rattle.kernel_laws.proofs.Going.{snap_commits, snap_sure}
 use Rattle.kernel_laws.proofs.Numbers.{epoch_small, stamp_small, version_small}
-use Rattle.kernel_room.proofs.Owned.{owned_more}
-use Rattle.kernel_model.proofs.Stretches.{leaves_map}
+use Rattle.kernel_records.proofs.kernel_room_lemmas.Owned.{owned_more}
+use Rattle.kernel_laws.proofs.kernel_model_lemmas.Stretches.{leaves_map}
 use Rattle.kernel_laws.specs.Going.{MadeSnap}
-use Rattle.wish_laws.proofs.Recorded.{other_wish, snap_wish, state_stays}
+use Rattle.kernel_records.proofs.wish_laws_lemmas.Recorded.{other_wish, snap_wish, state_stays}
 use Rattle.kernel_views.specs.Views.{FollowsRun, view_in}
 use Rattle.kernel_views.specs.Snaps.{CommitsOne}
 use Rattle.kernel_views.proofs.Following.{follows}

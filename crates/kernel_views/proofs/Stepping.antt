@@ -4,22 +4,22 @@ use Rattle.disk_trait.specs.Image.{Image}
 use Rattle.hop_base.specs.declared.histories.Entry.{Entry}
 use Rattle.hop_base.specs.declared.histories.Event.{Event}
 use Rattle.hop_base.specs.declared.histories.Event.TheVariants.{Step}
-use Rattle.hop_model.specs.Histories.{May, Run, goes_on, start_run}
-use Rattle.hop_model.specs.Steps.{step}
-use Rattle.run_cuts.specs.Marks.{is_completing, is_step, is_step_event}
+use Rattle.kernel_records.specs.hop_model.Histories.{May, Run, goes_on, start_run}
+use Rattle.kernel_records.specs.hop_model.Steps.{step}
+use Rattle.kernel_laws.specs.run_cuts.Marks.{is_completing, is_step, is_step_event}
 use Rattle.serial_runs.specs.Serial.{IsCalm as IsQuiet}
 use Rattle.serial_runs.proofs.Calm.{step_entry, step_may}
-use Rattle.snapshot_store.specs.State.{State, books}
-use Rattle.kernel_cells.specs.declared.cells.Cell.{Cell}
-use Rattle.kernel_cells.specs.Wishes.{HasWish}
+use Rattle.kernel_records.specs.snapshot_store.State.{State, books}
+use Rattle.kernel_records.specs.kernel_cells.declared.cells.Cell.{Cell}
+use Rattle.kernel_records.specs.kernel_cells.Wishes.{HasWish}
 use Rattle.cell_table.specs.Tables.{AreClean, state_in, tables_in}
-use Rattle.record_laws.specs.Cells.{words_on}
-use Rattle.store_model.specs.Owning.{AreOwned}
-use Rattle.kernel_model.specs.Beginnings.{Beginning, IsLegal, run_of}
-use Rattle.kernel_model.specs.Live.{HoldsCommits, IsCalm}
+use Rattle.kernel_records.specs.record_laws.Cells.{words_on}
+use Rattle.kernel_laws.specs.store_model.Owning.{AreOwned}
+use Rattle.kernel_laws.specs.kernel_model.Beginnings.{Beginning, IsLegal, run_of}
+use Rattle.kernel_laws.specs.kernel_model.Live.{HoldsCommits, IsCalm}
 use Rattle.kernel_laws.specs.Going.{MadeEvent}
-use Rattle.kernel_room.proofs.Enough.{calm_whole}
-use Rattle.wish_laws.proofs.Going.{state_left}
+use Rattle.kernel_records.proofs.kernel_room_lemmas.Enough.{calm_whole}
+use Rattle.kernel_records.proofs.wish_laws_lemmas.Going.{state_left}
 use Rattle.kernel_views.specs.Events.{StepsOver}
 use Rattle.kernel_views.specs.Snaps.{Stands}
 use Rattle.kernel_views.specs.Views.{FollowsRun, view_in}

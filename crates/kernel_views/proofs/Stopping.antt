@@ -2,11 +2,11 @@
 use Rattle.std.proofs.Common.{ℕ, List, Some, None, refl, ◌∙◌}
 use Rattle.disk_trait.specs.Image.{Image}
 use Rattle.hop_base.specs.declared.histories.Entry.{Entry}
-use Rattle.snapshot_store.specs.State.{State, books}
-use Rattle.kernel_cells.specs.declared.cells.Cell.{Cell}
-use Rattle.record_laws.specs.Cells.{words_on}
-use Rattle.kernel_model.specs.Beginnings.{Beginning, run_of}
-use Rattle.kernel_model.specs.Live.{Stopped}
+use Rattle.kernel_records.specs.snapshot_store.State.{State, books}
+use Rattle.kernel_records.specs.kernel_cells.declared.cells.Cell.{Cell}
+use Rattle.kernel_records.specs.record_laws.Cells.{words_on}
+use Rattle.kernel_laws.specs.kernel_model.Beginnings.{Beginning, run_of}
+use Rattle.kernel_laws.specs.kernel_model.Live.{Stopped}
 use Rattle.kernel_laws.specs.Going.{StoppedBetween}
 use Rattle.kernel_views.specs.Events.{StopsOver}
 use Rattle.kernel_views.specs.Snaps.{Stands}

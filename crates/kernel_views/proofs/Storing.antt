@@ -2,40 +2,40 @@
 use Rattle.std.proofs.Common.{◌≡◌, inl, inr, ℕ, List, [], ◌∷◌, ◌++◌, length, slice_index, Option, None, IfSome, refl, sym, ap, subst, ◌∙◌}
 use Rattle.disk_trait.specs.Image.{Image}
 use Rattle.hop_base.specs.declared.histories.Entry.{Entry}
-use Rattle.hop_model.specs.Choices.{Commit}
+use Rattle.kernel_records.specs.hop_model.Choices.{Commit}
 use Rattle.hop_base.specs.declared.records.Rec.{Rec}
-use Rattle.hop_model.specs.Histories.{Run, commit_of as run_commit}
-use Rattle.hop_model.specs.State.{KernelState}
-use Rattle.cut_laws.specs.Records.{commit_of}
-use Rattle.image_meaning.specs.Describing.{HasPage}
-use Rattle.image_meaning.specs.Parts.{Spells}
-use Rattle.image_meaning.specs.Stores.{Kept, Page, Stores}
-use Rattle.store_model.specs.Books.{AreStored, kept_names, kept_of, recs_in}
-use Rattle.store_model.specs.Owning.{AreOwned, NamesPage}
-use Rattle.snapshot_store.specs.Committed.{StoresMoreInFreeBlocks}
-use Rattle.snapshot_store.specs.State.{State, books}
-use Rattle.event_clocks.specs.Clocks.{HasClock}
-use Rattle.event_clocks.specs.declared.Clock.{Clock}
+use Rattle.kernel_records.specs.hop_model.Histories.{Run, commit_of as run_commit}
+use Rattle.kernel_records.specs.hop_model.State.{KernelState}
+use Rattle.kernel_records.specs.cut_laws.Records.{commit_of}
+use Rattle.kernel_laws.specs.image_meaning.Describing.{HasPage}
+use Rattle.kernel_laws.specs.image_meaning.Parts.{Spells}
+use Rattle.kernel_laws.specs.image_meaning.Stores.{Kept, Page, Stores}
+use Rattle.kernel_laws.specs.store_model.Books.{AreStored, kept_names, kept_of, recs_in}
+use Rattle.kernel_laws.specs.store_model.Owning.{AreOwned, NamesPage}
+use Rattle.kernel_records.specs.snapshot_store.Committed.{StoresMoreInFreeBlocks}
+use Rattle.kernel_records.specs.snapshot_store.State.{State, books}
+use Rattle.kernel_records.specs.event_clocks.Clocks.{HasClock}
+use Rattle.kernel_records.specs.event_clocks.declared.Clock.{Clock}
 use Rattle.vector_stamps.specs.Stamps.{component}
-use Rattle.kernel_cells.specs.declared.cells.Cell.{Cell}
-use Rattle.kernel_cells.specs.Cells.{HasCell, part_of}
-use Rattle.cell_blobs.specs.Blobs.{bytes_of, spelt_in}
+use Rattle.kernel_records.specs.kernel_cells.declared.cells.Cell.{Cell}
+use Rattle.kernel_records.specs.kernel_cells.Cells.{HasCell, part_of}
+use Rattle.kernel_records.specs.cell_blobs.Blobs.{bytes_of, spelt_in}
 use Rattle.cell_table.specs.Tables.{IsOrderly, blocks_by, memory_at, tables_in}
-use Rattle.record_laws.specs.Cells.{IsCleanIn, IsSettled, IsSpellable, table_of, words_on}
-use Rattle.record_laws.specs.Telling.{IsRecordOf}
-use Rattle.record_laws.proofs.Telling.{told as told_record}
+use Rattle.kernel_records.specs.record_laws.Cells.{IsCleanIn, IsSettled, IsSpellable, table_of, words_on}
+use Rattle.kernel_records.specs.record_laws.Telling.{IsRecordOf}
+use Rattle.kernel_records.proofs.record_laws_lemmas.Telling.{told as told_record}
 use Rattle.kernel_records.specs.Committing.{HasPages, IsSpelt}
 use Rattle.kernel_records.proofs.Spelling.{spellable_again}
-use Rattle.kernel_model.specs.Beginnings.{Beginning, IsLegal, completed, run_of, state_after, with_tried}
-use Rattle.kernel_model.specs.Live.{HoldsCommits}
-use Rattle.kernel_model.specs.Records.{AreKeptRecords, ArePagesApart, IsKeptRecord, StoresCommits}
-use Rattle.kernel_model.specs.Telling.{TellsOf}
-use Rattle.kernel_model.proofs.Apart.{kept_apart, more_apart}
-use Rattle.kernel_model.proofs.Growing.{records_grow}
-use Rattle.kernel_model.proofs.Naming.{place_in}
-use Rattle.kernel_model.proofs.Pages.{page_named}
-use Rattle.kernel_model.proofs.Staying.{records_stay}
-use Rattle.kernel_model.proofs.Telling.{told_record as kept_told}
+use Rattle.kernel_laws.specs.kernel_model.Beginnings.{Beginning, IsLegal, completed, run_of, state_after, with_tried}
+use Rattle.kernel_laws.specs.kernel_model.Live.{HoldsCommits}
+use Rattle.kernel_laws.specs.kernel_model.Records.{AreKeptRecords, ArePagesApart, IsKeptRecord, StoresCommits}
+use Rattle.kernel_laws.specs.kernel_model.Telling.{TellsOf}
+use Rattle.kernel_laws.proofs.kernel_model_lemmas.Apart.{kept_apart, more_apart}
+use Rattle.kernel_laws.proofs.kernel_model_lemmas.Growing.{records_grow}
+use Rattle.kernel_laws.proofs.kernel_model_lemmas.Naming.{place_in}
+use Rattle.kernel_laws.proofs.kernel_model_lemmas.Pages.{page_named}
+use Rattle.kernel_laws.proofs.kernel_model_lemmas.Staying.{records_stay}
+use Rattle.kernel_laws.proofs.kernel_model_lemmas.Telling.{told_record as kept_told}
 use Rattle.kernel_views.specs.Views.{view_in}
 use Rattle.kernel_views.proofs.Flushing.{goes, one_news, owned_again, within_at}
 use Rattle.kernel_views.proofs.Keeping.{blob_high}

@@ -3,18 +3,18 @@ use Rattle.std.proofs.Common.{◌≡◌, inl, inr, ℕ, List, [], ◌∷◌, ◌
 use Rattle.disk_trait.specs.Image.{Image}
 use Rattle.hop_base.specs.declared.histories.Entry.{Entry}
 use Rattle.hop_base.specs.declared.histories.Event.TheVariants.{Tried}
-use Rattle.hop_model.specs.Histories.{MayCommit, Run, commit_of as run_commit, mark, start_run}
-use Rattle.hop_model.proofs.LegalRuns.{state_after as state_run}
-use Rattle.snapshot_store.specs.State.{State, books}
-use Rattle.kernel_cells.specs.declared.cells.Cell.{Cell}
-use Rattle.kernel_cells.specs.Wishes.{HasWish}
+use Rattle.kernel_records.specs.hop_model.Histories.{MayCommit, Run, commit_of as run_commit, mark, start_run}
+use Rattle.kernel_records.proofs.hop_model_lemmas.LegalRuns.{state_after as state_run}
+use Rattle.kernel_records.specs.snapshot_store.State.{State, books}
+use Rattle.kernel_records.specs.kernel_cells.declared.cells.Cell.{Cell}
+use Rattle.kernel_records.specs.kernel_cells.Wishes.{HasWish}
 use Rattle.cell_table.specs.Tables.{IsOrderly}
-use Rattle.record_laws.specs.Cells.{words_on}
+use Rattle.kernel_records.specs.record_laws.Cells.{words_on}
 use Rattle.kernel_records.specs.Committing.{HasNotCommitted, HasPages, StoresKeptOrCell}
-use Rattle.kernel_model.specs.Beginnings.{Beginning, IsLegal, run_of}
-use Rattle.kernel_model.specs.Left.{StoresNext}
-use Rattle.kernel_model.specs.Live.{Failed}
-use Rattle.kernel_model.proofs.Stretches.{leaves_map}
+use Rattle.kernel_laws.specs.kernel_model.Beginnings.{Beginning, IsLegal, run_of}
+use Rattle.kernel_laws.specs.kernel_model.Left.{StoresNext}
+use Rattle.kernel_laws.specs.kernel_model.Live.{Failed}
+use Rattle.kernel_laws.proofs.kernel_model_lemmas.Stretches.{leaves_map}
 use Rattle.kernel_laws.specs.Going.{StoppedAtCommit}
 use Rattle.kernel_views.specs.Views.{FollowsRun, view_in}
 use Rattle.kernel_views.specs.Snaps.{LeavesOne}

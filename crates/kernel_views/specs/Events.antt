@@ -2,16 +2,16 @@
 use Rattle.std.specs.Prelude.{◌≡◌, ℕ, ◌+◌, ◌<◌, ◌≤◌, false, List, [], ◌∷◌, ◌++◌, None, Some, slice_get}
 use Rattle.disk_trait.specs.Image.{Image}
 use Rattle.hop_base.specs.declared.histories.Entry.{Entry}
-use Rattle.hop_model.specs.Histories.{Run}
-use Rattle.store_model.specs.Between.{OnlyPages}
-use Rattle.store_model.specs.Books.{kept_names}
-use Rattle.snapshot_store.specs.State.{State, books}
-use Rattle.kernel_cells.specs.declared.cells.Cell.{Cell}
+use Rattle.kernel_records.specs.hop_model.Histories.{Run}
+use Rattle.kernel_laws.specs.store_model.Between.{OnlyPages}
+use Rattle.kernel_laws.specs.store_model.Books.{kept_names}
+use Rattle.kernel_records.specs.snapshot_store.State.{State, books}
+use Rattle.kernel_records.specs.kernel_cells.declared.cells.Cell.{Cell}
 use Rattle.cell_table.specs.Steps.{GoesOn}
 use Rattle.cell_table.specs.Tables.{AreClean, AreNumbered, HasNews, HasTableWishes, IsOrderly, state_in, tables_in}
-use Rattle.record_laws.specs.Cells.{words_on}
-use Rattle.kernel_model.specs.Beginnings.{Beginning}
-use Rattle.kernel_model.specs.Live.{IsCalm, Stopped}
+use Rattle.kernel_records.specs.record_laws.Cells.{words_on}
+use Rattle.kernel_laws.specs.kernel_model.Beginnings.{Beginning}
+use Rattle.kernel_laws.specs.kernel_model.Live.{IsCalm, Stopped}
 use Rattle.kernel_laws.specs.Going.{MadeEvent, StoppedBetween}
 use Rattle.kernel_views.specs.Snaps.{Stands}
 use Rattle.kernel_views.specs.Views.{view_of}

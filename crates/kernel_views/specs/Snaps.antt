@@ -4,18 +4,18 @@ use Rattle.disk_trait.specs.Image.{Image}
 use Rattle.disk_trait.specs.Moments.{LeavesOnly}
 use Rattle.hop_base.specs.declared.histories.Entry.{Entry}
 use Rattle.hop_base.specs.declared.histories.Event.TheVariants.{Snap, Tried}
-use Rattle.hop_model.specs.Histories.{MayCommit, is_full, mark}
-use Rattle.store_model.specs.Books.{AreTrue}
-use Rattle.snapshot_store.specs.State.{State, books}
-use Rattle.kernel_cells.specs.declared.cells.Cell.{Cell}
+use Rattle.kernel_records.specs.hop_model.Histories.{MayCommit, is_full, mark}
+use Rattle.kernel_laws.specs.store_model.Books.{AreTrue}
+use Rattle.kernel_records.specs.snapshot_store.State.{State, books}
+use Rattle.kernel_records.specs.kernel_cells.declared.cells.Cell.{Cell}
 use Rattle.cell_table.specs.Tables.{AreClean, IsOrderly}
 use Rattle.cell_table.specs.Lending.{Lends}
-use Rattle.record_laws.specs.Cells.{IsSpellable, words_on}
-use Rattle.wish_laws.specs.Founded.{IsFoundedCell}
+use Rattle.kernel_records.specs.record_laws.Cells.{IsSpellable, words_on}
+use Rattle.kernel_records.specs.wish_laws.Founded.{IsFoundedCell}
 use Rattle.kernel_records.specs.Committing.{CommitCounts, HasCommitted, HasNotCommitted, LeavesCell, StoresKeptOrCell}
 use Rattle.kernel_records.specs.Snapping.{has_room}
-use Rattle.kernel_model.specs.Beginnings.{Beginning, run_of}
-use Rattle.kernel_model.specs.Live.{Failed, IsRunning}
+use Rattle.kernel_laws.specs.kernel_model.Beginnings.{Beginning, run_of}
+use Rattle.kernel_laws.specs.kernel_model.Live.{Failed, IsRunning}
 use Rattle.kernel_laws.specs.Going.{MadeSnap, StoppedAtCommit}
 use Rattle.kernel_views.specs.Views.{view_of}
 

@@ -2,14 +2,14 @@
 use Rattle.std.specs.Prelude.{◌≡◌, ℕ, Bool, false, List, Option, Some, None, slice_get}
 use Rattle.disk_trait.specs.Image.{Image}
 use Rattle.hop_base.specs.declared.histories.Entry.{Entry}
-use Rattle.hop_model.specs.State.{Supply}
-use Rattle.kernel_cells.specs.declared.cells.Cell.{Cell}
+use Rattle.kernel_records.specs.hop_model.State.{Supply}
+use Rattle.kernel_records.specs.kernel_cells.declared.cells.Cell.{Cell}
 use Rattle.cell_table.specs.Tables.{HasTableWishes, state_in, tables_in}
-use Rattle.record_laws.specs.Cells.{words_on}
-use Rattle.store_model.specs.Books.{Books}
-use Rattle.snapshot_store.specs.State.{State, books}
-use Rattle.kernel_model.specs.Beginnings.{Beginning, run_of}
-use Rattle.kernel_model.specs.Live.{KernelView, Stopped}
+use Rattle.kernel_records.specs.record_laws.Cells.{words_on}
+use Rattle.kernel_laws.specs.store_model.Books.{Books}
+use Rattle.kernel_records.specs.snapshot_store.State.{State, books}
+use Rattle.kernel_laws.specs.kernel_model.Beginnings.{Beginning, run_of}
+use Rattle.kernel_laws.specs.kernel_model.Live.{KernelView, Stopped}
 
 abbrev pub newest_at : Option Cell → ℕ
 newest_at (Some c) = c.wish.newest

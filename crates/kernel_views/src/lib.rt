@@ -5,17 +5,20 @@
 ghost use Rattle.std.specs.Prelude.{◌≡◌, ℕ, List, Option};
 ghost use Rattle.disk_trait.specs.Image.{Image};
 ghost use Rattle.hop_base.specs.declared.histories.Entry.{Entry as AnEntry};
-ghost use Rattle.kernel_cells.specs.declared.cells.Cell.{Cell as ACell};
+ghost use Rattle.kernel_records.specs.kernel_cells.declared.cells.Cell.{Cell as ACell};
 ghost use Rattle.cell_table.specs.Tables.{AreNumbered};
-ghost use Rattle.record_laws.specs.Cells.{words_on};
-ghost use Rattle.store_model.specs.Books.{Books};
-ghost use Rattle.kernel_model.specs.Beginnings.{Beginning, BeginsRight, IsLegal};
-ghost use Rattle.kernel_model.specs.Live.{Follows, Stopped};
+ghost use Rattle.kernel_records.specs.record_laws.Cells.{words_on};
+ghost use Rattle.kernel_laws.specs.store_model.Books.{Books};
+ghost use Rattle.kernel_laws.specs.kernel_model.Beginnings.{Beginning, BeginsRight, IsLegal};
+ghost use Rattle.kernel_laws.specs.kernel_model.Live.{Follows, Stopped};
 ghost use Rattle.kernel_views.specs.Events.{EventLaw, StopLaw};
 ghost use Rattle.kernel_views.specs.Snaps.{FullLaw, OrderLaw, SnapLaw, TriedLaw};
 ghost use Rattle.kernel_views.specs.Views.{FollowsRun, view_in};
 
+pub use cell_table::script_form;
 use disk_trait::Disk;
+pub use kernel_records;
+pub use kernel_records::{kernel_cells, log_reading, page_store, snapshot_store};
 
 /// The kernel follows its history exactly where its cells are what the run makes.
 pub fn follows_law()

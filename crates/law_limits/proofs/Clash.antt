@@ -5,15 +5,15 @@ use Rattle.std.proofs.lemmas.Bool.{false≢true}
 use Rattle.std.proofs.lemmas.List.Elements.{All-cons, All-head, All-nil}
 use Rattle.hop_base.specs.declared.capabilities.Region.{Region}
 use Rattle.hop_base.specs.Instructions.{IsInstruction}
-use Rattle.hop_model.specs.Births.{next_birth, next_birth_change}
-use Rattle.hop_model.specs.Changes.{changed}
-use Rattle.hop_model.specs.Scripts.{atlas_name}
-use Rattle.hop_model.specs.Soundness.{IsSound, IsSoundCode, IsSoundRegion, is_born_container, is_given_name}
-use Rattle.hop_model.specs.State.{AtlasState, Cell, NotBorn, AtlasCell, ContainerCell, LocusCell, Text, empty_state}
-use Rattle.hop_model.specs.Steps.{atlas_in}
-use Rattle.hop_model.specs.Refusals.{rights_with}
-use Rattle.script_form.specs.Rules.{AreApart, IsCapTable, IsContainerTable, IsRegionTable, IsScript}
-use Rattle.sound_runs.proofs.Births.{birth_leaves}
+use Rattle.sound_states.specs.hop_model.Births.{next_birth, next_birth_change}
+use Rattle.sound_states.specs.hop_model.Changes.{changed}
+use Rattle.sound_states.specs.hop_model.Scripts.{atlas_name}
+use Rattle.sound_states.specs.hop_model.Soundness.{IsSound, IsSoundCode, IsSoundRegion, is_born_container, is_given_name}
+use Rattle.sound_states.specs.hop_model.State.{AtlasState, Cell, NotBorn, AtlasCell, ContainerCell, LocusCell, Text, empty_state}
+use Rattle.sound_states.specs.hop_model.Steps.{atlas_in}
+use Rattle.sound_states.specs.hop_model.Refusals.{rights_with}
+use Rattle.sound_states.specs.script_form.Rules.{AreApart, IsCapTable, IsContainerTable, IsRegionTable, IsScript}
+use Rattle.sound_states.proofs.sound_runs_lemmas.Births.{birth_leaves}
 use Rattle.sound_states.proofs.Empty.{empty_is_sound, empty_names}
 use Rattle.law_limits.specs.Clash.{bears_a, bears_b, bears_h, clashing, earlier_script, plain_container, showing_locus, three_names, with_clash, with_container, with_locus}
 use Rattle.worked_runs.specs.Snapshots.{no_words}

@@ -3,8 +3,8 @@ use Rattle.std.specs.Prelude.{◌==◌, List, [], ◌∷◌, if◌then◌else◌
 use Rattle.hop_base.specs.declared.histories.Answer.TheVariants.{Quiet}
 use Rattle.hop_base.specs.declared.histories.Entry.{Entry}
 use Rattle.hop_base.specs.declared.histories.Event.TheVariants.{Step}
-use Rattle.hop_model.specs.Histories.{Policy}
-use Rattle.hop_model.specs.State.{KernelState, LocusCell, empty_state}
+use Rattle.sound_states.specs.hop_model.Histories.{Policy}
+use Rattle.sound_states.specs.hop_model.State.{KernelState, LocusCell, empty_state}
 use Rattle.law_limits.specs.Clash.{locus_alone}
 use Rattle.worked_runs.specs.Snapshots.{wrote}
 

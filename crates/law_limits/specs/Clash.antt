@@ -4,12 +4,12 @@ use Rattle.hop_base.specs.declared.histories.Answer.TheVariants.{Quiet}
 use Rattle.hop_base.specs.declared.histories.Entry.{Entry}
 use Rattle.hop_base.specs.declared.histories.Event.TheVariants.{Birth}
 use Rattle.hop_base.specs.declared.instructions.Condition.TheVariants.{Running}
-use Rattle.hop_model.specs.Births.{with_edge}
-use Rattle.hop_model.specs.Changes.{changed}
-use Rattle.hop_model.specs.Outcomes.{supplied}
-use Rattle.hop_model.specs.Refusals.{rights_with}
-use Rattle.hop_model.specs.Scripts.{ContainerTable, RegionTable, Script}
-use Rattle.hop_model.specs.State.{AtlasCell, AtlasState, ContainerCell, ContainerState, KernelState, LocusCell, LocusState, Text, empty_state, no_atlas}
+use Rattle.sound_states.specs.hop_model.Births.{with_edge}
+use Rattle.sound_states.specs.hop_model.Changes.{changed}
+use Rattle.sound_states.specs.hop_model.Outcomes.{supplied}
+use Rattle.sound_states.specs.hop_model.Refusals.{rights_with}
+use Rattle.sound_states.specs.hop_model.Scripts.{ContainerTable, RegionTable, Script}
+use Rattle.sound_states.specs.hop_model.State.{AtlasCell, AtlasState, ContainerCell, ContainerState, KernelState, LocusCell, LocusState, Text, empty_state, no_atlas}
 use Rattle.worked_runs.specs.Snapshots.{no_words, wrote}
 
 abbrev pub plain_container : Text → List RegionTable → ContainerTable

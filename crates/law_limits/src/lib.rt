@@ -2,11 +2,11 @@
 #![tactic(auto)]
 
 ghost use Rattle.std.specs.Prelude.{[], ◌∷◌, ◌≡◌, Some, false};
-ghost use Rattle.hop_model.specs.Births.{next_birth};
-ghost use Rattle.hop_model.specs.Histories.{IsLegalRun, commits_in, event_of, has_wish, run_after, start_run};
-ghost use Rattle.hop_model.specs.Parts.{thing_at};
-ghost use Rattle.hop_model.specs.Soundness.{IsSound};
-ghost use Rattle.script_form.specs.Rules.{IsScript};
+ghost use Rattle.sound_states.specs.hop_model.Births.{next_birth};
+ghost use Rattle.sound_states.specs.hop_model.Histories.{IsLegalRun, commits_in, event_of, has_wish, run_after, start_run};
+ghost use Rattle.sound_states.specs.hop_model.Parts.{thing_at};
+ghost use Rattle.sound_states.specs.hop_model.Soundness.{IsSound};
+ghost use Rattle.sound_states.specs.script_form.Rules.{IsScript};
 ghost use Rattle.run_rules.specs.Newest.{newest_in};
 ghost use Rattle.run_rules.specs.Wishes.{HasOpenWish};
 ghost use Rattle.law_limits.specs.Beyond.{halting, if_written_twice, with_stray};

@@ -2,7 +2,15 @@
 #![tactic(auto)]
 
 #[cfg(test)]
+mod atlas_dir_tests;
+#[cfg(test)]
+mod block_code_tests;
+#[cfg(test)]
+mod cap_list_tests;
+#[cfg(test)]
 mod command_words_tests;
+#[cfg(test)]
+mod disk_tally_tests;
 #[cfg(test)]
 mod disk_trait_tests;
 #[cfg(test)]
@@ -15,6 +23,8 @@ mod instr_set_tests;
 mod manager_gate_tests;
 #[cfg(test)]
 mod page_shadow_tests;
+#[cfg(test)]
+mod region_map_tests;
 #[cfg(test)]
 mod stream_edge_tests;
 #[cfg(test)]

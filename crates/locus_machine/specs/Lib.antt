@@ -1,1 +1,3 @@
 pub mod Loci
+pub use Rattle.hop_model.specs as hop_model
+pub use Rattle.wanted_act.specs as wanted_act

@@ -7,6 +7,4 @@ mod loci;
 
 pub use lists::{Chain, Code, MOST_CALLS, MOST_INSTRS, Privates};
 pub use loci::{Head, Locus};
-
-#[cfg(test)]
-mod tests;
+pub use wanted_act;

@@ -2,7 +2,7 @@
 use Rattle.std.specs.Prelude.{◌⊎◌, List, [], ◌∷◌, ◌++◌}
 use Rattle.disk_trait.specs.Image.{Image}
 use Rattle.hop_base.specs.declared.records.Rec.{Rec}
-use Rattle.image_blocks.specs.Logs.{HasLog, Place, next_place}
+use Rattle.log_reading.specs.image_blocks.Logs.{HasLog, Place, next_place}
 
 -- the log as it was, or with the record; or the kept records at the next place
 abbrev pub IsOneOf : Place → List Rec → Rec → List Rec → Image → Type 0

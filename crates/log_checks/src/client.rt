@@ -2,16 +2,18 @@
 ghost use Rattle.std.specs.Prelude.{◌≡◌, ◌≤◌, ◌<◌, ◌^◌, List, [], false, length, IfOk, OnOk};
 ghost use Rattle.disk_trait.specs.Moments.{LeavesOnly};
 ghost use Rattle.hop_base.specs.declared.records.Rec.{Rec as Record};
-ghost use Rattle.image_blocks.specs.Layout.{pool_at, slot_count};
+ghost use Rattle.log_reading.specs.image_blocks.Layout.{pool_at, slot_count};
 ghost use Rattle.log_turn.specs.Standing.{Stands, epoch_of, has_failed, place_of};
 ghost use Rattle.log_checks.specs.Uses.{IsOneOf};
 
-use commit_log::LogFault;
 use disk_tally::Tally;
 use disk_trait::{Disk, DiskFault};
 use hop_base::Rec;
-use image_blocks::{Area, body_of, closed_gate, gate_of, header_block, header_of, open_gate};
+use log_reading::image_blocks::{
+    Area, body_of, closed_gate, gate_of, header_block, header_of, open_gate,
+};
 use log_turn::Areas;
+use log_turn::commit_log::LogFault;
 
 /// Begins an empty log on a disk, in area A with epoch 1, by four writes and a sync. Every other block is left as it is.
 pub fn begin_log<D: Disk>(disk: &mut D) -> Result<Areas, DiskFault>

@@ -10,3 +10,12 @@ mod quiet_disk;
 mod tests;
 
 pub use client::{append_and_turn, begin_log};
+
+#[cfg(test)]
+mod image_blocks_tests;
+#[cfg(test)]
+mod log_reading_tests;
+#[cfg(test)]
+mod page_words_tests;
+#[cfg(test)]
+mod store_model_tests;

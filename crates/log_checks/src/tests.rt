@@ -1,12 +1,12 @@
 use crate::client::{append_and_turn, begin_log};
 use crate::images::{append, empty_image, log_at, log_of, open_b, record, records, turn};
 use crate::quiet_disk::QuietDisk;
-use commit_log::LogFault;
 use disk_tally::Tally;
 use disk_trait::{Disk, MemoryDisk, Torn};
 use hop_base::Rec;
-use image_blocks::{Area, POOL_AT, superblock};
+use log_reading::image_blocks::{Area, POOL_AT, superblock};
 use log_turn::Areas;
+use log_turn::commit_log::LogFault;
 use std::alloc::Global;
 use std::process::Abort;
 use std::test::Fail;

@@ -10,7 +10,7 @@ use Rattle.std.proofs.lemmas.List.Folds.{list_any_at}
 use Rattle.std.proofs.lemmas.Option.{get_or_from_slice_get, slice_get-get_or, slice_get_within}
 use Rattle.hop_base.specs.Edges.{upto}
 use Rattle.hop_base.specs.declared.records.Rec.{Rec}
-use Rattle.hop_model.specs.Words.{first}
+use Rattle.image_blocks.specs.hop_model.Words.{first}
 use Rattle.image_blocks.specs.Bodies.{blocks_for, number_at, record_in}
 use Rattle.image_blocks.specs.Checks.{block_fault, blocks_fault, body_fault, is_block_number, is_count, is_epoch, last_version, stamp_fault, stamps_fault, superblock_fault, unless_at, zeros_from}
 use Rattle.image_blocks.specs.Layout.{last_number, least_blocks, most_blocks, most_length, pool_at}

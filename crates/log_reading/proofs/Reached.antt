@@ -5,7 +5,7 @@ use Rattle.std.proofs.lemmas.List.{map-append, take-append-le, take-map, take_al
 use Rattle.disk_trait.specs.Image.{Image}
 use Rattle.hop_base.specs.Edges.{upto}
 use Rattle.hop_base.specs.declared.records.Rec.{Rec}
-use Rattle.hop_model.specs.Words.{first}
+use Rattle.image_blocks.specs.hop_model.Words.{first}
 use Rattle.image_blocks.specs.Bodies.{record_in}
 use Rattle.image_blocks.specs.Checks.{Bad, body_fault, body_in, count_in, in_block, log_fault, log_in, slot_fault, used_from, used_in}
 use Rattle.image_blocks.specs.Layout.{body_at, is_open, slot_count, slot_gate_at}

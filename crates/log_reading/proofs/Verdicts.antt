@@ -2,7 +2,7 @@
 use Rattle.std.proofs.Common.{◌≡◌, ◌==◌, ℕ, Bool, if◌then◌else◌, List, [], ◌∷◌, length, Option, Some, None, sym, ap, subst, ◌∙◌}
 use Rattle.std.specs.Prelude.{Result, Ok, Err, IsErrOf, MatchOption, MatchResult}
 use Rattle.disk_trait.specs.Image.{Image, block_at}
-use Rattle.hop_model.specs.Words.{first}
+use Rattle.image_blocks.specs.hop_model.Words.{first}
 use Rattle.image_blocks.specs.Checks.{Bad, check_1, check_2, check_3, in_block, records_fault, superblock_fault}
 use Rattle.log_reading.specs.declared.faults.ReadingFault.{ReadingFault}
 use Rattle.log_reading.specs.declared.faults.ReadingFault.TheVariants.{Foreign}

@@ -13,7 +13,5 @@ mod looks;
 mod slots;
 
 pub use faults::ReadingFault;
+pub use image_blocks;
 pub use log::{ImageLog, read_log};
-
-#[cfg(test)]
-mod tests;

@@ -8,11 +8,11 @@ use Rattle.disk_trait.specs.Image.{Image, SameOutside, block_at}
 use Rattle.disk_trait.specs.Moments.{Quiet}
 use Rattle.disk_tally.specs.Counts.{CountsOn}
 use Rattle.hop_base.specs.declared.records.Rec.{Rec}
-use Rattle.image_blocks.specs.Bodies.{body_block}
-use Rattle.image_blocks.specs.Layout.{body_at, closed_gate, first_number, header_at, is_open, open_gate, other, slot_count, slot_gate_at}
-use Rattle.image_blocks.specs.Logs.{HasSlots}
-use Rattle.image_blocks.specs.declared.areas.Area.{Area}
-use Rattle.image_blocks.specs.declared.areas.Area.TheVariants.{A, B}
+use Rattle.commit_log.specs.image_blocks.Bodies.{body_block}
+use Rattle.commit_log.specs.image_blocks.Layout.{body_at, closed_gate, first_number, header_at, is_open, open_gate, other, slot_count, slot_gate_at}
+use Rattle.commit_log.specs.image_blocks.Logs.{HasSlots}
+use Rattle.commit_log.specs.image_blocks.declared.areas.Area.{Area}
+use Rattle.commit_log.specs.image_blocks.declared.areas.Area.TheVariants.{A, B}
 use Rattle.commit_log.proofs.Through.{gate_closed, gate_open}
 use Rattle.log_turn.specs.Stages.{HasFilled, HasSlotGates, IsBehindGate, IsGateOf, IsOfSlot}
 

@@ -9,10 +9,10 @@ use Rattle.disk_trait.specs.Moments.{LeavesOnly, Quiet}
 use Rattle.disk_trait.proofs.Images.{SameOutside-trans, SameOutside-weaker}
 use Rattle.disk_trait.proofs.Phases.{LeavesOnly-from_quiet, LeavesOnly-now, LeavesOnly-quiet, LeavesOnly-then, LeavesOnly-weaker, Moments}
 use Rattle.hop_base.specs.declared.records.Rec.{Rec}
-use Rattle.image_blocks.specs.Layout.{body_at, epoch_in, first_number, gate_at, header_at, header_block, is_open, other, slot_gate_at, slots_at}
-use Rattle.image_blocks.specs.Logs.{HasLog, HasSlots, IsKeptLog, IsTurned, IsTurning, Place}
-use Rattle.image_blocks.specs.declared.areas.Area.{Area}
-use Rattle.image_blocks.specs.declared.areas.Area.TheVariants.{A, B}
+use Rattle.commit_log.specs.image_blocks.Layout.{body_at, epoch_in, first_number, gate_at, header_at, header_block, is_open, other, slot_gate_at, slots_at}
+use Rattle.commit_log.specs.image_blocks.Logs.{HasLog, HasSlots, IsKeptLog, IsTurned, IsTurning, Place}
+use Rattle.commit_log.specs.image_blocks.declared.areas.Area.{Area}
+use Rattle.commit_log.specs.image_blocks.declared.areas.Area.TheVariants.{A, B}
 use Rattle.log_turn.specs.Stages.{HasSlotGates, IsBehindGate, IsClosing, IsEitherGate, IsSwitching}
 use Rattle.log_turn.specs.Standing.{SameAreas}
 use Rattle.log_turn.proofs.Slots.{same_gate}

@@ -2,10 +2,10 @@
 use Rattle.std.specs.Prelude.{◌≡◌, ◌⊎◌, ℕ, ◌<◌, true, List, [], ◌∷◌, ◌++◌, slice_get, Some, length}
 use Rattle.disk_trait.specs.Image.{Image, IsInRun, SameOutside, block_at}
 use Rattle.hop_base.specs.declared.records.Rec.{Rec}
-use Rattle.image_blocks.specs.Bodies.{body_block}
-use Rattle.image_blocks.specs.Layout.{body_at, closed_gate, gate_at, header_at, is_open, open_gate, other, slot_blocks, slot_count, slot_gate_at, slots_at}
-use Rattle.image_blocks.specs.Logs.{HasLog, IsNextSlot, Place}
-use Rattle.image_blocks.specs.declared.areas.Area.{Area}
+use Rattle.commit_log.specs.image_blocks.Bodies.{body_block}
+use Rattle.commit_log.specs.image_blocks.Layout.{body_at, closed_gate, gate_at, header_at, is_open, open_gate, other, slot_blocks, slot_count, slot_gate_at, slots_at}
+use Rattle.commit_log.specs.image_blocks.Logs.{HasLog, IsNextSlot, Place}
+use Rattle.commit_log.specs.image_blocks.declared.areas.Area.{Area}
 
 -- the gate of an area, where it reads open in the image
 abbrev pub IsClosing : Image → Area → ℕ → Type 0

@@ -2,9 +2,9 @@
 use Rattle.std.specs.Prelude.{◌≡◌, ℕ, ◌+◌, Bool, true, false, List, length, Result, OnOk, OnErr, IsErrOf}
 use Rattle.disk_trait.specs.Image.{Image, block_at}
 use Rattle.hop_base.specs.declared.records.Rec.{Rec}
-use Rattle.image_blocks.specs.Layout.{closed_gate, gate_at, header_at, header_block, open_gate, other}
-use Rattle.image_blocks.specs.Logs.{HasLog, Place}
-use Rattle.image_blocks.specs.declared.areas.Area.{Area}
+use Rattle.commit_log.specs.image_blocks.Layout.{closed_gate, gate_at, header_at, header_block, open_gate, other}
+use Rattle.commit_log.specs.image_blocks.Logs.{HasLog, Place}
+use Rattle.commit_log.specs.image_blocks.declared.areas.Area.{Area}
 use Rattle.commit_log.specs.Standing.{area_of as log_area, has_failed as log_failed, used_of as log_used}
 use Rattle.commit_log.specs.declared.log.LogFault.{LogFault}
 use Rattle.commit_log.specs.declared.log.LogFault.TheVariants.{WriteFault}

@@ -6,17 +6,17 @@ ghost use Rattle.disk_trait.specs.Moments.{LeavesOnly, Quiet};
 ghost use Rattle.hop_base.specs.declared.records.Rec.{Rec as Record};
 ghost use Rattle.disk_tally.specs.Counts.{Begins, CountsOn, shown};
 ghost use Rattle.disk_trait.specs.Counts.{Rose};
-ghost use Rattle.image_blocks.specs.Layout.{last_number, pool_at, slot_count};
-ghost use Rattle.image_blocks.specs.Logs.{IsNextSlot, IsTurned, IsTurning};
+ghost use Rattle.commit_log.specs.image_blocks.Layout.{last_number, pool_at, slot_count};
+ghost use Rattle.commit_log.specs.image_blocks.Logs.{IsNextSlot, IsTurned, IsTurning};
 ghost use Rattle.log_turn.specs.Stages.{IsLogging};
 
 use crate::filling::write_kept;
 use crate::gates::{close_area, switch};
+use commit_log::image_blocks::{Area, other_area};
 use commit_log::{Log, LogFault};
 use disk_tally::Tally;
 use disk_trait::{Disk, DiskFault};
 use hop_base::Rec;
-use image_blocks::{Area, other_area};
 
 /// Both areas: the log of the active one, its epoch, and how many writes and syncs were begun.
 #[derive(Clone, Copy, Debug)]

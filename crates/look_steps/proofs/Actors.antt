@@ -3,11 +3,11 @@ use Rattle.std.proofs.Common.{◌≡◌, ◌≢◌, ℕ, ◌<◌, ◌==◌, if�
 use Rattle.hop_base.specs.declared.histories.Answer.{Answer}
 use Rattle.hop_base.specs.declared.histories.Entry.{Entry}
 use Rattle.hop_base.specs.declared.histories.Event.{Event}
-use Rattle.hop_model.specs.Changes.{Access}
-use Rattle.hop_model.specs.State.{EntityState, KernelState, NotBorn}
+use Rattle.kernel_cells.specs.hop_model.Changes.{Access}
+use Rattle.kernel_cells.specs.hop_model.State.{EntityState, KernelState, NotBorn}
 use Rattle.vector_stamps.specs.Stamps.{component}
-use Rattle.event_clocks.specs.Clocks.{HasClock, CarriesTwo}
-use Rattle.event_clocks.specs.declared.Clock.{Clock}
+use Rattle.kernel_cells.specs.event_clocks.Clocks.{HasClock, CarriesTwo}
+use Rattle.kernel_cells.specs.event_clocks.declared.Clock.{Clock}
 
 at_clock : Clock → EntityState
 at_clock c = record { cell = NotBorn; version = c.version; stamp = component c.stamp }

@@ -8,20 +8,20 @@ use Rattle.hop_base.specs.declared.histories.Event.TheVariants.{Step}
 use Rattle.hop_base.specs.declared.instructions.Instr.{Instr}
 use Rattle.hop_base.specs.declared.instructions.Instr.TheVariants.{Load, Store}
 use Rattle.hop_base.specs.declared.instructions.Reply.TheVariants.{NoPage, Ok as Done}
-use Rattle.hop_model.specs.Acts.{wanted}
-use Rattle.hop_model.specs.Changes.{carried_by, ordered}
-use Rattle.hop_model.specs.Outcomes.{Outcome, finish, load, look_address, looked, looked_by, on_cell, outcome, own, own_reply, set_reg, store, with_other, with_word}
-use Rattle.hop_model.specs.Refusals.{instr_at, reg}
-use Rattle.hop_model.specs.State.{AtlasState, Cell as ModelCell, ContainerCell, ContainerState, KernelState, LocusCell, LocusState, Supply}
-use Rattle.hop_model.specs.Steps.{accesses_of, if_running, outcome_in, running, seen_atlas, seen_other, step}
-use Rattle.hop_model.specs.Words.{covers}
-use Rattle.locus_machine.specs.Loci.{container_with, locus_of}
-use Rattle.locus_machine.specs.declared.loci.Head.{Head}
-use Rattle.locus_machine.specs.declared.loci.Locus.{Locus}
-use Rattle.locus_machine.proofs.Alone.{wanted_says}
-use Rattle.invocation.specs.Entries.{WantsBeside}
-use Rattle.invocation.proofs.Entered.{instr_is, made_by}
-use Rattle.fault_paging.specs.Words.{words_of}
+use Rattle.kernel_cells.specs.hop_model.Acts.{wanted}
+use Rattle.kernel_cells.specs.hop_model.Changes.{carried_by, ordered}
+use Rattle.kernel_cells.specs.hop_model.Outcomes.{Outcome, finish, load, look_address, looked, looked_by, on_cell, outcome, own, own_reply, set_reg, store, with_other, with_word}
+use Rattle.kernel_cells.specs.hop_model.Refusals.{instr_at, reg}
+use Rattle.kernel_cells.specs.hop_model.State.{AtlasState, Cell as ModelCell, ContainerCell, ContainerState, KernelState, LocusCell, LocusState, Supply}
+use Rattle.kernel_cells.specs.hop_model.Steps.{accesses_of, if_running, outcome_in, running, seen_atlas, seen_other, step}
+use Rattle.kernel_cells.specs.hop_model.Words.{covers}
+use Rattle.address_resolve.specs.locus_machine.Loci.{container_with, locus_of}
+use Rattle.address_resolve.specs.locus_machine.declared.loci.Head.{Head}
+use Rattle.address_resolve.specs.locus_machine.declared.loci.Locus.{Locus}
+use Rattle.address_resolve.proofs.locus_machine_lemmas.Alone.{wanted_says}
+use Rattle.address_resolve.specs.invocation.Entries.{WantsBeside}
+use Rattle.address_resolve.proofs.invocation_lemmas.Entered.{instr_is, made_by}
+use Rattle.kernel_cells.specs.fault_paging.Words.{words_of}
 use Rattle.address_resolve.specs.Looks.{address_by, address_of, comes_to_word, is_look}
 use Rattle.kernel_cells.specs.declared.cells.Cell.{Cell}
 use Rattle.kernel_cells.specs.declared.cells.Part.TheVariants as part

@@ -7,20 +7,20 @@ use Rattle.hop_base.specs.declared.histories.Event.TheVariants.{Step}
 use Rattle.hop_base.specs.declared.instructions.Condition.TheVariants.{Running}
 use Rattle.hop_base.specs.declared.instructions.Instr.{Instr}
 use Rattle.hop_base.specs.declared.instructions.Instr.TheVariants.{Load, Store}
-use Rattle.hop_model.specs.Acts.{Act, allowed, wanted}
-use Rattle.hop_model.specs.Changes.{Access, access_at, carried_by, changed, ordered}
-use Rattle.hop_model.specs.Outcomes.{Outcome, outcome}
-use Rattle.hop_model.specs.Refusals.{instr_at, refusal}
-use Rattle.hop_model.specs.State.{Supply, LocusState, Cell as ModelCell, EntityState, LocusCell, KernelState, no_atlas}
-use Rattle.hop_model.specs.Steps.{accesses_of, outcome_in, seen_atlas, seen_other, step, with_atlas_access, with_newborn_access, with_other_access}
-use Rattle.wanted_act.proofs.Beside.{wanted_same}
-use Rattle.locus_machine.proofs.Alone.{wanted_allowed, wanted_says}
-use Rattle.invocation.specs.Entries.{WantsBeside}
-use Rattle.invocation.proofs.Entered.{instr_is}
+use Rattle.kernel_cells.specs.hop_model.Acts.{Act, allowed, wanted}
+use Rattle.kernel_cells.specs.hop_model.Changes.{Access, access_at, carried_by, changed, ordered}
+use Rattle.kernel_cells.specs.hop_model.Outcomes.{Outcome, outcome}
+use Rattle.kernel_cells.specs.hop_model.Refusals.{instr_at, refusal}
+use Rattle.kernel_cells.specs.hop_model.State.{Supply, LocusState, Cell as ModelCell, EntityState, LocusCell, KernelState, no_atlas}
+use Rattle.kernel_cells.specs.hop_model.Steps.{accesses_of, outcome_in, seen_atlas, seen_other, step, with_atlas_access, with_newborn_access, with_other_access}
+use Rattle.address_resolve.proofs.wanted_act_lemmas.Beside.{wanted_same}
+use Rattle.address_resolve.proofs.locus_machine_lemmas.Alone.{wanted_allowed, wanted_says}
+use Rattle.address_resolve.specs.invocation.Entries.{WantsBeside}
+use Rattle.address_resolve.proofs.invocation_lemmas.Entered.{instr_is}
 use Rattle.address_resolve.specs.Looks.{is_look}
-use Rattle.event_clocks.specs.Clocks.{writing, CarriesTwo, HasClock}
-use Rattle.event_clocks.specs.declared.Clock.{Clock}
-use Rattle.event_clocks.proofs.Changing.{access_first, access_second, read_at, written_at}
+use Rattle.kernel_cells.specs.event_clocks.Clocks.{writing, CarriesTwo, HasClock}
+use Rattle.kernel_cells.specs.event_clocks.declared.Clock.{Clock}
+use Rattle.kernel_cells.proofs.event_clocks_lemmas.Changing.{access_first, access_second, read_at, written_at}
 use Rattle.kernel_cells.specs.declared.cells.Cell.{Cell}
 use Rattle.kernel_cells.specs.Cells.{HasCell, part_of}
 use Rattle.kernel_cells.specs.Steps.{Steps}

@@ -1,12 +1,12 @@
 -- Looks at words that nobody tells.
 use Rattle.std.proofs.Common.{◌≡◌, ◌≤◌, ℕ, ◌*◌, List, Some, Option, refl, sym, ap, subst, ◌∙◌}
 use Rattle.hop_base.specs.declared.histories.Answer.{Answer}
-use Rattle.hop_model.specs.Acts.{wanted}
-use Rattle.hop_model.specs.Outcomes.{outcome}
-use Rattle.hop_model.specs.State.{Supply, AtlasState, ContainerCell, LocusCell, LocusState}
-use Rattle.locus_machine.specs.Loci.{container_with, locus_of}
-use Rattle.locus_machine.specs.declared.loci.Head.{Head}
-use Rattle.locus_machine.specs.declared.loci.Locus.{Locus}
+use Rattle.kernel_cells.specs.hop_model.Acts.{wanted}
+use Rattle.kernel_cells.specs.hop_model.Outcomes.{outcome}
+use Rattle.kernel_cells.specs.hop_model.State.{Supply, AtlasState, ContainerCell, LocusCell, LocusState}
+use Rattle.address_resolve.specs.locus_machine.Loci.{container_with, locus_of}
+use Rattle.address_resolve.specs.locus_machine.declared.loci.Head.{Head}
+use Rattle.address_resolve.specs.locus_machine.declared.loci.Locus.{Locus}
 use Rattle.address_resolve.specs.Looks.{LooksSomehow}
 use Rattle.kernel_cells.specs.declared.cells.Part.TheVariants as part
 use Rattle.kernel_cells.specs.declared.cells.Storage.{Storage}

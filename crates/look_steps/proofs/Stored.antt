@@ -6,16 +6,16 @@ use Rattle.hop_base.specs.declared.capabilities.Right.{Right}
 use Rattle.hop_base.specs.declared.instructions.Instr.{Instr}
 use Rattle.hop_base.specs.declared.instructions.Instr.TheVariants.{Load, Store}
 use Rattle.hop_base.specs.declared.instructions.Reply.TheVariants.{Denied}
-use Rattle.hop_model.specs.Acts.{wanted}
-use Rattle.hop_model.specs.Outcomes.{Outcome, hop_to, load, look_hops, looked, looked_by, on_cell, outcome, own_reply, store, through}
-use Rattle.hop_model.specs.Refusals.{instr_at}
-use Rattle.hop_model.specs.State.{Supply, AtlasState, ContainerState, LocusState, Cell, ContainerCell}
-use Rattle.hop_model.specs.Words.{covers}
+use Rattle.kernel_cells.specs.hop_model.Acts.{wanted}
+use Rattle.kernel_cells.specs.hop_model.Outcomes.{Outcome, hop_to, load, look_hops, looked, looked_by, on_cell, outcome, own_reply, store, through}
+use Rattle.kernel_cells.specs.hop_model.Refusals.{instr_at}
+use Rattle.kernel_cells.specs.hop_model.State.{Supply, AtlasState, ContainerState, LocusState, Cell, ContainerCell}
+use Rattle.kernel_cells.specs.hop_model.Words.{covers}
 use Rattle.std.proofs.Common.{option_map}
 use Rattle.hop_base.specs.declared.instructions.Reply.TheVariants as replies
-use Rattle.wanted_act.specs.Views.{may_name_itself}
-use Rattle.invocation.specs.Entries.{WantsBeside}
-use Rattle.invocation.proofs.Entered.{instr_is, made_by}
+use Rattle.address_resolve.specs.wanted_act.Views.{may_name_itself}
+use Rattle.address_resolve.specs.invocation.Entries.{WantsBeside}
+use Rattle.address_resolve.proofs.invocation_lemmas.Entered.{instr_is, made_by}
 use Rattle.address_resolve.specs.Looks.{is_look}
 use Rattle.look_steps.specs.Looking.{is_stored}
 

@@ -4,19 +4,19 @@ use Rattle.hop_base.specs.declared.histories.Answer.{Answer}
 use Rattle.hop_base.specs.declared.histories.Answer.TheVariants.{Read, Reply as Replied}
 use Rattle.hop_base.specs.declared.histories.Entry.{Entry}
 use Rattle.hop_base.specs.declared.instructions.Reply.TheVariants.{Ok}
-use Rattle.hop_model.specs.Changes.{Access}
-use Rattle.hop_model.specs.Acts.{wanted}
-use Rattle.hop_model.specs.Outcomes.{Outcome, outcome}
-use Rattle.hop_model.specs.State.{Supply, AtlasState, Cell, LocusState, NotBorn, AtlasCell, ContainerCell, LocusCell, KernelState}
-use Rattle.hop_model.specs.Steps.{running, step}
-use Rattle.locus_machine.specs.Loci.{container_with}
-use Rattle.locus_machine.specs.declared.loci.Head.{Head}
-use Rattle.kernel_calls.specs.Calls.{atlas_state}
-use Rattle.fault_paging.specs.declared.paged.PagedMemory.{PagedMemory}
-use Rattle.fault_paging.specs.Words.{AreCleanTrue, IsSoundTable}
-use Rattle.fault_paging.specs.Calls.{Keeps, KeepsBlocks}
+use Rattle.kernel_cells.specs.hop_model.Changes.{Access}
+use Rattle.kernel_cells.specs.hop_model.Acts.{wanted}
+use Rattle.kernel_cells.specs.hop_model.Outcomes.{Outcome, outcome}
+use Rattle.kernel_cells.specs.hop_model.State.{Supply, AtlasState, Cell, LocusState, NotBorn, AtlasCell, ContainerCell, LocusCell, KernelState}
+use Rattle.kernel_cells.specs.hop_model.Steps.{running, step}
+use Rattle.address_resolve.specs.locus_machine.Loci.{container_with}
+use Rattle.address_resolve.specs.locus_machine.declared.loci.Head.{Head}
+use Rattle.kernel_cells.specs.kernel_calls.Calls.{atlas_state}
+use Rattle.kernel_cells.specs.fault_paging.declared.paged.PagedMemory.{PagedMemory}
+use Rattle.kernel_cells.specs.fault_paging.Words.{AreCleanTrue, IsSoundTable}
+use Rattle.kernel_cells.specs.fault_paging.Calls.{Keeps, KeepsBlocks}
 use Rattle.address_resolve.specs.Looks.{IsMemoryOf, is_look}
-use Rattle.event_clocks.specs.Clocks.{HasClock}
+use Rattle.kernel_cells.specs.event_clocks.Clocks.{HasClock}
 use Rattle.kernel_cells.specs.Cells.{HasCell, locus_cell, part_of}
 use Rattle.kernel_cells.specs.Steps.{Steps}
 use Rattle.kernel_cells.specs.declared.cells.Cell.{Cell as KernelCell}

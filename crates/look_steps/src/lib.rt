@@ -4,4 +4,5 @@
 mod looks;
 mod parts;
 
+pub use kernel_cells;
 pub use looks::step_look;

@@ -1,24 +1,24 @@
 // The step of a locus that looks at a container.
 ghost use Rattle.std.specs.Prelude.{◌≡◌, ◌≤◌, ◌+◌, ◌<◌, ◌^◌, ℕ, List, [], ◌∷◌, Option, is_some, IfErr, IfOk, OnErr, OnOk};
 ghost use Rattle.hop_base.specs.declared.histories.Event.TheVariants.{Step as StepEvent};
-ghost use Rattle.hop_model.specs.State.{Cell as ModelCell, KernelState};
-ghost use Rattle.locus_machine.specs.Loci.{locus_of};
-ghost use Rattle.locus_machine.specs.declared.loci.Locus.{Locus as ALocus};
-ghost use Rattle.invocation.specs.Entries.{WantsBeside};
-ghost use Rattle.fault_paging.specs.Calls.{IsCausedBy};
+ghost use Rattle.kernel_cells.specs.hop_model.State.{Cell as ModelCell, KernelState};
+ghost use Rattle.address_resolve.specs.locus_machine.Loci.{locus_of};
+ghost use Rattle.address_resolve.specs.locus_machine.declared.loci.Locus.{Locus as ALocus};
+ghost use Rattle.address_resolve.specs.invocation.Entries.{WantsBeside};
+ghost use Rattle.kernel_cells.specs.fault_paging.Calls.{IsCausedBy};
 ghost use Rattle.address_resolve.specs.Looks.{is_look};
-ghost use Rattle.event_clocks.specs.Clocks.{writing, CarriesTwo, HasClock};
+ghost use Rattle.kernel_cells.specs.event_clocks.Clocks.{writing, CarriesTwo, HasClock};
 ghost use Rattle.kernel_cells.specs.Cells.{part_of, HasCell, IsRunning};
 ghost use Rattle.kernel_cells.specs.Steps.{Steps};
 ghost use Rattle.look_steps.specs.Looking.{is_stored, looking, LeavesMemory, LooksAtWord, MayLook, StepsSomehow};
 
 use crate::parts::look_in_parts;
-use event_clocks::{Clock, read_and_write, write_two};
-use fault_paging::PageFault;
 use hop_base::{Answer, Entry, Event, Reply};
 use kernel_cells::Cell;
+use kernel_cells::event_clocks::{Clock, read_and_write, write_two};
+use kernel_cells::fault_paging::PageFault;
+use kernel_cells::page_store::PageStore;
 use manager_gate::{Gate, Policy, Supplier};
-use page_store::PageStore;
 
 /// Whether a look that is answered so stored a word.
 fn stores(answer: Answer) -> bool

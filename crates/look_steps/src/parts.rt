@@ -1,24 +1,24 @@
 // A look on the parts of two cells.
 ghost use Rattle.std.specs.Prelude.{◌≡◌, ◌≤◌, ◌+◌, ℕ, List, Some, IfErr, IfOk, OnErr, OnOk};
-ghost use Rattle.hop_model.specs.Acts.{wanted};
-ghost use Rattle.hop_model.specs.Outcomes.{outcome};
-ghost use Rattle.hop_model.specs.State.{AtlasState, LocusCell, LocusState, Supply};
-ghost use Rattle.wanted_act.specs.Views.{IsReadyLocus};
-ghost use Rattle.locus_machine.specs.Loci.{locus_of};
-ghost use Rattle.locus_machine.specs.declared.loci.Locus.{Locus as ALocus};
-ghost use Rattle.invocation.specs.Entries.{WantsBeside};
-ghost use Rattle.fault_paging.specs.Calls.{IsCausedBy};
+ghost use Rattle.kernel_cells.specs.hop_model.Acts.{wanted};
+ghost use Rattle.kernel_cells.specs.hop_model.Outcomes.{outcome};
+ghost use Rattle.kernel_cells.specs.hop_model.State.{AtlasState, LocusCell, LocusState, Supply};
+ghost use Rattle.address_resolve.specs.wanted_act.Views.{IsReadyLocus};
+ghost use Rattle.address_resolve.specs.locus_machine.Loci.{locus_of};
+ghost use Rattle.address_resolve.specs.locus_machine.declared.loci.Locus.{Locus as ALocus};
+ghost use Rattle.address_resolve.specs.invocation.Entries.{WantsBeside};
+ghost use Rattle.kernel_cells.specs.fault_paging.Calls.{IsCausedBy};
 ghost use Rattle.address_resolve.specs.Looks.{is_look};
 ghost use Rattle.kernel_cells.specs.Cells.{part_of, IsRunning};
 ghost use Rattle.look_steps.specs.Looking.{ComesToWord, LeavesMemory, MakesLook, MakesSomehow, MayLook};
 
+use address_resolve::locus_machine::Locus;
 use address_resolve::look;
-use fault_paging::PageFault;
 use hop_base::Answer;
+use kernel_cells::fault_paging::PageFault;
+use kernel_cells::page_store::PageStore;
 use kernel_cells::{Part, Storage};
-use locus_machine::Locus;
 use manager_gate::{Gate, Policy, Supplier};
-use page_store::PageStore;
 
 /// The look of a locus at a container, with its memory.
 fn look_at_storage<B: PageStore, S: Supplier, P: Policy>(

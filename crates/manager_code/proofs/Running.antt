@@ -6,13 +6,13 @@ use Rattle.hop_base.specs.declared.instructions.Condition.{Condition}
 use Rattle.hop_base.specs.declared.instructions.Condition.TheVariants.{Running, Stopped, Halted}
 use Rattle.hop_base.specs.declared.instructions.Instr.{Instr}
 use Rattle.hop_base.specs.declared.instructions.Instr.TheVariants.{Set, Copy, Add, Sub, Jump, Jz, Halt}
-use Rattle.hop_model.specs.State.{Supply, AtlasState, LocusState, Cell, NotBorn}
-use Rattle.hop_model.specs.Acts.{alone, allowed, act_by, wanted}
-use Rattle.hop_model.specs.Outcomes.{Outcome, local_act, next, with_newborn, outcome}
-use Rattle.hop_model.specs.Refusals.{instr_at, reg, refusal}
+use Rattle.locus_machine.specs.hop_model.State.{Supply, AtlasState, LocusState, Cell, NotBorn}
+use Rattle.locus_machine.specs.hop_model.Acts.{alone, allowed, act_by, wanted}
+use Rattle.locus_machine.specs.hop_model.Outcomes.{Outcome, local_act, next, with_newborn, outcome}
+use Rattle.locus_machine.specs.hop_model.Refusals.{instr_at, reg, refusal}
 use Rattle.locus_machine.specs.Loci.{IsAlone}
 use Rattle.manager_form.specs.Managing.{is_managing}
-use Rattle.wanted_act.specs.Views.{IsReadyLocus}
+use Rattle.locus_machine.specs.wanted_act.Views.{IsReadyLocus}
 use Rattle.manager_code.specs.Answering.{act, after_acts, beginning, goes}
 
 -- what has halted makes no act

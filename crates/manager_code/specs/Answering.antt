@@ -3,9 +3,9 @@ use Rattle.std.specs.Prelude.{ℕ, zero, suc, Bool, true, false, ◌==◌, not, 
 use Rattle.hop_base.specs.declared.instructions.Condition.{Condition}
 use Rattle.hop_base.specs.declared.instructions.Condition.TheVariants.{Running}
 use Rattle.hop_base.specs.declared.instructions.Instr.{Instr}
-use Rattle.hop_model.specs.State.{LocusState, Supply}
-use Rattle.hop_model.specs.Refusals.{instr_at, reg}
-use Rattle.hop_model.specs.Outcomes.{local_act}
+use Rattle.locus_machine.specs.hop_model.State.{LocusState, Supply}
+use Rattle.locus_machine.specs.hop_model.Refusals.{instr_at, reg}
+use Rattle.locus_machine.specs.hop_model.Outcomes.{local_act}
 use Rattle.manager_form.specs.Managing.{IsManagerCode, ManagerTable}
 
 abbrev pub goes : Condition → Bool

@@ -1,1 +1,2 @@
 pub mod Answering
+pub use Rattle.locus_machine.specs.hop_model

@@ -7,6 +7,3 @@ mod runs;
 
 pub use book::Book;
 pub use runs::{MOST_ACTS, run_manager};
-
-#[cfg(test)]
-mod tests;

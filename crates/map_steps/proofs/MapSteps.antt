@@ -7,22 +7,22 @@ use Rattle.hop_base.specs.declared.histories.Event.TheVariants.{Step}
 use Rattle.hop_base.specs.declared.instructions.Condition.TheVariants.{Running}
 use Rattle.hop_base.specs.declared.instructions.Instr.{Instr}
 use Rattle.hop_base.specs.declared.instructions.Instr.TheVariants.{Map, Unmap}
-use Rattle.hop_model.specs.Acts.{Act, allowed, wanted}
-use Rattle.hop_model.specs.Changes.{Access, carried_by, changed, ordered}
-use Rattle.hop_model.specs.Outcomes.{Outcome, outcome}
-use Rattle.hop_model.specs.Refusals.{instr_at, refusal}
-use Rattle.hop_model.specs.State.{Supply, AtlasState, LocusState, Cell as ModelCell, AtlasCell, LocusCell, KernelState}
-use Rattle.hop_model.specs.Steps.{accesses_of, atlas_in, outcome_in, seen_atlas, seen_other, step, with_atlas_access, with_newborn_access, with_other_access}
-use Rattle.wanted_act.proofs.Beside.{wanted_same}
-use Rattle.wanted_act.specs.Views.{may_name_itself}
-use Rattle.locus_machine.proofs.Alone.{wanted_allowed, wanted_says}
-use Rattle.kernel_calls.specs.Calls.{is_map, is_unmap}
-use Rattle.event_clocks.specs.Clocks.{writing, CarriesThree}
-use Rattle.event_clocks.proofs.Changing.{access_first, access_second, access_third}
-use Rattle.kernel_cells.specs.declared.cells.Cell.{Cell}
-use Rattle.kernel_cells.specs.Cells.{HasCell, part_of}
-use Rattle.kernel_cells.specs.Steps.{Steps}
-use Rattle.kernel_cells.proofs.Stepping.{step_by, stepped_entry, written_cell}
+use Rattle.beside_steps.specs.hop_model.Acts.{Act, allowed, wanted}
+use Rattle.beside_steps.specs.hop_model.Changes.{Access, carried_by, changed, ordered}
+use Rattle.beside_steps.specs.hop_model.Outcomes.{Outcome, outcome}
+use Rattle.beside_steps.specs.hop_model.Refusals.{instr_at, refusal}
+use Rattle.beside_steps.specs.hop_model.State.{Supply, AtlasState, LocusState, Cell as ModelCell, AtlasCell, LocusCell, KernelState}
+use Rattle.beside_steps.specs.hop_model.Steps.{accesses_of, atlas_in, outcome_in, seen_atlas, seen_other, step, with_atlas_access, with_newborn_access, with_other_access}
+use Rattle.beside_steps.proofs.wanted_act_lemmas.Beside.{wanted_same}
+use Rattle.beside_steps.specs.wanted_act.Views.{may_name_itself}
+use Rattle.beside_steps.proofs.locus_machine_lemmas.Alone.{wanted_allowed, wanted_says}
+use Rattle.beside_steps.specs.kernel_calls.Calls.{is_map, is_unmap}
+use Rattle.beside_steps.specs.event_clocks.Clocks.{writing, CarriesThree}
+use Rattle.beside_steps.proofs.event_clocks_lemmas.Changing.{access_first, access_second, access_third}
+use Rattle.beside_steps.specs.kernel_cells.declared.cells.Cell.{Cell}
+use Rattle.beside_steps.specs.kernel_cells.Cells.{HasCell, part_of}
+use Rattle.beside_steps.specs.kernel_cells.Steps.{Steps}
+use Rattle.beside_steps.proofs.kernel_cells_lemmas.Stepping.{step_by, stepped_entry, written_cell}
 use Rattle.map_steps.specs.Mapping.{MakesThree, WantsMapping}
 
 -- WHAT IS TOUCHED

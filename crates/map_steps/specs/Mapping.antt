@@ -2,15 +2,15 @@
 use Rattle.std.specs.Prelude.{◌≡◌, ℕ, IsTrue, ◌||◌, ◌==◌, count_by, Some, None}
 use Rattle.hop_base.specs.declared.histories.Answer.{Answer}
 use Rattle.hop_base.specs.declared.instructions.Instr.{Instr}
-use Rattle.hop_model.specs.Acts.{wanted}
-use Rattle.hop_model.specs.Outcomes.{Outcome}
-use Rattle.hop_model.specs.State.{LocusState, Cell, AtlasCell, LocusCell}
+use Rattle.beside_steps.specs.hop_model.Acts.{wanted}
+use Rattle.beside_steps.specs.hop_model.Outcomes.{Outcome}
+use Rattle.beside_steps.specs.hop_model.State.{LocusState, Cell, AtlasCell, LocusCell}
 use Rattle.atlas_dir.specs.Directory.{Directory, edges_of, IsBornContainer}
-use Rattle.locus_machine.specs.declared.loci.Head.{Head}
-use Rattle.fault_paging.specs.declared.paged.PagedMemory.{PagedMemory}
-use Rattle.kernel_calls.specs.Calls.{is_map, is_unmap, NamesBorn}
-use Rattle.kernel_cells.specs.declared.cells.Part.{Part}
-use Rattle.kernel_cells.specs.declared.cells.Part.TheVariants as part
+use Rattle.beside_steps.specs.locus_machine.declared.loci.Head.{Head}
+use Rattle.beside_steps.specs.fault_paging.declared.paged.PagedMemory.{PagedMemory}
+use Rattle.beside_steps.specs.kernel_calls.Calls.{is_map, is_unmap, NamesBorn}
+use Rattle.beside_steps.specs.kernel_cells.declared.cells.Part.{Part}
+use Rattle.beside_steps.specs.kernel_cells.declared.cells.Part.TheVariants as part
 
 -- the locus wants to map pages into the container, or to unmap them, and doesn't refuse it alone
 pub record WantsMapping (l : LocusState) (i : Instr) (x : ℕ) : Type 0 where

@@ -5,4 +5,6 @@
 mod mappings;
 mod parts;
 
+pub use beside_steps;
+pub use beside_steps::kernel_cells;
 pub use mappings::step_mapping;

@@ -1,19 +1,19 @@
 // The step of a locus that maps or unmaps.
 ghost use Rattle.std.specs.Prelude.{◌≡◌, ◌<◌, ◌^◌, ℕ, List};
 ghost use Rattle.atlas_dir.specs.Directory.{Directory};
-ghost use Rattle.hop_model.specs.State.{KernelState, Supply};
-ghost use Rattle.locus_machine.specs.Loci.{locus_of};
-ghost use Rattle.locus_machine.specs.declared.loci.Head.{Head as AHead};
-ghost use Rattle.locus_machine.specs.declared.loci.Locus.{Locus as ALocus};
-ghost use Rattle.kernel_cells.specs.Cells.{HasCell, IsRunning};
-ghost use Rattle.kernel_cells.specs.Steps.{Steps};
+ghost use Rattle.beside_steps.specs.hop_model.State.{KernelState, Supply};
+ghost use Rattle.beside_steps.specs.locus_machine.Loci.{locus_of};
+ghost use Rattle.beside_steps.specs.locus_machine.declared.loci.Head.{Head as AHead};
+ghost use Rattle.beside_steps.specs.locus_machine.declared.loci.Locus.{Locus as ALocus};
+ghost use Rattle.beside_steps.specs.kernel_cells.Cells.{HasCell, IsRunning};
+ghost use Rattle.beside_steps.specs.kernel_cells.Steps.{Steps};
 ghost use Rattle.beside_steps.specs.Besides.{KeepsMemory};
 ghost use Rattle.map_steps.specs.Mapping.{IsDirectoryPart, IsHeadPart, MayMap, WantsMapping};
 
 use crate::parts::map_in_parts;
-use event_clocks::write_three;
+use beside_steps::event_clocks::write_three;
+use beside_steps::kernel_cells::Cell;
 use hop_base::{Entry, Event, Instr};
-use kernel_cells::Cell;
 
 /// The step of a running locus that maps pages of one container into another, or unmaps them. The locus, the atlas and the
 /// container into which they are mapped are written, also where the act is refused. Wishes and steps left are as before.

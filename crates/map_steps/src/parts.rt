@@ -1,23 +1,23 @@
 // Mappings on the parts of three cells.
 ghost use Rattle.std.specs.Prelude.{◌≡◌, ℕ, List, Some, None};
-ghost use Rattle.hop_model.specs.Acts.{wanted};
-ghost use Rattle.hop_model.specs.Outcomes.{outcome};
-ghost use Rattle.hop_model.specs.State.{AtlasState, AtlasCell, ContainerCell, LocusCell, LocusState, Supply};
+ghost use Rattle.beside_steps.specs.hop_model.Acts.{wanted};
+ghost use Rattle.beside_steps.specs.hop_model.Outcomes.{outcome};
+ghost use Rattle.beside_steps.specs.hop_model.State.{AtlasState, AtlasCell, ContainerCell, LocusCell, LocusState, Supply};
 ghost use Rattle.atlas_dir.specs.Directory.{Directory};
-ghost use Rattle.wanted_act.specs.Views.{IsReadyLocus};
-ghost use Rattle.locus_machine.specs.Loci.{locus_of, container_with};
-ghost use Rattle.locus_machine.specs.declared.loci.Head.{Head as AHead};
-ghost use Rattle.locus_machine.specs.declared.loci.Locus.{Locus as ALocus};
-ghost use Rattle.kernel_calls.specs.Calls.{atlas_state, AtlasCallMade};
-ghost use Rattle.kernel_cells.specs.Cells.{part_of, IsRunning};
+ghost use Rattle.beside_steps.specs.wanted_act.Views.{IsReadyLocus};
+ghost use Rattle.beside_steps.specs.locus_machine.Loci.{locus_of, container_with};
+ghost use Rattle.beside_steps.specs.locus_machine.declared.loci.Head.{Head as AHead};
+ghost use Rattle.beside_steps.specs.locus_machine.declared.loci.Locus.{Locus as ALocus};
+ghost use Rattle.beside_steps.specs.kernel_calls.Calls.{atlas_state, AtlasCallMade};
+ghost use Rattle.beside_steps.specs.kernel_cells.Cells.{part_of, IsRunning};
 ghost use Rattle.beside_steps.specs.Besides.{KeepsMemory};
 ghost use Rattle.map_steps.specs.Mapping.{IsDirectoryPart, IsHeadPart, MakesThree, MayMap, WantsMapping};
 
 use atlas_dir::Atlas;
+use beside_steps::kernel_calls::{map, unmap};
+use beside_steps::kernel_cells::{Part, Storage};
+use beside_steps::locus_machine::{Head, Locus};
 use hop_base::{Answer, Entity, Instr, Reply};
-use kernel_calls::{map, unmap};
-use kernel_cells::{Part, Storage};
-use locus_machine::{Head, Locus};
 
 fn map_head(
     locus: &mut Locus,

@@ -5,14 +5,14 @@ use Rattle.std.proofs.lemmas.Bool.{and_parts, cases_eq, cases_lt, eq-eqb, falseâ
 use Rattle.std.proofs.lemmas.List.{get_or_past}
 use Rattle.disk_trait.specs.Image.{Image, block_at}
 use Rattle.hop_base.specs.declared.records.Rec.{Rec}
-use Rattle.hop_model.proofs.Lowering.{greatest_is}
-use Rattle.hop_model.specs.Choices.{Among, Commit, IsBelow, IsGreatest, IsNarrow}
-use Rattle.hop_model.specs.State.{AtlasCell, Cell, ContainerCell, ContainerState, EntityState, KernelState, LocusCell, NotBorn, Supply, empty_state, no_atlas}
-use Rattle.cut_laws.specs.Agreeing.{nothing}
-use Rattle.cut_laws.specs.Records.{commit_of, commits_of}
-use Rattle.image_blocks.specs.Checks.{count_in}
-use Rattle.image_blocks.specs.Logs.{IsInRange}
-use Rattle.image_blocks.proofs.Ranges.{ascending_law, in_range_law}
+use Rattle.image_meaning.proofs.hop_model_lemmas.Lowering.{greatest_is}
+use Rattle.image_meaning.specs.hop_model.Choices.{Among, Commit, IsBelow, IsGreatest, IsNarrow}
+use Rattle.image_meaning.specs.hop_model.State.{AtlasCell, Cell, ContainerCell, ContainerState, EntityState, KernelState, LocusCell, NotBorn, Supply, empty_state, no_atlas}
+use Rattle.image_meaning.specs.cut_laws.Agreeing.{nothing}
+use Rattle.image_meaning.specs.cut_laws.Records.{commit_of, commits_of}
+use Rattle.image_meaning.specs.image_blocks.Checks.{count_in}
+use Rattle.image_meaning.specs.image_blocks.Logs.{IsInRange}
+use Rattle.image_meaning.proofs.image_blocks_lemmas.Ranges.{ascending_law, in_range_law}
 use Rattle.image_meaning.specs.Meaning.{Accepted, Means, entity_of, state_of}
 use Rattle.image_meaning.specs.Parts.{AtlasPart, ContainerPart, IsFormed, LocusPart, Part, Spells, cell_of, chosen, chosen_by, cut_of, word_in, words_in}
 use Rattle.image_meaning.proofs.Finding.{passes, slot_of}

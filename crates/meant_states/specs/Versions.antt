@@ -1,7 +1,7 @@
 -- The versions that an image gives its entities.
 use Rattle.std.specs.Prelude.{◌≡◌, ℕ, List}
 use Rattle.hop_base.specs.declared.records.Rec.{Rec}
-use Rattle.hop_model.specs.State.{KernelState}
+use Rattle.image_meaning.specs.hop_model.State.{KernelState}
 use Rattle.image_meaning.specs.Parts.{cut_of}
 
 abbrev pub AreCutVersions : List Rec → KernelState → Type 0

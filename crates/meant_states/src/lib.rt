@@ -2,18 +2,20 @@
 #![tactic(auto)]
 
 ghost use Rattle.std.specs.Prelude.{ℕ, List, Option};
-ghost use Rattle.cut_laws.specs.Agreeing.{nothing};
-ghost use Rattle.cut_laws.specs.Records.{commits_of};
+ghost use Rattle.image_meaning.specs.cut_laws.Agreeing.{nothing};
+ghost use Rattle.image_meaning.specs.cut_laws.Records.{commits_of};
 ghost use Rattle.disk_trait.specs.Image.{Image};
 ghost use Rattle.hop_base.specs.declared.records.Rec.{Rec};
-ghost use Rattle.hop_model.specs.Choices.{IsGreatest};
-ghost use Rattle.hop_model.specs.State.{KernelState, Supply};
-ghost use Rattle.image_blocks.specs.Checks.{count_in};
+ghost use Rattle.image_meaning.specs.hop_model.Choices.{IsGreatest};
+ghost use Rattle.image_meaning.specs.hop_model.State.{KernelState, Supply};
+ghost use Rattle.image_meaning.specs.image_blocks.Checks.{count_in};
 ghost use Rattle.image_meaning.specs.Meaning.{Accepted, Means, state_of};
 ghost use Rattle.image_meaning.specs.Parts.{Part};
 ghost use Rattle.meant_states.specs.Restoring.{MakeUpState};
 ghost use Rattle.meant_states.specs.Versions.{AreCutVersions};
 ghost use Rattle.sound_states.specs.States.{IsSoundState};
+
+pub use image_meaning::image_blocks;
 
 /// What an image means is a sound state: its cells, its versions, its clocks, and the words past a container's pages.
 pub fn meant_state_law()

@@ -8,30 +8,30 @@ use Rattle.std.proofs.lemmas.Option.{get_or_from_slice_get, slice_get-get_or, sl
 use Rattle.disk_trait.specs.Image.{Image, block_at}
 use Rattle.frame_table.specs.FrameTable.{empty_table}
 use Rattle.hop_base.specs.declared.records.Rec.{Rec}
-use Rattle.hop_model.specs.Histories.{start_run}
-use Rattle.hop_model.specs.State.{EntityState, Supply, empty_state}
-use Rattle.image_meaning.specs.Fits.{IsNamedOnce}
-use Rattle.image_meaning.specs.Meaning.{Means, entity_of, state_of}
-use Rattle.image_meaning.specs.Parts.{Part, chosen, cut_of, table_in}
-use Rattle.image_meaning.proofs.Finding.{slot_of}
-use Rattle.image_meaning.proofs.Firsts.{clash}
+use Rattle.cell_table.specs.hop_model.Histories.{start_run}
+use Rattle.cell_table.specs.hop_model.State.{EntityState, Supply, empty_state}
+use Rattle.meant_states.specs.image_meaning.Fits.{IsNamedOnce}
+use Rattle.meant_states.specs.image_meaning.Meaning.{Means, entity_of, state_of}
+use Rattle.meant_states.specs.image_meaning.Parts.{Part, chosen, cut_of, table_in}
+use Rattle.meant_states.proofs.image_meaning_lemmas.Finding.{slot_of}
+use Rattle.meant_states.proofs.image_meaning_lemmas.Firsts.{clash}
 use Rattle.image_parts.specs.Parts.{ArePartsOf, IsAcceptedWith}
 use Rattle.image_parts.specs.Tables.{blocks_in}
 use Rattle.image_parts.specs.declared.parts.ImageParts.{ImageParts}
-use Rattle.log_reading.specs.Logs.{IsKnown, IsOlder}
-use Rattle.log_reading.specs.declared.log.ImageLog.{ImageLog}
+use Rattle.image_parts.specs.log_reading.Logs.{IsKnown, IsOlder}
+use Rattle.image_parts.specs.log_reading.declared.log.ImageLog.{ImageLog}
 use Rattle.meant_states.specs.Restoring.{MakeUpState}
 use Rattle.meant_states.proofs.Meant.{parts_sound}
-use Rattle.part_checks.specs.Chosen.{entity_at, part_in, parts_of, record_in}
-use Rattle.part_checks.specs.Fits.{AreChosen, AreFit}
-use Rattle.part_checks.specs.declared.chosen.ChosenEntity.{ChosenEntity}
-use Rattle.part_checks.proofs.Choices.{none_past}
-use Rattle.fault_paging.specs.Words.{AreCleanTrue, AreHeldBlocks}
-use Rattle.fault_paging.specs.declared.paged.PagedMemory.{PagedMemory}
-use Rattle.kernel_cells.specs.declared.cells.Cell.{Cell}
-use Rattle.kernel_cells.specs.declared.cells.Wish.{Wish}
-use Rattle.wish_laws.specs.Founded.{IsFounded, IsFoundedCell}
-use Rattle.sound_states.specs.States.{IsSoundState}
+use Rattle.image_parts.specs.part_checks.Chosen.{entity_at, part_in, parts_of, record_in}
+use Rattle.image_parts.specs.part_checks.Fits.{AreChosen, AreFit}
+use Rattle.image_parts.specs.part_checks.declared.chosen.ChosenEntity.{ChosenEntity}
+use Rattle.image_parts.proofs.part_checks_lemmas.Choices.{none_past}
+use Rattle.record_laws.specs.fault_paging.Words.{AreCleanTrue, AreHeldBlocks}
+use Rattle.record_laws.specs.fault_paging.declared.paged.PagedMemory.{PagedMemory}
+use Rattle.record_laws.specs.kernel_cells.declared.cells.Cell.{Cell}
+use Rattle.record_laws.specs.kernel_cells.declared.cells.Wish.{Wish}
+use Rattle.cell_table.specs.wish_laws.Founded.{IsFounded, IsFoundedCell}
+use Rattle.cell_table.specs.sound_states.States.{IsSoundState}
 use Rattle.cell_table.specs.Tables.{AreClean, HasTableWishes, IsOrderly, blocks_by, entity_in, memory_at, state_in, tables_in}
 use Rattle.record_laws.specs.Cells.{words_on}
 use Rattle.record_laws.proofs.Settled.{word_at}

@@ -1,8 +1,8 @@
 -- The cell of an entity of which nothing is chosen.
 use Rattle.std.proofs.Common.{◌≡◌, ℕ, None, false, refl}
-use Rattle.event_clocks.specs.declared.Clock.{Clock}
-use Rattle.kernel_cells.specs.declared.cells.Cell.{Cell}
-use Rattle.kernel_cells.specs.declared.cells.Part.{Part}
+use Rattle.record_laws.specs.event_clocks.declared.Clock.{Clock}
+use Rattle.record_laws.specs.kernel_cells.declared.cells.Cell.{Cell}
+use Rattle.record_laws.specs.kernel_cells.declared.cells.Part.{Part}
 use Rattle.vector_stamps.specs.Stamps.{component}
 use Rattle.opened_cells.specs.Opened.{IsChosenCell, IsChosenPart}
 

@@ -6,23 +6,23 @@ use Rattle.std.proofs.lemmas.List.{get_or_past, length-replicate}
 use Rattle.hop_base.specs.Kinds.{kind_of}
 use Rattle.hop_base.specs.declared.entities.Kind.TheVariants as kinds
 use Rattle.hop_base.specs.declared.records.Rec.{Rec}
-use Rattle.hop_model.specs.State.{AtlasCell, ContainerCell, Supply, empty_state, no_atlas}
+use Rattle.cell_table.specs.hop_model.State.{AtlasCell, ContainerCell, Supply, empty_state, no_atlas}
 use Rattle.atlas_dir.specs.Directory.{Directory}
-use Rattle.atlas_reading.proofs.AtlasRead.{no_edges, no_rows}
-use Rattle.atlas_reading.proofs.AtlasWalk.{so_far}
-use Rattle.fault_paging.proofs.Begun.{begun_clean, begun_table, begun_words}
-use Rattle.fault_paging.specs.Words.{AreCleanTrue, AreHeldBlocks, words_of}
-use Rattle.fault_paging.specs.declared.paged.PagedMemory.{PagedMemory}
-use Rattle.image_meaning.specs.Parts.{IsFormed, word_in, words_in}
+use Rattle.image_parts.proofs.atlas_reading_lemmas.AtlasRead.{no_edges, no_rows}
+use Rattle.image_parts.proofs.atlas_reading_lemmas.AtlasWalk.{so_far}
+use Rattle.record_laws.proofs.fault_paging_lemmas.Begun.{begun_clean, begun_table, begun_words}
+use Rattle.record_laws.specs.fault_paging.Words.{AreCleanTrue, AreHeldBlocks, words_of}
+use Rattle.record_laws.specs.fault_paging.declared.paged.PagedMemory.{PagedMemory}
+use Rattle.meant_states.specs.image_meaning.Parts.{IsFormed, word_in, words_in}
 use Rattle.image_parts.proofs.Placing.{zero_table}
 use Rattle.image_parts.specs.Tables.{IsTableOf}
-use Rattle.kernel_calls.specs.Calls.{atlas_state}
-use Rattle.kernel_cells.specs.declared.cells.Part.TheVariants as part
-use Rattle.locus_machine.specs.Loci.{container_with}
+use Rattle.record_laws.specs.kernel_calls.Calls.{atlas_state}
+use Rattle.record_laws.specs.kernel_cells.declared.cells.Part.TheVariants as part
+use Rattle.record_laws.specs.locus_machine.Loci.{container_with}
 use Rattle.meant_states.proofs.Meant.{empty_cell}
-use Rattle.part_checks.specs.Chosen.{part_of}
-use Rattle.part_checks.specs.declared.chosen.ChosenPart.TheVariants as chosen
-use Rattle.snapshot_reading.specs.declared.containers.ContainerBlob.{ContainerBlob}
+use Rattle.image_parts.specs.part_checks.Chosen.{part_of}
+use Rattle.image_parts.specs.part_checks.declared.chosen.ChosenPart.TheVariants as chosen
+use Rattle.image_parts.specs.snapshot_reading.declared.containers.ContainerBlob.{ContainerBlob}
 use Rattle.opened_cells.specs.Opened.{HoldWords, IsChosenPart, memory_with}
 use Rattle.opened_cells.proofs.Numbers.{is_atlas, is_container}
 

@@ -1,6 +1,6 @@
 -- Which blocks are held of an image that was opened.
 use Rattle.std.specs.Prelude.{◌≡◌, ◌≢◌, ℕ, Bool, true, Option, slice_index}
-use Rattle.image_meaning.specs.Parts.{Part}
+use Rattle.meant_states.specs.image_meaning.Parts.{Part}
 use Rattle.image_parts.specs.Tables.{blocks_in}
 
 -- THE HELD BLOCKS are exactly those that the pages of these parts have

@@ -1,20 +1,20 @@
 -- What the cells are that begin with the chosen parts of an image.
 use Rattle.std.specs.Prelude.{◌≡◌, ℕ, ◌*◌, ◌<◌, Bool, false, List, length, slice_get, slice_index, IfSome, Option, Some}
-use Rattle.fault_paging.specs.Words.{AreCleanTrue, AreHeldBlocks}
-use Rattle.fault_paging.specs.declared.paged.PagedMemory.{PagedMemory}
+use Rattle.record_laws.specs.fault_paging.Words.{AreCleanTrue, AreHeldBlocks}
+use Rattle.record_laws.specs.fault_paging.declared.paged.PagedMemory.{PagedMemory}
 use Rattle.frame_table.specs.FrameTable.{empty_table}
-use Rattle.hop_model.specs.State.{Supply}
-use Rattle.image_blocks.specs.Bodies.{number_at}
-use Rattle.image_meaning.specs.Meaning.{entity_of}
-use Rattle.image_meaning.specs.Parts.{IsFormed}
+use Rattle.cell_table.specs.hop_model.State.{Supply}
+use Rattle.meant_states.specs.image_blocks.Bodies.{number_at}
+use Rattle.meant_states.specs.image_meaning.Meaning.{entity_of}
+use Rattle.meant_states.specs.image_meaning.Parts.{IsFormed}
 use Rattle.image_parts.specs.Tables.{blocks_in}
-use Rattle.part_checks.specs.Chosen.{entity_at, part_in, part_of as part_of_chosen, record_in}
-use Rattle.part_checks.specs.declared.chosen.ChosenEntity.{ChosenEntity}
-use Rattle.beside_steps.specs.Besides.{memory_of}
-use Rattle.kernel_cells.specs.declared.cells.Cell.{Cell}
-use Rattle.kernel_cells.specs.declared.cells.Part.{Part}
-use Rattle.kernel_cells.specs.Cells.{part_of}
-use Rattle.cell_laws.specs.Memories.{HasOwnMemory}
+use Rattle.image_parts.specs.part_checks.Chosen.{entity_at, part_in, part_of as part_of_chosen, record_in}
+use Rattle.image_parts.specs.part_checks.declared.chosen.ChosenEntity.{ChosenEntity}
+use Rattle.cell_table.specs.beside_steps.Besides.{memory_of}
+use Rattle.record_laws.specs.kernel_cells.declared.cells.Cell.{Cell}
+use Rattle.record_laws.specs.kernel_cells.declared.cells.Part.{Part}
+use Rattle.record_laws.specs.kernel_cells.Cells.{part_of}
+use Rattle.cell_table.specs.cell_laws.Memories.{HasOwnMemory}
 use Rattle.cell_table.specs.Tables.{HasKind, blocks_by, entity_by, memory_at}
 
 -- the bytes of each block hold these words

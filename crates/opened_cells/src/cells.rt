@@ -1,17 +1,17 @@
 // The cell of an entity.
 ghost use Rattle.std.specs.Prelude.{◌≡◌, ◌≤◌, ◌<◌, IfOk, None, Some, false};
-ghost use Rattle.image_meaning.specs.Parts.{IsFormed, table_in};
+ghost use Rattle.meant_states.specs.image_meaning.Parts.{IsFormed, table_in};
 ghost use Rattle.image_parts.specs.Tables.{IsTableOf};
-ghost use Rattle.part_checks.specs.Chosen.{part_of};
+ghost use Rattle.image_parts.specs.part_checks.Chosen.{part_of};
 ghost use Rattle.opened_cells.specs.Opened.{IsChosenCell, IsFormedEntity};
 
 use crate::parts::{chosen_part, unborn_part};
-use event_clocks::Clock;
 use hop_base::Entity;
+use image_parts::page_shadow::ShadowTable;
+use image_parts::part_checks::ChosenEntity;
 use image_parts::table_for;
-use kernel_cells::{Cell, Part, Wish};
-use page_shadow::ShadowTable;
-use part_checks::ChosenEntity;
+use record_laws::event_clocks::Clock;
+use record_laws::kernel_cells::{Cell, Part, Wish};
 use std::alloc::{AllocError, Global};
 use vector_stamps::Stamp;
 

@@ -2,8 +2,8 @@
 ghost use Rattle.std.specs.Prelude.{◌≡◌, ℕ, Bool, false, []};
 ghost use Rattle.image_parts.specs.Parts.{ArePartsOf};
 ghost use Rattle.image_parts.specs.declared.parts.ImageParts.{ImageParts as Parts};
-ghost use Rattle.log_reading.specs.declared.log.ImageLog.{ImageLog as Log};
-ghost use Rattle.part_checks.specs.Chosen.{parts_of};
+ghost use Rattle.image_parts.specs.log_reading.declared.log.ImageLog.{ImageLog as Log};
+ghost use Rattle.image_parts.specs.part_checks.Chosen.{parts_of};
 ghost use Rattle.opened_cells.specs.Held.{HoldsNamed};
 
 /// The law: the blocks of an image without a record are exactly none. It does nothing.

@@ -6,8 +6,8 @@ mod laws;
 mod parts;
 mod table;
 
+pub use image_parts;
+pub use image_parts::page_shadow;
 pub use laws::no_blocks_law;
+pub use meant_states::image_blocks;
 pub use table::cells_of;
-
-#[cfg(test)]
-mod tests;

@@ -1,17 +1,17 @@
 // The part of a cell, from what is chosen of its entity.
 ghost use Rattle.std.specs.Prelude.{◌≡◌, ◌≤◌, ◌<◌, ℕ, IfOk, None, Some, slice_index};
-ghost use Rattle.image_meaning.specs.Parts.{IsFormed, table_in};
+ghost use Rattle.meant_states.specs.image_meaning.Parts.{IsFormed, table_in};
 ghost use Rattle.image_parts.specs.Tables.{IsTableOf};
-ghost use Rattle.part_checks.specs.Chosen.{part_of};
+ghost use Rattle.image_parts.specs.part_checks.Chosen.{part_of};
 ghost use Rattle.opened_cells.specs.Opened.{IsChosenPart, memory_with};
 
 use atlas_dir::Atlas;
-use fault_paging::PagedMemory;
 use hop_base::{Entity, Kind};
-use kernel_cells::{Part, Storage};
-use page_shadow::ShadowTable;
-use part_checks::{ChosenEntity, ChosenPart};
-use snapshot_reading::ContainerBlob;
+use image_parts::page_shadow::ShadowTable;
+use image_parts::part_checks::{ChosenEntity, ChosenPart};
+use image_parts::snapshot_reading::ContainerBlob;
+use record_laws::fault_paging::PagedMemory;
+use record_laws::kernel_cells::{Part, Storage};
 use std::alloc::{AllocError, Global};
 
 // The part of an entity of which nothing is chosen.

@@ -1,15 +1,15 @@
 // The table of cells.
 ghost use Rattle.std.specs.Prelude.{◌≡◌, ◌≤◌, ◌<◌, ℕ, Bool, List, [], IfOk, length, slice_index};
 ghost use Rattle.disk_trait.specs.Image.{Image};
-ghost use Rattle.hop_model.specs.Histories.{start_run};
-ghost use Rattle.hop_model.specs.State.{Supply, empty_state};
-ghost use Rattle.image_meaning.specs.Meaning.{Means};
-ghost use Rattle.image_meaning.specs.Parts.{AreFormed};
+ghost use Rattle.cell_table.specs.hop_model.Histories.{start_run};
+ghost use Rattle.cell_table.specs.hop_model.State.{Supply, empty_state};
+ghost use Rattle.meant_states.specs.image_meaning.Meaning.{Means};
+ghost use Rattle.meant_states.specs.image_meaning.Parts.{AreFormed};
 ghost use Rattle.image_parts.specs.Parts.{ArePartsOf, IsAcceptedWith};
 ghost use Rattle.image_parts.specs.Tables.{blocks_in};
-ghost use Rattle.log_reading.specs.Logs.{IsKnown};
-ghost use Rattle.log_reading.specs.declared.log.ImageLog.{ImageLog};
-ghost use Rattle.part_checks.specs.Chosen.{parts_of};
+ghost use Rattle.image_parts.specs.log_reading.Logs.{IsKnown};
+ghost use Rattle.image_parts.specs.log_reading.declared.log.ImageLog.{ImageLog};
+ghost use Rattle.image_parts.specs.part_checks.Chosen.{parts_of};
 ghost use Rattle.cell_table.specs.Tables.{AreClean, HasTableWishes, IsOrderly, state_in, tables_in};
 ghost use Rattle.record_laws.specs.Cells.{words_on};
 ghost use Rattle.opened_cells.specs.Held.{HoldsNamed};
@@ -18,8 +18,8 @@ ghost use Rattle.opened_cells.specs.Opened.{AreChosenCells, HaveFrames};
 use crate::cells::cell_for;
 use hop_base::{Entity, MOST_ENTITIES};
 use image_parts::ImageParts;
-use kernel_cells::Cell;
-use part_checks::ChosenEntity;
+use image_parts::part_checks::ChosenEntity;
+use record_laws::kernel_cells::Cell;
 use std::alloc::{AllocError, Global};
 
 // The cells of these entities.

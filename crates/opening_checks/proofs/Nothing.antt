@@ -3,12 +3,12 @@ use Rattle.std.proofs.Common.{◌≡◌, ℕ, ◌+◌, ◌-◌, ◌<◌, ◌≤�
 use Rattle.std.proofs.lemmas.Bool.{cases_lt}
 use Rattle.disk_trait.specs.Disk.{Ticks}
 use Rattle.disk_trait.specs.Image.{Image, block_at}
-use Rattle.hop_model.specs.State.{empty_state}
-use Rattle.image_blocks.specs.Checks.{active_area, active_by}
-use Rattle.image_blocks.specs.Layout.{epoch_in, first_number, header_block, is_open}
-use Rattle.image_blocks.specs.declared.areas.Area.{Area}
-use Rattle.image_blocks.specs.declared.areas.Area.TheVariants.{A, B}
-use Rattle.image_meaning.specs.Empty.{IsFormatted}
+use Rattle.restart.specs.hop_model.State.{empty_state}
+use Rattle.restart.specs.image_blocks.Checks.{active_area, active_by}
+use Rattle.restart.specs.image_blocks.Layout.{epoch_in, first_number, header_block, is_open}
+use Rattle.restart.specs.image_blocks.declared.areas.Area.{Area}
+use Rattle.restart.specs.image_blocks.declared.areas.Area.TheVariants.{A, B}
+use Rattle.restart.specs.image_meaning.Empty.{IsFormatted}
 use Rattle.kernel_opening.specs.Starts.{HasLowNumbers}
 
 first_epoch : (block : List ℕ) → block ≡ header_block 1 → first_number block ≡ 1

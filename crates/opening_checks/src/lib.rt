@@ -6,7 +6,11 @@ mod made;
 pub use made::open_made;
 
 #[cfg(test)]
+mod image_opening_tests;
+#[cfg(test)]
 mod images;
+#[cfg(test)]
+mod opened_cells_tests;
 #[cfg(test)]
 mod refused_tests;
 #[cfg(test)]

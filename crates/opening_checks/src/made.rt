@@ -1,10 +1,10 @@
 // An empty image, opened.
 ghost use Rattle.std.specs.Prelude.{◌<◌, ◌≤◌, IfSome};
-ghost use Rattle.image_blocks.specs.Layout.{least_blocks, most_blocks};
+ghost use Rattle.restart.specs.image_blocks.Layout.{least_blocks, most_blocks};
 ghost use Rattle.opening_checks.specs.Made.{GoesFromNothing};
 
 use disk_trait::Disk;
-use kernel_core::Kernel;
+use kernel_opening::kernel_core::Kernel;
 use kernel_opening::open_image;
 use restart::format;
 use std::alloc::Global;

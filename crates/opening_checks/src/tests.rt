@@ -7,8 +7,8 @@ use crate::open_made;
 use disk_trait::{DiskFault, MemoryDisk, Torn};
 use hop_base::Entity;
 use kernel_opening::open_image;
+use kernel_opening::snapshot_store::OpenWhy;
 use manager_gate::{CountedWords, EveryVersions, Gate};
-use snapshot_store::OpenWhy;
 use std::alloc::Global;
 use std::test::Fail;
 

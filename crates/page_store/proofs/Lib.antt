@@ -1,1 +1,2 @@
 pub mod Held
+pub use Rattle.hop_model.proofs as hop_model_lemmas

@@ -14,6 +14,3 @@ pub use disk_trait::NoBlocks;
 pub use faults::PageFault;
 pub use memory::MemoryPages;
 pub use store::PageStore;
-
-#[cfg(test)]
-mod tests;

@@ -5,7 +5,7 @@ use Rattle.std.proofs.lemmas.List.{ext_get_or, get_or-map, length-map}
 use Rattle.hop_base.specs.Edges.{upto}
 use Rattle.block_code.specs.Fields.{PutsNumber, number_at, with_number}
 use Rattle.block_code.proofs.FieldLaws.{number_at-with_number_apart, number_at-with_number_same}
-use Rattle.image_blocks.proofs.Rest.{upto_get, upto_len}
+use Rattle.store_model.proofs.image_blocks_lemmas.Rest.{upto_get, upto_len}
 
 -- the word that was put is read back
 pub put_here : (place word : ℕ) (old new : List ℕ) → word < 2 ^ 64 → PutsNumber (8 * place) 8 word old new → number_at (8 * place) 8 new ≡ word

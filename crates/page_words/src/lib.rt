@@ -6,6 +6,7 @@ ghost use Rattle.block_code.specs.Fields.{number_at};
 ghost use Rattle.store_model.specs.Books.{words_of_bytes};
 
 use block_code::{get_u64, put_u64};
+pub use store_model::{commit_log, log_turn};
 
 // The word at a place of the block.
 fn word_at(block: &[u8; 1024], place: usize) -> u64
@@ -50,19 +51,3 @@ pub fn block_with(words: &[u64; 128]) -> [u8; 1024]
 pub fn no_words_law()
     ensures { words_of_bytes [] ≡ replicate 128 0 }
 {}
-
-#[cfg(test)]
-mod tests {
-    use super::*;
-
-    #[test]
-    fn a_word_has_eight_bytes_lowest_first(rt: HostRuntime) {
-        let mut words = [0; 128];
-        words[1] = 0x0102_0304_0506_0708;
-        let block = block_with(&words);
-        let expected = [0, 0, 8, 7, 6, 5, 4, 3, 2, 1, 0, 0];
-        assert!(rt; block[6..18] == expected[..]);
-        assert!(rt; words_in(&block) == words);
-        no_words_law();
-    }
-}

@@ -2,8 +2,8 @@
 use Rattle.std.proofs.Common.{◌≡◌, ℕ, Bool, List, length, replicate, slice_index, ap, ◌∙◌, inl, inr, refl, eq-eqb, arith}
 use Rattle.std.proofs.lemmas.Bool.{cases_lt}
 use Rattle.std.proofs.lemmas.List.{get_or_past, get_or-replicate, length-replicate}
-use Rattle.hop_model.specs.Words.{put}
-use Rattle.fault_paging.specs.Words.{AreHeldBlocks}
+use Rattle.address_resolve.specs.hop_model.Words.{put}
+use Rattle.address_resolve.specs.fault_paging.Words.{AreHeldBlocks}
 
 abbrev zeros : ℕ → List ℕ
 zeros n = replicate n 0

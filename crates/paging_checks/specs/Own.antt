@@ -1,10 +1,10 @@
 -- The words of a memory with a store in memory of its own, and what holds of it between calls.
 use Rattle.std.specs.Prelude.{◌≡◌, ℕ}
 use Rattle.manager_gate.specs.Managers.{counted_word}
-use Rattle.page_store.specs.Memory.{is_held, words_at}
-use Rattle.page_store.specs.declared.memory.MemoryPages.{MemoryPages}
-use Rattle.fault_paging.specs.Words.{words_of, AreCleanTrue, IsSoundTable}
-use Rattle.fault_paging.specs.declared.paged.PagedMemory.{PagedMemory}
+use Rattle.address_resolve.specs.page_store.Memory.{is_held, words_at}
+use Rattle.address_resolve.specs.page_store.declared.memory.MemoryPages.{MemoryPages}
+use Rattle.address_resolve.specs.fault_paging.Words.{words_of, AreCleanTrue, IsSoundTable}
+use Rattle.address_resolve.specs.fault_paging.declared.paged.PagedMemory.{PagedMemory}
 
 abbrev pub own_words : MemoryPages → PagedMemory → ℕ → ℕ
 own_words store m = words_of counted_word (words_at store.pages.items) m

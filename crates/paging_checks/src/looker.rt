@@ -1,10 +1,10 @@
-ghost use Rattle.wanted_act.specs.Views.{IsReadyLocus};
-ghost use Rattle.locus_machine.specs.Loci.{locus_of};
+ghost use Rattle.address_resolve.specs.wanted_act.Views.{IsReadyLocus};
+ghost use Rattle.address_resolve.specs.locus_machine.Loci.{locus_of};
 
 use crate::own::OwnPages;
-use fault_paging::PageFault;
+use address_resolve::fault_paging::PageFault;
+use address_resolve::locus_machine::{Head, Locus};
 use hop_base::{Answer, Condition, Entity};
-use locus_machine::{Head, Locus};
 use std::marker::Model;
 
 /// A locus that makes what touches it alone, and looks.
@@ -14,9 +14,9 @@ pub struct Looker {
 }
 
 impl Model for Looker {
-    ghost use Rattle.hop_model.specs.State.{LocusState};
-    ghost use Rattle.wanted_act.specs.Views.{IsReadyLocus};
-    ghost use Rattle.locus_machine.specs.Loci.{locus_of};
+    ghost use Rattle.address_resolve.specs.hop_model.State.{LocusState};
+    ghost use Rattle.address_resolve.specs.wanted_act.Views.{IsReadyLocus};
+    ghost use Rattle.address_resolve.specs.locus_machine.Loci.{locus_of};
 
     ghost Value = { LocusState };
 

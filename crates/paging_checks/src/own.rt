@@ -1,16 +1,16 @@
 ghost use Rattle.std.specs.Prelude.{◌≡◌, ◌*◌, ◌/◌, ◌%◌, ◌<◌, ◌≤◌, ℕ, IfOk, OnErr, OnOk};
 ghost use Rattle.hop_base.specs.declared.instructions.Condition.TheVariants.{Running as RunningNow};
-ghost use Rattle.hop_model.specs.Words.{put};
+ghost use Rattle.address_resolve.specs.hop_model.Words.{put};
 ghost use Rattle.manager_gate.specs.Managers.{counted_word};
-ghost use Rattle.wanted_act.specs.Views.{IsReadyLocus};
-ghost use Rattle.locus_machine.specs.Loci.{locus_of};
+ghost use Rattle.address_resolve.specs.wanted_act.Views.{IsReadyLocus};
+ghost use Rattle.address_resolve.specs.locus_machine.Loci.{locus_of};
 ghost use Rattle.paging_checks.specs.declared.own.TheConstants.{PAGES, TAG};
 ghost use Rattle.paging_checks.specs.Own.{own_words, IsOwn};
 
+use address_resolve::fault_paging::{MemoryPages, PageFault, PagedMemory, ShadowTable};
+use address_resolve::locus_machine::{Head, Locus};
 use address_resolve::look;
-use fault_paging::{MemoryPages, PageFault, PagedMemory, ShadowTable};
 use hop_base::{Answer, Instr, PAGE_WORDS};
-use locus_machine::{Head, Locus};
 use manager_gate::{CountedWords, EveryVersions, Gate};
 use std::alloc::{AllocError as Memory, Global};
 

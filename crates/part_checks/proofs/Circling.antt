@@ -9,7 +9,7 @@ use Rattle.atlas_dir.proofs.Paths.{path_more, still_marked}
 use Rattle.atlas_reading.proofs.Pigeons.{pigeons}
 use Rattle.circle_law.specs.Containers.{IsAmongContainers}
 use Rattle.hop_base.specs.Edges.{Edges, IsPath}
-use Rattle.hop_model.specs.Soundness.{HasNoCircle}
+use Rattle.image_meaning.specs.hop_model.Soundness.{HasNoCircle}
 use Rattle.part_checks.specs.Circles.{IsLeaf, IsStuck}
 
 -- what a marked container shows is marked, and no marked one is on a circle

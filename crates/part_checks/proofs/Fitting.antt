@@ -8,8 +8,8 @@ use Rattle.std.proofs.lemmas.Bool.Decides.{nat_tests}
 use Rattle.std.proofs.lemmas.List.Sums.{AllPass-from_list_all, list_all-from_AllPass}
 use Rattle.std.proofs.lemmas.Option.{get_or_from_slice_get, slice_get-get_or, slice_get_within}
 use Rattle.hop_base.specs.declared.records.Rec.{Rec}
-use Rattle.image_blocks.specs.Bodies.{blob_blocks}
-use Rattle.image_blocks.specs.Layout.{pool_at}
+use Rattle.image_meaning.specs.image_blocks.Bodies.{blob_blocks}
+use Rattle.image_meaning.specs.image_blocks.Layout.{pool_at}
 use Rattle.image_meaning.specs.Fits.{AreNamedOnce, IsFit}
 use Rattle.image_meaning.specs.Parts.{Part, chosen, table_in}
 use Rattle.part_checks.specs.Chosen.{entity_at, part_in, part_of, parts_of, record_in, records_of}

@@ -5,3 +5,5 @@ pub mod Uses
 pub mod Choices
 pub mod Counting
 pub mod Fitting
+pub use Rattle.atlas_reading.proofs as atlas_reading_lemmas
+pub use Rattle.image_meaning.proofs as image_meaning_lemmas

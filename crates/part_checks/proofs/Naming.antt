@@ -9,9 +9,9 @@ use Rattle.hop_base.specs.declared.capabilities.Cap.{Cap}
 use Rattle.hop_base.specs.declared.capabilities.Private.{Private}
 use Rattle.hop_base.specs.declared.capabilities.Region.{Region}
 use Rattle.hop_base.specs.declared.instructions.Call.{Call}
-use Rattle.hop_model.proofs.Basics.{both as both_true}
-use Rattle.hop_model.specs.Soundness.{is_born, is_born_container}
-use Rattle.hop_model.specs.State.{AtlasState, ContainerState, LocusState}
+use Rattle.image_meaning.proofs.hop_model_lemmas.Basics.{both as both_true}
+use Rattle.image_meaning.specs.hop_model.Soundness.{is_born, is_born_container}
+use Rattle.image_meaning.specs.hop_model.State.{AtlasState, ContainerState, LocusState}
 use Rattle.image_meaning.specs.Fits.{IsTiedContainer, IsTiedLocus, NamesBorn}
 use Rattle.part_checks.specs.Ties.{IsTiedWalk, slot_born}
 

@@ -9,7 +9,7 @@ use Rattle.std.proofs.Math.Seq.{take-append_seam}
 use Rattle.std.proofs.lemmas.Option.{get_or_from_slice_get, slice_get-get_or}
 use Rattle.part_checks.proofs.Tallies.{zeros}
 use Rattle.std.proofs.Common.{◌++◌}
-use Rattle.image_blocks.specs.Bodies.{blob_blocks}
+use Rattle.image_meaning.specs.image_blocks.Bodies.{blob_blocks}
 use Rattle.image_meaning.specs.Parts.{table_in}
 use Rattle.part_checks.specs.Chosen.{part_of}
 use Rattle.part_checks.specs.Naming.{AreUses, count_of, names_in, one_at}

@@ -2,8 +2,8 @@
 use Rattle.std.specs.Prelude.{ℕ, List, Option, Some, None, take, slice_index_or}
 use Rattle.hop_base.specs.declared.records.Rec.{Rec}
 use Rattle.image_meaning.specs.Parts.{Part, AtlasPart, ContainerPart, LocusPart}
-use Rattle.kernel_calls.specs.Calls.{atlas_state}
-use Rattle.locus_machine.specs.Loci.{container_with, locus_of}
+use Rattle.atlas_reading.specs.kernel_calls.Calls.{atlas_state}
+use Rattle.atlas_reading.specs.locus_machine.Loci.{container_with, locus_of}
 use Rattle.part_checks.specs.declared.chosen.ChosenEntity.{ChosenEntity}
 use Rattle.part_checks.specs.declared.chosen.ChosenPart.{ChosenPart}
 use Rattle.part_checks.specs.declared.chosen.ChosenPart.TheVariants.{Atlas, Container, Locus}

@@ -2,8 +2,8 @@
 use Rattle.std.specs.Prelude.{◌≡◌, ℕ, ◌==◌, IsTrue, List, [], Option, Some, None, count_by, slice_index}
 use Rattle.hop_base.specs.Edges.{Edges}
 use Rattle.hop_base.specs.declared.capabilities.Region.{Region}
-use Rattle.hop_model.specs.Soundness.{is_born}
-use Rattle.hop_model.specs.State.{AtlasState}
+use Rattle.image_meaning.specs.hop_model.Soundness.{is_born}
+use Rattle.image_meaning.specs.hop_model.State.{AtlasState}
 use Rattle.image_meaning.specs.Parts.{Part}
 use Rattle.part_checks.specs.Chosen.{entity_at, parts_of}
 use Rattle.part_checks.specs.declared.chosen.ChosenEntity.{ChosenEntity}

@@ -3,11 +3,11 @@ use Rattle.std.specs.Prelude.{◌≡◌, ℕ, ◌<◌, IsTrue, List, Option, Som
 use Rattle.std.specs.List.{list_all}
 use Rattle.atlas_dir.specs.Directory.{Directory}
 use Rattle.hop_base.specs.declared.records.Rec.{Rec}
-use Rattle.hop_model.specs.Soundness.{is_born}
-use Rattle.hop_model.specs.State.{AtlasState}
+use Rattle.image_meaning.specs.hop_model.Soundness.{is_born}
+use Rattle.image_meaning.specs.hop_model.State.{AtlasState}
 use Rattle.image_meaning.specs.Fits.{IsFit, IsTied}
 use Rattle.image_meaning.specs.Parts.{Part, AtlasPart, chosen, table_in}
-use Rattle.kernel_calls.specs.Calls.{atlas_state}
+use Rattle.atlas_reading.specs.kernel_calls.Calls.{atlas_state}
 use Rattle.part_checks.specs.Chosen.{parts_of, records_of}
 use Rattle.part_checks.specs.Naming.{block_passes}
 use Rattle.part_checks.specs.declared.chosen.ChosenEntity.{ChosenEntity}

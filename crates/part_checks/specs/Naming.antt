@@ -1,7 +1,7 @@
 -- How often blocks are named by the page tables and the blobs of chosen entities.
 use Rattle.std.specs.Prelude.{◌≡◌, ℕ, ◌+◌, ◌<◌, Bool, ◌&&◌, ◌||◌, ◌==◌, if◌then◌else◌, nat_le, nat_lt, List, length, Option, Some, None, count_by, slice_index, sum_by, min}
-use Rattle.image_blocks.specs.Bodies.{blob_blocks}
-use Rattle.image_blocks.specs.Layout.{pool_at}
+use Rattle.image_meaning.specs.image_blocks.Bodies.{blob_blocks}
+use Rattle.image_meaning.specs.image_blocks.Layout.{pool_at}
 use Rattle.image_meaning.specs.Parts.{table_in}
 use Rattle.part_checks.specs.Chosen.{part_of}
 use Rattle.part_checks.specs.declared.chosen.ChosenEntity.{ChosenEntity}

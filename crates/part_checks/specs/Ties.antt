@@ -3,9 +3,9 @@ use Rattle.std.specs.Prelude.{Bool, true, IsTrue, Option, Some, None}
 use Rattle.std.specs.Option.{ForSome}
 use Rattle.hop_base.specs.declared.capabilities.Cap.{Cap}
 use Rattle.hop_base.specs.declared.instructions.Walk.{Walk}
-use Rattle.hop_model.specs.Refusals.{instr_at}
-use Rattle.hop_model.specs.Soundness.{is_born, is_born_container, looks}
-use Rattle.hop_model.specs.State.{AtlasState, LocusState}
+use Rattle.image_meaning.specs.hop_model.Refusals.{instr_at}
+use Rattle.image_meaning.specs.hop_model.Soundness.{is_born, is_born_container, looks}
+use Rattle.image_meaning.specs.hop_model.State.{AtlasState, LocusState}
 
 -- the slot is empty or names an entity that is born
 abbrev pub slot_born : AtlasState → Option Cap → Bool

@@ -3,7 +3,7 @@ ghost use Rattle.std.specs.Prelude.{◌≡◌, ◌↔◌, ◌<◌, IsTrue, IfSom
 ghost use Rattle.std.specs.List.{list_all};
 ghost use Rattle.circle_law.specs.Containers.{IsAmongContainers};
 ghost use Rattle.atlas_dir.specs.Directory.{edges_of};
-ghost use Rattle.hop_model.specs.Soundness.{HasNoCircle};
+ghost use Rattle.image_meaning.specs.hop_model.Soundness.{HasNoCircle};
 ghost use Rattle.part_checks.specs.Circles.{IsLeaf, IsStuck, ShowsUnmarked};
 
 use atlas_dir::{Atlas, CONTAINERS};

@@ -3,7 +3,7 @@ ghost use Rattle.std.specs.Prelude.{◌≡◌, ◌↔◌, ◌≤◌, IsTrue, len
 ghost use Rattle.atlas_dir.specs.Directory.{edges_of};
 ghost use Rattle.circle_law.specs.Containers.{IsAmongContainers};
 ghost use Rattle.image_meaning.specs.Fits.{IsTiedAtlas};
-ghost use Rattle.kernel_calls.specs.Calls.{atlas_state};
+ghost use Rattle.atlas_reading.specs.kernel_calls.Calls.{atlas_state};
 ghost use Rattle.part_checks.specs.Chosen.{parts_of};
 ghost use Rattle.part_checks.specs.Edges.{IsTally, IsRow, AreRows, AreAllChosen, regions_in};
 

@@ -2,7 +2,7 @@
 ghost use Rattle.std.specs.Prelude.{◌≡◌, ◌↔◌, IsTrue, List, length, IfOk, IfSome, IfNone};
 ghost use Rattle.hop_base.specs.declared.records.Rec.{Rec as Record};
 ghost use Rattle.image_meaning.specs.Fits.{IsTied};
-ghost use Rattle.kernel_calls.specs.Calls.{atlas_state};
+ghost use Rattle.atlas_reading.specs.kernel_calls.Calls.{atlas_state};
 ghost use Rattle.part_checks.specs.Chosen.{part_of, parts_of};
 ghost use Rattle.part_checks.specs.Fits.{AreChosen, AreFit, AreFitBy, HasAtlas, IsFirstUnfit, IsFirstUnfitBy, IsFitBy, NoAtlas};
 

@@ -12,12 +12,11 @@ mod fits;
 mod names;
 mod ties;
 
+pub use atlas_reading;
+pub use atlas_reading::snapshot_reading;
 pub use born::{are_born, is_born, is_born_container};
 pub use chosen::{ChosenEntity, ChosenPart};
 pub use circles::has_no_circle;
 pub use edges::ties_atlas;
 pub use fits::first_unfit;
 pub use ties::{ties_container, ties_locus};
-
-#[cfg(test)]
-mod tests;

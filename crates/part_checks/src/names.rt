@@ -1,14 +1,14 @@
 //! How often the blocks of pages and blobs are named.
 ghost use Rattle.std.specs.Prelude.{◌≡◌, ◌+◌, ℕ, IfOk, length, take};
 ghost use Rattle.std.specs.List.{list_all};
-ghost use Rattle.image_blocks.specs.Bodies.{blob_blocks};
+ghost use Rattle.image_meaning.specs.image_blocks.Bodies.{blob_blocks};
 ghost use Rattle.image_meaning.specs.Parts.{table_in};
 ghost use Rattle.part_checks.specs.Chosen.{part_of};
 ghost use Rattle.part_checks.specs.Naming.{AreUses, block_passes, count_of, names_in, names_of, one_at};
 
 use crate::chosen::{ChosenEntity, ChosenPart};
 use hop_base::Rec;
-use image_blocks::POOL_AT;
+use image_meaning::image_blocks::POOL_AT;
 use std::alloc::{AllocError, Global};
 
 /// The bytes of a block.

@@ -1,18 +1,18 @@
 //! Whether what a container or a locus names is born.
 ghost use Rattle.std.specs.Prelude.{◌≡◌, ◌&&◌, ◌↔◌, IsTrue};
 ghost use Rattle.std.specs.List.{list_all};
-ghost use Rattle.hop_model.specs.Refusals.{instr_at};
-ghost use Rattle.hop_model.specs.Soundness.{is_born_container as born_container, looks as looks_at};
+ghost use Rattle.image_meaning.specs.hop_model.Refusals.{instr_at};
+ghost use Rattle.image_meaning.specs.hop_model.Soundness.{is_born_container as born_container, looks as looks_at};
 ghost use Rattle.image_meaning.specs.Fits.{IsTiedContainer, IsTiedLocus};
-ghost use Rattle.kernel_calls.specs.Calls.{atlas_state};
-ghost use Rattle.locus_machine.specs.Loci.{container_with, locus_of};
+ghost use Rattle.atlas_reading.specs.kernel_calls.Calls.{atlas_state};
+ghost use Rattle.atlas_reading.specs.locus_machine.Loci.{container_with, locus_of};
 ghost use Rattle.part_checks.specs.Chosen.{no_words};
 ghost use Rattle.part_checks.specs.Ties.{IsTiedWalk};
 
 use crate::born::{are_born, is_born_container};
 use atlas_dir::Atlas;
+use atlas_reading::locus_machine::{Head, Locus};
 use hop_base::{Call, Instr, Private, Region};
-use locus_machine::{Head, Locus};
 
 // Whether each region shows a container that is born.
 fn all_shown(atlas: &Atlas, regions: &[Region]) -> bool

@@ -1,16 +1,18 @@
 ghost use Rattle.std.specs.Prelude.{◌≡◌, IfOk, None, codes};
-ghost use Rattle.hop_model.specs.Scripts.{container_named as container_number, locus_named as locus_number};
-ghost use Rattle.hop_model.specs.Soundness.{IsSound};
-ghost use Rattle.hop_model.specs.State.{AtlasState, Supply, Text};
-ghost use Rattle.script_form.specs.Rules.{IsScript};
-ghost use Rattle.script_form.specs.Scripts.{tables_of};
-ghost use Rattle.history_model.specs.Born.{AreEdges, AreOfOneKind, KnowsNames};
-ghost use Rattle.history_model.specs.Events.{AreFewVersions};
-ghost use Rattle.history_model.specs.Plains.{cells_of};
+ghost use Rattle.plain_show.specs.hop_model.Scripts.{container_named as container_number, locus_named as locus_number};
+ghost use Rattle.plain_show.specs.hop_model.Soundness.{IsSound};
+ghost use Rattle.plain_show.specs.hop_model.State.{AtlasState, Supply, Text};
+ghost use Rattle.script_read.specs.script_form.Rules.{IsScript};
+ghost use Rattle.script_read.specs.script_form.Scripts.{tables_of};
+ghost use Rattle.plain_show.specs.history_model.Born.{AreEdges, AreOfOneKind, KnowsNames};
+ghost use Rattle.plain_show.specs.history_model.Events.{AreFewVersions};
+ghost use Rattle.plain_show.specs.history_model.Plains.{cells_of};
 
-use history_model::{Plain, PlainAtlas, container_named, number_among, plain_birth, plain_step};
 use hop_base::{Answer, Cap, Entity, Entry, Instr, Reply, Rights};
-use script_form::{Script, ScriptContainer, ScriptLocus};
+use plain_show::history_model::{
+    Plain, PlainAtlas, container_named, number_among, plain_birth, plain_step,
+};
+use script_read::script_form::{Script, ScriptContainer, ScriptLocus};
 use std::alloc::{AllocError, Global};
 use std::process::Abort;
 use std::test::Fail;

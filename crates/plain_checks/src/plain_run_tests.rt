@@ -1,7 +1,7 @@
 use crate::scripts_played::played;
-use history_model::PlainAtlas;
 use hop_base::Answer;
 use plain_run::against;
+use plain_show::history_model::PlainAtlas;
 use script_read::{ScriptFault, Why, read_script};
 use std::test::Fail;
 

@@ -1,10 +1,10 @@
 //! Runs of scripts that are texts.
 ghost use Rattle.std.specs.Prelude.{◌≡◌, IfOk, IsTrue};
 ghost use Rattle.std.specs.List.{list_all};
-ghost use Rattle.hop_model.specs.Soundness.{IsSound};
-ghost use Rattle.history_model.specs.Plains.{cells_of};
+ghost use Rattle.plain_show.specs.hop_model.Soundness.{IsSound};
+ghost use Rattle.plain_show.specs.history_model.Plains.{cells_of};
 ghost use Rattle.plain_run.specs.Snaps.{HasNoSnapTables, has_no_snap, is_no_snap};
-ghost use Rattle.script_form.specs.Scripts.{tables_of};
+ghost use Rattle.script_read.specs.script_form.Scripts.{tables_of};
 
 use hop_base::Instr;
 use plain_run::{Played, play};

@@ -1,6 +1,6 @@
 use crate::scripts_played::{played, program_played};
-use history_model::Edge;
 use hop_base::{Answer, Cap, Entity, Event, Instr, Region, Reply, Right, Rights};
+use plain_show::history_model::Edge;
 use std::alloc::Global;
 use std::test::Fail;
 

@@ -2,7 +2,7 @@
 use Rattle.std.specs.Prelude.{ℕ, ◌/◌, ◌%◌, unwrap_or}
 use Rattle.std.specs.BTreeMap.{BTreeMap, get}
 use Rattle.std.specs.Ordering.{nat_cmp}
-use Rattle.hop_model.specs.State.{Supply}
+use Rattle.history_model.specs.hop_model.State.{Supply}
 
 -- those that are kept, and the supplier's at other addresses
 abbrev pub words_with : Supply → ℕ → BTreeMap ℕ ℕ → ℕ → ℕ

@@ -1,12 +1,12 @@
 //! Containers and loci.
 ghost use Rattle.std.specs.Prelude.{◌≡◌, ℕ, IfOk};
 ghost use Rattle.history_model.specs.Plains.{container_of, locus_of};
-ghost use Rattle.hop_model.specs.State.{Supply};
-ghost use Rattle.locus_machine.specs.Loci.{container_with, locus_of as state_of};
+ghost use Rattle.history_model.specs.hop_model.State.{Supply};
+ghost use Rattle.kernel_calls.specs.locus_machine.Loci.{container_with, locus_of as state_of};
 ghost use Rattle.plain_parts.specs.Words.{words_with};
 
 use history_model::{PlainContainer, PlainLocus};
-use locus_machine::{Head, Locus};
+use kernel_calls::locus_machine::{Head, Locus};
 use std::alloc::{AllocError, Global};
 use std::collections::BTreeMap;
 

@@ -6,6 +6,5 @@ mod cells;
 
 pub use atlases::plain_atlas;
 pub use cells::{plain_head, plain_locus};
-
-#[cfg(test)]
-mod tests;
+pub use history_model;
+pub use kernel_calls::locus_machine;

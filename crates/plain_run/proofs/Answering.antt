@@ -3,11 +3,11 @@ use Rattle.std.proofs.Common.{◌≡◌, ℕ, zero, suc, ◌+◌, ◌-◌, ◌<�
 use Rattle.std.proofs.lemmas.Bool.Decides.{nat_tests}
 use Rattle.std.proofs.lemmas.List.{length-map}
 use Rattle.hop_base.specs.declared.histories.Entry.{Entry}
-use Rattle.hop_model.specs.Scripts.{Script, place_of, text_eq}
-use Rattle.hop_model.specs.Serial.{can_step, owed_stable}
-use Rattle.hop_model.specs.Soundness.{IsSound}
-use Rattle.hop_model.specs.State.{Supply, Text, AtlasState, Cell, KernelState}
-use Rattle.hop_model.specs.Steps.{atlas_in, running}
+use Rattle.history_model.specs.hop_model.Scripts.{Script, place_of, text_eq}
+use Rattle.history_model.specs.hop_model.Serial.{can_step, owed_stable}
+use Rattle.history_model.specs.hop_model.Soundness.{IsSound}
+use Rattle.history_model.specs.hop_model.State.{Supply, Text, AtlasState, Cell, KernelState}
+use Rattle.history_model.specs.hop_model.Steps.{atlas_in, running}
 use Rattle.history_model.specs.Born.{AreEdges, HasFewNames}
 use Rattle.history_model.specs.Events.{Stays, StepsTo}
 use Rattle.history_model.specs.Lists.{KeepsNames}

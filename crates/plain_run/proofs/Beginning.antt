@@ -5,14 +5,14 @@ use Rattle.std.proofs.lemmas.List.Elements.{All-cons, All-nil}
 use Rattle.std.proofs.lemmas.List.Sums.{count_by-le-length}
 use Rattle.hop_base.specs.declared.histories.Entry.{Entry}
 use Rattle.hop_base.specs.declared.histories.Event.TheVariants.{Stable}
-use Rattle.hop_model.specs.Histories.{mark}
+use Rattle.history_model.specs.hop_model.Histories.{mark}
 use Rattle.std.proofs.lemmas.List.{length-append}
 use Rattle.plain_run.proofs.Stepping.{few_made}
-use Rattle.hop_model.specs.Output.{output_of}
-use Rattle.hop_model.specs.Scripts.{ContainerTable, LocusTable, Script, container_named, locus_named, number_of, place_of}
-use Rattle.hop_model.specs.State.{Supply, Text, AtlasState, Cell, NotBorn, AtlasCell, KernelState, empty_state, no_atlas}
-use Rattle.hop_model.specs.Steps.{atlas_in}
-use Rattle.script_form.specs.Rules.{IsScript}
+use Rattle.history_model.specs.hop_model.Output.{output_of}
+use Rattle.history_model.specs.hop_model.Scripts.{ContainerTable, LocusTable, Script, container_named, locus_named, number_of, place_of}
+use Rattle.history_model.specs.hop_model.State.{Supply, Text, AtlasState, Cell, NotBorn, AtlasCell, KernelState, empty_state, no_atlas}
+use Rattle.history_model.specs.hop_model.Steps.{atlas_in}
+use Rattle.history_model.specs.script_form.Rules.{IsScript}
 use Rattle.history_model.proofs.EmptyLemmas.{sound_empty}
 use Rattle.history_model.proofs.PlainSteps.{same_sound}
 use Rattle.history_model.specs.Born.{AreEdges}

@@ -2,11 +2,11 @@
 use Rattle.std.proofs.Common.{◌≡◌, ℕ, zero, suc, ◌+◌, ◌<◌, Bool, true, false, if◌then◌else◌, List, [], ◌∷◌, length, map, drop, get_or, Option, Some, None, is_some, string_bytes, refl, sym, ap, ◌∙◌, arith}
 use Rattle.std.specs.List.{All}
 use Rattle.std.proofs.lemmas.List.Elements.{All-cons, All-nil}
-use Rattle.hop_model.specs.Scripts.{ContainerTable, LocusTable, container_named, locus_named}
-use Rattle.hop_model.specs.State.{AtlasState}
-use Rattle.script_form.specs.Scripts.{container_of, locus_of}
-use Rattle.script_form.specs.declared.ScriptContainer.{ScriptContainer}
-use Rattle.script_form.specs.declared.ScriptLocus.{ScriptLocus}
+use Rattle.history_model.specs.hop_model.Scripts.{ContainerTable, LocusTable, container_named, locus_named}
+use Rattle.history_model.specs.hop_model.State.{AtlasState}
+use Rattle.history_model.specs.script_form.Scripts.{container_of, locus_of}
+use Rattle.history_model.specs.script_form.declared.ScriptContainer.{ScriptContainer}
+use Rattle.history_model.specs.script_form.declared.ScriptLocus.{ScriptLocus}
 use Rattle.plain_run.specs.Fitting.{container_clash, locus_clash}
 use Rattle.plain_run.proofs.KnownNames.{some_none, true_false}
 

@@ -12,17 +12,17 @@ use Rattle.hop_base.specs.declared.instructions.Condition.TheVariants.{Running, 
 use Rattle.hop_base.specs.declared.instructions.Instr.{Instr}
 use Rattle.hop_base.specs.declared.instructions.Instr.TheVariants.{Jz, Load, Store, Invoke, Leave, Return, Map, Unmap, Take, Give, Make, Spawn, Stop, Go}
 use Rattle.hop_base.specs.declared.instructions.Reply.{Reply}
-use Rattle.hop_model.specs.Acts.{Act, wanted}
-use Rattle.hop_model.specs.Births.{birth, code_in}
-use Rattle.hop_model.specs.Changes.{Access, Change, carried, changed, ordered}
-use Rattle.hop_model.specs.Outcomes.{Outcome, back, back_to, by_other, by_refused, code_for, free_container, free_locus, give, give_at, given_cap, invoke, invoke_at, leave, leave_at, load, local_act, look_address, look_hops, looked, looked_by, make, make_at, map_by, map_refusal, map_region, next, on_cell, outcome, own, own_reply, spawn, spawn_at, store, take_by, take_cap, through, unmap, unmap_at, with_newborn}
-use Rattle.hop_model.specs.Refusals.{new_region, reg}
-use Rattle.hop_model.specs.Scripts.{ContainerTable, Script, container_named, container_table, text_eq}
-use Rattle.hop_model.specs.State.{Supply, Text, AtlasState, ContainerState, LocusState, Cell, NotBorn, AtlasCell, ContainerCell, LocusCell, KernelState}
-use Rattle.hop_model.specs.Steps.{accesses_of, change_of, if_running, numbered_change, outcome_in, running, seen_atlas, seen_other, step, step_change, with_atlas_access, with_newborn_access, with_other_access}
-use Rattle.hop_model.specs.Words.{cap_at, covers, denied, free_slot, last_call}
-use Rattle.hop_model.proofs.Basics.{some_of_map}
-use Rattle.hop_model.proofs.Writes.{cell_with, changed_cell}
+use Rattle.history_model.specs.hop_model.Acts.{Act, wanted}
+use Rattle.history_model.specs.hop_model.Births.{birth, code_in}
+use Rattle.history_model.specs.hop_model.Changes.{Access, Change, carried, changed, ordered}
+use Rattle.history_model.specs.hop_model.Outcomes.{Outcome, back, back_to, by_other, by_refused, code_for, free_container, free_locus, give, give_at, given_cap, invoke, invoke_at, leave, leave_at, load, local_act, look_address, look_hops, looked, looked_by, make, make_at, map_by, map_refusal, map_region, next, on_cell, outcome, own, own_reply, spawn, spawn_at, store, take_by, take_cap, through, unmap, unmap_at, with_newborn}
+use Rattle.history_model.specs.hop_model.Refusals.{new_region, reg}
+use Rattle.history_model.specs.hop_model.Scripts.{ContainerTable, Script, container_named, container_table, text_eq}
+use Rattle.history_model.specs.hop_model.State.{Supply, Text, AtlasState, ContainerState, LocusState, Cell, NotBorn, AtlasCell, ContainerCell, LocusCell, KernelState}
+use Rattle.history_model.specs.hop_model.Steps.{accesses_of, change_of, if_running, numbered_change, outcome_in, running, seen_atlas, seen_other, step, step_change, with_atlas_access, with_newborn_access, with_other_access}
+use Rattle.history_model.specs.hop_model.Words.{cap_at, covers, denied, free_slot, last_call}
+use Rattle.history_model.proofs.hop_model_lemmas.Basics.{some_of_map}
+use Rattle.history_model.proofs.hop_model_lemmas.Writes.{cell_with, changed_cell}
 use Rattle.history_model.proofs.ScriptLemmas.{named_container, named_locus}
 use Rattle.plain_run.specs.Snaps.{code_of}
 use Rattle.plain_run.proofs.Growing.{birth_named_made, container_change, locus_change}
@@ -70,7 +70,7 @@ module _ (P : List Instr → Type 0) (none : P []) where
     through_coded : (r : Region) (address : ℕ) (o : Option Reply) → IsCoded (through l r address o)
     through_coded r address (Some why) = record { locus = here; other = tt; newborn = tt }
     through_coded r address None =
-        elim (nat_lt (look_hops l) 63) as (λ b. IsCoded (if b then Rattle.hop_model.specs.Outcomes.hop_to l r address else own_reply l Rattle.hop_base.specs.declared.instructions.Reply.TheVariants.Deep)) [
+        elim (nat_lt (look_hops l) 63) as (λ b. IsCoded (if b then Rattle.history_model.specs.hop_model.Outcomes.hop_to l r address else own_reply l Rattle.hop_base.specs.declared.instructions.Reply.TheVariants.Deep)) [
           | true ↦ record { locus = here; other = tt; newborn = tt }
           | false ↦ record { locus = here; other = tt; newborn = tt }
         ]
@@ -89,7 +89,7 @@ module _ (P : List Instr → Type 0) (none : P []) where
     invoke_coded : (x : ℕ) (c : ContainerState) (o : Option ℕ) → P c.code → IsCoded (invoke_at l x c o)
     invoke_coded x c None h = record { locus = here; other = h; newborn = tt }
     invoke_coded x c (Some entry) h =
-        elim (nat_lt (length l.chain) 64) as (λ b. IsCoded (if b then Rattle.hop_model.specs.Outcomes.entered c (Rattle.hop_model.specs.Outcomes.enter l x c entry (Rattle.std.proofs.Common.◌++◌ l.chain (record { container = l.host; place = l.place + 1 } ∷ []))) else Rattle.hop_model.specs.Outcomes.with_other l Rattle.hop_base.specs.declared.instructions.Reply.TheVariants.ListFull (ContainerCell c))) [
+        elim (nat_lt (length l.chain) 64) as (λ b. IsCoded (if b then Rattle.history_model.specs.hop_model.Outcomes.entered c (Rattle.history_model.specs.hop_model.Outcomes.enter l x c entry (Rattle.std.proofs.Common.◌++◌ l.chain (record { container = l.host; place = l.place + 1 } ∷ []))) else Rattle.history_model.specs.hop_model.Outcomes.with_other l Rattle.hop_base.specs.declared.instructions.Reply.TheVariants.ListFull (ContainerCell c))) [
           | true ↦ record { locus = h; other = h; newborn = tt }
           | false ↦ record { locus = here; other = h; newborn = tt }
         ]

@@ -11,15 +11,15 @@ use Rattle.hop_base.specs.declared.histories.Touch.{Touch}
 use Rattle.hop_base.specs.declared.instructions.Instr.{Instr}
 use Rattle.hop_base.specs.declared.instructions.Instr.TheVariants.{Snap, Stabilise}
 use Rattle.hop_base.specs.declared.instructions.Reply.TheVariants.{Ok}
-use Rattle.hop_model.specs.State.{Supply, LocusState, Cell, LocusCell, EntityState, KernelState}
-use Rattle.hop_model.specs.Changes.{Access, Change, accessed, acts, carried, changed, written}
-use Rattle.hop_model.specs.Histories.{AllBelow64, IsLegalFrom, IsMade, May, may, Run, after_step, asks, births_owed, event_of, by_event, goes_on, is_due, locus_in, mark, never, noting, owed_by, run_after, stabilises, went_on, with_asked, writes}
-use Rattle.hop_model.specs.Parts.{after_entry, is_event, next_of}
-use Rattle.hop_model.specs.Refusals.{instr_at}
-use Rattle.hop_model.specs.Scripts.{Script}
-use Rattle.hop_model.specs.Serial.{can_step, made_and_owed, owed_stable, turn, turns}
-use Rattle.hop_model.specs.Steps.{numbered_change, running, step, step_change}
-use Rattle.hop_model.specs.Words.{put}
+use Rattle.history_model.specs.hop_model.State.{Supply, LocusState, Cell, LocusCell, EntityState, KernelState}
+use Rattle.history_model.specs.hop_model.Changes.{Access, Change, accessed, acts, carried, changed, written}
+use Rattle.history_model.specs.hop_model.Histories.{AllBelow64, IsLegalFrom, IsMade, May, may, Run, after_step, asks, births_owed, event_of, by_event, goes_on, is_due, locus_in, mark, never, noting, owed_by, run_after, stabilises, went_on, with_asked, writes}
+use Rattle.history_model.specs.hop_model.Parts.{after_entry, is_event, next_of}
+use Rattle.history_model.specs.hop_model.Refusals.{instr_at}
+use Rattle.history_model.specs.hop_model.Scripts.{Script}
+use Rattle.history_model.specs.hop_model.Serial.{can_step, made_and_owed, owed_stable, turn, turns}
+use Rattle.history_model.specs.hop_model.Steps.{numbered_change, running, step, step_change}
+use Rattle.history_model.specs.hop_model.Words.{put}
 use Rattle.history_model.specs.Events.{Has, state_with}
 use Rattle.plain_run.specs.Looking.{is_stabilise, owed_after}
 use Rattle.plain_run.specs.Snaps.{is_no_snap}

@@ -2,13 +2,13 @@
 use Rattle.std.proofs.Common.{◌≡◌, ℕ, ◌<◌, Bool, true, false, if◌then◌else◌, IsTrue, List, [], ◌∷◌, ◌++◌, length, get_or, Option, Some, None, is_some, is_none, refl, sym, ap, subst, ◌∙◌, append_assoc, append-nil}
 use Rattle.std.specs.List.{All, list_all}
 use Rattle.std.proofs.lemmas.List.Elements.{All-cons, All-head, All-nil, All-tail}
-use Rattle.hop_model.specs.Scripts.{ContainerTable, LocusTable, Script, container_named, locus_named, next_container_name, next_locus_name, next_name, number_of, place_of}
-use Rattle.hop_model.specs.Soundness.{is_given_name}
-use Rattle.hop_model.specs.State.{Text, AtlasState}
-use Rattle.hop_model.specs.Words.{or_else}
+use Rattle.history_model.specs.hop_model.Scripts.{ContainerTable, LocusTable, Script, container_named, locus_named, next_container_name, next_locus_name, next_name, number_of, place_of}
+use Rattle.history_model.specs.hop_model.Soundness.{is_given_name}
+use Rattle.history_model.specs.hop_model.State.{Text, AtlasState}
+use Rattle.history_model.specs.hop_model.Words.{or_else}
 use Rattle.history_model.specs.Lists.{IsFront, KeepsNames}
-use Rattle.sound_runs.proofs.Found.{text_same}
-use Rattle.script_form.specs.Rules.{AreLocusTables, IsScript, container_names, is_among, locus_names}
+use Rattle.history_model.proofs.sound_runs_lemmas.Found.{text_same}
+use Rattle.history_model.specs.script_form.Rules.{AreLocusTables, IsScript, container_names, is_among, locus_names}
 use Rattle.plain_run.specs.Fitting.{Fits}
 use Rattle.plain_run.proofs.Growing.{grown_known, not_atlas, place_more}
 use Rattle.plain_run.proofs.KnownNames.{is_named, loci_known, none_some, or_cases, some_none, true_false}
@@ -85,7 +85,7 @@ given_locus : (a : AtlasState) (containers earlier : List Text) (ts : List Locus
     → IsTrue (is_given_name x) × (container_named a x ≡ None)
 given_locus a containers earlier [] x h kinds among = true_false false among refl
 given_locus a containers earlier (t ∷ ts) x h kinds among =
-    or_cases (Rattle.hop_model.specs.Scripts.text_eq x t.name) (is_among (locus_names ts) x) among
+    or_cases (Rattle.history_model.specs.hop_model.Scripts.text_eq x t.name) (is_among (locus_names ts) x) among
     (λ e. (subst (λ (n : Text). IsTrue (is_given_name n)) (sym (text_same x t.name e)) h.0.name, ap (container_named a) (text_same x t.name e) ∙ All-head (λ (t : LocusTable). container_named a t.name ≡ None) t ts kinds))
     (λ e. given_locus a containers (t.name ∷ earlier) ts x h.1 (All-tail (λ (t : LocusTable). container_named a t.name ≡ None) t ts kinds) e)
 
@@ -101,7 +101,7 @@ locus_known a x given kind known = by_named (locus_named a x) refl
 
 all_of : (test : Text → Bool) (P : Text → Type 0) (xs : List Text) → ((x : Text) → IsTrue (test x) → P x) → IsTrue (list_all test xs) → All P xs
 all_of test P [] f h = All-nil P
-all_of test P (x ∷ xs) f h = All-cons P x xs (f x (Rattle.hop_model.proofs.Basics.and_left (test x) (list_all test xs) h)) (all_of test P xs f (Rattle.hop_model.proofs.Basics.and_right (test x) (list_all test xs) h))
+all_of test P (x ∷ xs) f h = All-cons P x xs (f x (Rattle.history_model.proofs.hop_model_lemmas.Basics.and_left (test x) (list_all test xs) h)) (all_of test P xs f (Rattle.history_model.proofs.hop_model_lemmas.Basics.and_right (test x) (list_all test xs) h))
 
 -- where all names are born, all picks are loci
 pub picks_born : (a : AtlasState) (script : Script) → IsScript script → Fits a script → is_some (next_name a script) ≡ false → All (λ (name : Text). IsTrue (is_some (locus_named a name))) script.order

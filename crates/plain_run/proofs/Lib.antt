@@ -13,3 +13,6 @@ pub mod Beginning
 pub mod Clashing
 pub mod Misfits
 pub mod ShortNames
+pub use Rattle.history_model.proofs as history_model_lemmas
+pub use Rattle.history_model.proofs.hop_model_lemmas
+pub use Rattle.history_model.proofs.sound_runs_lemmas

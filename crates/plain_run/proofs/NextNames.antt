@@ -1,10 +1,10 @@
 -- The next name, looked for table by table.
 use Rattle.std.proofs.Common.{◌≡◌, ℕ, zero, suc, ◌+◌, ◌<◌, ◌≤◌, Bool, true, false, if◌then◌else◌, List, [], ◌∷◌, length, map, drop, get_or, Option, Some, None, is_some, is_none, string_bytes, refl, sym, ap, ◌∙◌, arith}
-use Rattle.hop_model.specs.Scripts.{next_container_name, next_locus_name, number_of}
-use Rattle.hop_model.specs.State.{AtlasState}
-use Rattle.script_form.specs.Scripts.{container_of, locus_of}
-use Rattle.script_form.specs.declared.ScriptContainer.{ScriptContainer}
-use Rattle.script_form.specs.declared.ScriptLocus.{ScriptLocus}
+use Rattle.history_model.specs.hop_model.Scripts.{next_container_name, next_locus_name, number_of}
+use Rattle.history_model.specs.hop_model.State.{AtlasState}
+use Rattle.history_model.specs.script_form.Scripts.{container_of, locus_of}
+use Rattle.history_model.specs.script_form.declared.ScriptContainer.{ScriptContainer}
+use Rattle.history_model.specs.script_form.declared.ScriptLocus.{ScriptLocus}
 use Rattle.plain_run.proofs.KnownNames.{true_false}
 
 none_is : {X : Type 0} (o : Option X) (b : Bool) → is_some o ≡ b → is_none o ≡ (if b then false else true)

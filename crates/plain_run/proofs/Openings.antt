@@ -4,17 +4,17 @@ use Rattle.std.proofs.lemmas.List.{length-append}
 use Rattle.hop_base.specs.declared.histories.Entry.{Entry}
 use Rattle.hop_base.specs.declared.histories.Event.{Event}
 use Rattle.hop_base.specs.declared.histories.Event.TheVariants.{Birth, Stable}
-use Rattle.hop_model.specs.Births.{birth, birth_change, next_birth, next_birth_change}
-use Rattle.hop_model.specs.Histories.{May, Run, after_birth, births_owed, by_event, event_of, goes_on, mark, may, never, noting, owing_births, run_after, start_run, went_on}
-use Rattle.hop_model.specs.Parts.{after_entry, is_event, next_of}
-use Rattle.hop_model.specs.Scripts.{Script, locus_named, next_name}
-use Rattle.hop_model.specs.Serial.{birth_turn, births, made_and_owed, owed_stable}
-use Rattle.hop_model.specs.Soundness.{IsSound}
-use Rattle.hop_model.specs.State.{Supply, Text, AtlasState, Cell, KernelState}
-use Rattle.hop_model.specs.Steps.{atlas_in}
+use Rattle.history_model.specs.hop_model.Births.{birth, birth_change, next_birth, next_birth_change}
+use Rattle.history_model.specs.hop_model.Histories.{May, Run, after_birth, births_owed, by_event, event_of, goes_on, mark, may, never, noting, owing_births, run_after, start_run, went_on}
+use Rattle.history_model.specs.hop_model.Parts.{after_entry, is_event, next_of}
+use Rattle.history_model.specs.hop_model.Scripts.{Script, locus_named, next_name}
+use Rattle.history_model.specs.hop_model.Serial.{birth_turn, births, made_and_owed, owed_stable}
+use Rattle.history_model.specs.hop_model.Soundness.{IsSound}
+use Rattle.history_model.specs.hop_model.State.{Supply, Text, AtlasState, Cell, KernelState}
+use Rattle.history_model.specs.hop_model.Steps.{atlas_in}
 use Rattle.history_model.specs.Events.{Bears, Has}
 use Rattle.history_model.specs.Lists.{KeepsNames}
-use Rattle.script_form.specs.Rules.{IsScript}
+use Rattle.history_model.specs.script_form.Rules.{IsScript}
 use Rattle.plain_run.specs.Fitting.{Fits}
 use Rattle.plain_run.specs.Snaps.{HasNoSnaps}
 use Rattle.plain_run.specs.Standing.{HasLooked, IsLow, IsQuiet, Reaches, opened_atlas, opening_from, run_from, settled}

@@ -6,13 +6,13 @@ use Rattle.std.proofs.lemmas.List.{get_or-drop, get_or_append_left, length-appen
 use Rattle.hop_base.specs.Edges.{upto}
 use Rattle.hop_base.specs.declared.histories.Entry.{Entry}
 use Rattle.hop_base.specs.declared.histories.Event.TheVariants.{Stable}
-use Rattle.hop_model.specs.Births.{birth}
-use Rattle.hop_model.specs.Histories.{births_owed, mark, run_after, start_run}
-use Rattle.hop_model.specs.Scripts.{Script, locus_named, next_name}
-use Rattle.hop_model.specs.Serial.{IsSerial, IsSerialFront, all_loci, births, can_step, looks_of, owed_stable, picks_of, rounds, turn, turns}
-use Rattle.hop_model.specs.Soundness.{IsSound}
-use Rattle.hop_model.specs.State.{Supply, Text, AtlasState, Cell, AtlasCell, KernelState}
-use Rattle.hop_model.specs.Steps.{atlas_in}
+use Rattle.history_model.specs.hop_model.Births.{birth}
+use Rattle.history_model.specs.hop_model.Histories.{births_owed, mark, run_after, start_run}
+use Rattle.history_model.specs.hop_model.Scripts.{Script, locus_named, next_name}
+use Rattle.history_model.specs.hop_model.Serial.{IsSerial, IsSerialFront, all_loci, births, can_step, looks_of, owed_stable, picks_of, rounds, turn, turns}
+use Rattle.history_model.specs.hop_model.Soundness.{IsSound}
+use Rattle.history_model.specs.hop_model.State.{Supply, Text, AtlasState, Cell, AtlasCell, KernelState}
+use Rattle.history_model.specs.hop_model.Steps.{atlas_in}
 use Rattle.history_model.specs.Born.{AreEdges}
 use Rattle.history_model.specs.Events.{Bears}
 use Rattle.history_model.specs.Lists.{KeepsNames}

@@ -7,14 +7,14 @@ use Rattle.hop_base.specs.declared.histories.Entry.{Entry}
 use Rattle.hop_base.specs.declared.histories.Event.TheVariants.{Stable}
 use Rattle.hop_base.specs.declared.instructions.Instr.{Instr}
 use Rattle.hop_base.specs.declared.instructions.Instr.TheVariants.{Halt}
-use Rattle.hop_model.specs.State.{Supply, LocusState, Cell, LocusCell, KernelState}
-use Rattle.hop_model.specs.Histories.{Run, asks, births_owed, mark, start_run}
-use Rattle.hop_model.specs.Refusals.{instr_at}
-use Rattle.hop_model.specs.Scripts.{Script, next_name}
-use Rattle.hop_model.specs.Serial.{can_step, owed_stable, turn}
-use Rattle.hop_model.specs.Soundness.{IsSound}
-use Rattle.hop_model.specs.Steps.{atlas_in, running, step}
-use Rattle.hop_model.specs.Words.{put}
+use Rattle.history_model.specs.hop_model.State.{Supply, LocusState, Cell, LocusCell, KernelState}
+use Rattle.history_model.specs.hop_model.Histories.{Run, asks, births_owed, mark, start_run}
+use Rattle.history_model.specs.hop_model.Refusals.{instr_at}
+use Rattle.history_model.specs.hop_model.Scripts.{Script, next_name}
+use Rattle.history_model.specs.hop_model.Serial.{can_step, owed_stable, turn}
+use Rattle.history_model.specs.hop_model.Soundness.{IsSound}
+use Rattle.history_model.specs.hop_model.Steps.{atlas_in, running, step}
+use Rattle.history_model.specs.hop_model.Words.{put}
 use Rattle.history_model.proofs.SoundLemmas.{all_at}
 use Rattle.history_model.specs.Events.{AreFewVersions, Has, Stays, StepsTo, state_with}
 use Rattle.history_model.specs.Lists.{KeepsNames}

@@ -1,7 +1,7 @@
 -- A state that is sound with one supplier is sound with each.
 use Rattle.std.proofs.Common.{◌≡◌, ℕ, ◌-◌, true, false, ◌==◌, nat_lt, if◌then◌else◌, Option, Some, None, slice_get, refl, sym, ap, subst, ◌∙◌}
-use Rattle.hop_model.specs.Soundness.{AreSound, IsSound, IsSoundContainer, IsSoundLocus, regions_onto}
-use Rattle.hop_model.specs.State.{Supply, AtlasState, ContainerState, LocusState, Cell, NotBorn, AtlasCell, ContainerCell, LocusCell}
+use Rattle.history_model.specs.hop_model.Soundness.{AreSound, IsSound, IsSoundContainer, IsSoundLocus, regions_onto}
+use Rattle.history_model.specs.hop_model.State.{Supply, AtlasState, ContainerState, LocusState, Cell, NotBorn, AtlasCell, ContainerCell, LocusCell}
 use Rattle.history_model.specs.Plains.{atlas_of, cells_of, container_cell, container_of, locus_cell}
 use Rattle.history_model.specs.declared.plain.Plain.{Plain}
 use Rattle.history_model.specs.declared.plain.PlainContainer.{PlainContainer}

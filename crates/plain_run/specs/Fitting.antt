@@ -1,13 +1,13 @@
 -- Whether the new names of a script can be born into an atlas.
 use Rattle.std.specs.Prelude.{◌≡◌, ℕ, ◌+◌, ◌≤◌, ◌++◌, List, [], ◌∷◌, length, count_by, codes, decimal, nat_le, if◌then◌else◌, Option, Some, None, is_none, is_some, option_map, string_bytes, ⊤}
-use Rattle.hop_model.specs.Scripts.{ContainerTable, LocusTable, Script, container_named, locus_named, number_of}
-use Rattle.hop_model.specs.State.{Text, AtlasState}
-use Rattle.hop_model.specs.Words.{or_else}
+use Rattle.history_model.specs.hop_model.Scripts.{ContainerTable, LocusTable, Script, container_named, locus_named, number_of}
+use Rattle.history_model.specs.hop_model.State.{Text, AtlasState}
+use Rattle.history_model.specs.hop_model.Words.{or_else}
 use Rattle.history_model.specs.Born.{AreOfOneKind}
-use Rattle.script_form.specs.declared.refusals.ScriptFault.{ScriptFault}
-use Rattle.script_form.specs.declared.refusals.ScriptFault.TheVariants.{Refused, Memory}
-use Rattle.script_form.specs.declared.refusals.Why.{Why}
-use Rattle.script_form.specs.declared.refusals.Why.TheVariants.{Clash, NoRoom}
+use Rattle.history_model.specs.script_form.declared.refusals.ScriptFault.{ScriptFault}
+use Rattle.history_model.specs.script_form.declared.refusals.ScriptFault.TheVariants.{Refused, Memory}
+use Rattle.history_model.specs.script_form.declared.refusals.Why.{Why}
+use Rattle.history_model.specs.script_form.declared.refusals.Why.TheVariants.{Clash, NoRoom}
 
 -- the names of a kind that are not born yet
 abbrev pub new_containers : AtlasState → List ContainerTable → ℕ

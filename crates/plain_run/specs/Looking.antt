@@ -6,11 +6,11 @@ use Rattle.hop_base.specs.declared.histories.Entry.{Entry}
 use Rattle.hop_base.specs.declared.instructions.Instr.{Instr}
 use Rattle.hop_base.specs.declared.instructions.Instr.TheVariants.{Stabilise}
 use Rattle.hop_base.specs.declared.instructions.Reply.TheVariants.{Ok}
-use Rattle.hop_model.specs.Histories.{births_owed, locus_in}
-use Rattle.hop_model.specs.Refusals.{instr_at}
-use Rattle.hop_model.specs.Scripts.{Script}
-use Rattle.hop_model.specs.Serial.{can_step, owed_stable, turn}
-use Rattle.hop_model.specs.State.{Supply, Text, LocusState, Cell, KernelState}
+use Rattle.history_model.specs.hop_model.Histories.{births_owed, locus_in}
+use Rattle.history_model.specs.hop_model.Refusals.{instr_at}
+use Rattle.history_model.specs.hop_model.Scripts.{Script}
+use Rattle.history_model.specs.hop_model.Serial.{can_step, owed_stable, turn}
+use Rattle.history_model.specs.hop_model.State.{Supply, Text, LocusState, Cell, KernelState}
 use Rattle.history_model.specs.Born.{AreEdges}
 use Rattle.history_model.specs.Plains.{cells_of}
 use Rattle.plain_run.specs.Standing.{Reaches, Stands, run_from}

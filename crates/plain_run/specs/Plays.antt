@@ -1,13 +1,13 @@
 -- What a run of a script made.
 use Rattle.std.specs.Prelude.{◌≡◌, ℕ, ◌<◌, Bool, true, false, List, ◌++◌, length}
 use Rattle.hop_base.specs.declared.histories.Entry.{Entry}
-use Rattle.hop_model.specs.Histories.{IsLegalRun, never}
-use Rattle.hop_model.specs.Output.{output_of}
-use Rattle.hop_model.specs.Scripts.{Script}
-use Rattle.hop_model.specs.Serial.{IsSerial, IsSerialFront}
-use Rattle.hop_model.specs.Soundness.{IsSound}
-use Rattle.hop_model.specs.State.{Supply, Cell, KernelState, empty_state}
-use Rattle.hop_model.specs.Steps.{atlas_in}
+use Rattle.history_model.specs.hop_model.Histories.{IsLegalRun, never}
+use Rattle.history_model.specs.hop_model.Output.{output_of}
+use Rattle.history_model.specs.hop_model.Scripts.{Script}
+use Rattle.history_model.specs.hop_model.Serial.{IsSerial, IsSerialFront}
+use Rattle.history_model.specs.hop_model.Soundness.{IsSound}
+use Rattle.history_model.specs.hop_model.State.{Supply, Cell, KernelState, empty_state}
+use Rattle.history_model.specs.hop_model.Steps.{atlas_in}
 use Rattle.plain_run.specs.Standing.{Stands, run_from}
 use Rattle.plain_run.specs.declared.serial.SerialRun.{SerialRun}
 

@@ -3,8 +3,8 @@ use Rattle.std.specs.Prelude.{ℕ, Bool, true, false, IsTrue, List, [], All}
 use Rattle.std.specs.List.{list_all}
 use Rattle.hop_base.specs.declared.instructions.Instr.{Instr}
 use Rattle.hop_base.specs.declared.instructions.Instr.TheVariants.{Snap}
-use Rattle.hop_model.specs.Scripts.{ContainerTable, Script}
-use Rattle.hop_model.specs.State.{Cell, NotBorn, AtlasCell, ContainerCell, LocusCell}
+use Rattle.history_model.specs.hop_model.Scripts.{ContainerTable, Script}
+use Rattle.history_model.specs.hop_model.State.{Cell, NotBorn, AtlasCell, ContainerCell, LocusCell}
 
 abbrev pub is_no_snap : Instr → Bool
 is_no_snap (Snap c) = false

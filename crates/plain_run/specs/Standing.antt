@@ -2,19 +2,19 @@
 use Rattle.std.specs.Prelude.{◌≡◌, ℕ, ◌+◌, ◌-◌, ◌*◌, ◌<◌, ◌≤◌, ◌^◌, false, true, List, [], ◌∷◌, ◌++◌, length, sum_by, take, All, slice_index, IsTrue, is_some, Option, Some, None}
 use Rattle.hop_base.specs.declared.histories.Entry.{Entry}
 use Rattle.hop_base.specs.declared.histories.Event.TheVariants.{Stable}
-use Rattle.hop_model.specs.Histories.{AllBelow64, IsLegalRun, Run, births_owed, mark, never, run_after, start_run}
-use Rattle.hop_model.specs.LocalEvents.{touch_at}
-use Rattle.hop_model.specs.Scripts.{Script, locus_named}
-use Rattle.hop_model.specs.Serial.{IsSerial, IsSerialFront, all_births, all_loci, births, picks_of, rounds, turns}
-use Rattle.hop_model.specs.Soundness.{IsSound}
-use Rattle.hop_model.specs.State.{Supply, Text, AtlasState, Cell, KernelState}
-use Rattle.hop_model.specs.Steps.{atlas_in}
+use Rattle.history_model.specs.hop_model.Histories.{AllBelow64, IsLegalRun, Run, births_owed, mark, never, run_after, start_run}
+use Rattle.history_model.specs.hop_model.LocalEvents.{touch_at}
+use Rattle.history_model.specs.hop_model.Scripts.{Script, locus_named}
+use Rattle.history_model.specs.hop_model.Serial.{IsSerial, IsSerialFront, all_births, all_loci, births, picks_of, rounds, turns}
+use Rattle.history_model.specs.hop_model.Soundness.{IsSound}
+use Rattle.history_model.specs.hop_model.State.{Supply, Text, AtlasState, Cell, KernelState}
+use Rattle.history_model.specs.hop_model.Steps.{atlas_in}
 use Rattle.history_model.specs.Born.{AreEdges}
 use Rattle.history_model.specs.Events.{Has}
 use Rattle.history_model.specs.Lists.{KeepsNames}
 use Rattle.history_model.specs.Plains.{atlas_of, cells_of}
 use Rattle.history_model.specs.declared.plain.Plain.{Plain}
-use Rattle.script_form.specs.Rules.{IsScript}
+use Rattle.history_model.specs.script_form.Rules.{IsScript}
 use Rattle.plain_run.specs.Fitting.{Fits}
 use Rattle.plain_run.specs.Snaps.{HasNoSnaps, HasNoSnapTables}
 use Rattle.plain_run.specs.declared.serial.Place.{Place}

@@ -1,16 +1,16 @@
 //! Whether the names of a script can be born into an atlas.
 ghost use Rattle.std.specs.Prelude.{◌≡◌, ◌+◌, ◌≤◌, ◌++◌, OnOk, IfOk, IfErr, IfSome, IfNone, map, length, codes, decimal, string_bytes, is_some, count_by, is_none, Some, None};
-ghost use Rattle.hop_model.specs.Scripts.{container_named as container_number, locus_named as locus_number, number_of as number};
+ghost use Rattle.history_model.specs.hop_model.Scripts.{container_named as container_number, locus_named as locus_number, number_of as number};
 ghost use Rattle.history_model.specs.Born.{HasFewNames};
 ghost use Rattle.history_model.specs.Plains.{atlas_of};
 ghost use Rattle.plain_run.specs.Fitting.{Fits, IsClash, IsMisfit, IsNoRoom, clash_key, container_clash as clash_of_containers, locus_clash as clash_of_loci, name_key as key_of_name, new_containers as new_of_containers, new_loci as new_of_loci, room_key};
-ghost use Rattle.script_form.specs.Scripts.{container_of, locus_of, tables_of};
-ghost use Rattle.script_form.specs.declared.refusals.Why.{Why as AWhy};
+ghost use Rattle.history_model.specs.script_form.Scripts.{container_of, locus_of, tables_of};
+ghost use Rattle.history_model.specs.script_form.declared.refusals.Why.{Why as AWhy};
 
+use history_model::script_form::{Refusal, Script, ScriptContainer, ScriptFault, ScriptLocus, Why};
 use history_model::{PlainAtlas, container_named, number_among, number_of};
 use hop_base::{FIRST_LOCUS, MOST_CONTAINERS, MOST_LOCI};
 use itoa::Buffer;
-use script_form::{Refusal, Script, ScriptContainer, ScriptFault, ScriptLocus, Why};
 use std::alloc::{AllocError, Global};
 
 /// The first container's table whose name is a locus.

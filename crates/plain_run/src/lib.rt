@@ -9,6 +9,8 @@ mod plays;
 mod serial;
 
 pub use fitting::against;
+pub use history_model;
+pub use history_model::script_form;
 pub use names::next_name;
 pub use plays::{Played, finish, play, replay};
 pub use serial::SerialRun;

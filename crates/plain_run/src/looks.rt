@@ -1,17 +1,17 @@
 //! Looks at loci: each that isn't idle makes one step.
 ghost use Rattle.std.specs.Prelude.{◌≡◌, ℕ, ◌-◌, ◌+◌, ◌<◌, ◌≤◌, ◌^◌, OnErr, OnOk, IfOk, IfSome, IfNone, Some, None, length, slice_get};
-ghost use Rattle.hop_model.specs.State.{Supply};
+ghost use Rattle.history_model.specs.hop_model.State.{Supply};
 ghost use Rattle.history_model.specs.Lists.{KeepsNames};
 ghost use Rattle.history_model.specs.Plains.{atlas_of, locus_cell};
 ghost use Rattle.plain_run.specs.Looking.{AllIdle, Idles, IsInRounds, IsPastBirths, IsReadySomewhere, Stills, Turns, owed_after, wants_stable as stable_wanted};
 ghost use Rattle.plain_run.specs.Standing.{GoesOn, IsLow, IsOver, IsStanding, Keeps};
 ghost use Rattle.plain_run.specs.declared.serial.Place.TheVariants.{Pick as AtPick, Round as AtRound};
-ghost use Rattle.script_form.specs.Scripts.{tables_of};
+ghost use Rattle.history_model.specs.script_form.Scripts.{tables_of};
 
 use crate::serial::{Place, SerialRun};
+use history_model::script_form::Script;
 use history_model::{PlainLocus, number_among, plain_step};
 use hop_base::{Answer, Entity, Entry, FIRST_LOCUS, Instr, MOST_ENTITIES, Reply};
-use script_form::Script;
 use std::alloc::AllocError;
 
 /// Whether the next instruction of this locus is a stabilise.

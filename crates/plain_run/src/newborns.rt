@@ -1,8 +1,8 @@
 //! The births of a script's names, one after another.
 ghost use Rattle.std.specs.Prelude.{◌≡◌, ◌≤◌, ◌^◌, ◌<◌, OnErr, IfOk, IfSome, IfNone, Some, None};
-ghost use Rattle.hop_model.specs.Scripts.{next_name as next_of};
-ghost use Rattle.hop_model.specs.Soundness.{IsSound};
-ghost use Rattle.hop_model.specs.State.{Supply};
+ghost use Rattle.history_model.specs.hop_model.Scripts.{next_name as next_of};
+ghost use Rattle.history_model.specs.hop_model.Soundness.{IsSound};
+ghost use Rattle.history_model.specs.hop_model.State.{Supply};
 ghost use Rattle.history_model.specs.Born.{AreEdges, HasFewNames};
 ghost use Rattle.history_model.specs.Events.{AreFewVersions, Bears, Stays};
 ghost use Rattle.history_model.specs.Plains.{atlas_of, cells_of};
@@ -10,14 +10,14 @@ ghost use Rattle.plain_run.specs.Fitting.{Fits};
 ghost use Rattle.plain_run.specs.Standing.{GoesOn, IsLow, IsStanding, Keeps};
 ghost use Rattle.plain_run.specs.Looking.{IsPastBirths, ended};
 ghost use Rattle.plain_run.specs.declared.serial.Place.TheVariants.{Births as AtBirths};
-ghost use Rattle.script_form.specs.Rules.{IsScript};
-ghost use Rattle.script_form.specs.Scripts.{tables_of};
+ghost use Rattle.history_model.specs.script_form.Rules.{IsScript};
+ghost use Rattle.history_model.specs.script_form.Scripts.{tables_of};
 
 use crate::names::next_name;
 use crate::serial::{Place, SerialRun};
+use history_model::script_form::Script;
 use history_model::{Plain, plain_birth};
 use hop_base::{Entity, Entry};
-use script_form::Script;
 use std::alloc::{AllocError, Global};
 
 /// The birth of the script's next name. A script that fits always has one that is defined.

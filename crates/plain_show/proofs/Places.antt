@@ -2,8 +2,8 @@
 use Rattle.std.proofs.Common.{◌≡◌, ℕ, ◌+◌, ◌-◌, ◌<◌, ◌≤◌, IsTrue, List, length, Option, Some, None, Result, slice_get, string_bytes, refl, sym, ap, subst, ◌∙◌, arith}
 use Rattle.std.proofs.lemmas.Bool.Decides.{nat_tests}
 use Rattle.std.proofs.lemmas.List.{length-map}
-use Rattle.hop_model.specs.Soundness.{IsSound, is_born_container, is_born_locus}
-use Rattle.hop_model.specs.State.{Supply, AtlasState, ContainerState, LocusState, Cell, NotBorn, ContainerCell, LocusCell}
+use Rattle.history_model.specs.hop_model.Soundness.{IsSound, is_born_container, is_born_locus}
+use Rattle.history_model.specs.hop_model.State.{Supply, AtlasState, ContainerState, LocusState, Cell, NotBorn, ContainerCell, LocusCell}
 use Rattle.stream_edge.specs.Streams.{Puts}
 use Rattle.history_model.specs.Plains.{atlas_of, cells_of, locus_cell}
 use Rattle.history_model.specs.declared.plain.Plain.{Plain}

@@ -4,11 +4,11 @@ use Rattle.std.specs.Prelude.{decimal}
 use Rattle.std.specs.List.{list_all}
 use Rattle.std.proofs.lemmas.Bool.{false≢true, leb-true}
 use Rattle.std.proofs.lemmas.Fmt.{length-decimal-le}
-use Rattle.hop_model.proofs.Basics.{and_left, and_right}
-use Rattle.hop_model.specs.Outcomes.{made_name}
-use Rattle.hop_model.specs.Scripts.{atlas_name, text_eq}
-use Rattle.hop_model.specs.Soundness.{IsSound, IsSoundAtlas, are_names_from, begins_with_letter, is_given_name, is_name_byte, is_name_of}
-use Rattle.hop_model.specs.State.{AtlasState, Supply, Text}
+use Rattle.history_model.proofs.hop_model_lemmas.Basics.{and_left, and_right}
+use Rattle.history_model.specs.hop_model.Outcomes.{made_name}
+use Rattle.history_model.specs.hop_model.Scripts.{atlas_name, text_eq}
+use Rattle.history_model.specs.hop_model.Soundness.{IsSound, IsSoundAtlas, are_names_from, begins_with_letter, is_given_name, is_name_byte, is_name_of}
+use Rattle.history_model.specs.hop_model.State.{AtlasState, Supply, Text}
 use Rattle.history_model.specs.Plains.{atlas_of, cells_of}
 use Rattle.history_model.specs.declared.plain.Plain.{Plain}
 use Rattle.history_model.proofs.SoundLemmas.{sound_here}

@@ -2,7 +2,7 @@
 use Rattle.std.specs.Prelude.{ℕ, ◌++◌, Option, Some, None, codes, decimal}
 use Rattle.hop_base.specs.declared.instructions.Condition.{Condition}
 use Rattle.hop_base.specs.declared.instructions.Condition.TheVariants.{Running, Stopped, Halted}
-use Rattle.hop_model.specs.State.{Text, AtlasState}
+use Rattle.history_model.specs.hop_model.State.{Text, AtlasState}
 use Rattle.text_lines.specs.Lines.{name_in, word}
 
 -- the first word of a line, and the name of the entity that it is about

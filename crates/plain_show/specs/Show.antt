@@ -7,10 +7,10 @@ use Rattle.hop_base.specs.declared.capabilities.Private.{Private}
 use Rattle.hop_base.specs.declared.capabilities.Region.{Region}
 use Rattle.hop_base.specs.declared.instructions.Call.{Call}
 use Rattle.hop_base.specs.declared.instructions.Walk.{Walk}
-use Rattle.hop_model.specs.Outcomes.{supplied}
-use Rattle.hop_model.specs.State.{Supply, Text, AtlasState, ContainerState, LocusState, Cell, NotBorn, AtlasCell, ContainerCell, LocusCell}
-use Rattle.hop_model.specs.Steps.{atlas_in}
-use Rattle.hop_model.specs.Words.{cap_at}
+use Rattle.history_model.specs.hop_model.Outcomes.{supplied}
+use Rattle.history_model.specs.hop_model.State.{Supply, Text, AtlasState, ContainerState, LocusState, Cell, NotBorn, AtlasCell, ContainerCell, LocusCell}
+use Rattle.history_model.specs.hop_model.Steps.{atlas_in}
+use Rattle.history_model.specs.hop_model.Words.{cap_at}
 use Rattle.instr_set.specs.Spelling.{rights}
 use Rattle.text_lines.specs.Lines.{line_end, name_in, word}
 use Rattle.plain_show.specs.Lines.{condition_word, named, optional}

@@ -4,7 +4,7 @@ ghost use Rattle.std.specs.List.{flat_map};
 ghost use Rattle.hop_base.specs.Edges.{upto};
 ghost use Rattle.disk_trait.specs.Counts.{Rose};
 ghost use Rattle.stream_edge.specs.Streams.{Puts};
-ghost use Rattle.hop_model.specs.State.{Supply};
+ghost use Rattle.history_model.specs.hop_model.State.{Supply};
 ghost use Rattle.history_model.specs.Plains.{container_of};
 ghost use Rattle.text_lines.specs.Lines.{HasShortNames};
 ghost use Rattle.plain_show.specs.Show.{changed_word, container_line, container_lines, region_line, word_line, word_line_by};

@@ -2,19 +2,19 @@
 use Rattle.std.proofs.Common.{◌≡◌, ℕ, ◌<◌, true, false, ◌||◌, ◌==◌, count_by, List, sym, ap, ◌∙◌}
 use Rattle.hop_base.specs.declared.instructions.Instr.{Instr}
 use Rattle.hop_base.specs.declared.instructions.Instr.TheVariants.{Map, Unmap}
-use Rattle.hop_model.specs.Refusals.{instr_at}
-use Rattle.hop_model.specs.Soundness.{AreSound}
-use Rattle.hop_model.specs.State.{Supply, ContainerState, LocusState, Cell, LocusCell}
-use Rattle.wanted_act.specs.Views.{may_name_itself}
+use Rattle.history_model.specs.hop_model.Refusals.{instr_at}
+use Rattle.history_model.specs.hop_model.Soundness.{AreSound}
+use Rattle.history_model.specs.hop_model.State.{Supply, ContainerState, LocusState, Cell, LocusCell}
+use Rattle.history_model.specs.wanted_act.Views.{may_name_itself}
 use Rattle.atlas_dir.specs.Directory.{Directory}
-use Rattle.locus_machine.specs.declared.loci.Head.{Head}
-use Rattle.locus_machine.proofs.Alone.{wanted_says}
+use Rattle.step_plans.specs.locus_machine.declared.loci.Head.{Head}
+use Rattle.step_plans.proofs.locus_machine_lemmas.Alone.{wanted_says}
 use Rattle.directory_laws.proofs.BirthLaws.{meets_mapping}
 use Rattle.history_model.proofs.WantLemmas.{Neighbour, OfContainer, OfNamed}
-use Rattle.kernel_calls.specs.Calls.{atlas_state, is_map, is_unmap}
-use Rattle.kernel_cells.specs.declared.cells.Part.{Part}
-use Rattle.kernel_cells.specs.Cells.{part_of}
-use Rattle.map_steps.specs.Mapping.{IsHeadPart, MayMap, WantsMapping}
+use Rattle.directory_laws.specs.kernel_calls.Calls.{atlas_state, is_map, is_unmap}
+use Rattle.birth_steps.specs.kernel_cells.declared.cells.Part.{Part}
+use Rattle.birth_steps.specs.kernel_cells.Cells.{part_of}
+use Rattle.step_plans.specs.map_steps.Mapping.{IsHeadPart, MayMap, WantsMapping}
 use Rattle.plan_laws.proofs.SoundParts.{born_part}
 use Rattle.plan_laws.proofs.SoundPlans.{beside_here, container_low}
 

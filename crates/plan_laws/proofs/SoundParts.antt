@@ -1,22 +1,22 @@
 -- What a sound state says of the parts of cells.
 use Rattle.std.proofs.Common.{◌≡◌, ℕ, ◌+◌, ◌<◌, true, false, ◌&&◌, ◌||◌, ◌==◌, nat_lt, nat_le, IsSome, List, length, Option, Some, None, refl, sym, ap, ◌∙◌, arith}
 use Rattle.std.proofs.lemmas.Bool.Decides.{nat_tests}
-use Rattle.hop_model.specs.Soundness.{AreSound}
-use Rattle.hop_model.specs.State.{Supply, AtlasState, ContainerState, LocusState, Cell, NotBorn, AtlasCell, ContainerCell, LocusCell}
+use Rattle.history_model.specs.hop_model.Soundness.{AreSound}
+use Rattle.history_model.specs.hop_model.State.{Supply, AtlasState, ContainerState, LocusState, Cell, NotBorn, AtlasCell, ContainerCell, LocusCell}
 use Rattle.atlas_dir.specs.Directory.{Directory}
-use Rattle.locus_machine.specs.Loci.{container_with}
-use Rattle.locus_machine.specs.declared.loci.Head.{Head}
-use Rattle.fault_paging.specs.declared.paged.PagedMemory.{PagedMemory}
-use Rattle.fault_paging.specs.Words.{words_of}
-use Rattle.invocation.specs.Entries.{WantsBeside}
-use Rattle.address_resolve.specs.Looks.{is_look}
-use Rattle.kernel_calls.specs.Calls.{atlas_state}
-use Rattle.kernel_cells.specs.declared.cells.Part.{Part}
-use Rattle.kernel_cells.specs.declared.cells.Part.TheVariants as part
-use Rattle.kernel_cells.specs.Cells.{container_cell, part_of}
-use Rattle.beside_steps.specs.Besides.{memory_of}
+use Rattle.step_plans.specs.locus_machine.Loci.{container_with}
+use Rattle.step_plans.specs.locus_machine.declared.loci.Head.{Head}
+use Rattle.step_plans.specs.fault_paging.declared.paged.PagedMemory.{PagedMemory}
+use Rattle.step_plans.specs.fault_paging.Words.{words_of}
+use Rattle.step_plans.specs.invocation.Entries.{WantsBeside}
+use Rattle.step_plans.specs.address_resolve.Looks.{is_look}
+use Rattle.directory_laws.specs.kernel_calls.Calls.{atlas_state}
+use Rattle.birth_steps.specs.kernel_cells.declared.cells.Part.{Part}
+use Rattle.birth_steps.specs.kernel_cells.declared.cells.Part.TheVariants as part
+use Rattle.birth_steps.specs.kernel_cells.Cells.{container_cell, part_of}
+use Rattle.step_plans.specs.beside_steps.Besides.{memory_of}
 use Rattle.birth_steps.specs.Bearing.{IsUnbornContainer}
-use Rattle.map_steps.specs.Mapping.{IsHeadPart}
+use Rattle.step_plans.specs.map_steps.Mapping.{IsHeadPart}
 use Rattle.plan_laws.proofs.SoundPlans.{look_here}
 
 -- the part of a container that is born

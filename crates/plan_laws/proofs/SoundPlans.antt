@@ -4,22 +4,22 @@ use Rattle.std.proofs.lemmas.Bool.Decides.{nat_tests}
 use Rattle.hop_base.specs.declared.instructions.Instr.{Instr}
 use Rattle.hop_base.specs.declared.instructions.Instr.TheVariants.{Load, Store, Stop, Go, Snap}
 use Rattle.hop_base.specs.declared.instructions.Reply.TheVariants.{WrongKind}
-use Rattle.hop_model.specs.Acts.{Act, allowed, beside_or_self, wanted, alone, beside}
-use Rattle.hop_model.specs.Refusals.{entity_of, instr_at, lacks, no_locus, no_slot, refusal}
-use Rattle.hop_model.specs.Soundness.{AreSound, IsSoundLocus, is_born_container, is_born_locus}
-use Rattle.hop_model.specs.State.{Supply, AtlasState, ContainerState, LocusState, Cell, NotBorn, AtlasCell, ContainerCell, LocusCell}
-use Rattle.hop_model.specs.Words.{first, is_locus}
-use Rattle.wanted_act.specs.Views.{may_name_itself}
-use Rattle.wanted_act.proofs.Allowed.{first_none, unless_none}
-use Rattle.locus_machine.specs.declared.loci.Head.{Head}
-use Rattle.locus_machine.proofs.Alone.{wanted_allowed, wanted_says}
-use Rattle.invocation.specs.Entries.{WantsBeside}
-use Rattle.address_resolve.specs.Looks.{is_look}
+use Rattle.history_model.specs.hop_model.Acts.{Act, allowed, beside_or_self, wanted, alone, beside}
+use Rattle.history_model.specs.hop_model.Refusals.{entity_of, instr_at, lacks, no_locus, no_slot, refusal}
+use Rattle.history_model.specs.hop_model.Soundness.{AreSound, IsSoundLocus, is_born_container, is_born_locus}
+use Rattle.history_model.specs.hop_model.State.{Supply, AtlasState, ContainerState, LocusState, Cell, NotBorn, AtlasCell, ContainerCell, LocusCell}
+use Rattle.history_model.specs.hop_model.Words.{first, is_locus}
+use Rattle.history_model.specs.wanted_act.Views.{may_name_itself}
+use Rattle.history_model.proofs.wanted_act_lemmas.Allowed.{first_none, unless_none}
+use Rattle.step_plans.specs.locus_machine.declared.loci.Head.{Head}
+use Rattle.step_plans.proofs.locus_machine_lemmas.Alone.{wanted_allowed, wanted_says}
+use Rattle.step_plans.specs.invocation.Entries.{WantsBeside}
+use Rattle.step_plans.specs.address_resolve.Looks.{is_look}
 use Rattle.history_model.proofs.WantLemmas.{Neighbour, OfContainer, OfNamed, neighbour, container_beside, locus_beside}
-use Rattle.kernel_cells.specs.declared.cells.Part.{Part}
-use Rattle.kernel_cells.specs.declared.cells.Part.TheVariants as part
-use Rattle.kernel_cells.specs.Cells.{container_cell, part_of}
-use Rattle.beside_steps.specs.Besides.{FitsBeside, WantsOther, calls_container, is_snap}
+use Rattle.birth_steps.specs.kernel_cells.declared.cells.Part.{Part}
+use Rattle.birth_steps.specs.kernel_cells.declared.cells.Part.TheVariants as part
+use Rattle.birth_steps.specs.kernel_cells.Cells.{container_cell, part_of}
+use Rattle.step_plans.specs.beside_steps.Besides.{FitsBeside, WantsOther, calls_container, is_snap}
 use Rattle.step_plans.specs.Plans.{IsCallBeside}
 
 yes_no : true ≡ false → ⊥

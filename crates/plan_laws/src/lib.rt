@@ -3,20 +3,25 @@
 
 ghost use Rattle.std.specs.Prelude.{◌≡◌, ◌≢◌, ◌<◌, ◌≤◌, ◌+◌, ℕ, List, length, IsSome};
 ghost use Rattle.hop_base.specs.declared.instructions.Instr.{Instr as AnInstr};
-ghost use Rattle.hop_model.specs.Soundness.{AreSound};
-ghost use Rattle.hop_model.specs.State.{AtlasState, Cell as ModelCell, ContainerCell, ContainerState, LocusCell, LocusState, Supply};
+ghost use Rattle.history_model.specs.hop_model.Soundness.{AreSound};
+ghost use Rattle.history_model.specs.hop_model.State.{AtlasState, Cell as ModelCell, ContainerCell, ContainerState, LocusCell, LocusState, Supply};
 ghost use Rattle.atlas_dir.specs.Directory.{Directory};
-ghost use Rattle.locus_machine.specs.declared.loci.Head.{Head as AHead};
-ghost use Rattle.invocation.specs.Entries.{WantsBeside};
-ghost use Rattle.address_resolve.specs.Looks.{is_look};
-ghost use Rattle.kernel_calls.specs.Calls.{atlas_state};
-ghost use Rattle.kernel_cells.specs.declared.cells.Part.{Part as APart};
-ghost use Rattle.kernel_cells.specs.declared.cells.Part.TheVariants as part;
-ghost use Rattle.kernel_cells.specs.Cells.{part_of};
-ghost use Rattle.beside_steps.specs.Besides.{memory_of, FitsBeside};
+ghost use Rattle.step_plans.specs.locus_machine.declared.loci.Head.{Head as AHead};
+ghost use Rattle.step_plans.specs.invocation.Entries.{WantsBeside};
+ghost use Rattle.step_plans.specs.address_resolve.Looks.{is_look};
+ghost use Rattle.directory_laws.specs.kernel_calls.Calls.{atlas_state};
+ghost use Rattle.birth_steps.specs.kernel_cells.declared.cells.Part.{Part as APart};
+ghost use Rattle.birth_steps.specs.kernel_cells.declared.cells.Part.TheVariants as part;
+ghost use Rattle.birth_steps.specs.kernel_cells.Cells.{part_of};
+ghost use Rattle.step_plans.specs.beside_steps.Besides.{memory_of, FitsBeside};
 ghost use Rattle.birth_steps.specs.Bearing.{IsUnbornContainer};
-ghost use Rattle.map_steps.specs.Mapping.{IsHeadPart, MayMap, WantsMapping};
+ghost use Rattle.step_plans.specs.map_steps.Mapping.{IsHeadPart, MayMap, WantsMapping};
 ghost use Rattle.step_plans.specs.Plans.{IsCallBeside};
+
+pub use birth_steps::kernel_cells;
+pub use history_model::wanted_act;
+pub use step_plans;
+pub use step_plans::{fault_paging, locus_machine, page_store};
 
 /// The entity beside which a locus calls is born, of a kind on which the call works, and not the locus.
 pub fn sound_states_fit_calls()

@@ -4,6 +4,3 @@
 mod printing;
 
 pub use printing::put_output;
-
-#[cfg(test)]
-mod tests;

@@ -1,7 +1,7 @@
 //! Printed values, by a directory of names.
 ghost use Rattle.std.specs.Prelude.{◌≡◌, ◌≤◌, length, OnErr};
 ghost use Rattle.disk_trait.specs.Counts.{Rose};
-ghost use Rattle.hop_model.specs.Output.{line_of, name_of_locus, output_of, printed_line};
+ghost use Rattle.kernel_calls.specs.hop_model.Output.{line_of, name_of_locus, output_of, printed_line};
 ghost use Rattle.kernel_calls.specs.Calls.{atlas_state};
 ghost use Rattle.stream_edge.specs.Streams.{Puts};
 

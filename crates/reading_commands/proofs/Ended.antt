@@ -1,12 +1,12 @@
 -- What a command leaves that reads an image, from how the calls below ended.
 use Rattle.std.proofs.Common.{◌≡◌, inr, refl, subst, sym}
-use Rattle.hop_model.specs.State.{Text}
-use Rattle.image_blocks.specs.Checks.{Bad}
-use Rattle.image_meaning.proofs.Firsts.{not_both}
-use Rattle.image_meaning.specs.Foreign.{IsForeign}
-use Rattle.image_meaning.specs.Meaning.{Accepted}
-use Rattle.log_reading.specs.declared.faults.ReadingFault.{ReadingFault}
-use Rattle.log_reading.specs.declared.faults.ReadingFault.TheVariants as reading
+use Rattle.command_parts.specs.hop_model.State.{Text}
+use Rattle.image_tools.specs.image_blocks.Checks.{Bad}
+use Rattle.image_tools.proofs.image_meaning_lemmas.Firsts.{not_both}
+use Rattle.image_tools.specs.image_meaning.Foreign.{IsForeign}
+use Rattle.image_tools.specs.image_meaning.Meaning.{Accepted}
+use Rattle.command_parts.specs.log_reading.declared.faults.ReadingFault.{ReadingFault}
+use Rattle.command_parts.specs.log_reading.declared.faults.ReadingFault.TheVariants as reading
 use Rattle.command_parts.specs.Ends.{IsPut, IsUnrun}
 use Rattle.command_parts.specs.Faults.{fault_of_reading}
 use Rattle.command_parts.specs.Seen.{Gave, IsOnlyRead, SeenDisk, SeenSink}

@@ -1,7 +1,7 @@
 -- What a command leaves that reads an image and writes nothing to its disk.
 use Rattle.std.specs.Prelude.{⊤}
-use Rattle.hop_model.specs.State.{Text}
-use Rattle.image_meaning.specs.Foreign.{IsForeign}
+use Rattle.command_parts.specs.hop_model.State.{Text}
+use Rattle.image_tools.specs.image_meaning.Foreign.{IsForeign}
 use Rattle.command_parts.specs.Ends.{IsUnrun, LeavesBy}
 use Rattle.command_parts.specs.Seen.{Gave, IsOnlyRead, SeenDisk, SeenSink}
 use Rattle.command_parts.specs.Statuses.{Ending}

@@ -1,11 +1,11 @@
 -- What the command `report` leaves.
 use Rattle.std.specs.Prelude.{◌≡◌, ℕ, List, length, slice_index}
-use Rattle.hop_model.specs.State.{Text}
-use Rattle.image_meaning.specs.Meaning.{Accepted}
-use Rattle.image_meaning.specs.Parts.{cut_of}
-use Rattle.log_reading.specs.Logs.{IsLogOf}
-use Rattle.log_reading.specs.declared.log.ImageLog.{ImageLog}
-use Rattle.report_lines.specs.Reports.{report_text}
+use Rattle.command_parts.specs.hop_model.State.{Text}
+use Rattle.image_tools.specs.image_meaning.Meaning.{Accepted}
+use Rattle.image_tools.specs.image_meaning.Parts.{cut_of}
+use Rattle.command_parts.specs.log_reading.Logs.{IsLogOf}
+use Rattle.command_parts.specs.log_reading.declared.log.ImageLog.{ImageLog}
+use Rattle.image_tools.specs.report_lines.Reports.{report_text}
 use Rattle.command_parts.specs.Ends.{IsEmpty}
 use Rattle.command_parts.specs.Seen.{Gave, SeenDisk, SeenSink}
 use Rattle.command_parts.specs.Statuses.{Ending}

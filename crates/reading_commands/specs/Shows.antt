@@ -1,9 +1,9 @@
 -- What the command `show` leaves.
 use Rattle.std.specs.Prelude.{◌≡◌, ℕ}
-use Rattle.hop_model.specs.Soundness.{IsSound}
-use Rattle.hop_model.specs.State.{Cell, KernelState, Supply, Text}
-use Rattle.image_meaning.specs.Meaning.{Means}
-use Rattle.plain_show.specs.Show.{shown}
+use Rattle.command_parts.specs.hop_model.Soundness.{IsSound}
+use Rattle.command_parts.specs.hop_model.State.{Cell, KernelState, Supply, Text}
+use Rattle.image_tools.specs.image_meaning.Meaning.{Means}
+use Rattle.image_tools.specs.plain_show.Show.{shown}
 use Rattle.command_parts.specs.Ends.{IsEmpty}
 use Rattle.command_parts.specs.Seen.{Gave, SeenDisk, SeenSink}
 use Rattle.command_parts.specs.Statuses.{Ending}

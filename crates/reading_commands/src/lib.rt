@@ -4,8 +4,7 @@
 mod reports;
 mod shows;
 
+pub use command_parts;
+pub use command_parts::script_form;
 pub use reports::report_image;
 pub use shows::show_image;
-
-#[cfg(test)]
-mod tests;

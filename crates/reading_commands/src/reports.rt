@@ -1,19 +1,19 @@
 //! The log of an image, reported.
 ghost use Rattle.std.specs.Prelude.{◌≡◌, ◌≤◌, ◌<◌, ◌^◌, ℕ};
 ghost use Rattle.disk_trait.specs.Counts.{Rose};
-ghost use Rattle.hop_model.specs.State.{Supply};
-ghost use Rattle.image_meaning.specs.Meaning.{Accepted};
-ghost use Rattle.report_lines.specs.Reports.{report_text};
+ghost use Rattle.command_parts.specs.hop_model.State.{Supply};
+ghost use Rattle.image_tools.specs.image_meaning.Meaning.{Accepted};
+ghost use Rattle.image_tools.specs.report_lines.Reports.{report_text};
 ghost use Rattle.command_parts.specs.Ends.{IsPut};
 ghost use Rattle.command_parts.specs.Seen.{gave, seen_disk, seen_sink};
 ghost use Rattle.command_parts.specs.Statuses.{IsComplete, ending};
 ghost use Rattle.reading_commands.specs.Reports.{ReportLeaves};
 
+use command_parts::stream_edge::Sink;
 use command_parts::{Fault, Outcome, Status, empty_outcome, end_with};
 use disk_trait::Disk;
 use image_tools::{ImageFacts, read_image, write_report};
 use std::alloc::Global;
-use stream_edge::Sink;
 
 // Puts the report, and tells how that ended.
 fn put_report<W: Sink>(sink: &mut W, facts: &ImageFacts) -> Status

@@ -1,21 +1,21 @@
 //! What an image means, shown.
 ghost use Rattle.std.specs.Prelude.{◌≡◌, ◌≤◌, ◌<◌, ◌^◌, ℕ, []};
 ghost use Rattle.disk_trait.specs.Counts.{Rose};
-ghost use Rattle.history_model.specs.Plains.{cells_of};
-ghost use Rattle.hop_model.specs.Soundness.{IsSound};
-ghost use Rattle.hop_model.specs.State.{Supply};
-ghost use Rattle.image_meaning.specs.Meaning.{Accepted};
-ghost use Rattle.plain_show.specs.Show.{shown};
+ghost use Rattle.image_tools.specs.history_model.Plains.{cells_of};
+ghost use Rattle.command_parts.specs.hop_model.Soundness.{IsSound};
+ghost use Rattle.command_parts.specs.hop_model.State.{Supply};
+ghost use Rattle.image_tools.specs.image_meaning.Meaning.{Accepted};
+ghost use Rattle.image_tools.specs.plain_show.Show.{shown};
 ghost use Rattle.command_parts.specs.Ends.{IsEmpty, IsPut};
 ghost use Rattle.command_parts.specs.Seen.{gave, seen_disk, seen_sink};
 ghost use Rattle.command_parts.specs.Statuses.{IsComplete, ending};
 ghost use Rattle.reading_commands.specs.Shows.{ShowLeaves};
 
+use command_parts::stream_edge::Sink;
 use command_parts::{Fault, Outcome, Status, empty_outcome, end_with};
 use disk_trait::Disk;
 use image_tools::{ImageFacts, read_image, write_show};
 use std::alloc::Global;
-use stream_edge::Sink;
 
 // Shows the state that was read, and tells how that ended.
 fn put_show<W: Sink, S: Fn(u64, u32, u16) -> u64>(

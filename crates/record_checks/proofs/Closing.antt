@@ -1,13 +1,13 @@
 -- A snapshot closes the wish.
 use Rattle.std.proofs.Common.{◌≡◌, ℕ, ◌-◌, Bool, true, false, ◌&&◌, ◌||◌, List, refl, sym, ap, subst, ◌∙◌, arith}
 use Rattle.std.proofs.lemmas.Bool.{false≢true}
-use Rattle.hop_model.specs.Histories.{Policy, every_of}
-use Rattle.hop_model.specs.State.{Supply}
-use Rattle.kernel_cells.specs.declared.cells.Cell.{Cell}
-use Rattle.kernel_cells.specs.declared.cells.Wish.{Wish}
-use Rattle.kernel_cells.specs.Cells.{part_of}
-use Rattle.wish_laws.specs.Founded.{IsFoundedCell, IsRecordedNow}
-use Rattle.snapshot_store.specs.State.{State, books}
+use Rattle.kernel_records.specs.hop_model.Histories.{Policy, every_of}
+use Rattle.kernel_records.specs.hop_model.State.{Supply}
+use Rattle.kernel_records.specs.kernel_cells.declared.cells.Cell.{Cell}
+use Rattle.kernel_records.specs.kernel_cells.declared.cells.Wish.{Wish}
+use Rattle.kernel_records.specs.kernel_cells.Cells.{part_of}
+use Rattle.kernel_records.specs.wish_laws.Founded.{IsFoundedCell, IsRecordedNow}
+use Rattle.kernel_records.specs.snapshot_store.State.{State, books}
 use Rattle.kernel_records.specs.Snapping.{has_room, is_snapped}
 
 module _ {D : Type 0} (policy : Policy) (c d : Cell) (old new : State D)

@@ -4,12 +4,12 @@ use Rattle.std.specs.Prelude.{All, slice_get}
 use Rattle.std.proofs.lemmas.List.Sums.{count_by-le-length, length-filter}
 use Rattle.hop_base.specs.declared.capabilities.Cap.{Cap}
 use Rattle.hop_base.specs.declared.instructions.Condition.TheVariants.{Running}
-use Rattle.hop_model.specs.State.{LocusState}
-use Rattle.blob_grammar.specs.Forms.{IsNumber}
-use Rattle.blob_grammar.specs.Shapes.{IsLocusOver}
-use Rattle.image_blocks.specs.Layout.{slot_count}
-use Rattle.snapshot_store.specs.Shelves.{is_from}
-use Rattle.store_model.specs.Books.{Books, Logged, cut_in, kept_in, logged_recs, recs_in}
+use Rattle.kernel_records.specs.hop_model.State.{LocusState}
+use Rattle.restart.specs.blob_grammar.Forms.{IsNumber}
+use Rattle.restart.specs.blob_grammar.Shapes.{IsLocusOver}
+use Rattle.restart.specs.image_blocks.Layout.{slot_count}
+use Rattle.kernel_records.specs.snapshot_store.Shelves.{is_from}
+use Rattle.kernel_records.specs.store_model.Books.{Books, Logged, cut_in, kept_in, logged_recs, recs_in}
 
 none_all : {A : Type 0} (P : A → Type 0) → All P []
 none_all P i d lt = absurd (omega (arith, lt))

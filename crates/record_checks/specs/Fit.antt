@@ -1,9 +1,9 @@
 -- A cell that may be committed to a store without records.
 use Rattle.std.specs.Prelude.{◌≡◌, ◌≤◌, ℕ, Bool}
 use Rattle.vector_stamps.specs.Stamps.{component}
-use Rattle.kernel_cells.specs.declared.cells.Cell.{Cell}
-use Rattle.record_laws.specs.Cells.{IsSoundIn, IsSpellable}
-use Rattle.wish_laws.specs.Founded.{IsFoundedCell}
+use Rattle.kernel_records.specs.kernel_cells.declared.cells.Cell.{Cell}
+use Rattle.kernel_records.specs.record_laws.Cells.{IsSoundIn, IsSpellable}
+use Rattle.kernel_records.specs.wish_laws.Founded.{IsFoundedCell}
 
 -- it has a spelling, its version is its own component of its clock, and it has no blocks
 pub record IsFit (c : Cell) : Type 0 where

@@ -1,22 +1,22 @@
 // Snapshots of a cell, one behind the other.
 ghost use Rattle.std.specs.Prelude.{◌≡◌, ℕ, List, true, false, IfSome, None};
-ghost use Rattle.hop_model.specs.State.{Supply};
+ghost use Rattle.kernel_records.specs.hop_model.State.{Supply};
 ghost use Rattle.kernel_records.specs.Committing.{MayCommit};
 ghost use Rattle.kernel_records.specs.Snapping.{is_snapped};
 ghost use Rattle.record_checks.specs.Fit.{IsFit};
-ghost use Rattle.snapshot_store.specs.State.{books};
-ghost use Rattle.store_model.specs.Books.{AreTrue};
-ghost use Rattle.wish_laws.specs.Founded.{IsFoundedCell};
+ghost use Rattle.kernel_records.specs.snapshot_store.State.{books};
+ghost use Rattle.kernel_records.specs.store_model.Books.{AreTrue};
+ghost use Rattle.kernel_records.specs.wish_laws.Founded.{IsFoundedCell};
 
 use block_code::Blob;
 use disk_trait::Disk;
-use event_clocks::Clock;
 use hop_base::{Entity, Entry};
-use kernel_cells::{Cell, Part, Wish};
+use kernel_records::event_clocks::Clock;
+use kernel_records::kernel_cells::{Cell, Part, Wish};
+use kernel_records::locus_machine::Locus;
 use kernel_records::snap_cell;
-use locus_machine::Locus;
+use kernel_records::snapshot_store::Store;
 use manager_gate::{CountedWords, EveryVersions, Gate, Policy, Supplier};
-use snapshot_store::Store;
 use std::alloc::Global;
 use vector_stamps::Stamp;
 

@@ -3,15 +3,15 @@ use Rattle.std.proofs.Common.{◌≡◌, ℕ, ◌*◌, ◌/◌, ◌%◌, ◌<◌
 use Rattle.std.proofs.lemmas.Bool.{cases_lt}
 use Rattle.std.proofs.lemmas.List.{get_or-map, get_or_past, get_or-take, length-take-le}
 use Rattle.hop_base.specs.Edges.{upto}
-use Rattle.hop_model.specs.State.{Supply}
+use Rattle.cell_blobs.specs.hop_model.State.{Supply}
 use Rattle.block_code.specs.Fields.{number_at}
-use Rattle.image_blocks.proofs.Rest.{upto_get, upto_len}
-use Rattle.image_meaning.specs.Parts.{words_in, word_in as image_word}
-use Rattle.store_model.specs.Books.{words_of_bytes}
+use Rattle.cell_blobs.proofs.image_blocks_lemmas.Rest.{upto_get, upto_len}
+use Rattle.cell_blobs.specs.image_meaning.Parts.{words_in, word_in as image_word}
+use Rattle.kernel_model.specs.store_model.Books.{words_of_bytes}
 use Rattle.frame_table.specs.FrameTable.{Resident, page_at}
-use Rattle.fault_paging.specs.declared.paged.PagedMemory.{PagedMemory}
-use Rattle.fault_paging.specs.Words.{AreCleanTrue, block_at, stored_word, word_by, word_in, words_of}
-use Rattle.fault_paging.specs.Calls.{IsUnchanged}
+use Rattle.cell_blobs.specs.fault_paging.declared.paged.PagedMemory.{PagedMemory}
+use Rattle.cell_blobs.specs.fault_paging.Words.{AreCleanTrue, block_at, stored_word, word_by, word_in, words_of}
+use Rattle.cell_blobs.specs.fault_paging.Calls.{IsUnchanged}
 
 -- a word of a block
 pub word_at : (bytes : List ℕ) (place : ℕ) → place < 128 → slice_index (words_of_bytes bytes) place ≡ number_at (8 * place) 8 bytes

@@ -4,21 +4,21 @@ use Rattle.std.specs.Prelude.{slice_index}
 use Rattle.std.proofs.lemmas.Bool.{cases_lt}
 use Rattle.std.proofs.lemmas.List.{get_or_past, get_or-replicate, length-replicate}
 use Rattle.disk_trait.specs.Image.{Image, block_at}
-use Rattle.hop_model.specs.State.{ContainerCell, EntityState, KernelState, Supply}
-use Rattle.image_meaning.specs.Parts.{IsOf, Part as Spelt, Spells, cell_of, table_in, words_in}
-use Rattle.image_meaning.specs.Stores.{Kept}
-use Rattle.store_model.specs.Books.{AreApart}
+use Rattle.cell_blobs.specs.hop_model.State.{ContainerCell, EntityState, KernelState, Supply}
+use Rattle.cell_blobs.specs.image_meaning.Parts.{IsOf, Part as Spelt, Spells, cell_of, table_in, words_in}
+use Rattle.cell_blobs.specs.image_meaning.Stores.{Kept}
+use Rattle.kernel_model.specs.store_model.Books.{AreApart}
 use Rattle.kernel_model.specs.Telling.{TellsOf}
-use Rattle.locus_machine.specs.declared.loci.Head.{Head}
-use Rattle.locus_machine.specs.declared.loci.Locus.{Locus}
-use Rattle.locus_machine.specs.Loci.{container_with}
-use Rattle.fault_paging.specs.declared.paged.PagedMemory.{PagedMemory}
-use Rattle.fault_paging.specs.Words.{AreCleanTrue, IsSoundTable, words_of}
-use Rattle.fault_paging.specs.Calls.{IsUnchanged}
-use Rattle.kernel_cells.specs.declared.cells.Cell.{Cell}
-use Rattle.kernel_cells.specs.declared.cells.Part.{Part}
-use Rattle.kernel_cells.specs.declared.cells.Part.TheVariants as part
-use Rattle.kernel_cells.specs.Cells.{HasCell, container_cell, locus_cell, part_of}
+use Rattle.cell_blobs.specs.locus_machine.declared.loci.Head.{Head}
+use Rattle.cell_blobs.specs.locus_machine.declared.loci.Locus.{Locus}
+use Rattle.cell_blobs.specs.locus_machine.Loci.{container_with}
+use Rattle.cell_blobs.specs.fault_paging.declared.paged.PagedMemory.{PagedMemory}
+use Rattle.cell_blobs.specs.fault_paging.Words.{AreCleanTrue, IsSoundTable, words_of}
+use Rattle.cell_blobs.specs.fault_paging.Calls.{IsUnchanged}
+use Rattle.cell_blobs.specs.kernel_cells.declared.cells.Cell.{Cell}
+use Rattle.cell_blobs.specs.kernel_cells.declared.cells.Part.{Part}
+use Rattle.cell_blobs.specs.kernel_cells.declared.cells.Part.TheVariants as part
+use Rattle.cell_blobs.specs.kernel_cells.Cells.{HasCell, container_cell, locus_cell, part_of}
 use Rattle.cell_blobs.specs.Blobs.{HasFormedHead, IsFormed, spelt_in, spelt_locus, spelt_storage}
 use Rattle.record_laws.specs.Cells.{IsCleanIn, IsSettled, IsSoundIn, IsSpellable, table_of, words_on}
 use Rattle.record_laws.specs.Telling.{IsOnImage, IsRecordOf}

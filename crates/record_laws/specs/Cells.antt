@@ -1,14 +1,14 @@
 -- What a record of a cell rests on.
 use Rattle.std.specs.Prelude.{◌≡◌, ℕ, Bool, List, Some, replicate}
 use Rattle.disk_trait.specs.Image.{Image, block_at}
-use Rattle.hop_model.specs.State.{Supply}
-use Rattle.image_meaning.specs.Parts.{IsOf, Part as Spelt}
-use Rattle.store_model.specs.Books.{words_of_bytes}
-use Rattle.fault_paging.specs.Words.{AreCleanTrue, IsSoundTable}
-use Rattle.fault_paging.specs.Calls.{IsUnchanged}
-use Rattle.kernel_cells.specs.declared.cells.Cell.{Cell}
-use Rattle.kernel_cells.specs.declared.cells.Part.{Part}
-use Rattle.kernel_cells.specs.declared.cells.Part.TheVariants as part
+use Rattle.cell_blobs.specs.hop_model.State.{Supply}
+use Rattle.cell_blobs.specs.image_meaning.Parts.{IsOf, Part as Spelt}
+use Rattle.kernel_model.specs.store_model.Books.{words_of_bytes}
+use Rattle.cell_blobs.specs.fault_paging.Words.{AreCleanTrue, IsSoundTable}
+use Rattle.cell_blobs.specs.fault_paging.Calls.{IsUnchanged}
+use Rattle.cell_blobs.specs.kernel_cells.declared.cells.Cell.{Cell}
+use Rattle.cell_blobs.specs.kernel_cells.declared.cells.Part.{Part}
+use Rattle.cell_blobs.specs.kernel_cells.declared.cells.Part.TheVariants as part
 use Rattle.cell_blobs.specs.Blobs.{IsFormed, spelt_in}
 
 -- THE PAGE TABLE of a part's record: that of a container's memory, and no block else

@@ -2,13 +2,13 @@
 use Rattle.std.specs.Prelude.{◌≡◌, ℕ, Bool, length, IfSome}
 use Rattle.std.specs.List.{flat_map}
 use Rattle.disk_trait.specs.Image.{Image}
-use Rattle.hop_model.specs.State.{KernelState, Supply}
-use Rattle.image_meaning.specs.Parts.{Spells}
-use Rattle.image_meaning.specs.Stores.{Kept}
-use Rattle.store_model.specs.Books.{page_for}
+use Rattle.cell_blobs.specs.hop_model.State.{KernelState, Supply}
+use Rattle.cell_blobs.specs.image_meaning.Parts.{Spells}
+use Rattle.cell_blobs.specs.image_meaning.Stores.{Kept}
+use Rattle.kernel_model.specs.store_model.Books.{page_for}
 use Rattle.kernel_model.specs.Telling.{TellsOf}
-use Rattle.kernel_cells.specs.declared.cells.Cell.{Cell}
-use Rattle.kernel_cells.specs.Cells.{HasCell}
+use Rattle.cell_blobs.specs.kernel_cells.declared.cells.Cell.{Cell}
+use Rattle.cell_blobs.specs.kernel_cells.Cells.{HasCell}
 use Rattle.cell_blobs.specs.Blobs.{spelt_in}
 use Rattle.record_laws.specs.Cells.{IsCleanIn, IsSettled, IsSoundIn, IsSpellable, table_of, words_on}
 

@@ -2,7 +2,7 @@
 use Rattle.std.specs.Prelude.{ℕ, ◌==◌, nat_lt, if◌then◌else◌, List, [], ◌++◌, codes, decimal, length, slice_index}
 use Rattle.std.specs.List.{enumerate_from, flat_map}
 use Rattle.hop_base.specs.declared.records.Rec.{Rec}
-use Rattle.hop_model.specs.State.{Text}
+use Rattle.image_blocks.specs.hop_model.State.{Text}
 use Rattle.image_blocks.specs.declared.areas.Area.{Area}
 use Rattle.image_blocks.specs.declared.areas.Area.TheVariants.{A, B}
 use Rattle.text_lines.specs.Lines.{line_end, word}

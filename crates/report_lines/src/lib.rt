@@ -3,7 +3,5 @@
 
 mod reports;
 
+pub use image_blocks;
 pub use reports::{LogFacts, put_report};
-
-#[cfg(test)]
-mod tests;

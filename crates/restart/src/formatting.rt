@@ -3,16 +3,16 @@ ghost use Rattle.std.specs.Prelude.{◌≡◌, ◌<◌, ◌≤◌, ◌+◌, IfOk
 ghost use Rattle.disk_trait.specs.Disk.{HasCause, Only};
 ghost use Rattle.disk_trait.specs.Image.{Image, SameOutside};
 ghost use Rattle.disk_trait.specs.Moments.{LeavesOnly, Quiet};
-ghost use Rattle.hop_model.specs.State.{Supply, empty_state};
-ghost use Rattle.image_blocks.specs.Layout.{least_blocks, most_blocks, pool_at};
+ghost use Rattle.image_meaning.specs.hop_model.State.{Supply, empty_state};
+ghost use Rattle.image_meaning.specs.image_blocks.Layout.{least_blocks, most_blocks, pool_at};
 ghost use Rattle.image_meaning.specs.Meaning.{Means};
 ghost use Rattle.restart.specs.Formats.{HasEmptyFront, IsAreaGate, IsClosed, IsFormatting, IsFrontBlock, IsMade};
 
 use disk_trait::{Disk, DiskFault, NoBlocks, write_and_sync, write_run};
-use image_blocks::{
+use image_meaning::empty_image_law;
+use image_meaning::image_blocks::{
     Area, body_of, closed_gate, gate_of, header_block, header_of, open_gate, superblock,
 };
-use image_meaning::empty_image_law;
 
 /// Why an empty image was not made.
 #[derive(Clone, Copy, Debug, PartialEq, Eq, Drop)]

@@ -4,6 +4,4 @@
 mod formatting;
 
 pub use formatting::{FormatFault, FormatWhy, format};
-
-#[cfg(test)]
-mod tests;
+pub use image_meaning::image_blocks;

@@ -2,22 +2,23 @@
 use Rattle.std.proofs.Common.{◌≡◌, inl, inr, Option, Some, Ok, Err, refl, sym, ap, subst, ◌∙◌}
 use Rattle.std.specs.Prelude.{IfSome, string_bytes}
 use Rattle.disk_trait.specs.declared.disk.NoBlocks.{NoBlocks}
-use Rattle.fitting_births.specs.Fitting.{Fits}
-use Rattle.hop_model.specs.Scripts.{Script as Tables}
-use Rattle.hop_model.specs.State.{KernelState, Text}
-use Rattle.hop_model.specs.Steps.{atlas_in}
-use Rattle.image_meaning.proofs.Firsts.{not_both}
-use Rattle.image_meaning.proofs.Ones.{one_meaning}
+use Rattle.run_outcomes.specs.fitting_births.Fitting.{Fits}
+use Rattle.manager_code.specs.hop_model.Scripts.{Script as Tables}
+use Rattle.manager_code.specs.hop_model.State.{KernelState, Text}
+use Rattle.manager_code.specs.hop_model.Steps.{atlas_in}
+use Rattle.run_opening.proofs.image_meaning_lemmas.Firsts.{not_both}
+use Rattle.run_opening.proofs.image_meaning_lemmas.Ones.{one_meaning}
 use Rattle.manager_form.specs.Managing.{ManagerTables}
-use Rattle.script_form.specs.declared.refusals.Refusal.{Refusal}
-use Rattle.script_read.specs.Meaning.{Source}
-use Rattle.script_read.specs.Reading.{Reading}
+use Rattle.run_opening.specs.script_form.declared.refusals.Refusal.{Refusal}
+use Rattle.run_opening.specs.script_read.Meaning.{Source}
+use Rattle.run_opening.specs.script_read.Reading.{Reading}
 use Rattle.script_source.specs.Sources.{IsAccepted, IsRefusal}
-use Rattle.command_parts.specs.Seen.{Call, Gave}
-use Rattle.command_parts.specs.Statuses.{IsComplete, ending}
-use Rattle.command_parts.specs.declared.statuses.Status.{Status}
-use Rattle.command_parts.specs.declared.statuses.Status.TheVariants as status
+use Rattle.run_opening.specs.command_parts.Seen.{Call, Gave}
+use Rattle.run_opening.specs.command_parts.Statuses.{IsComplete, ending}
+use Rattle.run_opening.specs.command_parts.declared.statuses.Status.{Status}
+use Rattle.run_opening.specs.command_parts.declared.statuses.Status.TheVariants as status
 use Rattle.run_opening.specs.Openings.{Managers}
+use Rattle.run_outcomes.specs.Runs.{Telling}
 use Rattle.run_command.specs.Booked.{over}
 use Rattle.run_command.specs.Leaving.{CanRun, IsRefused, RunLeaves}
 
@@ -37,7 +38,7 @@ one_script bytes script other brought others a b = ap (script_in script) (sym a.
 not_refused : (bytes : Text) (script : Tables) (brought : ManagerTables) (refusal : Refusal) → IsAccepted bytes script brought → IsRefusal bytes refusal.why (string_bytes refusal.key) → ⊥
 not_refused bytes script brought refusal accepted refuses = (let same = sym accepted.1 ∙ refuses in absurd (cc))
 
-module _ (m : Managers) (call : Call) (gave : Gave) (can : CanRun m call) where
+module _ (telling : Telling) (m : Managers) (call : Call) (gave : Gave) (can : CanRun m call) where
   not_misfit : (refusal : Refusal) → IsRefused call refusal → ⊥
   not_misfit refusal (inl source) = not_refused can.bytes can.script can.brought refusal can.accepted (of_known call.source.before can.bytes (λ bytes. IsRefusal bytes refusal.why (string_bytes refusal.key)) can.known source.0)
   not_misfit refusal (inr (other, others, read, misfit)) =
@@ -47,7 +48,7 @@ module _ (m : Managers) (call : Call) (gave : Gave) (can : CanRun m call) where
       let one : can.state ≡ means.0 = one_meaning supply call.disk.before.reading can.state means.0 can.means means.1 in
       means.2.unfit (subst (λ (t : Tables). Fits (atlas_in (means.0 0).cell) t) same (subst (λ (v : KernelState). Fits (atlas_in (v 0).cell) can.script) one can.fits))
 
-  pub complete : (s : Status) → RunLeaves m call gave (ending s) → (call.source.rose → ⊥) → (call.disk.rose → ⊥) → (call.sink.rose → ⊥) → ((n : NoBlocks) → s ≡ status.BlocksFull n → ⊥) → IsComplete s
+  pub complete : (s : Status) → RunLeaves telling m call gave (ending s) → (call.source.rose → ⊥) → (call.disk.rose → ⊥) → (call.sink.rose → ⊥) → ((n : NoBlocks) → s ≡ status.BlocksFull n → ⊥) → IsComplete s
   complete status.Done leaves source disk sink blocks = inl refl
   complete status.Memory leaves source disk sink blocks = inr refl
   complete status.SinkFault leaves source disk sink blocks = absurd (sink leaves.1)

@@ -5,29 +5,29 @@ use Rattle.disk_trait.specs.Counts.{Rose}
 use Rattle.disk_trait.specs.Image.{Image}
 use Rattle.disk_trait.specs.declared.disk.NoBlocks.{NoBlocks}
 use Rattle.hop_base.specs.declared.histories.Entry.{Entry}
-use Rattle.hop_model.specs.Scripts.{Script as Tables}
-use Rattle.hop_model.specs.State.{Text}
-use Rattle.image_blocks.specs.Checks.{count_in}
+use Rattle.manager_code.specs.hop_model.Scripts.{Script as Tables}
+use Rattle.manager_code.specs.hop_model.State.{Text}
+use Rattle.run_opening.specs.image_blocks.Checks.{count_in}
 use Rattle.run_opening.specs.Kernels.{Held}
-use Rattle.kernel_model.specs.Beginnings.{Beginning, IsLegal}
+use Rattle.run_outcomes.specs.kernel_model.Beginnings.{Beginning, IsLegal}
 use Rattle.manager_form.specs.Managing.{ManagerTables}
 use Rattle.script_source.specs.Sources.{HasRead, StopsSource}
-use Rattle.snapshot_store.specs.State.{books}
+use Rattle.run_opening.specs.snapshot_store.State.{books}
 use Rattle.watched_disk.specs.Handing.{next_moment}
 use Rattle.watched_disk.specs.Watching.{HasGoneOn, Start, start_of}
 use Rattle.watched_disk.proofs.Going.{is_start}
-use Rattle.command_parts.specs.Ends.{IsUnrun}
-use Rattle.command_parts.specs.Seen.{Call, Gave, SeenDisk, SeenSink, seen_disk}
-use Rattle.command_parts.specs.Statuses.{Ending, Stopped, Unput, Whole, Wrong, ending, status_by}
-use Rattle.command_parts.specs.declared.faults.Fault.{Fault}
-use Rattle.command_parts.specs.declared.faults.Fault.TheVariants as fault
-use Rattle.command_parts.specs.declared.statuses.Status.{Status}
-use Rattle.command_parts.proofs.Endings.{fault_ends}
+use Rattle.run_opening.specs.command_parts.Ends.{IsUnrun}
+use Rattle.run_opening.specs.command_parts.Seen.{Call, Gave, SeenDisk, SeenSink, seen_disk}
+use Rattle.run_opening.specs.command_parts.Statuses.{Ending, Stopped, Unput, Whole, Wrong, ending, status_by}
+use Rattle.run_opening.specs.command_parts.declared.faults.Fault.{Fault}
+use Rattle.run_opening.specs.command_parts.declared.faults.Fault.TheVariants as fault
+use Rattle.run_opening.specs.command_parts.declared.statuses.Status.{Status}
+use Rattle.run_opening.proofs.command_parts_lemmas.Endings.{fault_ends}
 use Rattle.run_opening.specs.Openings.{FailsAtSync, HasFailedSync, KeepsMeaning, Managers, run_from}
 use Rattle.run_opening.specs.Ready.{IsReady, IsUnopened, StopsOpening}
 use Rattle.run_opening.proofs.Kept.{fails_at_sync}
 use Rattle.run_outcomes.specs.Keeping.{IsKept}
-use Rattle.run_outcomes.specs.Runs.{IsCutShort, IsRun, IsServed}
+use Rattle.run_outcomes.specs.Runs.{IsCutShort, IsRun, IsServed, Telling}
 use Rattle.run_outcomes.proofs.Returning.{kept}
 use Rattle.run_command.specs.Booked.{over}
 use Rattle.run_command.specs.Leaving.{IsReadOne, OfRun, RunLeaves, StopsRun}
@@ -68,21 +68,21 @@ module _ {D : Type 0} (tells : Type 0) (block_count : D → ℕ) (may_leave : D 
       back t c (inr since) = inr since
 
 -- the source was refused, or could not be read
-pub source_stops : (m : Managers) (call : Call) (gave : Gave) (f : Fault) → StopsSource call.source f → IsUnrun call.sink gave f → call.disk.same → StopsRun m call gave f
-source_stops m call gave (fault.Script refusal) why unrun same = (unrun, inl (why, same))
-source_stops m call gave fault.Source why unrun same = (why, unrun, same)
-source_stops m call gave fault.Memory why unrun same = (unrun, inl same)
-source_stops m call gave fault.Usage why unrun same = absurd why
-source_stops m call gave (fault.Foreign block place) why unrun same = absurd why
-source_stops m call gave fault.Disk why unrun same = absurd why
-source_stops m call gave (fault.Blocks n) why unrun same = absurd why
+pub source_stops : (telling : Telling) (m : Managers) (call : Call) (gave : Gave) (f : Fault) → StopsSource call.source f → IsUnrun call.sink gave f → call.disk.same → StopsRun telling m call gave f
+source_stops telling m call gave (fault.Script refusal) why unrun same = (unrun, inl (why, same))
+source_stops telling m call gave fault.Source why unrun same = (why, unrun, same)
+source_stops telling m call gave fault.Memory why unrun same = (unrun, inl same)
+source_stops telling m call gave fault.Usage why unrun same = absurd why
+source_stops telling m call gave (fault.Foreign block place) why unrun same = absurd why
+source_stops telling m call gave fault.Disk why unrun same = absurd why
+source_stops telling m call gave (fault.Blocks n) why unrun same = absurd why
 
 -- a fault that stopped the call says how it ended
-pub ended_by : (m : Managers) (call : Call) (gave : Gave) (status : Status) (f : Fault) → status ≡ status_by f → StopsRun m call gave f → RunLeaves m call gave (ending status)
-ended_by m call gave status f is h = fault_ends call.sink (λ Puts. OfRun m call (λ b. IsServed b call.disk gave Puts)) (StopsRun m call gave) status f is h
+pub ended_by : (telling : Telling) (m : Managers) (call : Call) (gave : Gave) (status : Status) (f : Fault) → status ≡ status_by f → StopsRun telling m call gave f → RunLeaves telling m call gave (ending status)
+ended_by telling m call gave status f is h = fault_ends call.sink (λ Puts. OfRun m call (λ b. IsServed telling b call.disk gave Puts)) (StopsRun telling m call gave) status f is h
 
-pub script_ended_by : (m : Managers) (script : Tables) (sink : SeenSink) (disk : SeenDisk) (gave : Gave) (status : Status) (f : Fault) → status ≡ status_by f → StopsScript m script sink disk gave f → ScriptLeaves m script sink disk gave (ending status)
-script_ended_by m script sink disk gave status f is h = fault_ends sink (λ Puts. InRun m script sink disk gave (λ b. IsServed b disk gave Puts)) (StopsScript m script sink disk gave) status f is h
+pub script_ended_by : (telling : Telling) (m : Managers) (script : Tables) (sink : SeenSink) (disk : SeenDisk) (gave : Gave) (status : Status) (f : Fault) → status ≡ status_by f → StopsScript telling m script sink disk gave f → ScriptLeaves telling m script sink disk gave (ending status)
+script_ended_by telling m script sink disk gave status f is h = fault_ends sink (λ Puts. InRun m script disk (λ b. IsServed telling b disk gave Puts)) (StopsScript telling m script sink disk gave) status f is h
 
 module _ {D : Type 0} (tells : Type 0) (block_count : D → ℕ) (reading : D → Image) (may_leave : D → Image → Type 0) (left_since : D → ℕ → Image → Type 0) (clock faults : D → ℕ)
     (counts_now : (disk : D) (t : ℕ) (c : Image) → tells → t ≤ clock disk → may_leave disk c → left_since disk t c) (old new : D)
@@ -109,22 +109,22 @@ module _ {D : Type 0} (tells : Type 0) (block_count : D → ℕ) (reading : D �
         is_kept = subst (λ (ms : List ℕ). IsKept b seen (record { status = gave.status; history = gave.history; marks = ms })) run.marks
             (subst (λ (es : List Entry). IsKept b seen (record { status = gave.status; history = es; marks = run.view.marks })) run.history as_viewed)
 
-    served : (Puts : Text → Type 0) → HasServed tells clock reading may_leave left_since b gave new Puts → IsServed b seen gave Puts
-    served Puts h = record { run = kept_run h.run; whole = h.whole; output = h.output }
+    served : (telling : Telling) (Puts : Text → Type 0) → HasServed tells clock reading may_leave left_since telling b gave new Puts → IsServed telling b seen gave Puts
+    served telling Puts h = record { run = kept_run h.run; whole = h.whole; output = h.output }
 
-    cut : (sink : SeenSink) (f : Fault) → WasCutShort tells clock reading may_leave left_since b sink gave new f → IsCutShort b seen sink gave f
-    cut sink f h = record { run = kept_run h.run; part = h.part; output = h.output }
+    cut : (telling : Telling) (sink : SeenSink) (f : Fault) → WasCutShort tells clock reading may_leave left_since telling b sink gave new f → IsCutShort telling b seen sink gave f
+    cut telling sink f h = record { run = kept_run h.run; part = h.part; output = h.output }
 
-    cut_for : (sink : SeenSink) (count : ℕ) (n : NoBlocks) → count ≡ count_in (reading old) → WasCutForBlocks tells clock reading may_leave left_since b count sink gave new n → IsCutForBlocks b seen sink gave n
-    cut_for sink count n same h = record { cut = cut sink (fault.Blocks n) h.cut; short = subst (λ (blocks : ℕ). IsShortOfBlocks b blocks gave.history n) same h.short }
+    cut_for : (telling : Telling) (sink : SeenSink) (count : ℕ) (n : NoBlocks) → count ≡ count_in (reading old) → WasCutForBlocks tells clock reading may_leave left_since telling b count sink gave new n → IsCutForBlocks telling b seen sink gave n
+    cut_for telling sink count n same h = record { cut = cut telling sink (fault.Blocks n) h.cut; short = subst (λ (blocks : ℕ). IsShortOfBlocks b blocks gave.history n) same h.short }
 
-  module _ (m : Managers) (sink : SeenSink) (script : Tables) (gave : Gave) where
+  module _ (telling : Telling) (m : Managers) (sink : SeenSink) (script : Tables) (gave : Gave) where
     -- THE RUN was made, by a kernel that was ready for it
     module _ (k : Held D) (ready : tells → IsReady tells clock faults reading may_leave left_since script old k) (rose : Type 0) (risen : rose → Rose (faults old) (faults new)) where
       abbrev Starts : Beginning → Type 0
       Starts b = StartsRun tells clock faults reading may_leave left_since m.supply m.policy script k b
 
-      in_run : (P Q : Beginning → Type 0) → (tells → (b : Beginning) → next_moment (clock old) ≡ b.first → P b → Q b) → (tells → (b : Beginning) → Starts b → P b) → InRun m script sink seen gave Q
+      in_run : (P Q : Beginning → Type 0) → (tells → (b : Beginning) → next_moment (clock old) ≡ b.first → P b → Q b) → (tells → (b : Beginning) → Starts b → P b) → InRun m script seen Q
       in_run P Q turn each told =
           let o = (ready told).opened m in
           let b = run_from m script o.state (clock old) in
@@ -135,11 +135,11 @@ module _ {D : Type 0} (tells : Type 0) (block_count : D → ℕ) (reading : D �
             run = λ low. turn told b refl (each told b (record { same_supply = refl; same_policy = refl; same_script = refl; lives = o.run low }));
           }
 
-      pub run_leaves : (e : Ending) → PlayLeaves tells clock reading may_leave left_since Starts rose (books k.parts.store).count sink gave new e → ScriptLeaves m script sink seen gave e
-      run_leaves Whole h = in_run _ _ (λ told b first. served told b first gave _) h
-      run_leaves Unput h = (in_run _ _ (λ told b first. served told b first gave _) h.0, h.1)
-      run_leaves (Stopped fault.Disk) h = (risen h.0, inr (in_run _ _ (λ told b first. cut told b first gave sink fault.Disk) h.1))
-      run_leaves (Stopped (fault.Blocks n)) h = in_run _ _ (λ told b first. cut_for told b first gave sink (books k.parts.store).count n (ready told).count) h
+      pub run_leaves : (e : Ending) → PlayLeaves tells clock reading may_leave left_since telling Starts rose (books k.parts.store).count sink gave new e → ScriptLeaves telling m script sink seen gave e
+      run_leaves Whole h = in_run _ _ (λ told b first. served told b first gave telling _) h
+      run_leaves Unput h = (in_run _ _ (λ told b first. served told b first gave telling _) h.0, h.1)
+      run_leaves (Stopped fault.Disk) h = (risen h.0, inr (in_run _ _ (λ told b first. cut told b first gave telling sink fault.Disk) h.1))
+      run_leaves (Stopped (fault.Blocks n)) h = in_run _ _ (λ told b first. cut_for told b first gave telling sink (books k.parts.store).count n (ready told).count) h
       run_leaves (Stopped fault.Usage) h = absurd h
       run_leaves (Stopped (fault.Script refusal)) h = absurd h
       run_leaves (Stopped (fault.Foreign block place)) h = absurd h
@@ -156,7 +156,7 @@ module _ {D : Type 0} (tells : Type 0) (block_count : D → ℕ) (reading : D �
           by (inl failed) = inl (fails_at_sync tells block_count reading may_leave left_since clock faults counts_now told old new only_now gone failed)
           by (inr keeps) = inr keeps
 
-      pub opening_stops : (f : Fault) → StopsOpening script seen f → IsUnrun sink gave f → StopsScript m script sink seen gave f
+      pub opening_stops : (f : Fault) → StopsOpening script seen f → IsUnrun sink gave f → StopsScript telling m script sink seen gave f
       opening_stops (fault.Script refusal) why unrun = (unrun, why)
       opening_stops (fault.Foreign block place) why unrun = (unrun, why)
       opening_stops fault.Disk why unrun = (why.0, inl (unrun, left_unopened why.1))
@@ -166,19 +166,19 @@ module _ {D : Type 0} (tells : Type 0) (block_count : D → ℕ) (reading : D �
       opening_stops (fault.Blocks n) why unrun = absurd why
 
 -- BEHIND A SOURCE that was read
-module _ (m : Managers) (call : Call) (script : Tables) (brought : ManagerTables) (read : HasRead call.source script brought) (gave : Gave) where
+module _ (telling : Telling) (m : Managers) (call : Call) (script : Tables) (brought : ManagerTables) (read : HasRead call.source script brought) (gave : Gave) where
   abbrev answering : Managers
   answering = over brought m
 
-  of_run : (P : Beginning → Type 0) → InRun answering script call.sink call.disk gave P → OfRun m call P
+  of_run : (P : Beginning → Type 0) → InRun answering script call.disk P → OfRun m call P
   of_run P h = record { script = script; brought = brought; read = read; opened = h }
 
-  disk_fails : (IsUnrun call.sink gave fault.Disk × IsLeftUnopened call.disk) ⊎ InRun answering script call.sink call.disk gave (λ b. IsCutShort b call.disk call.sink gave fault.Disk)
-      → (IsUnrun call.sink gave fault.Disk × IsReadOne call.source × IsLeftUnopened call.disk) ⊎ OfRun m call (λ b. IsCutShort b call.disk call.sink gave fault.Disk)
+  disk_fails : (IsUnrun call.sink gave fault.Disk × IsLeftUnopened call.disk) ⊎ InRun answering script call.disk (λ b. IsCutShort telling b call.disk call.sink gave fault.Disk)
+      → (IsUnrun call.sink gave fault.Disk × IsReadOne call.source × IsLeftUnopened call.disk) ⊎ OfRun m call (λ b. IsCutShort telling b call.disk call.sink gave fault.Disk)
   disk_fails (inl (unrun, unopened)) = inl (unrun, (script, brought, read), unopened)
   disk_fails (inr run) = inr (of_run _ run)
 
-  pub behind_source : (e : Ending) → ScriptLeaves answering script call.sink call.disk gave e → RunLeaves m call gave e
+  pub behind_source : (e : Ending) → ScriptLeaves telling answering script call.sink call.disk gave e → RunLeaves telling m call gave e
   behind_source Whole h = of_run _ h
   behind_source Unput h = (of_run _ h.0, h.1)
   behind_source (Stopped (fault.Script refusal)) h = (h.0, inr (script, brought, read, h.1))

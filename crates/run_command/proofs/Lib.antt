@@ -1,4 +1,5 @@
 pub mod Complete
+pub mod Drilled
 pub mod Leavings
-pub mod Lines
+pub mod Nameless
 pub mod Played

@@ -1,26 +1,26 @@
 -- What the command `run` leaves.
 use Rattle.std.specs.Prelude.{◌≡◌, ◌⊎◌, Some}
-use Rattle.fitting_births.specs.Fitting.{Fits}
-use Rattle.hop_model.specs.Scripts.{Script as Tables}
-use Rattle.hop_model.specs.State.{KernelState, Text}
-use Rattle.hop_model.specs.Steps.{atlas_in}
-use Rattle.image_meaning.specs.Foreign.{IsForeign}
-use Rattle.image_meaning.specs.Meaning.{Means}
-use Rattle.kernel_model.specs.Beginnings.{Beginning}
+use Rattle.run_outcomes.specs.fitting_births.Fitting.{Fits}
+use Rattle.manager_code.specs.hop_model.Scripts.{Script as Tables}
+use Rattle.manager_code.specs.hop_model.State.{KernelState, Text}
+use Rattle.manager_code.specs.hop_model.Steps.{atlas_in}
+use Rattle.run_opening.specs.image_meaning.Foreign.{IsForeign}
+use Rattle.run_opening.specs.image_meaning.Meaning.{Means}
+use Rattle.run_outcomes.specs.kernel_model.Beginnings.{Beginning}
 use Rattle.manager_form.specs.Managing.{ManagerTables}
-use Rattle.script_form.specs.declared.refusals.Refusal.{Refusal}
+use Rattle.run_opening.specs.script_form.declared.refusals.Refusal.{Refusal}
 use Rattle.script_source.specs.Sources.{HasRead, IsAccepted, IsRefusalOf}
-use Rattle.command_parts.specs.Ends.{IsUnrun, LeavesBy}
-use Rattle.command_parts.specs.Seen.{Call, Gave, SeenSource}
-use Rattle.command_parts.specs.Statuses.{Ending}
-use Rattle.command_parts.specs.declared.faults.Fault.{Fault}
-use Rattle.command_parts.specs.declared.faults.Fault.TheVariants.{Script, Foreign, Disk, Source, Memory, Blocks}
+use Rattle.run_opening.specs.command_parts.Ends.{IsUnrun, LeavesBy}
+use Rattle.run_opening.specs.command_parts.Seen.{Call, Gave, SeenSource}
+use Rattle.run_opening.specs.command_parts.Statuses.{Ending}
+use Rattle.run_opening.specs.command_parts.declared.faults.Fault.{Fault}
+use Rattle.run_opening.specs.command_parts.declared.faults.Fault.TheVariants.{Script, Foreign, Disk, Source, Memory, Blocks}
 use Rattle.run_opening.specs.Openings.{HasOpened, IsKeptImage, Managers, StaysAsRead}
 use Rattle.run_opening.specs.Ready.{HasMisfit}
 use Rattle.run_command.specs.Booked.{over}
 use Rattle.run_command.specs.OfScript.{IsLeftUnopened}
 use Rattle.run_command.specs.Short.{IsCutForBlocks}
-use Rattle.run_outcomes.specs.Runs.{IsCutShort, IsServed}
+use Rattle.run_outcomes.specs.Runs.{IsCutShort, IsServed, Telling}
 
 -- this holds of the run of the script that the source stands for, by the managers that it brings over those that were handed in, on a disk
 -- that tells its content
@@ -39,20 +39,20 @@ abbrev pub IsRefused : Call → Refusal → Type 0
 IsRefused call refusal = (IsRefusalOf call.source.before refusal × call.disk.same) ⊎ ((script : Tables) × (brought : ManagerTables) × HasRead call.source script brought × HasMisfit script call.disk refusal)
 
 -- STOPPED by this fault. What stops first decides: the source, the image, the script against it, the run.
-abbrev pub StopsRun : Managers → Call → Gave → Fault → Type 0
-StopsRun m call gave (Script refusal) = IsUnrun call.sink gave (Script refusal) × IsRefused call refusal
-StopsRun m call gave (Foreign block place) =
+abbrev pub StopsRun : Telling → Managers → Call → Gave → Fault → Type 0
+StopsRun telling m call gave (Script refusal) = IsUnrun call.sink gave (Script refusal) × IsRefused call refusal
+StopsRun telling m call gave (Foreign block place) =
     IsUnrun call.sink gave (Foreign block place) × IsReadOne call.source × (call.disk.tells → IsForeign call.disk.before.reading (record { block = block; place = place }) × StaysAsRead call.disk)
-StopsRun m call gave Disk =
-    call.disk.rose × ((IsUnrun call.sink gave Disk × IsReadOne call.source × IsLeftUnopened call.disk) ⊎ OfRun m call (λ b. IsCutShort b call.disk call.sink gave Disk))
-StopsRun m call gave Source = call.source.rose × IsUnrun call.sink gave Source × call.disk.same
-StopsRun m call gave Memory = IsUnrun call.sink gave Memory × (call.disk.same ⊎ (IsReadOne call.source × IsKeptImage call.disk))
-StopsRun m call gave (Blocks n) = OfRun m call (λ b. IsCutForBlocks b call.disk call.sink gave n)
-StopsRun m call gave fault = ⊥
+StopsRun telling m call gave Disk =
+    call.disk.rose × ((IsUnrun call.sink gave Disk × IsReadOne call.source × IsLeftUnopened call.disk) ⊎ OfRun m call (λ b. IsCutShort telling b call.disk call.sink gave Disk))
+StopsRun telling m call gave Source = call.source.rose × IsUnrun call.sink gave Source × call.disk.same
+StopsRun telling m call gave Memory = IsUnrun call.sink gave Memory × (call.disk.same ⊎ (IsReadOne call.source × IsKeptImage call.disk))
+StopsRun telling m call gave (Blocks n) = OfRun m call (λ b. IsCutForBlocks telling b call.disk call.sink gave n)
+StopsRun telling m call gave fault = ⊥
 
--- WHAT `run` LEAVES, by how it ended
-abbrev pub RunLeaves : Managers → Call → Gave → Ending → Type 0
-RunLeaves m call gave ending = LeavesBy call.sink (λ Puts. OfRun m call (λ b. IsServed b call.disk gave Puts)) (StopsRun m call gave) ending
+-- WHAT `run` LEAVES, by what it puts of its history and by how it ended
+abbrev pub RunLeaves : Telling → Managers → Call → Gave → Ending → Type 0
+RunLeaves telling m call gave ending = LeavesBy call.sink (λ Puts. OfRun m call (λ b. IsServed telling b call.disk gave Puts)) (StopsRun telling m call gave) ending
 
 -- IT CAN BE DONE: the source is known and accepted, and the image means a state, which the script fits
 pub record CanRun (m : Managers) (call : Call) : Type 0 where

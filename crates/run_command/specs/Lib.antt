@@ -1,7 +1,17 @@
 pub mod Booked
+pub mod Drilling
 pub mod Leaving
 pub mod OfScript
 pub mod Playing
 pub mod Short
+pub mod Tellings
 pub use Rattle.run_opening.specs.Openings
 pub use Rattle.run_opening.specs.Starts
+pub use Rattle.manager_code.specs.hop_model
+pub use Rattle.run_opening.specs.image_opening
+pub use Rattle.traced_lines.specs.entry_lines
+pub use Rattle.run_outcomes.specs.kernel_model
+pub use Rattle.run_outcomes.specs as run_outcomes
+pub use Rattle.script_source.specs as script_source
+pub use Rattle.run_outcomes.specs.serial_runs
+pub use Rattle.stream_edge.specs as stream_edge

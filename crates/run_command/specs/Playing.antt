@@ -2,24 +2,24 @@
 use Rattle.std.specs.Prelude.{◌≡◌, ℕ, ◌++◌, Result, Ok, Err}
 use Rattle.disk_trait.specs.Image.{Image}
 use Rattle.disk_trait.specs.declared.disk.NoBlocks.{NoBlocks}
-use Rattle.hop_model.specs.Histories.{Policy}
-use Rattle.hop_model.specs.Scripts.{Script as Tables}
-use Rattle.hop_model.specs.State.{Supply, Text}
-use Rattle.kernel_commits.specs.declared.stopping.Stopped.{Stopped}
-use Rattle.kernel_commits.specs.declared.stopping.Stopped.TheVariants.{Failed, TooFew}
+use Rattle.manager_code.specs.hop_model.Histories.{Policy}
+use Rattle.manager_code.specs.hop_model.Scripts.{Script as Tables}
+use Rattle.manager_code.specs.hop_model.State.{Supply, Text}
+use Rattle.kernel_runs.specs.kernel_commits.declared.stopping.Stopped.{Stopped}
+use Rattle.kernel_runs.specs.kernel_commits.declared.stopping.Stopped.TheVariants.{Failed, TooFew}
 use Rattle.run_opening.specs.Kernels.{Held, Lives}
-use Rattle.kernel_laws.specs.Opening.{empty_script, with_script}
-use Rattle.kernel_model.specs.Beginnings.{Beginning}
-use Rattle.kernel_model.specs.Live.{IsRunning, KernelView}
-use Rattle.serial_runs.specs.Serial.{IsStopped, IsWhole}
-use Rattle.command_parts.specs.Ends.{Gains, IsPut, LeavesBy}
-use Rattle.command_parts.specs.Faults.{fault_line}
-use Rattle.command_parts.specs.Seen.{Gave, SeenSink}
-use Rattle.command_parts.specs.Statuses.{Ending, status_by}
-use Rattle.command_parts.specs.declared.faults.Fault.{Fault}
-use Rattle.command_parts.specs.declared.faults.Fault.TheVariants.{Disk, Blocks}
-use Rattle.command_parts.specs.declared.statuses.Status.{Status}
-use Rattle.run_outcomes.specs.Runs.{printed}
+use Rattle.run_opening.specs.kernel_laws.Opening.{empty_script, with_script}
+use Rattle.run_outcomes.specs.kernel_model.Beginnings.{Beginning}
+use Rattle.run_outcomes.specs.kernel_model.Live.{IsRunning, KernelView}
+use Rattle.run_outcomes.specs.serial_runs.Serial.{IsStopped, IsWhole}
+use Rattle.run_opening.specs.command_parts.Ends.{Gains, IsPut, LeavesBy}
+use Rattle.run_opening.specs.command_parts.Faults.{fault_line}
+use Rattle.run_opening.specs.command_parts.Seen.{Gave, SeenSink}
+use Rattle.run_opening.specs.command_parts.Statuses.{Ending, status_by}
+use Rattle.run_opening.specs.command_parts.declared.faults.Fault.{Fault}
+use Rattle.run_opening.specs.command_parts.declared.faults.Fault.TheVariants.{Disk, Blocks}
+use Rattle.run_opening.specs.command_parts.declared.statuses.Status.{Status}
+use Rattle.run_outcomes.specs.Runs.{Telling, told}
 use Rattle.run_command.specs.Short.{IsShortOfBlocks}
 use Rattle.watched_disk.specs.Watching.{IsAsAtStart, Start}
 
@@ -56,33 +56,33 @@ module _ {D : Type 0} (tells : Type 0) (clock : D → ℕ) (reading : D → Imag
     pub marks : view.marks ≡ gave.marks
 
   -- WHOLE: the whole serial history, and its lines were put
-  pub record HasServed (b : Beginning) (gave : Gave) (disk : D) (Puts : Text → Type 0) : Type 0 where
+  pub record HasServed (telling : Telling) (b : Beginning) (gave : Gave) (disk : D) (Puts : Text → Type 0) : Type 0 where
     pub run : HasRun b gave disk
     pub whole : IsWhole b.supply b.policy b.script b.state gave.history
-    pub output : Puts (printed b gave.history)
+    pub output : Puts (told telling b gave.history)
 
   -- CUT SHORT: the history so far, its lines, and behind them that of the fault
-  pub record WasCutShort (b : Beginning) (sink : SeenSink) (gave : Gave) (disk : D) (fault : Fault) : Type 0 where
+  pub record WasCutShort (telling : Telling) (b : Beginning) (sink : SeenSink) (gave : Gave) (disk : D) (fault : Fault) : Type 0 where
     pub run : HasRun b gave disk
     pub part : IsStopped b.supply b.policy b.script b.state gave.history
-    pub output : Gains sink (printed b gave.history ++ fault_line fault)
+    pub output : Gains sink (told telling b gave.history ++ fault_line fault)
 
   -- CUT SHORT for want of blocks, of which the image has so many
-  pub record WasCutForBlocks (b : Beginning) (count : ℕ) (sink : SeenSink) (gave : Gave) (disk : D) (n : NoBlocks) : Type 0 where
-    pub cut : WasCutShort b sink gave disk (Blocks n)
+  pub record WasCutForBlocks (telling : Telling) (b : Beginning) (count : ℕ) (sink : SeenSink) (gave : Gave) (disk : D) (n : NoBlocks) : Type 0 where
+    pub cut : WasCutShort telling b sink gave disk (Blocks n)
     pub short : IsShortOfBlocks b count gave.history n
 
-  module _ (starts : Beginning → Type 0) (rose : Type 0) (count : ℕ) (sink : SeenSink) (gave : Gave) (disk : D) where
+  module _ (telling : Telling) (starts : Beginning → Type 0) (rose : Type 0) (count : ℕ) (sink : SeenSink) (gave : Gave) (disk : D) where
     -- in each run that starts so, where the disk tells its content
     abbrev pub InEach : (Beginning → Type 0) → Type 0
     InEach P = tells → (b : Beginning) → starts b → P b
 
     -- STOPPED by this fault
     abbrev pub StopsPlay : Fault → Type 0
-    StopsPlay Disk = rose × InEach (λ b. WasCutShort b sink gave disk Disk)
-    StopsPlay (Blocks n) = InEach (λ b. WasCutForBlocks b count sink gave disk n)
+    StopsPlay Disk = rose × InEach (λ b. WasCutShort telling b sink gave disk Disk)
+    StopsPlay (Blocks n) = InEach (λ b. WasCutForBlocks telling b count sink gave disk n)
     StopsPlay fault = ⊥
 
     -- WHAT IT LEAVES, by how it ended
     abbrev pub PlayLeaves : Ending → Type 0
-    PlayLeaves ending = LeavesBy sink (λ Puts. InEach (λ b. HasServed b gave disk Puts)) StopsPlay ending
+    PlayLeaves ending = LeavesBy sink (λ Puts. InEach (λ b. HasServed telling b gave disk Puts)) StopsPlay ending

@@ -1,12 +1,13 @@
-//! The command `run`: a script's run from the state that an image means, by the kernel over its store.
+//! The commands `run` and `drill`: a script's run from the state that an image means, by the kernel over its store, and what is put of it.
 #![tactic(auto)]
 
+mod drilling;
 mod playing;
 mod putting;
 mod running;
 mod watching;
 
+pub use drilling::run_drill;
+pub use putting::Lines;
 pub use running::run_script;
-
-#[cfg(test)]
-mod tests;
+pub use stream_edge;

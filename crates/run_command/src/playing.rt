@@ -1,29 +1,31 @@
 // The run of a script by a kernel that was opened for it.
 ghost use Rattle.std.specs.Prelude.{◌≡◌, ◌≤◌, [], None};
 ghost use Rattle.disk_trait.specs.Counts.{Rose};
-ghost use Rattle.fitting_births.specs.Fitting.{Fits};
+ghost use Rattle.run_outcomes.specs.fitting_births.Fitting.{Fits};
 ghost use Rattle.run_opening.specs.Kernels.{StaysClean};
-ghost use Rattle.script_form.specs.Rules.{IsScript};
-ghost use Rattle.script_form.specs.Scripts.{tables_of};
-ghost use Rattle.snapshot_store.specs.State.{books};
-ghost use Rattle.table_births.specs.Births.{atlas_state_in};
-ghost use Rattle.command_parts.specs.Seen.{gave, seen_sink};
-ghost use Rattle.command_parts.specs.Statuses.{ending};
+ghost use Rattle.run_opening.specs.script_form.Rules.{IsScript};
+ghost use Rattle.run_opening.specs.script_form.Scripts.{tables_of};
+ghost use Rattle.run_opening.specs.snapshot_store.State.{books};
+ghost use Rattle.kernel_runs.specs.table_births.Births.{atlas_state_in};
+ghost use Rattle.run_opening.specs.command_parts.Seen.{gave, seen_sink};
+ghost use Rattle.run_opening.specs.command_parts.Statuses.{ending};
+ghost use Rattle.run_command.specs.Tellings.{lines_of};
 ghost use Rattle.run_command.specs.Playing.{PlayLeaves, StartsRun};
 
-use crate::putting::put_run;
-use command_parts::Outcome;
+use crate::putting::{Lines, put_run};
 use disk_trait::Disk;
 use kernel_runs::run;
 use manager_gate::{Gate, Policy, Supplier};
+use run_opening::command_parts::Outcome;
+use run_opening::script_form::Script;
 use run_opening::{Ended, Kernel};
-use script_form::Script;
 use stream_edge::Sink;
 
-/// Runs a script on a kernel that was opened for it, and puts the lines.
+/// Runs a script on a kernel that was opened for it, and puts these lines.
 pub(crate) fn run_opened<W: Sink, D: Disk, S: Supplier, P: Policy>(
     mut kernel: Kernel<D>,
     script: &Script,
+    lines: Lines,
     sink: &mut W,
     gate: &Gate<S, P>,
 ) -> Outcome<D>
@@ -34,14 +36,14 @@ pub(crate) fn run_opened<W: Sink, D: Disk, S: Supplier, P: Policy>(
     requires fits { Fits (atlas_state_in kernel.parts.cells) (tables_of script.now) }
     requires nothing { kernel.parts.noted.entries ≡ [] }
     requires going { kernel.stop ≡ None }
-    ensures leaves { PlayLeaves D.tells D.clock D.reading D.may_leave D.left_since
+    ensures leaves { PlayLeaves D.tells D.clock D.reading D.may_leave D.left_since (lines_of lines)
         (StartsRun D.tells D.clock D.faults D.reading D.may_leave D.left_since (S.word gate.now.supply) (P.wish gate.now.policy) (tables_of script.now) kernel)
         (Rose (D.faults kernel.parts.store.disk) (D.faults result.disk)) (books kernel.parts.store).count
         (seen_sink W.held W.faults sink.old sink.new) (gave result) result.disk (ending result.status) }
     ensures later { D.faults kernel.parts.store.disk ≤ D.faults result.disk }
 {
     let ended = run(&mut kernel, script, gate);
-    let status = put_run(sink, kernel.cells(), kernel.history(), ended);
+    let status = put_run(sink, lines, kernel.cells(), kernel.history(), ended);
     let Ended {
         disk,
         history,

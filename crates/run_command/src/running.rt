@@ -1,24 +1,27 @@
-//! The command `run`: a script's run from the state that an image means, by the kernel over its store.
+//! The command `run`.
 ghost use Rattle.std.specs.Prelude.{◌≡◌, ◌<◌, ◌^◌, ℕ, Bool};
 ghost use Rattle.disk_trait.specs.Counts.{Rose};
 ghost use Rattle.disk_trait.specs.declared.disk.NoBlocks.{NoBlocks};
-ghost use Rattle.command_parts.specs.Seen.{gave, seen_disk, seen_sink, seen_source};
-ghost use Rattle.command_parts.specs.Statuses.{IsComplete, ending};
+ghost use Rattle.run_opening.specs.command_parts.Seen.{gave, seen_disk, seen_sink, seen_source};
+ghost use Rattle.run_opening.specs.command_parts.Statuses.{IsComplete, ending};
 ghost use Rattle.run_command.specs.Leaving.{CanRun, RunLeaves};
+ghost use Rattle.run_command.specs.Tellings.{lines_of};
 ghost use Rattle.run_opening.specs.Openings.{Managers};
 
+use crate::putting::Lines;
 use crate::watching::run_read;
-use command_parts::{Outcome, Status, end_with};
 use disk_trait::Disk;
+use run_opening::command_parts::{Outcome, Status, end_with};
 use script_source::read_source;
 use std::alloc::Global;
 use std::marker::Brand;
 use stream_edge::{Sink, Source};
 
-/// Runs the script that a source stands for, from the state that the disk's image means, and puts its lines. The managers that the script
-/// brings answer for their numbers, and the handed-in ones for all others. The source is read to its end first, then the image is opened; the kernel makes the births, the picks of the order and rounds to the end, and makes records as the
-/// policy wishes and the loci ask. What stops the call first decides how it ends: the source, the image, the script against it, the
-/// run, the output.
+/// Runs the script that a source stands for, from the state that the disk's image means, and puts these lines of its history: what its
+/// loci printed, a line for each entry, or the summary. The managers that the script brings answer for their numbers, and the
+/// handed-in ones for all others. The source is read to its end first, then the image is opened; the kernel makes the births, the picks of the
+/// order and rounds to the end, and makes records as the policy wishes and the loci ask. What stops the call first decides how it ends: the
+/// source, the image, the script against it, the run, the output.
 ///
 /// It takes memory for the source, its script, and what an opening takes (`kernel_opening::open_image`), before anything is run; the run
 /// itself takes none. Where it is stopped the lines of what was run so far are put, and behind them that of the fault.
@@ -28,14 +31,22 @@ pub fn run_script<
     D: Disk,
     S: Fn(u64, u32, u16) -> u64,
     P: Fn(u32, u64) -> bool,
->(alloc: Global, source: &mut R, sink: &mut W, disk: D, supply: &S, policy: &P) -> Outcome<D>
+>(
+    alloc: Global,
+    source: &mut R,
+    sink: &mut W,
+    disk: D,
+    supply: &S,
+    policy: &P,
+    lines: Lines,
+) -> Outcome<D>
     ghost m: { Managers }
     // The managers give one answer for each question, and may be asked each.
     requires supplies { (t p a : ℕ) → t < 2 ^ 64 → p < 256 → a < 128 → S.pre supply.now t p a }
     requires supplied { (t p a r : ℕ) → t < 2 ^ 64 → p < 256 → a < 128 → S.post supply.now t p a r → r ≡ m.supply t p a }
     requires wishes { (e n : ℕ) → e < 2 ^ 32 → n < 2 ^ 64 → P.pre policy.now e n }
     requires wished { (e n : ℕ) (r : Bool) → e < 2 ^ 32 → n < 2 ^ 64 → P.post policy.now e n r → r ≡ m.policy e n }
-    ensures leaves { RunLeaves m (record {
+    ensures leaves { RunLeaves (lines_of lines) m (record {
       source = seen_source R.left R.faults source.old source.new;
       sink = seen_sink W.held W.faults sink.old sink.new;
       disk = seen_disk D.tells D.block_count D.reading D.may_leave D.left_since D.clock D.faults disk result.disk;
@@ -49,7 +60,7 @@ pub fn run_script<
         → ((n : NoBlocks) → result.status ≡ Status.BlocksFull n → ⊥) → IsComplete result.status }
 {
     match read_source(alloc, source) {
-        Ok(read) => run_read::<W, D, S, P, Brand>(alloc, &read, sink, disk, supply, policy),
+        Ok(read) => run_read::<W, D, S, P, Brand>(alloc, &read, lines, sink, disk, supply, policy),
         Err(fault) => end_with(alloc, sink, disk, fault),
     }
 }

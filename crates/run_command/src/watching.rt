@@ -1,22 +1,24 @@
 // The run of a script that was read, on a disk that is watched from the call's start on.
 ghost use Rattle.std.specs.Prelude.{◌≡◌, ◌≤◌, ◌<◌, ◌^◌, ℕ, Bool};
 ghost use Rattle.manager_form.specs.Managing.{AreScriptManagers, managers_of};
-ghost use Rattle.script_form.specs.Rules.{IsScript};
-ghost use Rattle.script_form.specs.Scripts.{tables_of};
+ghost use Rattle.run_opening.specs.script_form.Rules.{IsScript};
+ghost use Rattle.run_opening.specs.script_form.Scripts.{tables_of};
 ghost use Rattle.watched_disk.specs.Watching.{HasGoneOn};
-ghost use Rattle.command_parts.specs.Seen.{gave, seen_disk, seen_sink};
-ghost use Rattle.command_parts.specs.Statuses.{ending};
+ghost use Rattle.run_opening.specs.command_parts.Seen.{gave, seen_disk, seen_sink};
+ghost use Rattle.run_opening.specs.command_parts.Statuses.{ending};
 ghost use Rattle.run_command.specs.Booked.{over};
+ghost use Rattle.run_command.specs.Tellings.{lines_of};
 ghost use Rattle.run_command.specs.OfScript.{ScriptLeaves};
 ghost use Rattle.run_command.specs.Playing.{IsHandedIn};
 
 use crate::playing::run_opened;
-use command_parts::{Outcome, end_with};
+use crate::putting::Lines;
 use disk_trait::Disk;
 use manager_code::Book;
 use manager_gate::{Answers, AskedPolicy, AskedSupplier, Gate};
+use run_opening::command_parts::{Outcome, end_with};
+use run_opening::script_read::ManagedScript;
 use run_opening::{Unopened, open_for};
-use script_read::ManagedScript;
 use std::alloc::Global;
 use std::marker::PhantomData;
 use stream_edge::Sink;
@@ -42,7 +44,7 @@ fn unwatched<D: Disk, N: Handed>(outcome: Outcome<WatchedDisk<D, N>>) -> Outcome
     }
 }
 
-/// Opens the image for a script that was read, runs it by its managers over the handed-in ones, and puts its lines. `N` has the answers of
+/// Opens the image for a script that was read, runs it by its managers over the handed-in ones, and puts these lines. `N` has the answers of
 /// the handed-in ones, and how the disk is handed in.
 pub(crate) fn run_read<
     W: Sink,
@@ -50,7 +52,15 @@ pub(crate) fn run_read<
     S: Fn(u64, u32, u16) -> u64,
     P: Fn(u32, u64) -> bool,
     N: Answers + Handed,
->(alloc: Global, read: &ManagedScript, sink: &mut W, disk: D, supply: &S, policy: &P) -> Outcome<D>
+>(
+    alloc: Global,
+    read: &ManagedScript,
+    lines: Lines,
+    sink: &mut W,
+    disk: D,
+    supply: &S,
+    policy: &P,
+) -> Outcome<D>
     requires start { IsHandedIn D.tells D.block_count D.may_leave D.left_since D.clock D.faults N.start disk }
     requires supplies { (t p a : ℕ) → t < 2 ^ 64 → p < 256 → a < 128 → S.pre supply.now t p a }
     requires supplied { (t p a r : ℕ) → t < 2 ^ 64 → p < 256 → a < 128 → S.post supply.now t p a r → r ≡ N.word t p a }
@@ -59,7 +69,7 @@ pub(crate) fn run_read<
     requires allowed { IsScript (tables_of read.now.script) }
     requires frames { (1 ≤ read.now.script.frames) × (read.now.script.frames ≤ 256) }
     requires managers { AreScriptManagers (managers_of read.now.managers) }
-    ensures leaves { ScriptLeaves (over (managers_of read.now.managers) (record { supply = N.word; policy = N.wish })) (tables_of read.now.script) (seen_sink W.held W.faults sink.old sink.new)
+    ensures leaves { ScriptLeaves (lines_of lines) (over (managers_of read.now.managers) (record { supply = N.word; policy = N.wish })) (tables_of read.now.script) (seen_sink W.held W.faults sink.old sink.new)
         (seen_disk D.tells D.block_count D.reading D.may_leave D.left_since D.clock D.faults disk result.disk) (gave result) (ending result.status) }
     ensures count { D.block_count result.disk ≡ D.block_count disk }
 {
@@ -79,7 +89,7 @@ pub(crate) fn run_read<
     let gate = Gate::new(&book, &book);
     let watched: WatchedDisk<D, N> = WatchedDisk::new(disk);
     match open_for(alloc, &read.script, watched) {
-        Ok(kernel) => unwatched(run_opened(kernel, &read.script, sink, &gate)),
+        Ok(kernel) => unwatched(run_opened(kernel, &read.script, lines, sink, &gate)),
         Err(Unopened { fault, disk }) => end_with(alloc, sink, disk.into_disk(), fault),
     }
 }

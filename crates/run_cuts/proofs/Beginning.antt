@@ -1,9 +1,9 @@
 -- The entries of a kept run from a sound beginning touch entities alone.
 use Rattle.std.proofs.Common.{List, ◌++◌, refl, sym, subst, inl, inr, ◌≡◌}
 use Rattle.hop_base.specs.declared.histories.Entry.{Entry}
-use Rattle.hop_model.specs.Histories.{AllBelow64, IsLegalRun, Policy, run_after, start_run}
-use Rattle.hop_model.specs.Scripts.{Script}
-use Rattle.hop_model.specs.State.{KernelState, Supply}
+use Rattle.sound_runs.specs.hop_model.Histories.{AllBelow64, IsLegalRun, Policy, run_after, start_run}
+use Rattle.sound_runs.specs.hop_model.Scripts.{Script}
+use Rattle.sound_runs.specs.hop_model.State.{KernelState, Supply}
 use Rattle.sound_runs.proofs.Standing.{legal_below}
 use Rattle.run_cuts.specs.Cuts.{BeginsSound, EndsTried, IsKeptRun, try_of}
 use Rattle.run_cuts.proofs.Reaching.{below_front, below_more}

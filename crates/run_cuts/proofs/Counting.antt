@@ -5,16 +5,16 @@ use Rattle.hop_base.specs.Edges.{upto}
 use Rattle.hop_base.specs.declared.histories.Touch.{Touch}
 use Rattle.hop_base.specs.declared.histories.Entry.{Entry}
 use Rattle.hop_base.specs.declared.histories.Event.TheVariants.{Birth, Step, Snap as SnapEvent, Stable, Tried}
-use Rattle.hop_model.specs.State.{Supply, KernelState}
-use Rattle.hop_model.specs.Scripts.{Script}
-use Rattle.hop_model.specs.LocalEvents.{touch_at}
-use Rattle.hop_model.specs.Parts.{is_event, after_entry, IsNext}
-use Rattle.hop_model.specs.Vectors.{StampsBelow}
-use Rattle.hop_model.specs.Histories.{Policy, Run, event_of, has_changed, commits_of, commits_in, May, may, goes_on, went_on, IsLegalFrom, IsLegalRun, start_run, run_after, AllBelow64}
-use Rattle.hop_model.proofs.Basics.{some_of_map}
-use Rattle.hop_model.proofs.Covering.{found}
-use Rattle.hop_model.proofs.LegalRuns.{event_of_local, event_of_stamped, next_legal}
-use Rattle.hop_model.proofs.StableCuts.{IsKept, kept_goes_on, run_append}
+use Rattle.sound_runs.specs.hop_model.State.{Supply, KernelState}
+use Rattle.sound_runs.specs.hop_model.Scripts.{Script}
+use Rattle.sound_runs.specs.hop_model.LocalEvents.{touch_at}
+use Rattle.sound_runs.specs.hop_model.Parts.{is_event, after_entry, IsNext}
+use Rattle.sound_runs.specs.hop_model.Vectors.{StampsBelow}
+use Rattle.sound_runs.specs.hop_model.Histories.{Policy, Run, event_of, has_changed, commits_of, commits_in, May, may, goes_on, went_on, IsLegalFrom, IsLegalRun, start_run, run_after, AllBelow64}
+use Rattle.sound_runs.proofs.hop_model_lemmas.Basics.{some_of_map}
+use Rattle.sound_runs.proofs.hop_model_lemmas.Covering.{found}
+use Rattle.sound_runs.proofs.hop_model_lemmas.LegalRuns.{event_of_local, event_of_stamped, next_legal}
+use Rattle.sound_runs.proofs.hop_model_lemmas.StableCuts.{IsKept, kept_goes_on, run_append}
 use Rattle.run_cuts.specs.Cuts.{stable_commits}
 
 -- an entity has changed since its newest record

@@ -4,20 +4,20 @@ use Rattle.std.proofs.lemmas.Bool.{leb-true}
 use Rattle.std.proofs.lemmas.List.{append-nil}
 use Rattle.hop_base.specs.declared.histories.Touch.{Touch}
 use Rattle.hop_base.specs.declared.histories.Entry.{Entry}
-use Rattle.hop_model.specs.State.{Supply, EntityState, KernelState}
-use Rattle.hop_model.specs.Scripts.{Script}
-use Rattle.hop_model.specs.LocalEvents.{touch_at, IsLocal}
-use Rattle.hop_model.specs.Parts.{is_event, writes_within, within, part_of, after_entry, after, IsNext, IsPlayed}
-use Rattle.hop_model.specs.Vectors.{IsStamped}
-use Rattle.hop_model.specs.Choices.{Commit, IsBelow, Among, IsClosedChoice}
-use Rattle.hop_model.specs.Histories.{Policy, event_of}
-use Rattle.hop_model.proofs.Basics.{not_false, some_of_map}
-use Rattle.hop_model.proofs.Replay.{all_at, at_entity}
-use Rattle.hop_model.proofs.Covering.{found}
-use Rattle.hop_model.proofs.Among.{among_some}
-use Rattle.hop_model.proofs.CommitStamps.{AllCommits}
-use Rattle.hop_model.proofs.LegalRuns.{event_of_local, event_of_stamped}
-use Rattle.hop_model.proofs.StableCuts.{versions_rise, versions_rise_over, all_in}
+use Rattle.sound_runs.specs.hop_model.State.{Supply, EntityState, KernelState}
+use Rattle.sound_runs.specs.hop_model.Scripts.{Script}
+use Rattle.sound_runs.specs.hop_model.LocalEvents.{touch_at, IsLocal}
+use Rattle.sound_runs.specs.hop_model.Parts.{is_event, writes_within, within, part_of, after_entry, after, IsNext, IsPlayed}
+use Rattle.sound_runs.specs.hop_model.Vectors.{IsStamped}
+use Rattle.sound_runs.specs.hop_model.Choices.{Commit, IsBelow, Among, IsClosedChoice}
+use Rattle.sound_runs.specs.hop_model.Histories.{Policy, event_of}
+use Rattle.sound_runs.proofs.hop_model_lemmas.Basics.{not_false, some_of_map}
+use Rattle.sound_runs.proofs.hop_model_lemmas.Replay.{all_at, at_entity}
+use Rattle.sound_runs.proofs.hop_model_lemmas.Covering.{found}
+use Rattle.sound_runs.proofs.hop_model_lemmas.Among.{among_some}
+use Rattle.sound_runs.proofs.hop_model_lemmas.CommitStamps.{AllCommits}
+use Rattle.sound_runs.proofs.hop_model_lemmas.LegalRuns.{event_of_local, event_of_stamped}
+use Rattle.sound_runs.proofs.hop_model_lemmas.StableCuts.{versions_rise, versions_rise_over, all_in}
 use Rattle.run_cuts.specs.Cuts.{IsCutState}
 
 -- PARTS OF LONGER HISTORIES

@@ -7,12 +7,12 @@ use Rattle.std.proofs.lemmas.Option.{slice_get-get_or, slice_get_within}
 use Rattle.std.proofs.lemmas.List.{append-nil}
 use Rattle.hop_base.specs.declared.histories.Entry.{Entry}
 use Rattle.hop_base.specs.declared.histories.Event.TheVariants.{Birth, Step, Snap as SnapEvent, Stable, Tried}
-use Rattle.hop_model.specs.State.{Supply, KernelState}
-use Rattle.hop_model.specs.Scripts.{Script}
-use Rattle.hop_model.specs.Parts.{after}
-use Rattle.hop_model.specs.Vectors.{StampsBelow}
-use Rattle.hop_model.specs.Histories.{Policy, Run, event_of, commits_in, goes_on, went_on, start_run, run_after, AllBelow64}
-use Rattle.hop_model.proofs.StableCuts.{commits_grow, run_append}
+use Rattle.sound_runs.specs.hop_model.State.{Supply, KernelState}
+use Rattle.sound_runs.specs.hop_model.Scripts.{Script}
+use Rattle.sound_runs.specs.hop_model.Parts.{after}
+use Rattle.sound_runs.specs.hop_model.Vectors.{StampsBelow}
+use Rattle.sound_runs.specs.hop_model.Histories.{Policy, Run, event_of, commits_in, goes_on, went_on, start_run, run_after, AllBelow64}
+use Rattle.sound_runs.proofs.hop_model_lemmas.StableCuts.{commits_grow, run_append}
 use Rattle.run_cuts.specs.Cuts.{EndsTried, IsCutState, IsKeptRun, all_commits}
 use Rattle.run_cuts.specs.Left.{AckedWithin, IsFrontLeft, IsLeft, IsReached, IsStop, IsTryLeft}
 use Rattle.run_cuts.specs.Marks.{completes, is_completing}

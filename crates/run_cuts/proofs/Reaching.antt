@@ -4,16 +4,16 @@ use Rattle.std.proofs.Math.Seq.{take-append_seam}
 use Rattle.std.proofs.lemmas.List.{append-nil}
 use Rattle.hop_base.specs.declared.histories.Entry.{Entry}
 use Rattle.hop_base.specs.declared.histories.Event.TheVariants.{Birth, Step, Snap as SnapEvent, Stable, Tried}
-use Rattle.hop_model.specs.State.{Supply, KernelState}
-use Rattle.hop_model.specs.Scripts.{Script}
-use Rattle.hop_model.specs.LocalEvents.{touch_at}
-use Rattle.hop_model.specs.Parts.{after_entry, after, IsPlayed}
-use Rattle.hop_model.specs.Vectors.{StampsBelow}
-use Rattle.hop_model.specs.Choices.{Commit, IsClosedChoice}
-use Rattle.hop_model.specs.Histories.{Policy, Run, event_of, commit_of, commits_of, commits_in, chosen_commits, May, mark, goes_on, went_on, IsLegalFrom, IsLegalRun, start_run, run_after, AllBelow64}
-use Rattle.hop_model.proofs.CommitStamps.{AllCommits}
-use Rattle.hop_model.proofs.LegalRuns.{event_of_local, event_of_stamped, next_legal, legal_played, state_after}
-use Rattle.hop_model.proofs.StableCuts.{versions_rise, stable_closed, commits_grow, run_append}
+use Rattle.sound_runs.specs.hop_model.State.{Supply, KernelState}
+use Rattle.sound_runs.specs.hop_model.Scripts.{Script}
+use Rattle.sound_runs.specs.hop_model.LocalEvents.{touch_at}
+use Rattle.sound_runs.specs.hop_model.Parts.{after_entry, after, IsPlayed}
+use Rattle.sound_runs.specs.hop_model.Vectors.{StampsBelow}
+use Rattle.sound_runs.specs.hop_model.Choices.{Commit, IsClosedChoice}
+use Rattle.sound_runs.specs.hop_model.Histories.{Policy, Run, event_of, commit_of, commits_of, commits_in, chosen_commits, May, mark, goes_on, went_on, IsLegalFrom, IsLegalRun, start_run, run_after, AllBelow64}
+use Rattle.sound_runs.proofs.hop_model_lemmas.CommitStamps.{AllCommits}
+use Rattle.sound_runs.proofs.hop_model_lemmas.LegalRuns.{event_of_local, event_of_stamped, next_legal, legal_played, state_after}
+use Rattle.sound_runs.proofs.hop_model_lemmas.StableCuts.{versions_rise, stable_closed, commits_grow, run_append}
 use Rattle.run_cuts.specs.Cuts.{EndsTried, IsCutState, IsKeptRun, all_commits, commits_with_uncertain, stable_commits, try_of, uncertain}
 use Rattle.run_cuts.proofs.Cutting.{ReachesTo, after_append, cut_state}
 

@@ -3,12 +3,12 @@ use Rattle.std.proofs.Common.{◌≡◌, ℕ, zero, suc, ◌+◌, ◌-◌, List,
 use Rattle.std.proofs.lemmas.Bool.{cases_lt}
 use Rattle.std.proofs.lemmas.List.{append-nil}
 use Rattle.hop_base.specs.declared.histories.Entry.{Entry}
-use Rattle.hop_model.specs.State.{Supply, KernelState}
-use Rattle.hop_model.specs.Scripts.{Script}
-use Rattle.hop_model.specs.Steps.{atlas_in}
-use Rattle.hop_model.specs.Histories.{Run, never, run_after, start_run}
-use Rattle.hop_model.specs.Serial.{IsSerialFront, all_births, all_loci, picks_of, rounds, serial_with, turn, turns}
-use Rattle.hop_model.proofs.StableCuts.{run_append}
+use Rattle.sound_runs.specs.hop_model.State.{Supply, KernelState}
+use Rattle.sound_runs.specs.hop_model.Scripts.{Script}
+use Rattle.sound_runs.specs.hop_model.Steps.{atlas_in}
+use Rattle.sound_runs.specs.hop_model.Histories.{Run, never, run_after, start_run}
+use Rattle.sound_runs.specs.hop_model.Serial.{IsSerialFront, all_births, all_loci, picks_of, rounds, serial_with, turn, turns}
+use Rattle.sound_runs.proofs.hop_model_lemmas.StableCuts.{run_append}
 use Rattle.run_cuts.proofs.Leaving.{comparable}
 
 module _ (s : Supply) (script : Script) where

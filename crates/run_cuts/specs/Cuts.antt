@@ -3,14 +3,14 @@ use Rattle.std.specs.Prelude.{◌≡◌, ◌⊎◌, ℕ, List, [], ◌∷◌, �
 use Rattle.hop_base.specs.Edges.{upto}
 use Rattle.hop_base.specs.declared.histories.Entry.{Entry}
 use Rattle.hop_base.specs.declared.histories.Event.TheVariants.{Stable, Tried}
-use Rattle.hop_model.specs.State.{Supply, KernelState}
-use Rattle.hop_model.specs.Scripts.{Script}
-use Rattle.hop_model.specs.Soundness.{IsSound}
-use Rattle.hop_model.specs.Vectors.{StampsBelow}
-use Rattle.hop_model.specs.Parts.{after, part_of}
-use Rattle.hop_model.specs.Choices.{Commit, IsGreatest}
-use Rattle.hop_model.specs.Histories.{Policy, Run, May, IsLegalRun, commits_of, event_of, has_changed, mark, run_after, start_run, version_of}
-use Rattle.script_form.specs.Rules.{IsScript}
+use Rattle.sound_runs.specs.hop_model.State.{Supply, KernelState}
+use Rattle.sound_runs.specs.hop_model.Scripts.{Script}
+use Rattle.sound_runs.specs.hop_model.Soundness.{IsSound}
+use Rattle.sound_runs.specs.hop_model.Vectors.{StampsBelow}
+use Rattle.sound_runs.specs.hop_model.Parts.{after, part_of}
+use Rattle.sound_runs.specs.hop_model.Choices.{Commit, IsGreatest}
+use Rattle.sound_runs.specs.hop_model.Histories.{Policy, Run, May, IsLegalRun, commits_of, event_of, has_changed, mark, run_after, start_run, version_of}
+use Rattle.sound_runs.specs.script_form.Rules.{IsScript}
 use Rattle.sound_runs.specs.Kinds.{NamesNoLocus}
 
 -- RECORDS

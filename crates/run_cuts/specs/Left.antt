@@ -2,10 +2,10 @@
 use Rattle.std.specs.Prelude.{◌≡◌, ◌≤◌, ◌<◌, ◌+◌, ◌⊎◌, ℕ, List, [], ◌∷◌, ◌++◌, count_by, take, slice_get, Some}
 use Rattle.hop_base.specs.declared.histories.Entry.{Entry}
 use Rattle.hop_base.specs.declared.histories.Event.TheVariants.{Stable}
-use Rattle.hop_model.specs.State.{Supply, KernelState}
-use Rattle.hop_model.specs.Scripts.{Script}
-use Rattle.hop_model.specs.Parts.{after}
-use Rattle.hop_model.specs.Histories.{Policy, event_of}
+use Rattle.sound_runs.specs.hop_model.State.{Supply, KernelState}
+use Rattle.sound_runs.specs.hop_model.Scripts.{Script}
+use Rattle.sound_runs.specs.hop_model.Parts.{after}
+use Rattle.sound_runs.specs.hop_model.Histories.{Policy, event_of}
 use Rattle.run_cuts.specs.Cuts.{EndsTried, IsCutState, all_commits}
 use Rattle.run_cuts.specs.Marks.{Completed, completes}
 

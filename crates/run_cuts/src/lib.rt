@@ -5,11 +5,11 @@
 ghost use Rattle.std.specs.Prelude.{◌≡◌, ◌≤◌, ◌+◌, ◌++◌, ◌∷◌, [], ℕ, List, count_by, length, take};
 ghost use Rattle.hop_base.specs.declared.histories.Entry.{Entry as Line};
 ghost use Rattle.hop_base.specs.declared.histories.Event.TheVariants.{Stable};
-ghost use Rattle.hop_model.specs.State.{Supply, KernelState};
-ghost use Rattle.hop_model.specs.Scripts.{Script};
-ghost use Rattle.hop_model.specs.Serial.{IsSerialFront};
-ghost use Rattle.hop_model.specs.Parts.{after};
-ghost use Rattle.hop_model.specs.Histories.{Policy, IsLegalRun, commits_in, event_of};
+ghost use Rattle.sound_runs.specs.hop_model.State.{Supply, KernelState};
+ghost use Rattle.sound_runs.specs.hop_model.Scripts.{Script};
+ghost use Rattle.sound_runs.specs.hop_model.Serial.{IsSerialFront};
+ghost use Rattle.sound_runs.specs.hop_model.Parts.{after};
+ghost use Rattle.sound_runs.specs.hop_model.Histories.{Policy, IsLegalRun, commits_in, event_of};
 ghost use Rattle.run_cuts.specs.Left.{AckedWithin, IsReached, IsStop};
 ghost use Rattle.run_cuts.specs.Marks.{completes};
 ghost use Rattle.run_cuts.specs.Cuts.{BeginsSound, EndsTried, IsCutState, IsKeptRun, all_commits};

@@ -3,15 +3,15 @@ use Rattle.std.proofs.Common.{◌≡◌, ℕ, zero, suc, true, false, ◌&&◌, 
 use Rattle.hop_base.specs.declared.histories.Entry.{Entry}
 use Rattle.hop_base.specs.declared.histories.Event.TheVariants.{Birth, Step, Snap as SnapEvent, Stable, Tried}
 use Rattle.hop_base.specs.Edges.{upto}
-use Rattle.hop_model.specs.State.{Supply, KernelState}
-use Rattle.hop_model.specs.Scripts.{Script}
-use Rattle.hop_model.specs.Vectors.{StampsBelow}
-use Rattle.hop_model.specs.Choices.{Commit, IsNarrow, IsGreatest, covered, greatest, lower, lowered, top}
-use Rattle.hop_model.specs.Histories.{Policy, Run, goes_on, went_on, commit_of, commits_of, chosen_commits, has_changed, IsLegalFrom, IsLegalRun, start_run, run_after, commits_in, AllBelow64}
-use Rattle.hop_model.specs.Fronts.{tried_commits}
-use Rattle.hop_model.proofs.CommitStamps.{AllCommits}
-use Rattle.hop_model.proofs.Lowering.{greatest_is}
-use Rattle.hop_model.proofs.StableCuts.{IsKept, kept_goes_on}
+use Rattle.cut_laws.specs.hop_model.State.{Supply, KernelState}
+use Rattle.cut_laws.specs.hop_model.Scripts.{Script}
+use Rattle.cut_laws.specs.hop_model.Vectors.{StampsBelow}
+use Rattle.cut_laws.specs.hop_model.Choices.{Commit, IsNarrow, IsGreatest, covered, greatest, lower, lowered, top}
+use Rattle.cut_laws.specs.hop_model.Histories.{Policy, Run, goes_on, went_on, commit_of, commits_of, chosen_commits, has_changed, IsLegalFrom, IsLegalRun, start_run, run_after, commits_in, AllBelow64}
+use Rattle.cut_laws.specs.hop_model.Fronts.{tried_commits}
+use Rattle.cut_laws.proofs.hop_model_lemmas.CommitStamps.{AllCommits}
+use Rattle.cut_laws.proofs.hop_model_lemmas.Lowering.{greatest_is}
+use Rattle.cut_laws.proofs.hop_model_lemmas.StableCuts.{IsKept, kept_goes_on}
 use Rattle.run_laws.specs.Versions.{OnlyBelow64}
 
 narrow_append : (cs ds : List Commit) → IsNarrow cs → IsNarrow ds → IsNarrow (cs ++ ds)

@@ -6,16 +6,16 @@ use Rattle.std.proofs.lemmas.List.Sums.{sum_by-cons, sum_by-append}
 use Rattle.hop_base.specs.declared.histories.Entry.{Entry}
 use Rattle.hop_base.specs.declared.histories.Event.TheVariants.{Birth, Step, Snap as SnapEvent, Stable, Tried}
 use Rattle.hop_base.specs.Edges.{upto}
-use Rattle.hop_model.specs.State.{Supply, KernelState}
-use Rattle.hop_model.specs.Words.{put}
-use Rattle.hop_model.specs.Scripts.{Script}
-use Rattle.hop_model.specs.Vectors.{StampsBelow}
-use Rattle.hop_model.specs.Choices.{Commit, Among, IsBelow, IsClosedChoice, IsGreatest}
-use Rattle.hop_model.specs.Histories.{Policy, Run, may, May, is_full, goes_on, went_on, noting, after_snap, after_stable, version_of, commit_of, commits_of, commits_above, has_changed, next_changed, IsLegalFrom, IsLegalRun, start_run, run_after, AllBelow64}
-use Rattle.hop_model.proofs.Among.{among_map, among_more, among_right}
-use Rattle.hop_model.proofs.CommitStamps.{AllCommits}
-use Rattle.hop_model.proofs.Lowering.{rising_cut}
-use Rattle.hop_model.proofs.StableCuts.{IsKept, OnRecord, Stands, kept_goes_on}
+use Rattle.cut_laws.specs.hop_model.State.{Supply, KernelState}
+use Rattle.cut_laws.specs.hop_model.Words.{put}
+use Rattle.cut_laws.specs.hop_model.Scripts.{Script}
+use Rattle.cut_laws.specs.hop_model.Vectors.{StampsBelow}
+use Rattle.cut_laws.specs.hop_model.Choices.{Commit, Among, IsBelow, IsClosedChoice, IsGreatest}
+use Rattle.cut_laws.specs.hop_model.Histories.{Policy, Run, may, May, is_full, goes_on, went_on, noting, after_snap, after_stable, version_of, commit_of, commits_of, commits_above, has_changed, next_changed, IsLegalFrom, IsLegalRun, start_run, run_after, AllBelow64}
+use Rattle.cut_laws.proofs.hop_model_lemmas.Among.{among_map, among_more, among_right}
+use Rattle.cut_laws.proofs.hop_model_lemmas.CommitStamps.{AllCommits}
+use Rattle.cut_laws.proofs.hop_model_lemmas.Lowering.{rising_cut}
+use Rattle.cut_laws.proofs.hop_model_lemmas.StableCuts.{IsKept, OnRecord, Stands, kept_goes_on}
 use Rattle.run_laws.specs.Versions.{OnlyBelow64}
 use Rattle.run_laws.proofs.Cuts.{HasCut, cut_greatest, chosen_same, cut_goes_on, start_kept, start_has}
 
@@ -154,7 +154,7 @@ in_upto x (suc n) lt f h r =
           ] refl)
     ])
 
-record_more : (start : ℕ → ℕ) (cs ds : List Commit) (x : ℕ) (b : Rattle.hop_model.specs.State.EntityState) → OnRecord start cs x b → OnRecord start (cs ++ ds) x b
+record_more : (start : ℕ → ℕ) (cs ds : List Commit) (x : ℕ) (b : Rattle.cut_laws.specs.hop_model.State.EntityState) → OnRecord start cs x b → OnRecord start (cs ++ ds) x b
 record_more start cs ds x b h = elim h as (λ _. OnRecord start (cs ++ ds) x b) [ inl e ↦ inl e | inr a ↦ inr (among_more cs ds _ a) ]
 
 abbrev pub stable_commits : Run → List Commit

@@ -3,17 +3,17 @@ use Rattle.std.proofs.Common.{◌≡◌, ℕ, ◌<◌, nat_lt, List, [], ◌∷�
 use Rattle.std.proofs.lemmas.Bool.{lt-ltb, cases_lt}
 use Rattle.hop_base.specs.Edges.{upto}
 use Rattle.hop_base.specs.declared.histories.Entry.{Entry}
-use Rattle.hop_model.specs.State.{Supply, KernelState}
-use Rattle.hop_model.specs.Scripts.{Script}
-use Rattle.hop_model.specs.Vectors.{StampsBelow}
-use Rattle.hop_model.specs.Choices.{Commit, Among}
-use Rattle.hop_model.specs.Parts.{IsPlayed}
-use Rattle.hop_model.specs.Histories.{Policy, IsLegalRun, commits_in, event_of, run_after, start_run}
-use Rattle.hop_model.specs.Fronts.{tried_commits}
-use Rattle.hop_model.proofs.Among.{among_map, among_more}
-use Rattle.hop_model.proofs.CommitStamps.{AllCommits, IsMadeIn, all_made}
-use Rattle.hop_model.proofs.LegalRuns.{event_of_local, event_of_stamped, legal_played}
-use Rattle.hop_model.proofs.StableCuts.{Stands, commits_grow, versions_rise_over}
+use Rattle.cut_laws.specs.hop_model.State.{Supply, KernelState}
+use Rattle.cut_laws.specs.hop_model.Scripts.{Script}
+use Rattle.cut_laws.specs.hop_model.Vectors.{StampsBelow}
+use Rattle.cut_laws.specs.hop_model.Choices.{Commit, Among}
+use Rattle.cut_laws.specs.hop_model.Parts.{IsPlayed}
+use Rattle.cut_laws.specs.hop_model.Histories.{Policy, IsLegalRun, commits_in, event_of, run_after, start_run}
+use Rattle.cut_laws.specs.hop_model.Fronts.{tried_commits}
+use Rattle.cut_laws.proofs.hop_model_lemmas.Among.{among_map, among_more}
+use Rattle.cut_laws.proofs.hop_model_lemmas.CommitStamps.{AllCommits, IsMadeIn, all_made}
+use Rattle.cut_laws.proofs.hop_model_lemmas.LegalRuns.{event_of_local, event_of_stamped, legal_played}
+use Rattle.cut_laws.proofs.hop_model_lemmas.StableCuts.{Stands, commits_grow, versions_rise_over}
 use Rattle.cut_laws.specs.Agreeing.{AreFromStart, HoldsStart}
 use Rattle.run_laws.specs.Versions.{OnlyBelow64}
 use Rattle.run_laws.proofs.Cuts.{chosen_same}

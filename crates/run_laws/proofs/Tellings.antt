@@ -6,14 +6,14 @@ use Rattle.std.proofs.lemmas.List.Sums.{sum_by-cons}
 use Rattle.hop_base.specs.declared.histories.Entry.{Entry}
 use Rattle.hop_base.specs.declared.histories.Touch.{Touch}
 use Rattle.hop_base.specs.declared.histories.Event.TheVariants.{Birth, Step, Snap as SnapEvent, Stable, Tried}
-use Rattle.hop_model.specs.State.{Supply, EntityState, KernelState}
-use Rattle.hop_model.specs.Scripts.{Script}
-use Rattle.hop_model.specs.Parts.{after_entry, after, IsNext, IsPlayed}
-use Rattle.hop_model.specs.Histories.{Policy, Run, event_of, writes, version_after, goes_on, went_on, IsLegalRun, start_run, run_after}
-use Rattle.hop_model.proofs.Basics.{and_left, and_right}
-use Rattle.hop_model.proofs.Covering.{Is_next, is_next, found}
-use Rattle.hop_model.proofs.Replay.{at_entity}
-use Rattle.hop_model.proofs.LegalRuns.{event_of_local, event_of_stamped, legal_played}
+use Rattle.cut_laws.specs.hop_model.State.{Supply, EntityState, KernelState}
+use Rattle.cut_laws.specs.hop_model.Scripts.{Script}
+use Rattle.cut_laws.specs.hop_model.Parts.{after_entry, after, IsNext, IsPlayed}
+use Rattle.cut_laws.specs.hop_model.Histories.{Policy, Run, event_of, writes, version_after, goes_on, went_on, IsLegalRun, start_run, run_after}
+use Rattle.cut_laws.proofs.hop_model_lemmas.Basics.{and_left, and_right}
+use Rattle.cut_laws.proofs.hop_model_lemmas.Covering.{Is_next, is_next, found}
+use Rattle.cut_laws.proofs.hop_model_lemmas.Replay.{at_entity}
+use Rattle.cut_laws.proofs.hop_model_lemmas.LegalRuns.{event_of_local, event_of_stamped, legal_played}
 use Rattle.run_laws.specs.StepEntries.{is_step, steps_by}
 use Rattle.run_laws.proofs.Writing.{entry_stays}
 

@@ -4,7 +4,7 @@ use Rattle.std.proofs.lemmas.Bool.{cases_lt}
 use Rattle.disk_trait.specs.Disk.{Ticks}
 use Rattle.disk_trait.specs.Image.{Image}
 use Rattle.disk_trait.specs.Moments.{LeavesOnly}
-use Rattle.image_opening.specs.Images.{MeansSame, MeansSince, WasRefused}
+use Rattle.kernel_opening.specs.image_opening.Images.{MeansSame, MeansSince, WasRefused}
 use Rattle.command_parts.specs.Seen.{SeenDisk, seen_disk}
 use Rattle.run_opening.specs.Openings.{FailsAtSync, HasFailedSync, KeepsMeaning, StaysAsRead}
 use Rattle.watched_disk.specs.Handing.{next_moment}

@@ -2,20 +2,20 @@
 use Rattle.std.proofs.Common.{◌≡◌, ◌⊎◌, inl, inr, ℕ, ◌<◌, ◌≤◌, List, get_or, length, slice_get, Some, None, refl, sym, subst, arith}
 use Rattle.std.proofs.lemmas.Option.{slice_get_cases}
 use Rattle.disk_trait.specs.Image.{Image}
-use Rattle.fitting_births.specs.Fitting.{Fits}
-use Rattle.hop_model.specs.Scripts.{Script as Tables}
-use Rattle.hop_model.specs.State.{AtlasState}
+use Rattle.kernel_opening.specs.fitting_births.Fitting.{Fits}
+use Rattle.command_parts.specs.hop_model.Scripts.{Script as Tables}
+use Rattle.command_parts.specs.hop_model.State.{AtlasState}
 use Rattle.atlas_dir.specs.Directory.{Directory}
-use Rattle.kernel_calls.specs.Calls.{atlas_state}
-use Rattle.kernel_cells.specs.declared.cells.Cell.{Cell}
-use Rattle.kernel_cells.specs.declared.cells.Part.TheVariants as part
-use Rattle.cell_table.specs.Tables.{state_in}
-use Rattle.record_laws.specs.Cells.{words_on}
-use Rattle.script_form.specs.Rules.{IsScript}
-use Rattle.table_births.specs.Births.{atlas_state_in}
-use Rattle.table_births.proofs.AtlasStates.{has_atlas, same_atlas}
+use Rattle.kernel_opening.specs.kernel_calls.Calls.{atlas_state}
+use Rattle.kernel_opening.specs.kernel_cells.declared.cells.Cell.{Cell}
+use Rattle.kernel_opening.specs.kernel_cells.declared.cells.Part.TheVariants as part
+use Rattle.kernel_opening.specs.cell_table.Tables.{state_in}
+use Rattle.kernel_opening.specs.record_laws.Cells.{words_on}
+use Rattle.command_parts.specs.script_form.Rules.{IsScript}
+use Rattle.kernel_opening.specs.table_births.Births.{atlas_state_in}
+use Rattle.kernel_opening.proofs.table_births_lemmas.AtlasStates.{has_atlas, same_atlas}
 use Rattle.kernel_opening.specs.Kernels.{Held, Lives}
-use Rattle.kernel_laws.specs.Opening.{empty_script, with_script}
+use Rattle.kernel_opening.specs.kernel_laws.Opening.{empty_script, with_script}
 use Rattle.kernel_opening.specs.Starts.{Opens}
 use Rattle.run_opening.specs.Openings.{HasOpened, Managers, run_from}
 use Rattle.run_opening.specs.Ready.{IsReady}

@@ -3,24 +3,24 @@ use Rattle.std.proofs.Common.{◌≡◌, ◌⊎◌, inl, inr, ℕ, ◌≤◌, Li
 use Rattle.disk_trait.specs.Counts.{Rose}
 use Rattle.disk_trait.specs.Image.{Image}
 use Rattle.disk_trait.specs.Moments.{LeavesOnly}
-use Rattle.fitting_births.specs.Fitting.{Fits}
-use Rattle.hop_model.specs.Scripts.{Script as Tables}
-use Rattle.hop_model.specs.State.{AtlasState, KernelState, Supply}
-use Rattle.hop_model.specs.Steps.{atlas_in}
-use Rattle.image_blocks.specs.Checks.{Bad as BadPlace}
-use Rattle.image_meaning.specs.Meaning.{Accepted, Means}
-use Rattle.image_meaning.proofs.Ones.{one_meaning}
-use Rattle.image_opening.specs.Images.{HasImageCause, HasTurnLeft, MeansSame, MeansSince, StopsShort, WasRefused}
-use Rattle.kernel_cells.specs.declared.cells.Cell.{Cell}
-use Rattle.cell_table.specs.Tables.{state_in}
-use Rattle.record_laws.specs.Cells.{words_on}
-use Rattle.table_births.specs.Births.{atlas_state_in}
-use Rattle.table_births.proofs.AtlasStates.{same_atlas}
-use Rattle.script_against.specs.Misfits.{IsMisfit}
-use Rattle.script_form.specs.declared.refusals.ScriptFault.{ScriptFault}
-use Rattle.script_form.specs.declared.refusals.ScriptFault.TheVariants as script_fault
-use Rattle.snapshot_store.specs.declared.opening.OpenWhy.{OpenWhy}
-use Rattle.snapshot_store.specs.declared.opening.OpenWhy.TheVariants as why
+use Rattle.kernel_opening.specs.fitting_births.Fitting.{Fits}
+use Rattle.command_parts.specs.hop_model.Scripts.{Script as Tables}
+use Rattle.command_parts.specs.hop_model.State.{AtlasState, KernelState, Supply}
+use Rattle.command_parts.specs.hop_model.Steps.{atlas_in}
+use Rattle.restart.specs.image_blocks.Checks.{Bad as BadPlace}
+use Rattle.restart.specs.image_meaning.Meaning.{Accepted, Means}
+use Rattle.restart.proofs.image_meaning_lemmas.Ones.{one_meaning}
+use Rattle.kernel_opening.specs.image_opening.Images.{HasImageCause, HasTurnLeft, MeansSame, MeansSince, StopsShort, WasRefused}
+use Rattle.kernel_opening.specs.kernel_cells.declared.cells.Cell.{Cell}
+use Rattle.kernel_opening.specs.cell_table.Tables.{state_in}
+use Rattle.kernel_opening.specs.record_laws.Cells.{words_on}
+use Rattle.kernel_opening.specs.table_births.Births.{atlas_state_in}
+use Rattle.kernel_opening.proofs.table_births_lemmas.AtlasStates.{same_atlas}
+use Rattle.kernel_opening.specs.script_against.Misfits.{IsMisfit}
+use Rattle.command_parts.specs.script_form.declared.refusals.ScriptFault.{ScriptFault}
+use Rattle.command_parts.specs.script_form.declared.refusals.ScriptFault.TheVariants as script_fault
+use Rattle.kernel_opening.specs.snapshot_store.declared.opening.OpenWhy.{OpenWhy}
+use Rattle.kernel_opening.specs.snapshot_store.declared.opening.OpenWhy.TheVariants as why
 use Rattle.command_parts.specs.Faults.{fault_of_script}
 use Rattle.command_parts.specs.Seen.{SeenDisk, seen_disk}
 use Rattle.command_parts.specs.declared.faults.Fault.{Fault}

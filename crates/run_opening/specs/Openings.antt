@@ -2,14 +2,14 @@
 use Rattle.std.specs.Prelude.{◌≡◌, ◌⊎◌, ◌≤◌, ℕ}
 use Rattle.disk_trait.specs.Disk.{Ticks}
 use Rattle.disk_trait.specs.Image.{Image}
-use Rattle.fitting_births.specs.Fitting.{Fits}
-use Rattle.hop_model.specs.Histories.{Policy}
-use Rattle.hop_model.specs.Scripts.{Script as Tables}
-use Rattle.hop_model.specs.State.{KernelState, Supply}
-use Rattle.hop_model.specs.Steps.{atlas_in}
-use Rattle.image_meaning.specs.Meaning.{Means}
-use Rattle.image_opening.specs.Images.{HasTurnLeft, MeansSame}
-use Rattle.kernel_model.specs.Beginnings.{Beginning}
+use Rattle.kernel_opening.specs.fitting_births.Fitting.{Fits}
+use Rattle.command_parts.specs.hop_model.Histories.{Policy}
+use Rattle.command_parts.specs.hop_model.Scripts.{Script as Tables}
+use Rattle.command_parts.specs.hop_model.State.{KernelState, Supply}
+use Rattle.command_parts.specs.hop_model.Steps.{atlas_in}
+use Rattle.restart.specs.image_meaning.Meaning.{Means}
+use Rattle.kernel_opening.specs.image_opening.Images.{HasTurnLeft, MeansSame}
+use Rattle.kernel_opening.specs.kernel_model.Beginnings.{Beginning}
 use Rattle.kernel_opening.specs.Starts.{HasLowNumbers}
 use Rattle.command_parts.specs.Seen.{SeenDisk}
 use Rattle.watched_disk.specs.Handing.{next_moment}

@@ -1,21 +1,21 @@
 -- The kernel of an image that was opened for a script, and why there is none.
 use Rattle.std.specs.Prelude.{◌≡◌, ◌⊎◌, ◌≤◌, ℕ, Some, string_bytes, ⊤}
 use Rattle.disk_trait.specs.Image.{Image}
-use Rattle.fitting_births.specs.Fitting.{Fits}
-use Rattle.hop_model.specs.Scripts.{Script as Tables}
-use Rattle.hop_model.specs.State.{AtlasState, KernelState, Supply}
-use Rattle.hop_model.specs.Steps.{atlas_in}
-use Rattle.image_blocks.specs.Checks.{count_in}
-use Rattle.image_meaning.specs.Foreign.{IsForeign}
-use Rattle.image_meaning.specs.Meaning.{Means}
-use Rattle.image_opening.specs.Images.{HasTurnLeft}
+use Rattle.kernel_opening.specs.fitting_births.Fitting.{Fits}
+use Rattle.command_parts.specs.hop_model.Scripts.{Script as Tables}
+use Rattle.command_parts.specs.hop_model.State.{AtlasState, KernelState, Supply}
+use Rattle.command_parts.specs.hop_model.Steps.{atlas_in}
+use Rattle.restart.specs.image_blocks.Checks.{count_in}
+use Rattle.restart.specs.image_meaning.Foreign.{IsForeign}
+use Rattle.restart.specs.image_meaning.Meaning.{Means}
+use Rattle.kernel_opening.specs.image_opening.Images.{HasTurnLeft}
 use Rattle.kernel_opening.specs.Kernels.{Held, Lives}
-use Rattle.kernel_laws.specs.Opening.{empty_script, with_script}
-use Rattle.script_against.specs.Misfits.{misfit}
-use Rattle.script_form.specs.declared.refusals.Refusal.{Refusal}
-use Rattle.snapshot_store.specs.State.{books}
-use Rattle.snapshot_store.specs.declared.opening.OpenWhy.{OpenWhy}
-use Rattle.snapshot_store.specs.declared.opening.OpenWhy.TheVariants as why
+use Rattle.kernel_opening.specs.kernel_laws.Opening.{empty_script, with_script}
+use Rattle.kernel_opening.specs.script_against.Misfits.{misfit}
+use Rattle.command_parts.specs.script_form.declared.refusals.Refusal.{Refusal}
+use Rattle.kernel_opening.specs.snapshot_store.State.{books}
+use Rattle.kernel_opening.specs.snapshot_store.declared.opening.OpenWhy.{OpenWhy}
+use Rattle.kernel_opening.specs.snapshot_store.declared.opening.OpenWhy.TheVariants as why
 use Rattle.command_parts.specs.Seen.{SeenDisk}
 use Rattle.command_parts.specs.declared.faults.Fault.{Fault}
 use Rattle.command_parts.specs.declared.faults.Fault.TheVariants.{Script, Foreign, Disk, Memory}

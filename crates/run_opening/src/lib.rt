@@ -4,9 +4,10 @@
 mod laws;
 mod opening;
 
-pub use kernel_opening::{Ended, Kernel, Stopped};
+pub use command_parts;
+pub use command_parts::script_form;
+pub use kernel_opening::{Ended, Kernel, Stopped, kernel_cells};
 pub use laws::failed_sync_law;
 pub use opening::{Unopened, open_for};
-
-#[cfg(test)]
-mod tests;
+pub use restart;
+pub use script_read;

@@ -4,25 +4,25 @@ ghost use Rattle.command_parts.specs.Seen.{seen_disk};
 ghost use Rattle.command_parts.specs.declared.faults.Fault.{Fault as AFault};
 ghost use Rattle.disk_tally.specs.Counts.{Begins, shown};
 ghost use Rattle.disk_trait.specs.Counts.{Rose};
-ghost use Rattle.fitting_births.specs.Fitting.{Fits};
-ghost use Rattle.hop_model.specs.State.{KernelState, Supply};
-ghost use Rattle.hop_model.specs.Steps.{atlas_in};
-ghost use Rattle.image_meaning.specs.Meaning.{Means};
-ghost use Rattle.image_opening.specs.Images.{HasBegun, IsOpenedTable};
+ghost use Rattle.kernel_opening.specs.fitting_births.Fitting.{Fits};
+ghost use Rattle.command_parts.specs.hop_model.State.{KernelState, Supply};
+ghost use Rattle.command_parts.specs.hop_model.Steps.{atlas_in};
+ghost use Rattle.restart.specs.image_meaning.Meaning.{Means};
+ghost use Rattle.kernel_opening.specs.image_opening.Images.{HasBegun, IsOpenedTable};
 ghost use Rattle.kernel_opening.specs.Kernels.{StaysClean};
 ghost use Rattle.run_opening.specs.Ready.{IsFitFault, IsReady, StopsOpening, fault_of_opening as fault_by};
-ghost use Rattle.script_against.specs.Misfits.{IsMisfit};
-ghost use Rattle.script_form.specs.Rules.{IsScript};
-ghost use Rattle.script_form.specs.Scripts.{tables_of};
-ghost use Rattle.snapshot_store.specs.State.{books};
-ghost use Rattle.table_births.specs.Births.{atlas_state_in};
+ghost use Rattle.kernel_opening.specs.script_against.Misfits.{IsMisfit};
+ghost use Rattle.command_parts.specs.script_form.Rules.{IsScript};
+ghost use Rattle.command_parts.specs.script_form.Scripts.{tables_of};
+ghost use Rattle.kernel_opening.specs.snapshot_store.State.{books};
+ghost use Rattle.kernel_opening.specs.table_births.Births.{atlas_state_in};
 
 use command_parts::Fault;
+use command_parts::script_form::{Script, ScriptFault};
 use disk_trait::Disk;
+use kernel_opening::script_against::against;
+use kernel_opening::snapshot_store::{OpenFault, OpenWhy};
 use kernel_opening::{Kernel, open_image};
-use script_against::against;
-use script_form::{Script, ScriptFault};
-use snapshot_store::{OpenFault, OpenWhy};
 use std::alloc::Global;
 
 /// Why an image was not opened for a script, and the disk.

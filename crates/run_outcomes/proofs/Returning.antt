@@ -5,7 +5,7 @@ use Rattle.std.proofs.lemmas.List.{take-append-le, take_all}
 use Rattle.std.specs.Prelude.{option_to_list}
 use Rattle.disk_trait.specs.Image.{Image}
 use Rattle.hop_base.specs.declared.histories.Entry.{Entry}
-use Rattle.hop_model.specs.Histories.{run_after, start_run}
+use Rattle.command_parts.specs.hop_model.Histories.{run_after, start_run}
 use Rattle.kernel_model.specs.Beginnings.{Beginning, first_commits}
 use Rattle.kernel_model.specs.Left.{IsCutImage}
 use Rattle.kernel_model.specs.Live.{IsRunning, KernelView}

@@ -2,13 +2,13 @@
 use Rattle.std.specs.Prelude.{◌≡◌, ◌⊎◌, ◌≤◌, ◌<◌, ◌+◌, ◌-◌, ◌^◌, ℕ, List, Some, slice_get}
 use Rattle.disk_trait.specs.Image.{Image}
 use Rattle.hop_base.specs.declared.histories.Entry.{Entry}
-use Rattle.hop_model.specs.Choices.{Commit}
-use Rattle.hop_model.specs.State.{KernelState}
-use Rattle.image_meaning.specs.Meaning.{Means}
+use Rattle.command_parts.specs.hop_model.Choices.{Commit}
+use Rattle.command_parts.specs.hop_model.State.{KernelState}
+use Rattle.kernel_model.specs.image_meaning.Meaning.{Means}
 use Rattle.kernel_model.specs.Beginnings.{Beginning, completed, with_tried}
 use Rattle.kernel_model.specs.Left.{IsCutImage}
-use Rattle.run_cuts.specs.Cuts.{IsCutState}
-use Rattle.run_cuts.specs.Marks.{AreMarks}
+use Rattle.kernel_model.specs.run_cuts.Cuts.{IsCutState}
+use Rattle.kernel_model.specs.run_cuts.Marks.{AreMarks}
 use Rattle.command_parts.specs.Seen.{Gave, SeenDisk}
 
 -- THE IMAGE IS THE CUT OF ALL RECORDS that the history completed, with the one that was tried or without it

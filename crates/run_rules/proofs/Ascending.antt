@@ -6,13 +6,13 @@ use Rattle.std.proofs.lemmas.List.Elements.{filter-append}
 use Rattle.hop_base.specs.Edges.{upto}
 use Rattle.hop_base.specs.declared.histories.Entry.{Entry}
 use Rattle.hop_base.specs.declared.histories.Event.TheVariants.{Birth, Step, Snap as SnapEvent, Stable, Tried}
-use Rattle.hop_model.specs.State.{Supply, KernelState}
-use Rattle.hop_model.specs.Scripts.{Script}
-use Rattle.hop_model.specs.Choices.{Commit}
-use Rattle.hop_model.specs.Words.{put}
-use Rattle.hop_model.specs.Fronts.{tried_commits}
-use Rattle.hop_model.specs.Histories.{Policy, Run, IsLegalFrom, IsLegalRun, May, MayCommit, commit_of, commits_of, every_of, goes_on, has_changed, may, run_after, start_run, version_of, went_on}
-use Rattle.hop_model.proofs.CommitStamps.{AllCommits}
+use Rattle.run_laws.specs.hop_model.State.{Supply, KernelState}
+use Rattle.run_laws.specs.hop_model.Scripts.{Script}
+use Rattle.run_laws.specs.hop_model.Choices.{Commit}
+use Rattle.run_laws.specs.hop_model.Words.{put}
+use Rattle.run_laws.specs.hop_model.Fronts.{tried_commits}
+use Rattle.run_laws.specs.hop_model.Histories.{Policy, Run, IsLegalFrom, IsLegalRun, May, MayCommit, commit_of, commits_of, every_of, goes_on, has_changed, may, run_after, start_run, version_of, went_on}
+use Rattle.run_laws.proofs.hop_model_lemmas.CommitStamps.{AllCommits}
 use Rattle.run_laws.proofs.Cuts.{chosen_same}
 use Rattle.run_laws.proofs.Few.{all_append, found_true}
 use Rattle.run_rules.specs.Records.{AreAbove, AreAscending}

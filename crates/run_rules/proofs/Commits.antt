@@ -5,12 +5,12 @@ use Rattle.std.proofs.lemmas.List.Elements.{filter-append}
 use Rattle.hop_base.specs.Edges.{upto}
 use Rattle.hop_base.specs.declared.histories.Entry.{Entry}
 use Rattle.hop_base.specs.declared.histories.Event.TheVariants.{Birth, Step, Snap as SnapEvent, Stable, Tried}
-use Rattle.hop_model.specs.State.{Supply, KernelState}
-use Rattle.hop_model.specs.Scripts.{Script}
-use Rattle.hop_model.specs.Fronts.{tried_commits}
-use Rattle.hop_model.specs.Histories.{Policy, Run, event_of, chosen_commits, commits_of, commits_in, has_changed, goes_on, went_on, IsLegalRun, start_run, run_after}
-use Rattle.hop_model.specs.Parts.{after}
-use Rattle.hop_model.proofs.LegalRuns.{state_after}
+use Rattle.run_laws.specs.hop_model.State.{Supply, KernelState}
+use Rattle.run_laws.specs.hop_model.Scripts.{Script}
+use Rattle.run_laws.specs.hop_model.Fronts.{tried_commits}
+use Rattle.run_laws.specs.hop_model.Histories.{Policy, Run, event_of, chosen_commits, commits_of, commits_in, has_changed, goes_on, went_on, IsLegalRun, start_run, run_after}
+use Rattle.run_laws.specs.hop_model.Parts.{after}
+use Rattle.run_laws.proofs.hop_model_lemmas.LegalRuns.{state_after}
 use Rattle.run_laws.proofs.Wishes.{run_append}
 use Rattle.run_rules.specs.Commits.{changed_since, commits_now, new_commits}
 use Rattle.run_rules.specs.Newest.{newest_in}

@@ -3,12 +3,12 @@ use Rattle.std.proofs.Common.{◌≡◌, ℕ, ◌+◌, ◌≤◌, ◌<◌, Bool,
 use Rattle.std.proofs.lemmas.List.Sums.{sum_by-cons}
 use Rattle.hop_base.specs.Edges.{upto}
 use Rattle.hop_base.specs.declared.histories.Entry.{Entry}
-use Rattle.hop_model.specs.State.{Supply}
-use Rattle.hop_model.specs.Scripts.{Script}
-use Rattle.hop_model.specs.Choices.{Commit, Among}
-use Rattle.hop_model.specs.Histories.{Policy, Run, commits_of, run_after, version_of}
-use Rattle.hop_model.proofs.CommitStamps.{AllCommits}
-use Rattle.hop_model.proofs.StableCuts.{commits_grow}
+use Rattle.run_laws.specs.hop_model.State.{Supply}
+use Rattle.run_laws.specs.hop_model.Scripts.{Script}
+use Rattle.run_laws.specs.hop_model.Choices.{Commit, Among}
+use Rattle.run_laws.specs.hop_model.Histories.{Policy, Run, commits_of, run_after, version_of}
+use Rattle.run_laws.proofs.hop_model_lemmas.CommitStamps.{AllCommits}
+use Rattle.run_laws.proofs.hop_model_lemmas.StableCuts.{commits_grow}
 use Rattle.run_laws.proofs.Few.{in_upto}
 use Rattle.run_rules.specs.Newest.{commit_count, newest_from}
 

@@ -1,19 +1,19 @@
 -- The state of the greatest part has the cut's versions, and the vectors of their pasts as clocks.
 use Rattle.std.proofs.Common.{◌≡◌, ℕ, ◌≤◌, true, ◌==◌, List, [], ◌∷◌, ◌++◌, Option, inl, inr, refl, sym, ap, subst, ◌∙◌, arith, eq-eqb}
 use Rattle.hop_base.specs.declared.histories.Entry.{Entry}
-use Rattle.hop_model.specs.State.{Supply, EntityState, KernelState}
-use Rattle.hop_model.specs.Scripts.{Script}
-use Rattle.hop_model.specs.Choices.{Among, Commit, IsGreatest}
-use Rattle.hop_model.specs.Fronts.{tried_commits, version_vector}
-use Rattle.hop_model.specs.Histories.{Policy, IsLegalRun, event_of, start_run}
-use Rattle.hop_model.specs.Parts.{IsPlayed, after, after_entry, part_of, thing_at}
-use Rattle.hop_model.specs.Vectors.{IsPart, StampsBelow}
-use Rattle.hop_model.proofs.Among.{among_some}
-use Rattle.hop_model.proofs.ChosenVectors.{same_vector}
-use Rattle.hop_model.proofs.CommitStamps.{AllCommits, IsMadeIn, all_made, legal_greatest}
-use Rattle.hop_model.proofs.LegalRuns.{event_of_local, event_of_stamped, legal_played, legal_vectors}
-use Rattle.hop_model.proofs.PartStates.{part_state}
-use Rattle.hop_model.proofs.StableCuts.{versions_rise_over}
+use Rattle.run_laws.specs.hop_model.State.{Supply, EntityState, KernelState}
+use Rattle.run_laws.specs.hop_model.Scripts.{Script}
+use Rattle.run_laws.specs.hop_model.Choices.{Among, Commit, IsGreatest}
+use Rattle.run_laws.specs.hop_model.Fronts.{tried_commits, version_vector}
+use Rattle.run_laws.specs.hop_model.Histories.{Policy, IsLegalRun, event_of, start_run}
+use Rattle.run_laws.specs.hop_model.Parts.{IsPlayed, after, after_entry, part_of, thing_at}
+use Rattle.run_laws.specs.hop_model.Vectors.{IsPart, StampsBelow}
+use Rattle.run_laws.proofs.hop_model_lemmas.Among.{among_some}
+use Rattle.run_laws.proofs.hop_model_lemmas.ChosenVectors.{same_vector}
+use Rattle.run_laws.proofs.hop_model_lemmas.CommitStamps.{AllCommits, IsMadeIn, all_made, legal_greatest}
+use Rattle.run_laws.proofs.hop_model_lemmas.LegalRuns.{event_of_local, event_of_stamped, legal_played, legal_vectors}
+use Rattle.run_laws.proofs.hop_model_lemmas.PartStates.{part_state}
+use Rattle.run_laws.proofs.hop_model_lemmas.StableCuts.{versions_rise_over}
 use Rattle.run_rules.specs.Records.{IsRecordOf}
 use Rattle.run_rules.proofs.Records.{record_of}
 

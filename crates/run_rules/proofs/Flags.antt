@@ -3,10 +3,10 @@
 use Rattle.std.proofs.Common.{◌≡◌, ℕ, Bool, true, false, ◌||◌, List, [], ◌∷◌, ◌++◌, ◌⊎◌, inl, inr, refl, sym, ap, subst, ◌∙◌, arith}
 use Rattle.std.specs.List.{list_any}
 use Rattle.hop_base.specs.declared.histories.Entry.{Entry}
-use Rattle.hop_model.specs.State.{Supply, KernelState}
-use Rattle.hop_model.specs.Scripts.{Script}
-use Rattle.hop_model.specs.Histories.{Policy, Run, May, goes_on, IsLegalFrom, run_after}
-use Rattle.hop_model.proofs.Basics.{or_false_left, or_false_right}
+use Rattle.run_laws.specs.hop_model.State.{Supply, KernelState}
+use Rattle.run_laws.specs.hop_model.Scripts.{Script}
+use Rattle.run_laws.specs.hop_model.Histories.{Policy, Run, May, goes_on, IsLegalFrom, run_after}
+use Rattle.run_laws.proofs.hop_model_lemmas.Basics.{or_false_left, or_false_right}
 use Rattle.run_laws.proofs.Wishes.{legal_back, legal_front, run_append}
 use Rattle.run_rules.specs.Newest.{commit_count}
 use Rattle.run_rules.proofs.Counts.{counts_grow}

@@ -3,13 +3,13 @@ use Rattle.std.proofs.Common.{◌≡◌, ℕ, ◌+◌, ◌≤◌, ◌<◌, Bool,
 use Rattle.std.proofs.lemmas.Bool.{false≢true}
 use Rattle.hop_base.specs.declared.histories.Entry.{Entry}
 use Rattle.hop_base.specs.declared.histories.Event.TheVariants.{Birth, Step, Snap as SnapEvent, Stable, Tried}
-use Rattle.hop_model.specs.State.{Supply, KernelState}
-use Rattle.hop_model.specs.Scripts.{Script}
-use Rattle.hop_model.specs.Words.{put}
-use Rattle.hop_model.specs.Parts.{after_entry}
-use Rattle.hop_model.specs.Histories.{Policy, Run, event_of, writes, asked_by, with_asked, locus_in, version_of, may, May, goes_on, went_on, IsLegalFrom, start_run, run_after}
-use Rattle.hop_model.proofs.LegalRuns.{event_of_local, event_of_stamped, next_legal}
-use Rattle.hop_model.proofs.StableCuts.{versions_rise}
+use Rattle.run_laws.specs.hop_model.State.{Supply, KernelState}
+use Rattle.run_laws.specs.hop_model.Scripts.{Script}
+use Rattle.run_laws.specs.hop_model.Words.{put}
+use Rattle.run_laws.specs.hop_model.Parts.{after_entry}
+use Rattle.run_laws.specs.hop_model.Histories.{Policy, Run, event_of, writes, asked_by, with_asked, locus_in, version_of, may, May, goes_on, went_on, IsLegalFrom, start_run, run_after}
+use Rattle.run_laws.proofs.hop_model_lemmas.LegalRuns.{event_of_local, event_of_stamped, next_legal}
+use Rattle.run_laws.proofs.hop_model_lemmas.StableCuts.{versions_rise}
 use Rattle.run_laws.proofs.Tellings.{written_rises}
 use Rattle.run_laws.proofs.Writing.{step_is, step_writes_asked}
 

@@ -4,11 +4,11 @@ use Rattle.std.specs.List.{list_any}
 use Rattle.std.proofs.lemmas.Bool.{false≢true}
 use Rattle.hop_base.specs.declared.histories.Entry.{Entry}
 use Rattle.hop_base.specs.declared.histories.Event.TheVariants.{Birth, Step, Snap as SnapEvent, Stable, Tried}
-use Rattle.hop_model.specs.State.{Supply, KernelState}
-use Rattle.hop_model.specs.Scripts.{Script}
-use Rattle.hop_model.specs.Histories.{Policy, Run, asked_by, locus_in, writes, commits_above, commits_in, has_wish, is_due, is_full, may, goes_on, went_on, IsLegalRun, start_run, run_after}
-use Rattle.hop_model.proofs.Basics.{both, not_false, or_false_left, or_false_right, or_left, or_right}
-use Rattle.hop_model.proofs.LegalRuns.{state_after}
+use Rattle.run_laws.specs.hop_model.State.{Supply, KernelState}
+use Rattle.run_laws.specs.hop_model.Scripts.{Script}
+use Rattle.run_laws.specs.hop_model.Histories.{Policy, Run, asked_by, locus_in, writes, commits_above, commits_in, has_wish, is_due, is_full, may, goes_on, went_on, IsLegalRun, start_run, run_after}
+use Rattle.run_laws.proofs.hop_model_lemmas.Basics.{both, not_false, or_false_left, or_false_right, or_left, or_right}
+use Rattle.run_laws.proofs.hop_model_lemmas.LegalRuns.{state_after}
 use Rattle.run_laws.specs.StepEntries.{is_step}
 use Rattle.run_laws.proofs.Cuts.{cut_kept}
 use Rattle.run_laws.proofs.Wishes.{legal_back, run_append}

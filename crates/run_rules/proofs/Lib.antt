@@ -7,3 +7,5 @@ pub mod Commits
 pub mod Records
 pub mod Ascending
 pub mod CutStates
+pub use Rattle.run_laws.proofs.cut_laws_lemmas
+pub use Rattle.run_laws.proofs as run_laws_lemmas

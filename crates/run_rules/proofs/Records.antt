@@ -1,18 +1,18 @@
 -- What a commit holds is what its entity was at that version.
 use Rattle.std.proofs.Common.{◌≡◌, ℕ, true, false, ◌==◌, if◌then◌else◌, List, [], ◌∷◌, ◌++◌, Option, inl, inr, refl, sym, ap, subst, ◌∙◌, arith, eq-eqb, eqb-true}
 use Rattle.hop_base.specs.declared.histories.Entry.{Entry}
-use Rattle.hop_model.specs.State.{Supply, EntityState, KernelState}
-use Rattle.hop_model.specs.Scripts.{Script}
-use Rattle.hop_model.specs.Choices.{Commit}
-use Rattle.hop_model.specs.Fronts.{tried_commits}
-use Rattle.hop_model.specs.Histories.{Policy, IsLegalRun, event_of, start_run}
-use Rattle.hop_model.specs.LocalEvents.{IsLocal}
-use Rattle.hop_model.specs.Parts.{IsPlayed, after, after_entry, thing_at}
-use Rattle.hop_model.specs.Vectors.{IsStamped, vector_at}
-use Rattle.hop_model.proofs.ChosenVectors.{Moves, moves}
-use Rattle.hop_model.proofs.CommitStamps.{AllCommits, IsMadeIn, all_made, vector_at_front}
-use Rattle.hop_model.proofs.LegalRuns.{event_of_local, event_of_stamped, legal_played, legal_vectors}
-use Rattle.hop_model.proofs.StableCuts.{versions_rise_over}
+use Rattle.run_laws.specs.hop_model.State.{Supply, EntityState, KernelState}
+use Rattle.run_laws.specs.hop_model.Scripts.{Script}
+use Rattle.run_laws.specs.hop_model.Choices.{Commit}
+use Rattle.run_laws.specs.hop_model.Fronts.{tried_commits}
+use Rattle.run_laws.specs.hop_model.Histories.{Policy, IsLegalRun, event_of, start_run}
+use Rattle.run_laws.specs.hop_model.LocalEvents.{IsLocal}
+use Rattle.run_laws.specs.hop_model.Parts.{IsPlayed, after, after_entry, thing_at}
+use Rattle.run_laws.specs.hop_model.Vectors.{IsStamped, vector_at}
+use Rattle.run_laws.proofs.hop_model_lemmas.ChosenVectors.{Moves, moves}
+use Rattle.run_laws.proofs.hop_model_lemmas.CommitStamps.{AllCommits, IsMadeIn, all_made, vector_at_front}
+use Rattle.run_laws.proofs.hop_model_lemmas.LegalRuns.{event_of_local, event_of_stamped, legal_played, legal_vectors}
+use Rattle.run_laws.proofs.hop_model_lemmas.StableCuts.{versions_rise_over}
 use Rattle.run_rules.specs.Records.{AreRecordsOf, IsRecordOf}
 
 module _ (act : Entry → KernelState → Option (Entry × KernelState)) (local : (e : Entry) → IsLocal (λ (b : EntityState). b.version) (act e)) (stamped : (e : Entry) → IsStamped (act e)) where

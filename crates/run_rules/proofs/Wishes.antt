@@ -6,12 +6,12 @@ use Rattle.std.proofs.lemmas.Bool.Decides.{nat_tests}
 use Rattle.hop_base.specs.Edges.{upto}
 use Rattle.hop_base.specs.declared.histories.Entry.{Entry}
 use Rattle.hop_base.specs.declared.histories.Event.TheVariants.{Birth, Step, Snap as SnapEvent, Stable, Tried}
-use Rattle.hop_model.specs.State.{Supply, EntityState, KernelState}
-use Rattle.hop_model.specs.Scripts.{Script}
-use Rattle.hop_model.specs.Words.{put}
-use Rattle.hop_model.specs.Parts.{after}
-use Rattle.hop_model.specs.Histories.{Policy, Run, event_of, writes, every_of, asked_by, with_asked, locus_in, version_of, has_wish, has_changed, commit_of, commits_of, commits_in, may, goes_on, went_on, IsLegalFrom, IsLegalRun, start_run, run_after}
-use Rattle.hop_model.proofs.LegalRuns.{state_after}
+use Rattle.run_laws.specs.hop_model.State.{Supply, EntityState, KernelState}
+use Rattle.run_laws.specs.hop_model.Scripts.{Script}
+use Rattle.run_laws.specs.hop_model.Words.{put}
+use Rattle.run_laws.specs.hop_model.Parts.{after}
+use Rattle.run_laws.specs.hop_model.Histories.{Policy, Run, event_of, writes, every_of, asked_by, with_asked, locus_in, version_of, has_wish, has_changed, commit_of, commits_of, commits_in, may, goes_on, went_on, IsLegalFrom, IsLegalRun, start_run, run_after}
+use Rattle.run_laws.proofs.hop_model_lemmas.LegalRuns.{state_after}
 use Rattle.run_laws.proofs.Cuts.{chosen_same}
 use Rattle.run_rules.specs.Newest.{commit_count, newest_from, newest_in}
 use Rattle.run_rules.specs.Wishes.{HasOpenWish, IsNamedBySnap, IsWrittenByStep}

@@ -4,11 +4,11 @@ use Rattle.hop_base.specs.Edges.{upto}
 use Rattle.hop_base.specs.declared.histories.Entry.{Entry}
 use Rattle.hop_base.specs.declared.histories.Event.{Event}
 use Rattle.hop_base.specs.declared.histories.Event.TheVariants.{Birth, Step, Snap, Stable, Tried}
-use Rattle.hop_model.specs.Choices.{Commit}
-use Rattle.hop_model.specs.Histories.{chosen_commits, commits_in, event_of}
-use Rattle.hop_model.specs.Parts.{after}
-use Rattle.hop_model.specs.Scripts.{Script}
-use Rattle.hop_model.specs.State.{KernelState, Supply}
+use Rattle.run_laws.specs.hop_model.Choices.{Commit}
+use Rattle.run_laws.specs.hop_model.Histories.{chosen_commits, commits_in, event_of}
+use Rattle.run_laws.specs.hop_model.Parts.{after}
+use Rattle.run_laws.specs.hop_model.Scripts.{Script}
+use Rattle.run_laws.specs.hop_model.State.{KernelState, Supply}
 use Rattle.run_rules.specs.Newest.{newest_in}
 
 -- the entities that have changed since their newest commits, ascending: version 0 needs none

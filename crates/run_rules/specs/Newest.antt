@@ -1,6 +1,6 @@
 -- The commits of one entity in a list.
 use Rattle.std.specs.Prelude.{◌==◌, ℕ, if◌then◌else◌, List, [], ◌∷◌, count_by}
-use Rattle.hop_model.specs.Choices.{Commit}
+use Rattle.run_laws.specs.hop_model.Choices.{Commit}
 
 -- how many commits the entity has
 abbrev pub commit_count : List Commit → ℕ → ℕ

@@ -1,12 +1,12 @@
 -- Commits as records of a history.
 use Rattle.std.specs.Prelude.{◌≡◌, ◌<◌, [], ◌∷◌, ℕ, List}
 use Rattle.hop_base.specs.declared.histories.Entry.{Entry}
-use Rattle.hop_model.specs.Choices.{Commit}
-use Rattle.hop_model.specs.Fronts.{version_vector}
-use Rattle.hop_model.specs.Histories.{event_of}
-use Rattle.hop_model.specs.Parts.{thing_at}
-use Rattle.hop_model.specs.Scripts.{Script}
-use Rattle.hop_model.specs.State.{EntityState, KernelState, Supply}
+use Rattle.run_laws.specs.hop_model.Choices.{Commit}
+use Rattle.run_laws.specs.hop_model.Fronts.{version_vector}
+use Rattle.run_laws.specs.hop_model.Histories.{event_of}
+use Rattle.run_laws.specs.hop_model.Parts.{thing_at}
+use Rattle.run_laws.specs.hop_model.Scripts.{Script}
+use Rattle.run_laws.specs.hop_model.State.{EntityState, KernelState, Supply}
 
 -- the commit has the version and the clock that its entity had at that version, and the clock is the vector of its past there
 pub record IsRecordOf (s : Supply) (script : Script) (w : KernelState) (es : List Entry) (c : Commit) : Type 0 where

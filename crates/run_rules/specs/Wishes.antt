@@ -4,11 +4,11 @@ use Rattle.std.specs.Prelude.{◌≡◌, ◌-◌, ◌++◌, ◌⊎◌, ◌&&◌,
 use Rattle.std.specs.List.{list_any}
 use Rattle.hop_base.specs.declared.histories.Entry.{Entry}
 use Rattle.hop_base.specs.declared.histories.Event.TheVariants.{Step}
-use Rattle.hop_model.specs.Choices.{greatest}
-use Rattle.hop_model.specs.Histories.{Policy, asked_by, commits_above, commits_in, event_of, every_of, locus_in, writes}
-use Rattle.hop_model.specs.Parts.{after}
-use Rattle.hop_model.specs.Scripts.{Script}
-use Rattle.hop_model.specs.State.{KernelState, Supply}
+use Rattle.run_laws.specs.hop_model.Choices.{greatest}
+use Rattle.run_laws.specs.hop_model.Histories.{Policy, asked_by, commits_above, commits_in, event_of, every_of, locus_in, writes}
+use Rattle.run_laws.specs.hop_model.Parts.{after}
+use Rattle.run_laws.specs.hop_model.Scripts.{Script}
+use Rattle.run_laws.specs.hop_model.State.{KernelState, Supply}
 use Rattle.run_laws.specs.StepEntries.{is_step}
 use Rattle.run_rules.specs.Newest.{commit_count, newest_in}
 

@@ -3,14 +3,14 @@
 
 ghost use Rattle.std.specs.Prelude.{[], ◌∷◌, ◌≡◌, ◌<◌, ◌++◌, ◌↔◌, ℕ, IsTrue, List};
 ghost use Rattle.hop_base.specs.declared.histories.Entry.{Entry};
-ghost use Rattle.hop_model.specs.State.{Supply, KernelState};
-ghost use Rattle.hop_model.specs.Scripts.{Script};
-ghost use Rattle.hop_model.specs.Histories.{Policy, IsLegalRun, chosen_commits, commits_in, event_of, has_wish, is_due, is_full, run_after, start_run};
+ghost use Rattle.run_laws.specs.hop_model.State.{Supply, KernelState};
+ghost use Rattle.run_laws.specs.hop_model.Scripts.{Script};
+ghost use Rattle.run_laws.specs.hop_model.Histories.{Policy, IsLegalRun, chosen_commits, commits_in, event_of, has_wish, is_due, is_full, run_after, start_run};
 ghost use Rattle.hop_base.specs.declared.histories.Event.TheVariants.{Tried};
-ghost use Rattle.hop_model.specs.Fronts.{tried_commits, version_vector};
-ghost use Rattle.hop_model.specs.Choices.{Commit, IsGreatest};
-ghost use Rattle.hop_model.specs.Parts.{after, part_of};
-ghost use Rattle.hop_model.specs.Vectors.{IsPart, StampsBelow};
+ghost use Rattle.run_laws.specs.hop_model.Fronts.{tried_commits, version_vector};
+ghost use Rattle.run_laws.specs.hop_model.Choices.{Commit, IsGreatest};
+ghost use Rattle.run_laws.specs.hop_model.Parts.{after, part_of};
+ghost use Rattle.run_laws.specs.hop_model.Vectors.{IsPart, StampsBelow};
 ghost use Rattle.run_rules.specs.Commits.{changed_since, commits_now, new_commits};
 ghost use Rattle.run_rules.specs.Newest.{newest_in};
 ghost use Rattle.run_rules.specs.Records.{AreAscending, AreRecordsOf};

@@ -1,8 +1,8 @@
 -- Tables whose names are in the atlas, and the first whose name isn't.
 use Rattle.std.proofs.Common.{◌≡◌, ℕ, zero, suc, ◌+◌, ◌≤◌, Bool, true, false, if◌then◌else◌, List, [], ◌∷◌, length, take, Option, Some, None, is_some, is_none, slice_get, refl, sym, ap, ◌∙◌, arith}
-use Rattle.hop_model.specs.Scripts.{ContainerTable, LocusTable, container_table, locus_table, next_container_name, next_locus_name, number_of, text_eq}
-use Rattle.hop_model.specs.State.{AtlasState, Text}
-use Rattle.sound_runs.proofs.Found.{text_same}
+use Rattle.fitting_births.specs.hop_model.Scripts.{ContainerTable, LocusTable, container_table, locus_table, next_container_name, next_locus_name, number_of, text_eq}
+use Rattle.fitting_births.specs.hop_model.State.{AtlasState, Text}
+use Rattle.fitting_births.proofs.sound_runs_lemmas.Found.{text_same}
 use Rattle.fitting_births.proofs.KnownNames.{is_named, none_some, same_text, some_none, true_false}
 
 pub known_is : (o : Option ℕ) → is_some o ≡ true → is_none o ≡ false

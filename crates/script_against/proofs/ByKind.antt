@@ -2,13 +2,13 @@
 use Rattle.std.proofs.Common.{◌≡◌, ℕ, suc, ◌+◌, ◌-◌, ◌<◌, ◌≤◌, true, false, ◌&&◌, if◌then◌else◌, ◌==◌, nat_lt, nat_le, List, [], ◌∷◌, length, Option, Some, None, IfSome, is_some, slice_get, refl, sym, ap, subst, ◌∙◌, arith}
 use Rattle.std.proofs.lemmas.Bool.{lt-ltb}
 use Rattle.std.proofs.lemmas.Bool.Decides.{nat_tests}
-use Rattle.hop_model.specs.Scripts.{atlas_name, container_named, locus_named, number_of, place_of, text_eq}
-use Rattle.hop_model.specs.State.{Text}
-use Rattle.hop_model.specs.Words.{or_else}
-use Rattle.sound_runs.proofs.Found.{text_same}
+use Rattle.fitting_births.specs.hop_model.Scripts.{atlas_name, container_named, locus_named, number_of, place_of, text_eq}
+use Rattle.fitting_births.specs.hop_model.State.{Text}
+use Rattle.fitting_births.specs.hop_model.Words.{or_else}
+use Rattle.fitting_births.proofs.sound_runs_lemmas.Found.{text_same}
 use Rattle.atlas_dir.specs.Directory.{Directory, IsDirectory, entity_named, name_of}
 use Rattle.directory_laws.proofs.NameLaws.{numbers_same}
-use Rattle.kernel_calls.specs.Calls.{atlas_state}
+use Rattle.directory_laws.specs.kernel_calls.Calls.{atlas_state}
 
 none_some : {A : Type 0} {x : A} → None ≡ Some x → ⊥
 none_some e = cc

@@ -3,13 +3,13 @@ use Rattle.std.proofs.Common.{◌≡◌, ℕ, ◌+◌, ◌≤◌, Bool, true, fa
 use Rattle.std.specs.List.{All}
 use Rattle.std.proofs.lemmas.Bool.Decides.{nat_tests}
 use Rattle.std.proofs.lemmas.List.Elements.{All-head, All-tail}
-use Rattle.hop_model.specs.Scripts.{ContainerTable, LocusTable, Script, container_named, locus_named}
-use Rattle.hop_model.specs.State.{AtlasState}
-use Rattle.hop_model.specs.Words.{or_else}
-use Rattle.script_form.specs.declared.refusals.ScriptFault.{ScriptFault}
-use Rattle.script_form.specs.declared.refusals.ScriptFault.TheVariants.{Refused, Memory}
-use Rattle.script_form.specs.declared.refusals.Why.{Why}
-use Rattle.script_form.specs.declared.refusals.Why.TheVariants.{Clash, NoRoom}
+use Rattle.fitting_births.specs.hop_model.Scripts.{ContainerTable, LocusTable, Script, container_named, locus_named}
+use Rattle.fitting_births.specs.hop_model.State.{AtlasState}
+use Rattle.fitting_births.specs.hop_model.Words.{or_else}
+use Rattle.fitting_births.specs.script_form.declared.refusals.ScriptFault.{ScriptFault}
+use Rattle.fitting_births.specs.script_form.declared.refusals.ScriptFault.TheVariants.{Refused, Memory}
+use Rattle.fitting_births.specs.script_form.declared.refusals.Why.{Why}
+use Rattle.fitting_births.specs.script_form.declared.refusals.Why.TheVariants.{Clash, NoRoom}
 use Rattle.fitting_births.specs.Fitting.{Fits, new_containers, new_loci}
 use Rattle.script_against.specs.Misfits.{IsClash, IsMisfit, IsNoRoom, clash_key, container_clash, locus_clash, name_key, room_key}
 use Rattle.script_against.proofs.Clashing.{containers_apart, loci_apart}

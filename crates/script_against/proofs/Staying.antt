@@ -2,13 +2,13 @@
 use Rattle.std.proofs.Common.{◌≡◌, ℕ, Bool, true, if◌then◌else◌, List, [], ◌∷◌, take, Option, Some, None, is_some, is_none, option_and_then, refl, sym, ap, subst, ◌∙◌}
 use Rattle.hop_base.specs.declared.histories.Entry.{Entry}
 use Rattle.hop_base.specs.declared.histories.Event.TheVariants.{Birth}
-use Rattle.hop_model.specs.Births.{birth_named, next_birth, next_birth_change}
-use Rattle.hop_model.specs.Changes.{Change, carried, changed, ordered}
-use Rattle.hop_model.specs.Scripts.{ContainerTable, LocusTable, Script, next_container_name, next_locus_name, next_name, number_of}
-use Rattle.hop_model.specs.State.{AtlasState, KernelState, Supply, Text}
-use Rattle.hop_model.specs.Steps.{atlas_in}
-use Rattle.hop_model.proofs.Basics.{some_of_map}
-use Rattle.script_form.specs.Rules.{IsScript}
+use Rattle.fitting_births.specs.hop_model.Births.{birth_named, next_birth, next_birth_change}
+use Rattle.fitting_births.specs.hop_model.Changes.{Change, carried, changed, ordered}
+use Rattle.fitting_births.specs.hop_model.Scripts.{ContainerTable, LocusTable, Script, next_container_name, next_locus_name, next_name, number_of}
+use Rattle.fitting_births.specs.hop_model.State.{AtlasState, KernelState, Supply, Text}
+use Rattle.fitting_births.specs.hop_model.Steps.{atlas_in}
+use Rattle.fitting_births.proofs.hop_model_lemmas.Basics.{some_of_map}
+use Rattle.fitting_births.specs.script_form.Rules.{IsScript}
 use Rattle.fitting_births.proofs.Growing.{born_atlas, still_known}
 use Rattle.fitting_births.proofs.KnownNames.{is_named, next_name_is}
 use Rattle.script_against.specs.NextTables.{AreBornBefore}

@@ -1,13 +1,13 @@
 -- Why a script doesn't fit an atlas.
 use Rattle.std.specs.Prelude.{◌≡◌, ℕ, ◌+◌, ◌++◌, List, [], ◌∷◌, length, codes, decimal, nat_le, if◌then◌else◌, Option, Some, None, is_some, option_map, string_bytes, ⊤}
-use Rattle.hop_model.specs.Scripts.{ContainerTable, LocusTable, Script, container_named, locus_named}
-use Rattle.hop_model.specs.State.{Text, AtlasState}
-use Rattle.hop_model.specs.Words.{or_else}
+use Rattle.fitting_births.specs.hop_model.Scripts.{ContainerTable, LocusTable, Script, container_named, locus_named}
+use Rattle.fitting_births.specs.hop_model.State.{Text, AtlasState}
+use Rattle.fitting_births.specs.hop_model.Words.{or_else}
 use Rattle.fitting_births.specs.Fitting.{Fits, new_containers, new_loci}
-use Rattle.script_form.specs.declared.refusals.ScriptFault.{ScriptFault}
-use Rattle.script_form.specs.declared.refusals.ScriptFault.TheVariants.{Refused, Memory}
-use Rattle.script_form.specs.declared.refusals.Why.{Why}
-use Rattle.script_form.specs.declared.refusals.Why.TheVariants.{Clash, NoRoom}
+use Rattle.fitting_births.specs.script_form.declared.refusals.ScriptFault.{ScriptFault}
+use Rattle.fitting_births.specs.script_form.declared.refusals.ScriptFault.TheVariants.{Refused, Memory}
+use Rattle.fitting_births.specs.script_form.declared.refusals.Why.{Why}
+use Rattle.fitting_births.specs.script_form.declared.refusals.Why.TheVariants.{Clash, NoRoom}
 
 -- the key of the name of the table at this place
 abbrev pub name_key : Text → ℕ → Text

@@ -1,8 +1,8 @@
 -- The table of a script that is born next.
 use Rattle.std.specs.Prelude.{◌≡◌, ◌≤◌, length, Some, None, take}
-use Rattle.hop_model.specs.Scripts.{ContainerTable, LocusTable, Script as Tables, container_table, locus_table, next_container_name, next_locus_name, next_name}
-use Rattle.hop_model.specs.State.{AtlasState}
-use Rattle.script_form.specs.Scripts.{container_of, locus_of}
+use Rattle.fitting_births.specs.hop_model.Scripts.{ContainerTable, LocusTable, Script as Tables, container_table, locus_table, next_container_name, next_locus_name, next_name}
+use Rattle.fitting_births.specs.hop_model.State.{AtlasState}
+use Rattle.fitting_births.specs.script_form.Scripts.{container_of, locus_of}
 use Rattle.script_against.specs.declared.tables.NextTable.{NextTable}
 use Rattle.script_against.specs.declared.tables.NextTable.TheVariants as next
 use Rattle.script_against.specs.declared.tables.Progress.{Progress}

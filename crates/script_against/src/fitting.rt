@@ -1,18 +1,20 @@
 // Whether the names of a script can be born into an atlas.
 ghost use Rattle.std.specs.Prelude.{◌≡◌, ◌+◌, ◌≤◌, ◌++◌, OnOk, IfOk, IfErr, IfSome, IfNone, map, length, codes, decimal, string_bytes, is_some, count_by, is_none, Some, None};
-ghost use Rattle.hop_model.specs.Scripts.{container_named as container_number, locus_named as locus_number, number_of as number};
+ghost use Rattle.fitting_births.specs.hop_model.Scripts.{container_named as container_number, locus_named as locus_number, number_of as number};
 ghost use Rattle.atlas_dir.specs.Directory.{IsDirectory};
 ghost use Rattle.fitting_births.specs.Fitting.{Fits, new_containers as new_of_containers, new_loci as new_of_loci};
-ghost use Rattle.kernel_calls.specs.Calls.{atlas_state};
+ghost use Rattle.directory_laws.specs.kernel_calls.Calls.{atlas_state};
 ghost use Rattle.script_against.specs.Misfits.{IsClash, IsMisfit, IsNoRoom, clash_key, container_clash as clash_of_containers, locus_clash as clash_of_loci, name_key as key_of_name, room_key};
-ghost use Rattle.script_form.specs.Scripts.{container_of, locus_of, tables_of};
-ghost use Rattle.script_form.specs.declared.refusals.Why.{Why as AWhy};
+ghost use Rattle.fitting_births.specs.script_form.Scripts.{container_of, locus_of, tables_of};
+ghost use Rattle.fitting_births.specs.script_form.declared.refusals.Why.{Why as AWhy};
 
 use crate::names::{is_container, is_known, is_locus};
 use atlas_dir::Atlas;
+use fitting_births::script_form::{
+    Refusal, Script, ScriptContainer, ScriptFault, ScriptLocus, Why,
+};
 use hop_base::{Kind, MOST_CONTAINERS, MOST_LOCI};
 use itoa::Buffer;
-use script_form::{Refusal, Script, ScriptContainer, ScriptFault, ScriptLocus, Why};
 use std::alloc::{AllocError, Global};
 
 /// The first container's table whose name is a locus.

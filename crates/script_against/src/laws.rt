@@ -1,11 +1,11 @@
 // What births leave of the progress of a script: a law, without code.
 ghost use Rattle.std.specs.Prelude.{◌≡◌, Some};
 ghost use Rattle.hop_base.specs.declared.histories.Entry.{Entry as AnEntry};
-ghost use Rattle.hop_model.specs.Births.{next_birth};
-ghost use Rattle.hop_model.specs.Scripts.{Script as Tables};
-ghost use Rattle.hop_model.specs.State.{KernelState, Supply};
-ghost use Rattle.hop_model.specs.Steps.{atlas_in};
-ghost use Rattle.script_form.specs.Rules.{IsScript};
+ghost use Rattle.fitting_births.specs.hop_model.Births.{next_birth};
+ghost use Rattle.fitting_births.specs.hop_model.Scripts.{Script as Tables};
+ghost use Rattle.fitting_births.specs.hop_model.State.{KernelState, Supply};
+ghost use Rattle.fitting_births.specs.hop_model.Steps.{atlas_in};
+ghost use Rattle.fitting_births.specs.script_form.Rules.{IsScript};
 ghost use Rattle.script_against.specs.NextTables.{AreBornBefore};
 ghost use Rattle.script_against.specs.declared.tables.Progress.{Progress as AProgress};
 

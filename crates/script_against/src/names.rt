@@ -1,8 +1,8 @@
 // Names of an atlas by their kind.
 ghost use Rattle.std.specs.Prelude.{◌≡◌, is_some};
-ghost use Rattle.hop_model.specs.Scripts.{container_named, locus_named, number_of};
+ghost use Rattle.fitting_births.specs.hop_model.Scripts.{container_named, locus_named, number_of};
 ghost use Rattle.atlas_dir.specs.Directory.{IsDirectory};
-ghost use Rattle.kernel_calls.specs.Calls.{atlas_state};
+ghost use Rattle.directory_laws.specs.kernel_calls.Calls.{atlas_state};
 
 use atlas_dir::Atlas;
 use hop_base::{FIRST_CONTAINER, FIRST_LOCUS};

@@ -1,16 +1,16 @@
 // The tables of a script in the order of their births.
 ghost use Rattle.std.specs.Prelude.{◌≡◌, ◌<◌, ◌≤◌, IfSome, IfNone, None, length, map, take, is_some, false, slice_get, Some};
-ghost use Rattle.hop_model.specs.Scripts.{Script as Tables, next_container_name, next_locus_name, next_name, number_of};
-ghost use Rattle.hop_model.specs.State.{AtlasState};
-ghost use Rattle.script_form.specs.declared.ScriptContainer.{ScriptContainer as AContainer};
-ghost use Rattle.script_form.specs.declared.ScriptLocus.{ScriptLocus as ALocus};
-ghost use Rattle.script_form.specs.Scripts.{container_of, locus_of, tables_of};
-ghost use Rattle.kernel_calls.specs.Calls.{atlas_state};
+ghost use Rattle.fitting_births.specs.hop_model.Scripts.{Script as Tables, next_container_name, next_locus_name, next_name, number_of};
+ghost use Rattle.fitting_births.specs.hop_model.State.{AtlasState};
+ghost use Rattle.fitting_births.specs.script_form.declared.ScriptContainer.{ScriptContainer as AContainer};
+ghost use Rattle.fitting_births.specs.script_form.declared.ScriptLocus.{ScriptLocus as ALocus};
+ghost use Rattle.fitting_births.specs.script_form.Scripts.{container_of, locus_of, tables_of};
+ghost use Rattle.directory_laws.specs.kernel_calls.Calls.{atlas_state};
 ghost use Rattle.script_against.specs.NextTables.{AreBornBefore, IsNextTable};
 
 use crate::names::is_known;
 use atlas_dir::Atlas;
-use script_form::{Script, ScriptContainer, ScriptLocus};
+use fitting_births::script_form::{Script, ScriptContainer, ScriptLocus};
 
 /// The table that is born next.
 #[derive(Clone, Copy)]

@@ -10,9 +10,9 @@ use Rattle.std.proofs.lemmas.List.Elements.{All-nil, All-push}
 use Rattle.std.proofs.lemmas.List.Folds.{list_all-append}
 use Rattle.hop_base.specs.declared.instructions.Instr.{Instr}
 use Rattle.hop_base.specs.Instructions.{IsInstruction, IsPlace, IsAccess}
-use Rattle.hop_model.specs.Scripts.{RegionTable, CapTable, ContainerTable, LocusTable, text_eq, atlas_name}
-use Rattle.hop_model.specs.Soundness.{is_given_name, IsSoundCode}
-use Rattle.hop_model.specs.State.{Text}
+use Rattle.script_form.specs.hop_model.Scripts.{RegionTable, CapTable, ContainerTable, LocusTable, text_eq, atlas_name}
+use Rattle.script_form.specs.hop_model.Soundness.{is_given_name, IsSoundCode}
+use Rattle.script_form.specs.hop_model.State.{Text}
 use Rattle.instr_set.specs.Spelling.{spelling, IsSpelling}
 use Rattle.instr_set.specs.Reader.{instr_of, rights_of}
 use Rattle.instr_set.proofs.Reader.{IsReader-instr_of}

@@ -2,8 +2,8 @@
 use Rattle.std.proofs.Common.{◌≡◌, ℕ, ◌+◌, ◌<◌, List, [], ◌∷◌, ◌++◌, length, drop, map, get_or, Result, Ok, Err, Some, IsErr, if◌then◌else◌, string_bytes, sym, ap, ◌∙◌, subst}
 use Rattle.std.proofs.lemmas.List.{map_push, at_drop_more, get_or-map, length-map}
 use Rattle.std.specs.Result.{IsErrAnd}
-use Rattle.hop_model.specs.Scripts.{text_eq}
-use Rattle.hop_model.specs.State.{Text}
+use Rattle.script_form.specs.hop_model.Scripts.{text_eq}
+use Rattle.script_form.specs.hop_model.State.{Text}
 use Rattle.script_read.specs.Meaning.{code_named}
 use Rattle.script_read.specs.Views.{program_of}
 use Rattle.script_read.specs.declared.programs.Program.{Program as CodeProgram}

@@ -4,7 +4,7 @@ use Rattle.std.specs.List.{list_all}
 use Rattle.std.proofs.lemmas.List.Elements.{All-nil, All-push}
 use Rattle.std.proofs.lemmas.List.Sums.{AllPass-from_list_all}
 use Rattle.hop_base.specs.declared.instructions.Instr.{Instr}
-use Rattle.hop_model.specs.State.{Text}
+use Rattle.script_form.specs.hop_model.State.{Text}
 use Rattle.manager_form.specs.Managing.{ManagerTable, ManagerTables, has_number, is_managing, AreDifferent, IsManagerCode, IsManagerTable, AreManagerTables, AreScriptManagers}
 use Rattle.toml.specs.Data.{Data, Members}
 use Rattle.script_read.specs.Reading.{◌>>=◌, refused, or_refused}

@@ -3,7 +3,7 @@ use Rattle.std.proofs.Common.{◌≡◌, true, if◌then◌else◌, List, [], �
 use Rattle.std.specs.List.Sorted.{IsStrictlySortedBy}
 use Rattle.std.specs.Map.{keys_of}
 use Rattle.std.specs.String.{string_cmp}
-use Rattle.hop_model.specs.State.{Text}
+use Rattle.script_form.specs.hop_model.State.{Text}
 use Rattle.toml.specs.Data.{Data, Members, no_members, member, is_before}
 use Rattle.toml.specs.View.{view, members_view}
 use Rattle.toml.proofs.Views.{Entry, is_before-sorted}

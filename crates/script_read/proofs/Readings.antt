@@ -2,7 +2,7 @@
 use Rattle.std.proofs.Common.{◌≡◌, ℕ, ◌+◌, ◌≤◌, ℤ, pos, negsuc, Bool, true, false, ◌&&◌, nat_le, if◌then◌else◌, List, [], ◌∷◌, ◌++◌, length, Ok, Err, Option, Some, None, refl, ap, subst, arith, length-append}
 use Rattle.std.proofs.lemmas.Bool.{and_parts}
 use Rattle.std.proofs.lemmas.Bool.Decides.{nat_tests}
-use Rattle.hop_model.specs.State.{Text}
+use Rattle.script_form.specs.hop_model.State.{Text}
 use Rattle.toml.specs.Data.{Data, Members, get_member, as_integer}
 use Rattle.script_read.specs.Reading.{Blame, Reading, ◌>>=◌, refused, or_refused, optional, dotted}
 use Rattle.script_read.specs.Fields.{at_most, a_list, in_range, a_number, required, number_at, number_or, list_at, each}

@@ -1,7 +1,7 @@
 -- A source that means a script means an allowed one, with allowed managers.
 use Rattle.std.proofs.Common.{◌≡◌, ◌≤◌, Bool, true, false, nat_le, if◌then◌else◌, [], length, Result, Ok, Err, IfOk, codes, subst, arith}
 use Rattle.std.specs.Str.{is_utf8}
-use Rattle.hop_model.specs.State.{Text}
+use Rattle.script_form.specs.hop_model.State.{Text}
 use Rattle.instr_set.specs.Reader.{instr_of}
 use Rattle.manager_form.specs.Managing.{ManagerTables, AreScriptManagers, managers_of}
 use Rattle.toml.specs.Data.{Members}

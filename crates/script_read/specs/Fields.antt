@@ -1,7 +1,7 @@
 -- Keys of tables and their values, of a kind and within a range.
 use Rattle.std.specs.Prelude.{ℕ, ℤ, pos, negsuc, ◌&&◌, not, nat_le, if◌then◌else◌, List, [], ◌∷◌, ◌++◌, length, Ok, option_map, decimal, codes}
-use Rattle.hop_model.specs.State.{Text}
-use Rattle.hop_model.specs.Soundness.{is_given_name}
+use Rattle.script_form.specs.hop_model.State.{Text}
+use Rattle.script_form.specs.hop_model.Soundness.{is_given_name}
 use Rattle.toml.specs.Data.{Data, Items, no_items, item, Members, no_members, member, get_member, as_str, as_integer, as_array, as_table}
 use Rattle.script_read.specs.Reading.{Reading, ◌>>=◌, refused, or_refused, optional, dotted}
 use Rattle.script_form.specs.Rules.{is_among}

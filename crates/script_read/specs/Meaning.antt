@@ -3,8 +3,8 @@ use Rattle.std.specs.Prelude.{ℕ, pos, ◌+◌, Bool, true, false, not, ◌&&�
 use Rattle.std.specs.List.{list_all}
 use Rattle.std.specs.Str.{is_utf8}
 use Rattle.hop_base.specs.declared.instructions.Instr.{Instr}
-use Rattle.hop_model.specs.State.{Text}
-use Rattle.hop_model.specs.Scripts.{RegionTable, CapTable, ContainerTable, LocusTable, Script as Tables, text_eq, atlas_name}
+use Rattle.script_form.specs.hop_model.State.{Text}
+use Rattle.script_form.specs.hop_model.Scripts.{RegionTable, CapTable, ContainerTable, LocusTable, Script as Tables, text_eq, atlas_name}
 use Rattle.toml.specs.Data.{Data, Members, no_members, member, get_member}
 use Rattle.toml.specs.Parse.{parse_document}
 use Rattle.instr_set.specs.Reader.{instr_of}

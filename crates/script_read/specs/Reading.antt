@@ -1,6 +1,6 @@
 -- What is read of a source: a value, or the first refusal.
 use Rattle.std.specs.Prelude.{◌≡◌, ⊤, [], ◌∷◌, ◌++◌, Result, Ok, Err, Option, Some, None, MatchResult, codes, string_bytes}
-use Rattle.hop_model.specs.State.{Text}
+use Rattle.script_form.specs.hop_model.State.{Text}
 use Rattle.script_form.specs.declared.refusals.Why.{Why}
 use Rattle.script_form.specs.declared.refusals.ScriptFault.{ScriptFault}
 use Rattle.script_form.specs.declared.refusals.ScriptFault.TheVariants.{Refused, Memory}

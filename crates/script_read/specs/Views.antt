@@ -1,7 +1,7 @@
 -- What the structs of a read in progress are in the definitions.
 use Rattle.std.specs.Prelude.{◌≤◌, List, map, string_bytes}
 use Rattle.manager_form.specs.Managing.{managers_of}
-use Rattle.hop_model.specs.State.{Text}
+use Rattle.script_form.specs.hop_model.State.{Text}
 use Rattle.script_read.specs.declared.links.Known.{Known}
 use Rattle.script_read.specs.Meaning.{FramedTables, Program, Source, known_names}
 use Rattle.script_form.specs.Scripts.{tables_of, container_of, locus_of}

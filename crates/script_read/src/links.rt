@@ -1,7 +1,7 @@
 //! What a table refers to: regions and capabilities.
 ghost use Rattle.std.specs.Prelude.{◌≡◌, ◌≤◌, List, length, map, not};
 ghost use Rattle.std.specs.List.{list_all};
-ghost use Rattle.hop_model.specs.Scripts.{CapTable};
+ghost use Rattle.script_form.specs.hop_model.Scripts.{CapTable};
 ghost use Rattle.toml.specs.View.{view, table_view};
 ghost use Rattle.script_read.specs.Meaning.{overlap, is_within, fits, a_region, regions_at, a_cap, caps_at, names_of};
 ghost use Rattle.script_read.specs.Reading.{Reads};

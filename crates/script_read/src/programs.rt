@@ -1,7 +1,7 @@
 //! The programs of a source.
 ghost use Rattle.std.specs.Prelude.{◌≡◌, List, [], Option, length, option_map, map};
 ghost use Rattle.hop_base.specs.declared.instructions.Instr.{Instr as AnInstr};
-ghost use Rattle.hop_model.specs.State.{Text};
+ghost use Rattle.script_form.specs.hop_model.State.{Text};
 ghost use Rattle.toml.specs.View.{view, table_view};
 ghost use Rattle.instr_set.specs.Reader.{IsReader};
 ghost use Rattle.script_read.specs.Meaning.{a_line, a_program, programs_in, programs_at, code_named};

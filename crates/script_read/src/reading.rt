@@ -1,7 +1,7 @@
 //! The walk through a whole source.
 ghost use Rattle.std.specs.Prelude.{◌≡◌, ◌≤◌, [], List, Option, IfOk, length, map, string_bytes, codes};
 ghost use Rattle.hop_base.specs.declared.instructions.Instr.{Instr as AnInstr};
-ghost use Rattle.hop_model.specs.State.{Text};
+ghost use Rattle.script_form.specs.hop_model.State.{Text};
 ghost use Rattle.toml.specs.Parse.{parse_document};
 ghost use Rattle.toml.specs.View.{view, table_view};
 ghost use Rattle.instr_set.specs.Reader.{IsReader};

@@ -1,9 +1,9 @@
 //! Strings of a source: names, numbers, rights, and the strings of regions, capabilities and managers.
 ghost use Rattle.std.specs.Prelude.{◌≡◌, ◌+◌, ◌*◌, ◌<◌, ◌≤◌, ◌&&◌, ◌∷◌, option_map, IfSome, codes};
 ghost use Rattle.std.specs.List.{list_all};
-ghost use Rattle.hop_model.specs.State.{Text};
-ghost use Rattle.hop_model.specs.Scripts.{text_eq};
-ghost use Rattle.hop_model.specs.Soundness.{is_letter, is_name_byte, begins_with_letter, is_given_name};
+ghost use Rattle.script_form.specs.hop_model.State.{Text};
+ghost use Rattle.script_form.specs.hop_model.Scripts.{text_eq};
+ghost use Rattle.script_form.specs.hop_model.Soundness.{is_letter, is_name_byte, begins_with_letter, is_given_name};
 ghost use Rattle.instr_set.specs.Reader.{letters_set, rights_of};
 ghost use Rattle.script_read.specs.Strings.{is_name, is_digit, is_decimal, with_digit, decimal_value, number_of, region_number, access_of, cut, region_form, cap_form, manager_form, sized_form, placed_form, named_form};
 ghost use Rattle.script_read.specs.Views.{region_form_of, AreSmall, cap_form_of, manager_form_of};

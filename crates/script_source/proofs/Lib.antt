@@ -1,1 +1,2 @@
 pub mod Whole
+pub use Rattle.command_parts.proofs as command_parts_lemmas

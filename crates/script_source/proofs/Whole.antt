@@ -1,7 +1,7 @@
 -- The bytes that were read are those that the source had, so what they mean is said of the source.
 use Rattle.std.proofs.Common.{◌≡◌, ℕ, Option, Some, None, IfSome, sym, ap, ◌∙◌}
-use Rattle.hop_model.specs.Scripts.{Script as Tables}
-use Rattle.hop_model.specs.State.{Text}
+use Rattle.command_parts.specs.hop_model.Scripts.{Script as Tables}
+use Rattle.command_parts.specs.hop_model.State.{Text}
 use Rattle.manager_form.specs.Managing.{ManagerTables}
 use Rattle.script_read.specs.Meaning.{script_meaning}
 use Rattle.script_source.specs.Sources.{IsAccepted, MeansScript}

@@ -1,1 +1,5 @@
 pub mod Sources
+pub use Rattle.command_parts.specs as command_parts
+pub use Rattle.command_parts.specs.log_reading
+pub use Rattle.command_parts.specs.script_form
+pub use Rattle.script_read.specs as script_read

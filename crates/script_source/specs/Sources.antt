@@ -1,16 +1,16 @@
 -- Which sources are accepted, and why the others are refused.
 use Rattle.std.specs.Prelude.{◌≡◌, ℕ, Ok, codes, string_bytes, Option, IfSome, ⊤}
 use Rattle.std.specs.Io.KnownBytes.{IsAtEnd}
-use Rattle.stream_edge.specs.declared.reading.ReadStop.{ReadStop}
-use Rattle.stream_edge.specs.declared.reading.ReadStop.TheVariants.{Source as FromSource, Memory as NoRoom, Long as TooMuch}
-use Rattle.hop_model.specs.State.{Text}
-use Rattle.hop_model.specs.Scripts.{Script as Tables}
+use Rattle.command_parts.specs.stream_edge.declared.reading.ReadStop.{ReadStop}
+use Rattle.command_parts.specs.stream_edge.declared.reading.ReadStop.TheVariants.{Source as FromSource, Memory as NoRoom, Long as TooMuch}
+use Rattle.command_parts.specs.hop_model.State.{Text}
+use Rattle.command_parts.specs.hop_model.Scripts.{Script as Tables}
 use Rattle.manager_form.specs.Managing.{ManagerTables}
 use Rattle.script_read.specs.Meaning.{script_meaning}
 use Rattle.script_read.specs.Reading.{refused}
-use Rattle.script_form.specs.declared.refusals.Refusal.{Refusal}
-use Rattle.script_form.specs.declared.refusals.Why.{Why}
-use Rattle.script_form.specs.declared.refusals.Why.TheVariants.{Long}
+use Rattle.command_parts.specs.script_form.declared.refusals.Refusal.{Refusal}
+use Rattle.command_parts.specs.script_form.declared.refusals.Why.{Why}
+use Rattle.command_parts.specs.script_form.declared.refusals.Why.TheVariants.{Long}
 use Rattle.command_parts.specs.Seen.{SeenSource}
 use Rattle.command_parts.specs.declared.faults.Fault.{Fault}
 use Rattle.command_parts.specs.declared.faults.Fault.TheVariants.{Script, Source, Memory}

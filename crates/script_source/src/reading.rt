@@ -1,17 +1,17 @@
 //! Reading a source to a script that may run.
 ghost use Rattle.std.specs.Prelude.{◌≡◌, ◌≤◌, IfOk, IfErr, IfSome, codes, string_bytes};
 ghost use Rattle.manager_form.specs.Managing.{AreScriptManagers, managers_of};
-ghost use Rattle.script_form.specs.Rules.{IsScript};
-ghost use Rattle.script_form.specs.Scripts.{tables_of};
+ghost use Rattle.command_parts.specs.script_form.Rules.{IsScript};
+ghost use Rattle.command_parts.specs.script_form.Scripts.{tables_of};
 ghost use Rattle.command_parts.specs.Seen.{seen_source};
 ghost use Rattle.script_source.specs.Sources.{HasRead, IsFaultOfStop, MeansScript, StopsSource};
 
 use command_parts::Fault;
+use command_parts::script_form::{Refusal, Why};
+use command_parts::stream_edge::{ReadStop, Source, read_all};
 use hop_base::MOST_SCRIPT_BYTES;
-use script_form::{Refusal, Why};
 use script_read::{ManagedScript, read_script};
 use std::alloc::{AllocError, Global};
-use stream_edge::{ReadStop, Source, read_all};
 
 // The refusal of a source that is too long.
 fn too_long(alloc: Global) -> Result<Refusal, AllocError>

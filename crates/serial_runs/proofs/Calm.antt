@@ -6,16 +6,16 @@ use Rattle.hop_base.specs.declared.histories.Entry.{Entry}
 use Rattle.hop_base.specs.declared.histories.Event.{Event}
 use Rattle.hop_base.specs.declared.histories.Event.TheVariants.{Snap, Step}
 use Rattle.hop_base.specs.declared.histories.Touch.{Touch}
-use Rattle.hop_model.specs.Histories.{IsLegalFrom, IsMade, May, Policy, Run, after_snap, births_owed, every_of, goes_on, has_wish, is_due, is_full, mark, may, run_after, version_of, went_on, writes}
-use Rattle.hop_model.specs.Scripts.{Script}
-use Rattle.hop_model.specs.Serial.{can_step}
-use Rattle.hop_model.specs.State.{KernelState, Supply}
-use Rattle.hop_model.specs.Steps.{running, step}
-use Rattle.script_form.specs.Rules.{IsScript}
-use Rattle.run_laws.proofs.Wishes.{due_stays, run_append}
-use Rattle.run_laws.proofs.Writing.{step_is}
-use Rattle.sound_runs.proofs.Naming.{owed_over}
-use Rattle.sound_runs.proofs.Standing.{IsStanding, standing_over}
+use Rattle.fitting_births.specs.hop_model.Histories.{IsLegalFrom, IsMade, May, Policy, Run, after_snap, births_owed, every_of, goes_on, has_wish, is_due, is_full, mark, may, run_after, version_of, went_on, writes}
+use Rattle.fitting_births.specs.hop_model.Scripts.{Script}
+use Rattle.fitting_births.specs.hop_model.Serial.{can_step}
+use Rattle.fitting_births.specs.hop_model.State.{KernelState, Supply}
+use Rattle.fitting_births.specs.hop_model.Steps.{running, step}
+use Rattle.fitting_births.specs.script_form.Rules.{IsScript}
+use Rattle.fitting_births.proofs.run_laws_lemmas.Wishes.{due_stays, run_append}
+use Rattle.fitting_births.proofs.run_laws_lemmas.Writing.{step_is}
+use Rattle.fitting_births.proofs.sound_runs_lemmas.Naming.{owed_over}
+use Rattle.fitting_births.proofs.sound_runs_lemmas.Standing.{IsStanding, standing_over}
 use Rattle.serial_runs.specs.Serial.{IsBehind, IsCalm, kept_behind, look, looks, step_and_kept, wished_snaps, written_in}
 
 -- one of the list

@@ -4,16 +4,16 @@ use Rattle.std.proofs.lemmas.Bool.{cases_lt, false≢true}
 use Rattle.std.proofs.lemmas.List.{append-nil, append_assoc}
 use Rattle.hop_base.specs.declared.histories.Entry.{Entry}
 use Rattle.hop_base.specs.declared.histories.Event.TheVariants.{Birth, Snap, Stable, Step, Tried}
-use Rattle.hop_model.specs.Histories.{IsLegalFrom, IsLegalRun, May, Policy, Run, births_owed, goes_on, mark, next_changed, run_after, start_run, version_of, went_on}
-use Rattle.hop_model.specs.Scripts.{Script}
-use Rattle.hop_model.specs.Serial.{IsAllIdle, all_loci, can_step, looks_of, picks_of, rounds}
-use Rattle.hop_model.specs.Soundness.{IsSound}
-use Rattle.hop_model.specs.State.{KernelState, Supply}
-use Rattle.hop_model.specs.Steps.{step}
-use Rattle.script_form.specs.Rules.{IsScript}
-use Rattle.run_laws.proofs.Wishes.{legal_back, legal_front, run_append}
-use Rattle.sound_runs.proofs.Standing.{standing_over}
-use Rattle.sound_runs.specs.Kinds.{NamesNoLocus}
+use Rattle.fitting_births.specs.hop_model.Histories.{IsLegalFrom, IsLegalRun, May, Policy, Run, births_owed, goes_on, mark, next_changed, run_after, start_run, version_of, went_on}
+use Rattle.fitting_births.specs.hop_model.Scripts.{Script}
+use Rattle.fitting_births.specs.hop_model.Serial.{IsAllIdle, all_loci, can_step, looks_of, picks_of, rounds}
+use Rattle.fitting_births.specs.hop_model.Soundness.{IsSound}
+use Rattle.fitting_births.specs.hop_model.State.{KernelState, Supply}
+use Rattle.fitting_births.specs.hop_model.Steps.{step}
+use Rattle.fitting_births.specs.script_form.Rules.{IsScript}
+use Rattle.fitting_births.proofs.run_laws_lemmas.Wishes.{legal_back, legal_front, run_append}
+use Rattle.fitting_births.proofs.sound_runs_lemmas.Standing.{standing_over}
+use Rattle.fitting_births.specs.sound_runs.Kinds.{NamesNoLocus}
 use Rattle.serial_runs.specs.Serial.{IsCut, IsFront, IsStopped, IsWhole, first_snaps, look, looks, opening, serial_history, snap_then, step_and_kept}
 use Rattle.serial_runs.proofs.Calm.{Leaves, leaves_join, legal_join, looks_leave}
 use Rattle.serial_runs.proofs.Openings.{opening_calm, opening_legal}
@@ -55,7 +55,7 @@ module _ (s : Supply) (policy : Policy) (script : Script) where
       ∙ ap (λ (q : Run). (o ++ first) ++ looks s policy script q (rounds k)) (sym (run_append s policy script (start_run w) o first))
     where
       picks : List ℕ
-      picks = picks_of (Rattle.hop_model.specs.Steps.atlas_in ((run_after s script (start_run w) (opening s script w)).state 0).cell) script.order
+      picks = picks_of (Rattle.fitting_births.specs.hop_model.Steps.atlas_in ((run_after s script (start_run w) (opening s script w)).state 0).cell) script.order
 
   pub longer : (w : KernelState) (n m : ℕ) → n ≤ m → (rest : List Entry) × (serial_history s policy script w n ++ rest ≡ serial_history s policy script w m)
   longer w n m le =
@@ -126,7 +126,7 @@ module _ (s : Supply) (policy : Policy) (script : Script) where
   untried : (r : Run) (es rest : List Entry) → (run_after s script r (es ++ rest)).tried ≡ None → (run_after s script r es).tried ≡ None
   untried r es rest none = by_option (run_after s script r es).tried refl
     where
-      by_option : (o : Option Rattle.hop_model.specs.Choices.Commit) → (run_after s script r es).tried ≡ o → (run_after s script r es).tried ≡ None
+      by_option : (o : Option Rattle.fitting_births.specs.hop_model.Choices.Commit) → (run_after s script r es).tried ≡ o → (run_after s script r es).tried ≡ None
       by_option None is = is
       by_option (Some c) is = absurd (false≢true (sym (ap (λ (q : Run). is_some q.tried) (sym (run_append s policy script r es rest)) ∙ ap is_some none) ∙ tried_over rest (run_after s script r es) (ap is_some is)))
 

@@ -3,14 +3,14 @@ use Rattle.std.proofs.Common.{◌≡◌, ℕ, zero, suc, Bool, true, false, not,
 use Rattle.hop_base.specs.declared.histories.Entry.{Entry}
 use Rattle.hop_base.specs.declared.histories.Event.{Event}
 use Rattle.hop_base.specs.declared.histories.Event.TheVariants.{Birth}
-use Rattle.hop_model.proofs.Basics.{some_of_map}
-use Rattle.hop_model.specs.Births.{next_birth, next_birth_change}
-use Rattle.hop_model.specs.Changes.{Change, carried}
-use Rattle.hop_model.specs.Histories.{IsLegalFrom, May, Policy, Run, births_owed, goes_on, may, run_after, start_run, went_on, writes}
-use Rattle.hop_model.specs.Scripts.{Script}
-use Rattle.hop_model.specs.Serial.{birth_turn, births, made_and_owed, owed_stable}
-use Rattle.hop_model.specs.State.{KernelState, Supply}
-use Rattle.run_laws.proofs.Wishes.{run_append}
+use Rattle.fitting_births.proofs.hop_model_lemmas.Basics.{some_of_map}
+use Rattle.fitting_births.specs.hop_model.Births.{next_birth, next_birth_change}
+use Rattle.fitting_births.specs.hop_model.Changes.{Change, carried}
+use Rattle.fitting_births.specs.hop_model.Histories.{IsLegalFrom, May, Policy, Run, births_owed, goes_on, may, run_after, start_run, went_on, writes}
+use Rattle.fitting_births.specs.hop_model.Scripts.{Script}
+use Rattle.fitting_births.specs.hop_model.Serial.{birth_turn, births, made_and_owed, owed_stable}
+use Rattle.fitting_births.specs.hop_model.State.{KernelState, Supply}
+use Rattle.fitting_births.proofs.run_laws_lemmas.Wishes.{run_append}
 use Rattle.fitting_births.proofs.Ends.{births_none}
 use Rattle.serial_runs.specs.Serial.{IsCalm, IsNew, opening}
 use Rattle.serial_runs.proofs.Calm.{legal_join}

@@ -7,18 +7,18 @@ use Rattle.std.proofs.lemmas.List.Sums.{sum_by-cons}
 use Rattle.hop_base.specs.declared.histories.Entry.{Entry}
 use Rattle.hop_base.specs.declared.histories.Event.{Event}
 use Rattle.hop_base.specs.declared.histories.Event.TheVariants.{Snap, Step}
-use Rattle.hop_model.specs.Changes.{Change, carried}
-use Rattle.hop_model.specs.Histories.{Policy, Run, births_owed, goes_on, has_wish, is_full, mark, run_after, start_run, version_of, went_on}
-use Rattle.hop_model.specs.Scripts.{Script}
-use Rattle.hop_model.specs.Serial.{all_loci, can_step, looks_of, rounds}
-use Rattle.hop_model.specs.Soundness.{IsSound}
-use Rattle.hop_model.specs.State.{KernelState, Supply}
-use Rattle.hop_model.specs.Steps.{numbered_change, running, step, step_change}
-use Rattle.hop_model.specs.Words.{put}
-use Rattle.script_form.specs.Rules.{IsScript}
-use Rattle.run_laws.proofs.Wishes.{run_append}
-use Rattle.sound_runs.specs.Kinds.{NamesNoLocus}
-use Rattle.sound_runs.proofs.Naming.{births_over}
+use Rattle.fitting_births.specs.hop_model.Changes.{Change, carried}
+use Rattle.fitting_births.specs.hop_model.Histories.{Policy, Run, births_owed, goes_on, has_wish, is_full, mark, run_after, start_run, version_of, went_on}
+use Rattle.fitting_births.specs.hop_model.Scripts.{Script}
+use Rattle.fitting_births.specs.hop_model.Serial.{all_loci, can_step, looks_of, rounds}
+use Rattle.fitting_births.specs.hop_model.Soundness.{IsSound}
+use Rattle.fitting_births.specs.hop_model.State.{KernelState, Supply}
+use Rattle.fitting_births.specs.hop_model.Steps.{numbered_change, running, step, step_change}
+use Rattle.fitting_births.specs.hop_model.Words.{put}
+use Rattle.fitting_births.specs.script_form.Rules.{IsScript}
+use Rattle.fitting_births.proofs.run_laws_lemmas.Wishes.{run_append}
+use Rattle.fitting_births.specs.sound_runs.Kinds.{NamesNoLocus}
+use Rattle.fitting_births.proofs.sound_runs_lemmas.Naming.{births_over}
 use Rattle.fitting_births.proofs.Ends.{some_is}
 use Rattle.serial_runs.specs.Serial.{IsWhole, kept_behind, look, looks, opening, serial_history, step_and_kept, steps_left, wished_snap, wished_snaps, written_in}
 use Rattle.serial_runs.proofs.Calm.{step_entry}

@@ -5,11 +5,11 @@ use Rattle.std.specs.List.{list_any, sum_by}
 use Rattle.hop_base.specs.declared.histories.Entry.{Entry}
 use Rattle.hop_base.specs.declared.histories.Event.TheVariants.{Snap, Stable, Tried}
 use Rattle.hop_base.specs.declared.histories.Touch.{Touch}
-use Rattle.hop_model.specs.Histories.{Policy, Run, goes_on, has_wish, is_due, is_full, mark, next_changed, run_after, start_run, version_of}
-use Rattle.hop_model.specs.Scripts.{Script}
-use Rattle.hop_model.specs.Serial.{IsAllIdle, all_births, all_loci, can_step, looks_of}
-use Rattle.hop_model.specs.State.{KernelState, Supply}
-use Rattle.hop_model.specs.Steps.{step}
+use Rattle.fitting_births.specs.hop_model.Histories.{Policy, Run, goes_on, has_wish, is_due, is_full, mark, next_changed, run_after, start_run, version_of}
+use Rattle.fitting_births.specs.hop_model.Scripts.{Script}
+use Rattle.fitting_births.specs.hop_model.Serial.{IsAllIdle, all_births, all_loci, can_step, looks_of}
+use Rattle.fitting_births.specs.hop_model.State.{KernelState, Supply}
+use Rattle.fitting_births.specs.hop_model.Steps.{step}
 
 -- the entities that an entry writes, in the order of what it touches, which ascends
 abbrev pub written_in : List Touch → List ℕ

@@ -5,12 +5,12 @@
 ghost use Rattle.std.specs.Prelude.{◌≡◌, ◌≤◌, ◌<◌, ◌*◌, ◌++◌, ◌∷◌, [], ◌&&◌, not, false, ℕ, List, None, Some};
 ghost use Rattle.hop_base.specs.declared.histories.Entry.{Entry};
 ghost use Rattle.hop_base.specs.declared.histories.Event.TheVariants.{Snap, Stable};
-ghost use Rattle.hop_model.specs.Histories.{IsLegalRun, May, Policy, Run, births_owed, goes_on, has_wish, is_full, mark, run_after, start_run, version_of};
-ghost use Rattle.hop_model.specs.Scripts.{Script};
-ghost use Rattle.hop_model.specs.Soundness.{IsSound};
-ghost use Rattle.hop_model.specs.State.{KernelState, Supply};
-ghost use Rattle.hop_model.specs.Steps.{atlas_in, step};
-ghost use Rattle.script_form.specs.Rules.{IsScript};
+ghost use Rattle.fitting_births.specs.hop_model.Histories.{IsLegalRun, May, Policy, Run, births_owed, goes_on, has_wish, is_full, mark, run_after, start_run, version_of};
+ghost use Rattle.fitting_births.specs.hop_model.Scripts.{Script};
+ghost use Rattle.fitting_births.specs.hop_model.Soundness.{IsSound};
+ghost use Rattle.fitting_births.specs.hop_model.State.{KernelState, Supply};
+ghost use Rattle.fitting_births.specs.hop_model.Steps.{atlas_in, step};
+ghost use Rattle.fitting_births.specs.script_form.Rules.{IsScript};
 ghost use Rattle.fitting_births.specs.Fitting.{Fits};
 ghost use Rattle.serial_runs.specs.Serial.{IsBehind, IsCalm, IsStopped, IsWhole, serial_history, written_in};
 

@@ -5,18 +5,18 @@ use Rattle.std.proofs.lemmas.List.{append-nil, append_assoc}
 use Rattle.hop_base.specs.declared.histories.Entry.{Entry}
 use Rattle.hop_base.specs.declared.histories.Event.{Event}
 use Rattle.hop_base.specs.declared.histories.Event.TheVariants.{Birth, Stable}
-use Rattle.hop_model.specs.Births.{birth_named, next_birth, next_birth_change}
-use Rattle.hop_model.specs.Changes.{Change, carried}
-use Rattle.hop_model.specs.Histories.{Policy, Run, births_owed, goes_on, is_full, mark, never, run_after, start_run, went_on}
-use Rattle.hop_model.specs.Scripts.{Script, next_name}
-use Rattle.hop_model.specs.Serial.{birth_turn, births, looks_of, made_and_owed, owed_stable}
-use Rattle.hop_model.specs.Soundness.{IsSound}
-use Rattle.hop_model.specs.State.{KernelState, Supply, Text}
-use Rattle.hop_model.specs.Steps.{atlas_in}
-use Rattle.script_form.specs.Rules.{IsScript}
-use Rattle.run_laws.proofs.Wishes.{run_append}
-use Rattle.fitting_births.specs.Fitting.{Fits}
-use Rattle.fitting_births.proofs.Ends.{all_births_done, births_none}
+use Rattle.serial_runs.specs.hop_model.Births.{birth_named, next_birth, next_birth_change}
+use Rattle.serial_runs.specs.hop_model.Changes.{Change, carried}
+use Rattle.serial_runs.specs.hop_model.Histories.{Policy, Run, births_owed, goes_on, is_full, mark, never, run_after, start_run, went_on}
+use Rattle.serial_runs.specs.hop_model.Scripts.{Script, next_name}
+use Rattle.serial_runs.specs.hop_model.Serial.{birth_turn, births, looks_of, made_and_owed, owed_stable}
+use Rattle.serial_runs.specs.hop_model.Soundness.{IsSound}
+use Rattle.serial_runs.specs.hop_model.State.{KernelState, Supply, Text}
+use Rattle.serial_runs.specs.hop_model.Steps.{atlas_in}
+use Rattle.serial_runs.specs.script_form.Rules.{IsScript}
+use Rattle.serial_runs.proofs.run_laws_lemmas.Wishes.{run_append}
+use Rattle.serial_runs.specs.fitting_births.Fitting.{Fits}
+use Rattle.serial_runs.proofs.fitting_births_lemmas.Ends.{all_births_done, births_none}
 use Rattle.serial_runs.specs.Serial.{IsBehind, IsFront, IsNew, looks, opening}
 use Rattle.serial_runs.proofs.Openings.{birth_event, born_next, no_wish, start_new}
 use Rattle.serial_turns.specs.Turns.{IsBearing, opened}

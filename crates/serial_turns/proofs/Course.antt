@@ -3,11 +3,11 @@ use Rattle.std.proofs.Common.{◌≡◌, ℕ, zero, suc, ◌+◌, ◌-◌, ◌<�
 use Rattle.std.proofs.Math.Seq.{take-length}
 use Rattle.std.proofs.lemmas.List.{append-nil, append_assoc, take-append-drop, take_more}
 use Rattle.std.proofs.lemmas.Option.{get_or_from_slice_get, slice_get_within}
-use Rattle.hop_model.specs.Histories.{Run}
-use Rattle.hop_model.specs.Scripts.{Script, locus_named}
-use Rattle.hop_model.specs.Serial.{all_loci, looks_of, picks_of, rounds}
-use Rattle.hop_model.specs.State.{AtlasState, Text}
-use Rattle.hop_model.specs.Steps.{atlas_in}
+use Rattle.serial_runs.specs.hop_model.Histories.{Run}
+use Rattle.serial_runs.specs.hop_model.Scripts.{Script, locus_named}
+use Rattle.serial_runs.specs.hop_model.Serial.{all_loci, looks_of, picks_of, rounds}
+use Rattle.serial_runs.specs.hop_model.State.{AtlasState, Text}
+use Rattle.serial_runs.specs.hop_model.Steps.{atlas_in}
 use Rattle.serial_runs.proofs.Histories.{numbers, rounds_append}
 use Rattle.serial_turns.specs.Turns.{ComeFirst, before_locus, before_pick}
 

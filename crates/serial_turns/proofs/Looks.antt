@@ -5,12 +5,12 @@ use Rattle.std.proofs.lemmas.Option.{get_or_from_slice_get, slice_get_within}
 use Rattle.hop_base.specs.declared.histories.Entry.{Entry}
 use Rattle.hop_base.specs.declared.histories.Event.TheVariants.{Snap}
 use Rattle.hop_base.specs.declared.histories.Touch.{Touch}
-use Rattle.hop_model.specs.Histories.{Policy, Run, goes_on, has_wish, is_full, mark, run_after, version_of}
-use Rattle.hop_model.specs.Scripts.{Script}
-use Rattle.hop_model.specs.Serial.{can_step}
-use Rattle.hop_model.specs.State.{KernelState, Supply}
-use Rattle.hop_model.specs.Steps.{step}
-use Rattle.run_laws.proofs.Wishes.{run_append}
+use Rattle.serial_runs.specs.hop_model.Histories.{Policy, Run, goes_on, has_wish, is_full, mark, run_after, version_of}
+use Rattle.serial_runs.specs.hop_model.Scripts.{Script}
+use Rattle.serial_runs.specs.hop_model.Serial.{can_step}
+use Rattle.serial_runs.specs.hop_model.State.{KernelState, Supply}
+use Rattle.serial_runs.specs.hop_model.Steps.{step}
+use Rattle.serial_runs.proofs.run_laws_lemmas.Wishes.{run_append}
 use Rattle.serial_runs.specs.Serial.{kept_behind, look, step_and_kept, wished_snap, wished_snaps, written_in}
 
 module _ (s : Supply) (policy : Policy) (script : Script) where

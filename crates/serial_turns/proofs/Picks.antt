@@ -5,21 +5,21 @@ use Rattle.std.proofs.lemmas.List.Sums.{AllPass-from_list_all}
 use Rattle.std.proofs.lemmas.Option.{get_or_from_slice_get, slice_get_within}
 use Rattle.std.proofs.lemmas.List.Elements.{All-head, All-tail}
 use Rattle.hop_base.specs.declared.histories.Entry.{Entry}
-use Rattle.hop_model.specs.Histories.{IsLegalRun, Policy, Run, run_after, start_run}
-use Rattle.hop_model.specs.Scripts.{LocusTable, Script, container_named, locus_named, next_container_name, next_locus_name, next_name, number_of, place_of, text_eq}
-use Rattle.hop_model.specs.Soundness.{IsSound, is_given_name}
-use Rattle.hop_model.specs.State.{AtlasState, KernelState, Supply, Text}
-use Rattle.hop_model.specs.Steps.{atlas_in}
-use Rattle.hop_model.specs.Words.{or_else}
-use Rattle.script_form.specs.Rules.{AreLocusTables, IsScript, container_names, is_among, locus_names}
-use Rattle.run_laws.proofs.Wishes.{legal_back, run_append}
-use Rattle.sound_runs.proofs.Found.{text_same}
-use Rattle.sound_runs.proofs.Naming.{KeepsNames, names_over}
-use Rattle.sound_runs.proofs.Standing.{standing_over}
-use Rattle.fitting_births.specs.Fitting.{Fits}
-use Rattle.fitting_births.proofs.Ends.{all_births_done, births_ready, some_is}
-use Rattle.fitting_births.proofs.Growing.{not_atlas, place_more}
-use Rattle.fitting_births.proofs.KnownNames.{loci_known, or_cases, true_false}
+use Rattle.serial_runs.specs.hop_model.Histories.{IsLegalRun, Policy, Run, run_after, start_run}
+use Rattle.serial_runs.specs.hop_model.Scripts.{LocusTable, Script, container_named, locus_named, next_container_name, next_locus_name, next_name, number_of, place_of, text_eq}
+use Rattle.serial_runs.specs.hop_model.Soundness.{IsSound, is_given_name}
+use Rattle.serial_runs.specs.hop_model.State.{AtlasState, KernelState, Supply, Text}
+use Rattle.serial_runs.specs.hop_model.Steps.{atlas_in}
+use Rattle.serial_runs.specs.hop_model.Words.{or_else}
+use Rattle.serial_runs.specs.script_form.Rules.{AreLocusTables, IsScript, container_names, is_among, locus_names}
+use Rattle.serial_runs.proofs.run_laws_lemmas.Wishes.{legal_back, run_append}
+use Rattle.serial_runs.proofs.sound_runs_lemmas.Found.{text_same}
+use Rattle.serial_runs.proofs.sound_runs_lemmas.Naming.{KeepsNames, names_over}
+use Rattle.serial_runs.proofs.sound_runs_lemmas.Standing.{standing_over}
+use Rattle.serial_runs.specs.fitting_births.Fitting.{Fits}
+use Rattle.serial_runs.proofs.fitting_births_lemmas.Ends.{all_births_done, births_ready, some_is}
+use Rattle.serial_runs.proofs.fitting_births_lemmas.Growing.{not_atlas, place_more}
+use Rattle.serial_runs.proofs.fitting_births_lemmas.KnownNames.{loci_known, or_cases, true_false}
 use Rattle.serial_runs.specs.Serial.{looks, opening}
 use Rattle.serial_runs.proofs.Openings.{opening_legal}
 use Rattle.serial_turns.specs.Turns.{HasLooked, before_pick, opened}

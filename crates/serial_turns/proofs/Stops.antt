@@ -3,11 +3,11 @@ use Rattle.std.proofs.Common.{◌≡◌, ℕ, zero, suc, ◌+◌, List, [], ◌�
 use Rattle.std.proofs.lemmas.List.{append_assoc}
 use Rattle.hop_base.specs.declared.histories.Entry.{Entry}
 use Rattle.hop_base.specs.declared.histories.Event.TheVariants.{Snap, Stable, Tried}
-use Rattle.hop_model.specs.Histories.{Policy, Run, goes_on, mark, never, next_changed, run_after, start_run, version_of}
-use Rattle.hop_model.specs.Scripts.{Script}
-use Rattle.hop_model.specs.Serial.{looks_of}
-use Rattle.hop_model.specs.State.{KernelState, Supply}
-use Rattle.run_laws.proofs.Wishes.{run_append}
+use Rattle.serial_runs.specs.hop_model.Histories.{Policy, Run, goes_on, mark, never, next_changed, run_after, start_run, version_of}
+use Rattle.serial_runs.specs.hop_model.Scripts.{Script}
+use Rattle.serial_runs.specs.hop_model.Serial.{looks_of}
+use Rattle.serial_runs.specs.hop_model.State.{KernelState, Supply}
+use Rattle.serial_runs.proofs.run_laws_lemmas.Wishes.{run_append}
 use Rattle.serial_runs.specs.Serial.{IsCut, IsFront, IsStopped, first_snaps, opening, snap_then}
 use Rattle.serial_turns.specs.Turns.{ComeFirst, HasLooked, IsCutIn, IsStoppedIn, opened}
 use Rattle.serial_turns.proofs.Whereabouts.{looked_front, looked_opening}

@@ -3,18 +3,18 @@ use Rattle.std.proofs.Common.{◌≡◌, ℕ, ◌+◌, ◌<◌, ◌≤◌, true,
 use Rattle.std.proofs.lemmas.Bool.{and_parts, false_from_ne_true}
 use Rattle.std.proofs.lemmas.List.{append-nil, append_assoc}
 use Rattle.hop_base.specs.declared.histories.Entry.{Entry}
-use Rattle.hop_model.specs.Histories.{Policy, Run, goes_on, run_after, start_run}
-use Rattle.hop_model.specs.Scripts.{Script}
-use Rattle.hop_model.specs.Serial.{all_loci, can_step, looks_of}
-use Rattle.hop_model.specs.Soundness.{IsSound}
-use Rattle.hop_model.specs.State.{KernelState, Supply}
-use Rattle.hop_model.specs.Steps.{atlas_in, running}
-use Rattle.script_form.specs.Rules.{IsScript}
-use Rattle.run_laws.proofs.Wishes.{run_append}
-use Rattle.sound_runs.proofs.Naming.{births_over}
-use Rattle.sound_runs.proofs.Standing.{standing_over}
-use Rattle.fitting_births.specs.Fitting.{Fits}
-use Rattle.fitting_births.proofs.Ends.{all_births_done}
+use Rattle.serial_runs.specs.hop_model.Histories.{Policy, Run, goes_on, run_after, start_run}
+use Rattle.serial_runs.specs.hop_model.Scripts.{Script}
+use Rattle.serial_runs.specs.hop_model.Serial.{all_loci, can_step, looks_of}
+use Rattle.serial_runs.specs.hop_model.Soundness.{IsSound}
+use Rattle.serial_runs.specs.hop_model.State.{KernelState, Supply}
+use Rattle.serial_runs.specs.hop_model.Steps.{atlas_in, running}
+use Rattle.serial_runs.specs.script_form.Rules.{IsScript}
+use Rattle.serial_runs.proofs.run_laws_lemmas.Wishes.{run_append}
+use Rattle.serial_runs.proofs.sound_runs_lemmas.Naming.{births_over}
+use Rattle.serial_runs.proofs.sound_runs_lemmas.Standing.{standing_over}
+use Rattle.serial_runs.specs.fitting_births.Fitting.{Fits}
+use Rattle.serial_runs.proofs.fitting_births_lemmas.Ends.{all_births_done}
 use Rattle.serial_runs.specs.Serial.{IsFront, IsWhole, look, looks, opening, steps_left}
 use Rattle.serial_runs.proofs.Calm.{leaves_join, looks_leave}
 use Rattle.serial_runs.proofs.Histories.{Idle, looks_append}

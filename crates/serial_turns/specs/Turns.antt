@@ -2,11 +2,11 @@
 use Rattle.std.specs.Prelude.{◌≡◌, ℕ, ◌-◌, false, List, [], ◌∷◌, ◌++◌, take, None}
 use Rattle.hop_base.specs.declared.histories.Entry.{Entry}
 use Rattle.hop_base.specs.declared.histories.Event.TheVariants.{Snap, Stable, Tried}
-use Rattle.hop_model.specs.Histories.{IsLegalRun, Policy, Run, births_owed, mark, run_after, start_run}
-use Rattle.hop_model.specs.Scripts.{Script}
-use Rattle.hop_model.specs.Serial.{all_loci, births, looks_of, picks_of}
-use Rattle.hop_model.specs.State.{KernelState, Supply}
-use Rattle.hop_model.specs.Steps.{atlas_in}
+use Rattle.serial_runs.specs.hop_model.Histories.{IsLegalRun, Policy, Run, births_owed, mark, run_after, start_run}
+use Rattle.serial_runs.specs.hop_model.Scripts.{Script}
+use Rattle.serial_runs.specs.hop_model.Serial.{all_loci, births, looks_of, picks_of}
+use Rattle.serial_runs.specs.hop_model.State.{KernelState, Supply}
+use Rattle.serial_runs.specs.hop_model.Steps.{atlas_in}
 use Rattle.serial_runs.specs.Serial.{IsCalm, IsNew, first_snaps, looks, opening}
 
 -- the run behind the births and their Stable

@@ -6,15 +6,15 @@ ghost use Rattle.std.specs.Prelude.{◌≡◌, ◌≤◌, ◌<◌, ◌+◌, ◌*
 ghost use Rattle.hop_base.specs.declared.histories.Entry.{Entry};
 ghost use Rattle.hop_base.specs.declared.histories.Event.TheVariants.{Snap, Stable, Tried};
 ghost use Rattle.hop_base.specs.declared.histories.Touch.{Touch};
-ghost use Rattle.hop_model.specs.Births.{next_birth};
-ghost use Rattle.hop_model.specs.Histories.{May, Policy, Run, births_owed, goes_on, has_wish, is_full, mark, next_changed, run_after, start_run, version_of};
-ghost use Rattle.hop_model.specs.Scripts.{Script, locus_named};
-ghost use Rattle.hop_model.specs.Serial.{all_loci, can_step, looks_of};
-ghost use Rattle.hop_model.specs.Soundness.{IsSound};
-ghost use Rattle.hop_model.specs.State.{KernelState, Supply, Text};
-ghost use Rattle.hop_model.specs.Steps.{atlas_in, step};
-ghost use Rattle.script_form.specs.Rules.{IsScript};
-ghost use Rattle.fitting_births.specs.Fitting.{Fits};
+ghost use Rattle.serial_runs.specs.hop_model.Births.{next_birth};
+ghost use Rattle.serial_runs.specs.hop_model.Histories.{May, Policy, Run, births_owed, goes_on, has_wish, is_full, mark, next_changed, run_after, start_run, version_of};
+ghost use Rattle.serial_runs.specs.hop_model.Scripts.{Script, locus_named};
+ghost use Rattle.serial_runs.specs.hop_model.Serial.{all_loci, can_step, looks_of};
+ghost use Rattle.serial_runs.specs.hop_model.Soundness.{IsSound};
+ghost use Rattle.serial_runs.specs.hop_model.State.{KernelState, Supply, Text};
+ghost use Rattle.serial_runs.specs.hop_model.Steps.{atlas_in, step};
+ghost use Rattle.serial_runs.specs.script_form.Rules.{IsScript};
+ghost use Rattle.serial_runs.specs.fitting_births.Fitting.{Fits};
 ghost use Rattle.serial_runs.specs.Serial.{IsBehind, IsCalm, IsFront, IsStopped, IsWhole, first_snaps, look, looks, opening, serial_history, steps_left, wished_snap, wished_snaps, written_in};
 ghost use Rattle.serial_turns.specs.Turns.{ComeFirst, HasLooked, IsAtRest, IsBearing, IsStoppedIn, before_locus, before_pick, opened};
 

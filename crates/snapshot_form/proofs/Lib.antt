@@ -4,3 +4,4 @@ pub mod Used
 pub mod Lengths
 pub mod Rows
 pub mod Names
+pub use Rattle.blob_grammar.proofs as blob_grammar_lemmas

@@ -7,7 +7,7 @@ use Rattle.hop_base.specs.declared.entities.Kind.{Kind}
 use Rattle.hop_base.specs.declared.entities.Kind.TheVariants.{Atlas, Container, Locus}
 use Rattle.atlas_dir.specs.Directory.{Directory}
 use Rattle.blob_grammar.specs.Spelling.{Counted, counted, entry_byte}
-use Rattle.locus_machine.specs.declared.loci.Head.{Head}
+use Rattle.kernel_calls.specs.locus_machine.declared.loci.Head.{Head}
 use Rattle.snapshot_form.specs.declared.instructions.Packed.{Packed}
 
 -- the fields of an instruction

@@ -2,14 +2,14 @@
 ghost use Rattle.std.specs.Prelude.{◌≡◌, ◌≤◌, ◌+◌, ◌++◌, ℕ, length, take};
 ghost use Rattle.block_code.specs.Blobs.{HasRoom};
 ghost use Rattle.blob_grammar.specs.Spelling.{container_blob, entry_byte};
-ghost use Rattle.locus_machine.specs.Loci.{container_with};
+ghost use Rattle.kernel_calls.specs.locus_machine.Loci.{container_with};
 ghost use Rattle.snapshot_form.specs.Pieces.{head_front};
 
 use crate::lists::{put_caps, put_code, put_regions};
 use crate::numbers::put_blocks;
 use block_code::Blob;
 use hop_base::MOST_PAGES;
-use locus_machine::Head;
+use kernel_calls::locus_machine::Head;
 
 /// The first byte of a container's blob.
 const CONTAINER: u8 = 1;

@@ -14,6 +14,3 @@ mod parts;
 pub use atlases::write_atlas;
 pub use containers::write_container;
 pub use loci::write_locus;
-
-#[cfg(test)]
-mod tests;

@@ -8,7 +8,7 @@ use crate::parts::{put_call, put_private, put_region, put_slot};
 use block_code::Blob;
 use cap_list::{CapList, SLOTS};
 use hop_base::Cap;
-use locus_machine::{Chain, Code, Privates};
+use kernel_calls::locus_machine::{Chain, Code, Privates};
 use region_map::RegionMap;
 
 /// The bytes of a code at most: one, and 16 for each of 128 instructions.

@@ -2,13 +2,13 @@
 ghost use Rattle.std.specs.Prelude.{◌≡◌, ◌≤◌, ◌+◌, ◌++◌, length};
 ghost use Rattle.block_code.specs.Blobs.{HasRoom};
 ghost use Rattle.blob_grammar.specs.Spelling.{condition_number, is_short, locus_blob, locus_front, locus_rest, walk_bytes};
-ghost use Rattle.locus_machine.specs.Loci.{locus_of};
+ghost use Rattle.kernel_calls.specs.locus_machine.Loci.{locus_of};
 
 use crate::lists::{put_caps, put_chain, put_code, put_privates};
 use crate::numbers::put_registers;
 use block_code::Blob;
 use hop_base::{Condition, Walk};
-use locus_machine::Locus;
+use kernel_calls::locus_machine::Locus;
 
 /// The first byte of a locus's blob in the short form.
 const SHORT_LOCUS: u8 = 2;

@@ -9,7 +9,7 @@ use Rattle.hop_base.specs.declared.capabilities.Cap.{Cap}
 use Rattle.hop_base.specs.declared.capabilities.Region.{Region}
 use Rattle.hop_base.specs.declared.entities.Kind.TheVariants.{Container}
 use Rattle.hop_base.specs.declared.instructions.Instr.{Instr}
-use Rattle.hop_model.specs.State.{ContainerState}
+use Rattle.locus_machine.specs.hop_model.State.{ContainerState}
 use Rattle.blob_grammar.specs.Forms.{IsContainerForm, IsNumber, IsSpelling, SpellsContainer}
 use Rattle.blob_grammar.specs.Shapes.{IsRegionOver}
 use Rattle.blob_grammar.specs.Spelling.{caps_bytes, container_blob, entry_byte, instr_bytes, listed, region_bytes}

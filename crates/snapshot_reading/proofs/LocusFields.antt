@@ -12,7 +12,7 @@ use Rattle.hop_base.specs.declared.instructions.Condition.{Condition}
 use Rattle.hop_base.specs.declared.instructions.Condition.TheVariants.{Running}
 use Rattle.hop_base.specs.declared.instructions.Instr.{Instr}
 use Rattle.hop_base.specs.declared.instructions.Walk.{Walk}
-use Rattle.hop_model.specs.State.{LocusState}
+use Rattle.locus_machine.specs.hop_model.State.{LocusState}
 use Rattle.blob_grammar.specs.Forms.{IsLocusForm, IsNumber, IsSpelling, SpellsLocus}
 use Rattle.blob_grammar.specs.Shapes.{IsCallOver}
 use Rattle.blob_grammar.specs.Spelling.{call_bytes, caps_bytes, condition_number, instr_bytes, is_short, listed, locus_blob, private_bytes, walk_bytes}

@@ -3,8 +3,8 @@ use Rattle.std.proofs.Common.{◌≡◌, ◌<◌, ◌≤◌, ℕ, ◌^◌, ◌==
 use Rattle.std.proofs.lemmas.Bool.{false≢true, leb-true, le-leb}
 use Rattle.std.proofs.lemmas.Bool.Decides.{leb_tells}
 use Rattle.byteorder.specs.Endian.{little_bytes}
-use Rattle.hop_model.specs.State.{LocusState}
-use Rattle.hop_model.proofs.Basics.{and_left, and_right}
+use Rattle.locus_machine.specs.hop_model.State.{LocusState}
+use Rattle.locus_machine.proofs.hop_model_lemmas.Basics.{and_left, and_right}
 use Rattle.blob_grammar.specs.Spelling.{locus_blob, locus_front, locus_rest}
 use Rattle.snapshot_reading.specs.Loci.{IsPrintedSpelled, form_byte, least_privates, most_calls, most_printed, most_privates, printed_width}
 use Rattle.snapshot_reading.specs.declared.forms.Form.{Form}

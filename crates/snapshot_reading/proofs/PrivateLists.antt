@@ -5,7 +5,7 @@ use Rattle.std.specs.Prelude.{All, nat_le, true, false}
 use Rattle.std.specs.List.{AllByRecursion, flat_map}
 use Rattle.std.proofs.lemmas.List.Elements.{All-cons, All-nil}
 use Rattle.hop_base.specs.declared.capabilities.Private.{Private}
-use Rattle.hop_model.specs.Soundness.{AreOrdered, IsBefore}
+use Rattle.locus_machine.specs.hop_model.Soundness.{AreOrdered, IsBefore}
 use Rattle.blob_grammar.specs.Forms.{IsNumber}
 use Rattle.blob_grammar.specs.Shapes.{IsPrivateOver}
 use Rattle.blob_grammar.specs.Spelling.{private_bytes}

@@ -4,7 +4,7 @@ use Rattle.std.specs.Prelude.{All}
 use Rattle.std.specs.List.{AllByRecursion, flat_map}
 use Rattle.std.proofs.lemmas.List.Elements.{All-cons, All-nil}
 use Rattle.hop_base.specs.declared.capabilities.Region.{Region}
-use Rattle.hop_model.specs.Soundness.{AreApart}
+use Rattle.locus_machine.specs.hop_model.Soundness.{AreApart}
 use Rattle.blob_grammar.specs.Forms.{IsNumber}
 use Rattle.blob_grammar.specs.Shapes.{IsRegionOver}
 use Rattle.blob_grammar.specs.Spelling.{region_bytes}

@@ -7,7 +7,7 @@ use Rattle.hop_base.specs.declared.capabilities.Private.{Private}
 use Rattle.hop_base.specs.declared.instructions.Call.{Call}
 use Rattle.hop_base.specs.declared.instructions.Condition.{Condition}
 use Rattle.hop_base.specs.declared.instructions.Walk.{Walk}
-use Rattle.hop_model.specs.Soundness.{AreOrdered}
+use Rattle.locus_machine.specs.hop_model.Soundness.{AreOrdered}
 use Rattle.blob_grammar.specs.Forms.{IsNumber, SpellsLocus}
 use Rattle.blob_grammar.specs.Shapes.{IsCallOver, IsPrivateOver, IsWalkOver}
 use Rattle.blob_grammar.specs.Spelling.{call_bytes, condition_number, listed, private_bytes, walk_bytes}

@@ -7,7 +7,7 @@ use Rattle.hop_base.specs.Instructions.{IsInstruction, IsPlace}
 use Rattle.hop_base.specs.declared.capabilities.Cap.{Cap}
 use Rattle.hop_base.specs.declared.capabilities.Region.{Region}
 use Rattle.hop_base.specs.declared.instructions.Instr.{Instr}
-use Rattle.hop_model.specs.Soundness.{AreApart, IsSoundCode}
+use Rattle.locus_machine.specs.hop_model.Soundness.{AreApart, IsSoundCode}
 use Rattle.blob_grammar.specs.Forms.{HaveByteRights, IsNumber, IsTable}
 use Rattle.blob_grammar.specs.Shapes.{AreCapsOver, IsRegionOver}
 use Rattle.blob_grammar.specs.Spelling.{Slot, caps_bytes, entry_byte, instr_bytes, listed, region_bytes, slot_bytes}

@@ -20,9 +20,5 @@ mod walks;
 
 pub use containers::{ContainerBlob, read_container};
 pub use loci::read_locus;
+pub use locus_machine;
 pub use places::{BadBlob, place_of};
-
-#[cfg(test)]
-mod locus_tests;
-#[cfg(test)]
-mod tests;

@@ -7,7 +7,7 @@ use Rattle.std.proofs.lemmas.Bool.{cases_lt}
 use Rattle.std.proofs.lemmas.List.{get_or-append_right, get_or-drop, length-take, map-append, take-append-le, take_all, take_more}
 use Rattle.std.proofs.lemmas.List.Folds.{concat-append}
 use Rattle.disk_trait.specs.Image.{Image, block_at}
-use Rattle.image_meaning.specs.Foreign.{IsFirstRest}
+use Rattle.page_words.specs.image_meaning.Foreign.{IsFirstRest}
 use Rattle.snapshot_store.specs.Rests.{IsRest}
 
 -- as many bytes of a block as there is room for

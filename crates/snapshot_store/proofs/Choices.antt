@@ -7,14 +7,14 @@ use Rattle.std.proofs.lemmas.List.Elements.{All-filter, filter-append}
 use Rattle.std.proofs.lemmas.List.Kept.{AllPairs-filter}
 use Rattle.std.proofs.lemmas.List.Quantifiers.{all_pairs_push}
 use Rattle.hop_base.specs.declared.records.Rec.{Rec}
-use Rattle.hop_model.specs.Choices.{Commit, IsBelow, IsClosedChoice, IsGreatest, IsNarrow}
+use Rattle.page_store.specs.hop_model.Choices.{Commit, IsBelow, IsClosedChoice, IsGreatest, IsNarrow}
 use Rattle.cut_finder.specs.Records.{IsAscending}
-use Rattle.cut_laws.specs.Agreeing.{from_cut, nothing}
-use Rattle.cut_laws.specs.Records.{commit_of, commits_of, is_rec_from, recs_from}
-use Rattle.cut_laws.proofs.Filters.{filter_within, kept as kept_again}
-use Rattle.cut_laws.proofs.Joins.{closed_more, greatest_of_kept, same_greatest}
-use Rattle.image_meaning.proofs.Choosing.{from_commits}
-use Rattle.store_model.specs.Books.{Logged, logged_recs}
+use Rattle.cut_finder.specs.cut_laws.Agreeing.{from_cut, nothing}
+use Rattle.cut_finder.specs.cut_laws.Records.{commit_of, commits_of, is_rec_from, recs_from}
+use Rattle.cut_finder.proofs.cut_laws_lemmas.Filters.{filter_within, kept as kept_again}
+use Rattle.cut_finder.proofs.cut_laws_lemmas.Joins.{closed_more, greatest_of_kept, same_greatest}
+use Rattle.page_words.proofs.image_meaning_lemmas.Choosing.{from_commits}
+use Rattle.page_words.specs.store_model.Books.{Logged, logged_recs}
 use Rattle.snapshot_store.specs.Keeping.{AreKept}
 use Rattle.snapshot_store.specs.Shelves.{is_from}
 

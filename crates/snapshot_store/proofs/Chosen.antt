@@ -10,15 +10,15 @@ use Rattle.std.proofs.lemmas.Bool.{and_parts, cases_lt, eq-eqb, false≢true}
 use Rattle.std.proofs.lemmas.Grind.{flat_map-append}
 use Rattle.hop_base.specs.Edges.{upto}
 use Rattle.hop_base.specs.declared.records.Rec.{Rec}
-use Rattle.hop_model.specs.Choices.{Among, Commit, IsBelow, IsGreatest}
-use Rattle.cut_laws.specs.Agreeing.{nothing}
-use Rattle.cut_laws.specs.Records.{commit_of, commits_of}
-use Rattle.image_meaning.specs.Parts.{chosen_by}
-use Rattle.image_blocks.proofs.Firsts.{ne_test}
-use Rattle.image_blocks.proofs.Fits.{fitting_law}
-use Rattle.image_blocks.specs.Checks.{last_version}
-use Rattle.image_blocks.specs.Layout.{most_blocks}
-use Rattle.image_blocks.specs.Logs.{AreFitting}
+use Rattle.page_store.specs.hop_model.Choices.{Among, Commit, IsBelow, IsGreatest}
+use Rattle.cut_finder.specs.cut_laws.Agreeing.{nothing}
+use Rattle.cut_finder.specs.cut_laws.Records.{commit_of, commits_of}
+use Rattle.page_words.specs.image_meaning.Parts.{chosen_by}
+use Rattle.log_reading.proofs.image_blocks_lemmas.Firsts.{ne_test}
+use Rattle.log_reading.proofs.image_blocks_lemmas.Fits.{fitting_law}
+use Rattle.log_reading.specs.image_blocks.Checks.{last_version}
+use Rattle.log_reading.specs.image_blocks.Layout.{most_blocks}
+use Rattle.log_reading.specs.image_blocks.Logs.{AreFitting}
 use Rattle.log_reading.proofs.InRange.{last_or_before}
 use Rattle.log_reading.specs.Logs.{AreInRange, IsOlder}
 use Rattle.snapshot_store.specs.Choosing.{chosen_list, listed}

@@ -2,11 +2,11 @@
 use Rattle.std.proofs.Common.{◌≡◌, ℕ, ◌+◌, ◌<◌, ◌≤◌, ◌++◌, ◌∷◌, List, [], length, take, get_or, refl, sym, ap, subst, ◌∙◌, arith}
 use Rattle.std.specs.Prelude.{All, slice_index}
 use Rattle.std.proofs.lemmas.List.{get_or-map, length-map, length-take, map-append, take_more}
-use Rattle.image_blocks.specs.Layout.{slot_count}
+use Rattle.log_reading.specs.image_blocks.Layout.{slot_count}
 use Rattle.hop_base.specs.declared.records.Rec.{Rec}
 use Rattle.page_shadow.specs.Ledger.{Ledger}
 use Rattle.page_shadow.specs.declared.ShadowTable.{ShadowTable}
-use Rattle.store_model.specs.Books.{Logged}
+use Rattle.page_words.specs.store_model.Books.{Logged}
 use Rattle.snapshot_store.specs.Choosing.{table_of, with_tables}
 use Rattle.snapshot_store.specs.Keeping.{AreListed, HasRecounted}
 use Rattle.snapshot_store.specs.Naming.{IsPlaced}

@@ -4,8 +4,8 @@ use Rattle.std.specs.Prelude.{Err, IsErrOf, OnErr, Result}
 use Rattle.std.proofs.lemmas.Bool.{false≢true}
 use Rattle.disk_trait.specs.Counts.{Rose}
 use Rattle.disk_trait.specs.declared.disk.NoBlocks.{NoBlocks as TooFew}
-use Rattle.image_blocks.specs.Bodies.{blocks_for}
-use Rattle.store_model.specs.Books.{free_in}
+use Rattle.log_reading.specs.image_blocks.Bodies.{blocks_for}
+use Rattle.page_words.specs.store_model.Books.{free_in}
 use Rattle.snapshot_store.specs.CommitAnswers.{CommitAnswers, IsShort}
 use Rattle.snapshot_store.specs.Committed.{HasFailedShut}
 use Rattle.snapshot_store.specs.State.{State, books}

@@ -8,16 +8,16 @@ use Rattle.std.proofs.lemmas.List.Elements.{All-from_get_or}
 use Rattle.std.proofs.lemmas.List.Sums.{AllPass-from_list_all}
 use Rattle.hop_base.specs.declared.records.Rec.{Rec}
 use Rattle.disk_trait.specs.Image.{Image}
-use Rattle.image_blocks.specs.Bodies.{blob_blocks, blob_in, blocks_for}
-use Rattle.image_blocks.specs.Checks.{last_version}
-use Rattle.image_blocks.specs.Layout.{last_number, most_length, pool_at}
+use Rattle.log_reading.specs.image_blocks.Bodies.{blob_blocks, blob_in, blocks_for}
+use Rattle.log_reading.specs.image_blocks.Checks.{last_version}
+use Rattle.log_reading.specs.image_blocks.Layout.{last_number, most_length, pool_at}
 use Rattle.page_shadow.specs.Ledger.{Ledger, is_held}
-use Rattle.store_model.specs.Books.{AreHeldPages, is_small, is_used, recs_in}
+use Rattle.page_words.specs.store_model.Books.{AreHeldPages, is_small, is_used, recs_in}
 use Rattle.store_commit.specs.BlobBytes.{HoldsBytes}
 use Rattle.store_commit.specs.Ready.{CanCommit}
 use Rattle.store_commit.specs.Storing.{HasBlob, HasPlaces, IsBlobOf}
 use Rattle.store_commit.proofs.Filling.{blob_reads}
-use Rattle.image_meaning.specs.Stores.{Kept}
+use Rattle.page_words.specs.image_meaning.Stores.{Kept}
 use Rattle.snapshot_store.proofs.Listing.{few_blocks}
 use Rattle.snapshot_store.specs.Committed.{IsInFreeBlocks}
 use Rattle.snapshot_store.specs.Naming.{IsPlace, IsPlaced}

@@ -7,10 +7,10 @@ use Rattle.std.proofs.lemmas.List.Sums.{count_by-le-length, count_by_more_no, co
 use Rattle.std.proofs.lemmas.List.Elements.{filter_more}
 use Rattle.std.proofs.lemmas.List.Filters.{sum_by-filter_both}
 use Rattle.hop_base.specs.declared.records.Rec.{Rec}
-use Rattle.image_blocks.proofs.Firsts.{ne_test}
+use Rattle.log_reading.proofs.image_blocks_lemmas.Firsts.{ne_test}
 use Rattle.page_shadow.specs.Ledger.{Ledger}
 use Rattle.page_shadow.specs.declared.ShadowTable.{ShadowTable}
-use Rattle.store_model.specs.Books.{Logged}
+use Rattle.page_words.specs.store_model.Books.{Logged}
 use Rattle.snapshot_store.specs.Naming.{HasNamed, IsPlace, IsRaised, is_below, is_use, times, uses, uses_in}
 use Rattle.snapshot_store.specs.Shelves.{nothing_logged}
 use Rattle.snapshot_store.proofs.Shelving.{lt-not-leb}

@@ -7,12 +7,12 @@ use Rattle.disk_trait.specs.Image.{Image, SameOutside}
 use Rattle.disk_trait.specs.Moments.{LeavesOnly}
 use Rattle.disk_trait.proofs.Phases.{LeavesOnly-weaker, Moments}
 use Rattle.hop_base.specs.declared.records.Rec.{Rec}
-use Rattle.image_blocks.specs.Bodies.{blob_in, blocks_for}
-use Rattle.image_blocks.specs.Layout.{slot_count}
-use Rattle.log_turn.specs.Standing.{Stands, epoch_of, used_of}
-use Rattle.log_turn.specs.declared.areas.Areas.{Areas}
+use Rattle.log_reading.specs.image_blocks.Bodies.{blob_in, blocks_for}
+use Rattle.log_reading.specs.image_blocks.Layout.{slot_count}
+use Rattle.page_words.specs.log_turn.Standing.{Stands, epoch_of, used_of}
+use Rattle.page_words.specs.log_turn.declared.areas.Areas.{Areas}
 use Rattle.page_shadow.specs.Ledger.{Ledger, is_held}
-use Rattle.store_model.specs.Books.{AreHeldPages, AreSmall, AreTrue, Books, Commits, Logged, StoresMore, is_small, is_used, kept_in, kept_of, logged_recs, recs_in}
+use Rattle.page_words.specs.store_model.Books.{AreHeldPages, AreSmall, AreTrue, Books, Commits, Logged, StoresMore, is_small, is_used, kept_in, kept_of, logged_recs, recs_in}
 use Rattle.store_commit.specs.BlobBytes.{HoldsBytes}
 use Rattle.store_commit.specs.Ready.{AreAt, CanCommit, HasCommitted, ReadyLaw, books_after, next_in}
 use Rattle.store_commit.specs.Storing.{HasLogged, IsCommitBlock, IsReady, Next, StoresOneMore, new_of, roomy_log as roomy_recs}

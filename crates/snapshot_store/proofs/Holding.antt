@@ -4,13 +4,13 @@ use Rattle.std.specs.Prelude.{slice_index, IfErr, IfOk, Result, Ok, Err}
 use Rattle.std.specs.List.{list_any, range_with_len}
 use Rattle.std.proofs.lemmas.List.Sums.{length-filter}
 use Rattle.disk_trait.specs.Image.{Image}
-use Rattle.hop_model.proofs.Lowering.{greatest_is, greatest_one}
-use Rattle.cut_laws.specs.Agreeing.{nothing}
-use Rattle.cut_laws.specs.Records.{commits_of}
-use Rattle.image_blocks.specs.Layout.{pool_at}
+use Rattle.page_store.proofs.hop_model_lemmas.Lowering.{greatest_is, greatest_one}
+use Rattle.cut_finder.specs.cut_laws.Agreeing.{nothing}
+use Rattle.cut_finder.specs.cut_laws.Records.{commits_of}
+use Rattle.log_reading.specs.image_blocks.Layout.{pool_at}
 use Rattle.page_shadow.specs.Ledger.{Ledger, is_held, is_named, is_unused, unused_blocks}
-use Rattle.store_model.specs.Between.{Between-stay, OnlyPages}
-use Rattle.store_model.specs.Books.{Logged, cut_in, free_in, is_used, kept_in, kept_names, names, recs_in}
+use Rattle.page_words.specs.store_model.Between.{Between-stay, OnlyPages}
+use Rattle.page_words.specs.store_model.Books.{Logged, cut_in, free_in, is_used, kept_in, kept_names, names, recs_in}
 use Rattle.snapshot_store.specs.Shelves.{is_from}
 use Rattle.snapshot_store.specs.State.{IsWhole, State, books}
 use Rattle.snapshot_store.proofs.Wanted.{uses_named}

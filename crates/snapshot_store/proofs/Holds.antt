@@ -6,9 +6,9 @@ use Rattle.std.proofs.Math.Bool.{or-false, or_assoc}
 use Rattle.std.proofs.lemmas.Bool.{and_parts, cases_eq, false≢true, or_cases}
 use Rattle.std.proofs.lemmas.List.{get_or-set_other, get_or-set_same, length-set}
 use Rattle.std.proofs.lemmas.List.Folds.{list_any_more}
-use Rattle.image_blocks.specs.Layout.{pool_at}
+use Rattle.log_reading.specs.image_blocks.Layout.{pool_at}
 use Rattle.page_shadow.specs.Ledger.{Ledger, is_held}
-use Rattle.store_model.specs.Books.{Logged}
+use Rattle.page_words.specs.store_model.Books.{Logged}
 use Rattle.snapshot_store.specs.Holds.{HasHeld, names_page}
 use Rattle.snapshot_store.specs.Keeping.{AreListed}
 use Rattle.snapshot_store.specs.Naming.{IsPlace, IsPlaced, is_use}

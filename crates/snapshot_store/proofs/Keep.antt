@@ -6,20 +6,20 @@ use Rattle.std.proofs.lemmas.Bool.{le-leb}
 use Rattle.std.proofs.lemmas.List.{get_or_past, length-map}
 use Rattle.std.proofs.lemmas.Option.{slice_get-get_or}
 use Rattle.cut_finder.specs.Records.{IsAscending}
-use Rattle.cut_laws.specs.Agreeing.{nothing}
-use Rattle.cut_laws.specs.Records.{commits_of}
+use Rattle.cut_finder.specs.cut_laws.Agreeing.{nothing}
+use Rattle.cut_finder.specs.cut_laws.Records.{commits_of}
 use Rattle.disk_trait.specs.Image.{Image, block_at}
 use Rattle.hop_base.specs.Edges.{upto}
 use Rattle.hop_base.specs.declared.records.Rec.{Rec}
-use Rattle.hop_model.specs.Choices.{IsGreatest, IsNarrow}
-use Rattle.image_blocks.specs.Layout.{gate_at, header_at, most_blocks, slot_count}
-use Rattle.image_blocks.specs.Logs.{AreFitting, HasLog, IsInRange}
+use Rattle.page_store.specs.hop_model.Choices.{IsGreatest, IsNarrow}
+use Rattle.log_reading.specs.image_blocks.Layout.{gate_at, header_at, most_blocks, slot_count}
+use Rattle.log_reading.specs.image_blocks.Logs.{AreFitting, HasLog, IsInRange}
 use Rattle.log_reading.specs.Logs.{AreInRange, IsOlder}
-use Rattle.log_turn.specs.Standing.{Stands, has_failed, place_of, used_of}
-use Rattle.log_turn.specs.declared.areas.Areas.{Areas}
+use Rattle.page_words.specs.log_turn.Standing.{Stands, has_failed, place_of, used_of}
+use Rattle.page_words.specs.log_turn.declared.areas.Areas.{Areas}
 use Rattle.page_shadow.specs.Ledger.{Ledger}
 use Rattle.page_shadow.specs.declared.ShadowTable.{ShadowTable}
-use Rattle.store_model.specs.Books.{Logged, logged_recs, recs_in}
+use Rattle.page_words.specs.store_model.Books.{Logged, logged_recs, recs_in}
 use Rattle.snapshot_store.specs.Choosing.{are_chosen, chosen_list, kept_rows, table_of, with_tables}
 use Rattle.snapshot_store.specs.Keeping.{AreKept, AreListed, HasRecounted}
 use Rattle.snapshot_store.specs.Opening.{HasStableLog}

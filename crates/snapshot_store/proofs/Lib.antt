@@ -20,3 +20,6 @@ pub mod Chosen
 mod ChosenListed
 pub mod Keep
 mod Turned
+pub use Rattle.page_store.proofs.hop_model_lemmas
+pub use Rattle.log_reading.proofs.image_blocks_lemmas
+pub use Rattle.store_commit.proofs as store_commit_lemmas

@@ -5,10 +5,10 @@ use Rattle.std.proofs.lemmas.List.{length-take}
 use Rattle.std.proofs.lemmas.List.Elements.{All-filter, All-push}
 use Rattle.std.proofs.lemmas.List.Filters.{sum_by-filter_both}
 use Rattle.std.proofs.lemmas.List.Sums.{count_by-le-length, sum_by-le, sum_by_push}
-use Rattle.image_blocks.specs.Bodies.{blob_blocks, blocks_for}
-use Rattle.image_blocks.specs.Layout.{slot_count}
+use Rattle.log_reading.specs.image_blocks.Bodies.{blob_blocks, blocks_for}
+use Rattle.log_reading.specs.image_blocks.Layout.{slot_count}
 use Rattle.page_shadow.specs.Ledger.{Ledger}
-use Rattle.store_model.specs.Books.{Logged}
+use Rattle.page_words.specs.store_model.Books.{Logged}
 use Rattle.snapshot_store.specs.Keeping.{AreListed, HasRecounted}
 use Rattle.snapshot_store.specs.Naming.{IsPlaced, IsRaised, is_below, is_use, uses, uses_in}
 use Rattle.snapshot_store.specs.Shelves.{is_from}

@@ -6,34 +6,34 @@ use Rattle.std.proofs.lemmas.Bool.{false≢true, lt-ltb}
 use Rattle.std.proofs.lemmas.Bool.Decides.{nat_tests}
 use Rattle.std.proofs.lemmas.List.{get_or_past, length-map, length-replicate, map-append}
 use Rattle.cut_finder.specs.Records.{IsAscending}
-use Rattle.cut_laws.specs.Agreeing.{nothing}
-use Rattle.cut_laws.specs.Records.{AgreeInRecs, commits_of}
+use Rattle.cut_finder.specs.cut_laws.Agreeing.{nothing}
+use Rattle.cut_finder.specs.cut_laws.Records.{AgreeInRecs, commits_of}
 use Rattle.disk_trait.specs.Counts.{Rose}
 use Rattle.disk_trait.specs.Disk.{Elapses, LeavesNoMore, Only, Ticks}
 use Rattle.disk_trait.specs.Image.{Image, IsImage, block_at}
 use Rattle.disk_trait.proofs.Phases.{LeavesOnly-start, LeavesOnly-sync, Moments}
 use Rattle.hop_base.specs.declared.records.Cut.{Cut}
 use Rattle.hop_base.specs.declared.records.Rec.{Rec}
-use Rattle.hop_model.proofs.Lowering.{greatest_is, greatest_one}
-use Rattle.hop_model.specs.Choices.{IsGreatest, IsNarrow, greatest}
-use Rattle.image_blocks.specs.Checks.{Bad as BadPlace, active_area, active_by, count_in, records_fault}
-use Rattle.image_blocks.specs.Layout.{epoch_in, gate_at, header_at, is_open, most_blocks, pool_at, slot_count}
-use Rattle.image_blocks.specs.Logs.{AreFitting, HasFront, HasLog, HasRecords, IsActive, Place}
-use Rattle.image_blocks.specs.declared.areas.Area.{Area}
-use Rattle.image_blocks.specs.declared.areas.Area.TheVariants.{A, B}
-use Rattle.image_blocks.proofs.Opening.{log_back_law}
+use Rattle.page_store.proofs.hop_model_lemmas.Lowering.{greatest_is, greatest_one}
+use Rattle.page_store.specs.hop_model.Choices.{IsGreatest, IsNarrow, greatest}
+use Rattle.log_reading.specs.image_blocks.Checks.{Bad as BadPlace, active_area, active_by, count_in, records_fault}
+use Rattle.log_reading.specs.image_blocks.Layout.{epoch_in, gate_at, header_at, is_open, most_blocks, pool_at, slot_count}
+use Rattle.log_reading.specs.image_blocks.Logs.{AreFitting, HasFront, HasLog, HasRecords, IsActive, Place}
+use Rattle.log_reading.specs.image_blocks.declared.areas.Area.{Area}
+use Rattle.log_reading.specs.image_blocks.declared.areas.Area.TheVariants.{A, B}
+use Rattle.log_reading.proofs.image_blocks_lemmas.Opening.{log_back_law}
 use Rattle.log_reading.specs.Logs.{AreInRange, IsKnown, IsOlder}
 use Rattle.log_reading.specs.Reads.{ReadsOnly}
 use Rattle.log_reading.specs.declared.faults.ReadingFault.{ReadingFault}
 use Rattle.log_reading.specs.declared.faults.ReadingFault.TheVariants.{Disk as OfDisk, Foreign as OfForeign, Memory as OfMemory}
 use Rattle.log_reading.specs.declared.log.ImageLog.{ImageLog}
-use Rattle.image_meaning.specs.Parts.{cut_of}
-use Rattle.image_meaning.specs.Stores.{IsHeld, Kept, recs_of}
+use Rattle.page_words.specs.image_meaning.Parts.{cut_of}
+use Rattle.page_words.specs.image_meaning.Stores.{IsHeld, Kept, recs_of}
 use Rattle.disk_tally.specs.declared.Tally.{Tally}
-use Rattle.log_turn.specs.Standing.{SameAreas, area_of, epoch_of, has_failed, place_of, used_of}
-use Rattle.log_turn.specs.declared.areas.Areas.{Areas}
+use Rattle.page_words.specs.log_turn.Standing.{SameAreas, area_of, epoch_of, has_failed, place_of, used_of}
+use Rattle.page_words.specs.log_turn.declared.areas.Areas.{Areas}
 use Rattle.page_shadow.specs.Ledger.{Ledger}
-use Rattle.store_model.specs.Books.{AreApartFrom, AreTrue, Books, IsBeforePool, Logged, kept_of, logged_recs, recs_in}
+use Rattle.page_words.specs.store_model.Books.{AreApartFrom, AreTrue, Books, IsBeforePool, Logged, kept_of, logged_recs, recs_in}
 use Rattle.snapshot_store.specs.Keeping.{AreKept, AreListed}
 use Rattle.snapshot_store.specs.OpenFaults.{HasOpenCause, why}
 use Rattle.snapshot_store.specs.Opening.{HasStableLog, IsOver, IsSynced, SyncsOnly, fresh_ledger, is_some_rec, unread}

@@ -12,16 +12,16 @@ use Rattle.disk_trait.specs.Disk.{Elapses, Tears}
 use Rattle.disk_trait.specs.Image.{Image, SameOutside, block_at}
 use Rattle.disk_trait.proofs.Images.{SameOutside-refl}
 use Rattle.disk_trait.proofs.Phases.{Moments}
-use Rattle.hop_model.specs.Words.{put}
-use Rattle.image_blocks.proofs.Firsts.{ne_test}
-use Rattle.image_blocks.specs.Layout.{pool_at}
-use Rattle.image_blocks.specs.Logs.{Place}
+use Rattle.page_store.specs.hop_model.Words.{put}
+use Rattle.log_reading.proofs.image_blocks_lemmas.Firsts.{ne_test}
+use Rattle.log_reading.specs.image_blocks.Layout.{pool_at}
+use Rattle.log_reading.specs.image_blocks.Logs.{Place}
 use Rattle.log_reading.specs.Reads.{ReadsOnly}
-use Rattle.log_turn.specs.Standing.{HasCounted, begun_of}
-use Rattle.log_turn.specs.declared.areas.Areas.{Areas}
+use Rattle.page_words.specs.log_turn.Standing.{HasCounted, begun_of}
+use Rattle.page_words.specs.log_turn.declared.areas.Areas.{Areas}
 use Rattle.page_shadow.specs.Ledger.{Ledger, is_held}
-use Rattle.store_model.specs.Between.{OnlyPages}
-use Rattle.store_model.specs.Books.{Books, free_in, is_used, kept_in, kept_names, names, words_of_bytes}
+use Rattle.page_words.specs.store_model.Between.{OnlyPages}
+use Rattle.page_words.specs.store_model.Books.{Books, free_in, is_used, kept_in, kept_names, names, words_of_bytes}
 use Rattle.snapshot_store.specs.State.{IsWhole, State, books}
 use Rattle.snapshot_store.proofs.Holding.{with_held}
 use Rattle.snapshot_store.proofs.Paged.{HasPaged, paged_between, with_counts}

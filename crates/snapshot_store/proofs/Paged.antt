@@ -7,17 +7,17 @@ use Rattle.disk_trait.specs.Disk.{Elapses}
 use Rattle.disk_trait.specs.Image.{Image, SameOutside, block_at}
 use Rattle.disk_trait.specs.Moments.{LeavesOnly}
 use Rattle.disk_trait.proofs.Phases.{LeavesOnly-call, LeavesOnly-start, Moments}
-use Rattle.cut_laws.specs.Records.{AgreeInRecs}
-use Rattle.image_blocks.specs.Bodies.{blob_blocks, blob_in}
-use Rattle.image_blocks.specs.Layout.{gate_at, header_at, pool_at}
-use Rattle.image_blocks.specs.Logs.{HasFront, HasLog}
-use Rattle.image_blocks.specs.declared.areas.Area.{Area}
-use Rattle.image_meaning.specs.Stores.{IsHeld, Kept, Page, Stores, recs_of}
-use Rattle.log_turn.specs.Standing.{SameAreas}
+use Rattle.cut_finder.specs.cut_laws.Records.{AgreeInRecs}
+use Rattle.log_reading.specs.image_blocks.Bodies.{blob_blocks, blob_in}
+use Rattle.log_reading.specs.image_blocks.Layout.{gate_at, header_at, pool_at}
+use Rattle.log_reading.specs.image_blocks.Logs.{HasFront, HasLog}
+use Rattle.log_reading.specs.image_blocks.declared.areas.Area.{Area}
+use Rattle.page_words.specs.image_meaning.Stores.{IsHeld, Kept, Page, Stores, recs_of}
+use Rattle.page_words.specs.log_turn.Standing.{SameAreas}
 use Rattle.store_commit.proofs.Stays.{front_same, gate_low, header_low, held_same, log_stays}
 use Rattle.store_commit.proofs.Unused.{apart_unnamed}
-use Rattle.store_model.specs.Between.{OnlyPages, stores_left}
-use Rattle.store_model.specs.Books.{AreApartFrom, AreSmall, AreTrue, Books, IsApart, IsBeforePool, Logged, kept_for, kept_in, kept_of, names, page_for, recs_in}
+use Rattle.page_words.specs.store_model.Between.{OnlyPages, stores_left}
+use Rattle.page_words.specs.store_model.Books.{AreApartFrom, AreSmall, AreTrue, Books, IsApart, IsBeforePool, Logged, kept_for, kept_in, kept_of, names, page_for, recs_in}
 
 -- WHAT THE KEPT RECORDS HOLD in an image that differs elsewhere
 

@@ -5,10 +5,10 @@ use Rattle.std.proofs.lemmas.Bool.{le-leb}
 use Rattle.std.proofs.lemmas.Bool.Decides.{nat_tests}
 use Rattle.std.proofs.lemmas.List.Filters.{FiltersInPlace, FiltersInPlace-more_no, FiltersInPlace-more_set}
 use Rattle.hop_base.specs.declared.records.Rec.{Rec}
-use Rattle.image_blocks.specs.Layout.{slot_count}
+use Rattle.log_reading.specs.image_blocks.Layout.{slot_count}
 use Rattle.page_shadow.specs.declared.ShadowTable.{ShadowTable}
 use Rattle.snapshot_store.specs.Shelves.{is_from, logged_with, nothing_logged}
-use Rattle.store_model.specs.Books.{Logged, logged_recs}
+use Rattle.page_words.specs.store_model.Books.{Logged, logged_recs}
 
 pub logged_len : (rs : List Rec) (ts : List ShadowTable) → length ts ≡ length rs → length (logged_with rs ts) ≡ length rs
 logged_len [] ts len = refl

@@ -5,11 +5,11 @@ use Rattle.std.proofs.lemmas.Bool.{cases_eq}
 use Rattle.std.proofs.lemmas.List.{get_or-replicate, get_or-set_other, get_or-set_same, take_more, take_more_set}
 use Rattle.std.proofs.lemmas.List.Sums.{sum_by_push}
 use Rattle.hop_base.specs.declared.records.Rec.{Rec}
-use Rattle.image_blocks.proofs.Firsts.{ne_test}
+use Rattle.log_reading.proofs.image_blocks_lemmas.Firsts.{ne_test}
 use Rattle.page_shadow.specs.declared.ShadowTable.{ShadowTable}
 use Rattle.snapshot_store.specs.Shelves.{AreTallied, logged_with, records_of}
 use Rattle.snapshot_store.proofs.Shelving.{first_recs}
-use Rattle.store_model.specs.Books.{Logged, logged_recs}
+use Rattle.page_words.specs.store_model.Books.{Logged, logged_recs}
 
 pub none_tallied : AreTallied (replicate 64 0) []
 none_tallied x lt = get_or-replicate 64 x 0 0 lt

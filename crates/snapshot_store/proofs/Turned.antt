@@ -3,28 +3,28 @@ use Rattle.std.proofs.Common.{◌≡◌, ℕ, zero, suc, ◌+◌, ◌<◌, ◌�
 use Rattle.std.specs.Prelude.{All, slice_get}
 use Rattle.std.specs.List.{AllByRecursion}
 use Rattle.std.proofs.lemmas.List.{get_or-take, length-take}
-use Rattle.cut_laws.specs.Records.{commits_of}
+use Rattle.cut_finder.specs.cut_laws.Records.{commits_of}
 use Rattle.disk_trait.specs.Disk.{Only}
 use Rattle.disk_trait.specs.Image.{Image, SameOutside, block_at}
 use Rattle.disk_trait.specs.Moments.{LeavesOnly}
 use Rattle.disk_trait.proofs.Images.{SameOutside-weaker}
 use Rattle.disk_trait.proofs.Phases.{LeavesOnly-weaker, Moments}
 use Rattle.hop_base.specs.declared.records.Rec.{Rec}
-use Rattle.hop_model.specs.Choices.{IsNarrow}
-use Rattle.image_blocks.specs.Bodies.{blob_blocks, blocks_for}
-use Rattle.image_blocks.specs.Layout.{header_at, header_block, last_number, most_blocks, other, pool_at}
-use Rattle.image_blocks.specs.declared.areas.Area.{Area}
+use Rattle.page_store.specs.hop_model.Choices.{IsNarrow}
+use Rattle.log_reading.specs.image_blocks.Bodies.{blob_blocks, blocks_for}
+use Rattle.log_reading.specs.image_blocks.Layout.{header_at, header_block, last_number, most_blocks, other, pool_at}
+use Rattle.log_reading.specs.image_blocks.declared.areas.Area.{Area}
 use Rattle.log_reading.specs.Logs.{AreInRange}
-use Rattle.image_blocks.specs.Logs.{AreFitting, HasFront, HasLog, HasRecords, IsInRange, IsTurned, IsTurning, Place, next_place}
-use Rattle.image_blocks.proofs.Reading.{log_law}
-use Rattle.image_meaning.specs.Stores.{IsHeld, Page}
-use Rattle.log_turn.specs.Standing.{IsTurnedTo, SameAreas, area_of, epoch_of, place_of}
-use Rattle.log_turn.specs.declared.areas.Areas.{Areas}
+use Rattle.log_reading.specs.image_blocks.Logs.{AreFitting, HasFront, HasLog, HasRecords, IsInRange, IsTurned, IsTurning, Place, next_place}
+use Rattle.log_reading.proofs.image_blocks_lemmas.Reading.{log_law}
+use Rattle.page_words.specs.image_meaning.Stores.{IsHeld, Page}
+use Rattle.page_words.specs.log_turn.Standing.{IsTurnedTo, SameAreas, area_of, epoch_of, place_of}
+use Rattle.page_words.specs.log_turn.declared.areas.Areas.{Areas}
 use Rattle.page_shadow.specs.declared.ShadowTable.{ShadowTable}
 use Rattle.store_commit.proofs.Stays.{all_by_index, apart_weaker, front_next, front_same, held_same, own_header, turned_low, zero_not_turned}
 use Rattle.store_commit.proofs.Unused.{pages_all}
-use Rattle.store_model.proofs.Keeping.{kept_agree}
-use Rattle.store_model.specs.Books.{AreApartFrom, AreTrue, Books, IsApart, IsBeforePool, Logged, kept_for, kept_in, kept_of, logged_recs, recs_in}
+use Rattle.page_words.proofs.store_model_lemmas.Keeping.{kept_agree}
+use Rattle.page_words.specs.store_model.Books.{AreApartFrom, AreTrue, Books, IsApart, IsBeforePool, Logged, kept_for, kept_in, kept_of, logged_recs, recs_in}
 use Rattle.snapshot_store.specs.Choosing.{IsKeeping, are_chosen, books_kept, table_of, with_tables}
 use Rattle.snapshot_store.specs.Naming.{IsPlaced}
 use Rattle.snapshot_store.specs.Opening.{HasStableLog}

@@ -4,9 +4,9 @@ use Rattle.std.specs.List.{list_any}
 use Rattle.std.proofs.lemmas.Bool.{cases_eq}
 use Rattle.std.proofs.lemmas.Bool.Decides.{nat_tests}
 use Rattle.std.proofs.lemmas.List.Sums.{sum_by-cons}
-use Rattle.image_blocks.proofs.Firsts.{ne_test}
-use Rattle.image_blocks.specs.Bodies.{blob_blocks}
-use Rattle.store_model.specs.Books.{Logged, names}
+use Rattle.log_reading.proofs.image_blocks_lemmas.Firsts.{ne_test}
+use Rattle.log_reading.specs.image_blocks.Bodies.{blob_blocks}
+use Rattle.page_words.specs.store_model.Books.{Logged, names}
 use Rattle.snapshot_store.specs.Naming.{is_use, times, uses, uses_in}
 
 positive_sum : (a b : ℕ) → nat_lt 0 (a + b) ≡ (nat_lt 0 a || nat_lt 0 b)

@@ -4,16 +4,16 @@ use Rattle.std.specs.List.{flat_map, list_any}
 use Rattle.disk_trait.specs.Image.{Image, SameOutside}
 use Rattle.hop_base.specs.Edges.{upto}
 use Rattle.hop_base.specs.declared.records.Rec.{Rec}
-use Rattle.image_blocks.specs.Checks.{count_in}
-use Rattle.image_blocks.specs.Logs.{HasRecords, next_place}
-use Rattle.image_meaning.specs.Parts.{chosen_by}
+use Rattle.log_reading.specs.image_blocks.Checks.{count_in}
+use Rattle.log_reading.specs.image_blocks.Logs.{HasRecords, next_place}
+use Rattle.page_words.specs.image_meaning.Parts.{chosen_by}
 use Rattle.page_shadow.specs.declared.ShadowTable.{ShadowTable}
 use Rattle.disk_trait.specs.declared.disk.NoBlocks.{NoBlocks as TooFew}
 use Rattle.snapshot_store.specs.declared.faults.StoreFault.{StoreFault}
 use Rattle.snapshot_store.specs.declared.faults.StoreFault.TheVariants.{NoBlocks, ReadFault, Shut, WriteFault}
 use Rattle.snapshot_store.specs.Holds.{names_page}
 use Rattle.snapshot_store.specs.State.{State, books}
-use Rattle.store_model.specs.Books.{Books, IsBeforePool, Logged, logged_recs, recs_in}
+use Rattle.page_words.specs.store_model.Books.{Books, IsBeforePool, Logged, logged_recs, recs_in}
 
 abbrev pub listed : Option Rec → List Rec
 listed None = []

@@ -2,12 +2,12 @@
 use Rattle.std.specs.Prelude.{◌≡◌, ◌⊎◌, ◌+◌, ◌≤◌, ℕ, true, false, Contains, List, [], ◌∷◌, ◌++◌}
 use Rattle.disk_trait.specs.Image.{Image, block_at}
 use Rattle.hop_base.specs.declared.records.Rec.{Rec}
-use Rattle.image_blocks.specs.Bodies.{blob_blocks}
-use Rattle.image_blocks.specs.Layout.{pool_at}
-use Rattle.image_meaning.specs.Stores.{Stores}
+use Rattle.log_reading.specs.image_blocks.Bodies.{blob_blocks}
+use Rattle.log_reading.specs.image_blocks.Layout.{pool_at}
+use Rattle.page_words.specs.image_meaning.Stores.{Stores}
 use Rattle.snapshot_store.specs.State.{HoldsPoolBlocks}
-use Rattle.store_model.specs.Between.{OnlyPages}
-use Rattle.store_model.specs.Books.{Books, Commits, StoresMore, is_used, kept_in, kept_of}
+use Rattle.page_words.specs.store_model.Between.{OnlyPages}
+use Rattle.page_words.specs.store_model.Books.{Books, Commits, StoresMore, is_used, kept_in, kept_of}
 
 -- the blocks of the record's blob weren't in use, and those that were held are of the pool
 pub record IsInFreeBlocks (b : Books) (r : Rec) : Type 0 where

@@ -3,7 +3,7 @@ use Rattle.std.specs.Prelude.{◌≡◌, ℕ, Bool, ◌||◌, length}
 use Rattle.std.specs.List.{list_any}
 use Rattle.page_shadow.specs.Ledger.{Ledger, is_held}
 use Rattle.snapshot_store.specs.Naming.{is_use}
-use Rattle.store_model.specs.Books.{Logged}
+use Rattle.page_words.specs.store_model.Books.{Logged}
 
 -- a page of the record has the block
 abbrev pub names_page : ℕ → Logged → Bool

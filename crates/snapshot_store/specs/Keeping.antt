@@ -1,11 +1,11 @@
 -- Which records of a log are kept, and the ledger that counts their blocks.
 use Rattle.std.specs.Prelude.{◌≡◌, ℕ, List, All, length, filter}
 use Rattle.cut_finder.specs.Records.{IsAscending}
-use Rattle.cut_laws.specs.Agreeing.{nothing}
-use Rattle.cut_laws.specs.Records.{commits_of}
-use Rattle.hop_model.specs.Choices.{IsGreatest, IsNarrow}
+use Rattle.cut_finder.specs.cut_laws.Agreeing.{nothing}
+use Rattle.cut_finder.specs.cut_laws.Records.{commits_of}
+use Rattle.page_store.specs.hop_model.Choices.{IsGreatest, IsNarrow}
 use Rattle.page_shadow.specs.Ledger.{Ledger}
-use Rattle.store_model.specs.Books.{Logged, logged_recs}
+use Rattle.page_words.specs.store_model.Books.{Logged, logged_recs}
 use Rattle.snapshot_store.specs.Naming.{AreCounted, IsPlaced}
 use Rattle.snapshot_store.specs.Shelves.{is_from}
 

@@ -1,11 +1,11 @@
 -- How often records name a block.
 use Rattle.std.specs.Prelude.{◌≡◌, ◌≢◌, ℕ, ◌+◌, ◌<◌, ◌≤◌, Bool, not, ◌&&◌, ◌==◌, List, All, length, count_by, slice_index}
 use Rattle.std.specs.List.{sum_by}
-use Rattle.image_blocks.specs.Bodies.{blob_blocks}
-use Rattle.image_blocks.specs.Layout.{most_length}
+use Rattle.log_reading.specs.image_blocks.Bodies.{blob_blocks}
+use Rattle.log_reading.specs.image_blocks.Layout.{most_length}
 use Rattle.page_shadow.specs.Ledger.{Ledger}
 use Rattle.snapshot_store.specs.Shelves.{is_from}
-use Rattle.store_model.specs.Books.{Logged}
+use Rattle.page_words.specs.store_model.Books.{Logged}
 
 -- this is the block n, and not 0, which stands for none
 abbrev pub is_use : ℕ → ℕ → Bool

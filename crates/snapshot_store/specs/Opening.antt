@@ -4,15 +4,15 @@ use Rattle.disk_trait.specs.Disk.{Only, Ticks}
 use Rattle.disk_trait.specs.Image.{Image}
 use Rattle.disk_trait.specs.Moments.{LeavesOnly}
 use Rattle.hop_base.specs.declared.records.Rec.{Rec}
-use Rattle.image_blocks.specs.Layout.{pool_at}
+use Rattle.log_reading.specs.image_blocks.Layout.{pool_at}
 use Rattle.disk_tally.specs.declared.Tally.{Tally}
-use Rattle.image_meaning.specs.Parts.{cut_of}
+use Rattle.page_words.specs.image_meaning.Parts.{cut_of}
 use Rattle.log_reading.specs.Logs.{IsKnown, IsLogOf}
 use Rattle.log_reading.specs.declared.log.ImageLog.{ImageLog}
-use Rattle.image_blocks.specs.Logs.{AreFitting, HasFront, HasLog}
+use Rattle.log_reading.specs.image_blocks.Logs.{AreFitting, HasFront, HasLog}
 use Rattle.page_shadow.specs.Ledger.{Ledger}
 use Rattle.snapshot_store.specs.State.{State, books}
-use Rattle.store_model.specs.Books.{Books, Logged, recs_in}
+use Rattle.page_words.specs.store_model.Books.{Books, Logged, recs_in}
 
 -- whether there are records
 abbrev pub is_some_rec : List Rec → Bool

@@ -1,9 +1,9 @@
 -- What a record that is put behind the log changes in a store.
 use Rattle.std.specs.Prelude.{◌≡◌, ℕ, Bool, true, false, ◌&&◌, if◌then◌else◌, nat_le, nat_lt, List, [], ◌∷◌, ◌++◌}
 use Rattle.std.specs.List.{list_all}
-use Rattle.image_blocks.specs.Layout.{last_number, slot_count}
-use Rattle.log_turn.specs.Standing.{used_of}
-use Rattle.store_model.specs.Books.{Logged, is_small}
+use Rattle.log_reading.specs.image_blocks.Layout.{last_number, slot_count}
+use Rattle.page_words.specs.log_turn.Standing.{used_of}
+use Rattle.page_words.specs.store_model.Books.{Logged, is_small}
 use Rattle.snapshot_store.specs.Keeping.{HasRecounted}
 use Rattle.snapshot_store.specs.State.{State}
 

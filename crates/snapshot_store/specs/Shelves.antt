@@ -2,7 +2,7 @@
 use Rattle.std.specs.Prelude.{◌≡◌, ℕ, ◌<◌, List, [], ◌∷◌, Bool, ◌==◌, count_by, nat_le, slice_index}
 use Rattle.hop_base.specs.declared.records.Rec.{Rec}
 use Rattle.page_shadow.specs.declared.ShadowTable.{ShadowTable}
-use Rattle.store_model.specs.Books.{Logged}
+use Rattle.page_words.specs.store_model.Books.{Logged}
 
 -- each record with the table at its place
 abbrev pub logged_with : List Rec → List ShadowTable → List Logged

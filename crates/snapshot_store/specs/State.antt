@@ -1,12 +1,12 @@
 -- What a contract sees of a store.
 use Rattle.std.specs.Prelude.{◌≡◌, ℕ, ◌<◌, ◌≤◌, Bool, true, false, List, length, slice_index}
 use Rattle.hop_base.specs.declared.records.Cut.{Cut}
-use Rattle.image_blocks.specs.Layout.{most_blocks, pool_at, slot_count}
-use Rattle.log_turn.specs.Standing.{begun_of, has_failed, place_of, used_of}
-use Rattle.log_turn.specs.declared.areas.Areas.{Areas}
+use Rattle.log_reading.specs.image_blocks.Layout.{most_blocks, pool_at, slot_count}
+use Rattle.page_words.specs.log_turn.Standing.{begun_of, has_failed, place_of, used_of}
+use Rattle.page_words.specs.log_turn.declared.areas.Areas.{Areas}
 use Rattle.page_shadow.specs.Ledger.{Ledger, is_held}
 use Rattle.snapshot_store.specs.Keeping.{AreKept, AreListed}
-use Rattle.store_model.specs.Books.{Books, Logged}
+use Rattle.page_words.specs.store_model.Books.{Books, Logged}
 
 -- the disk, the areas of its log, the records of the log with the blocks of their pages, those of them that are kept, the greatest closed
 -- choice of them, which blocks are in use, whether no number was too large, whether the disk failed, and how often a page was read

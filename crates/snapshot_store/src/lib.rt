@@ -17,10 +17,12 @@ mod shelf;
 mod store;
 mod taking;
 
+pub use cut_finder;
 pub use faults::StoreFault;
 pub use laws::same_kept_law;
+pub use log_reading;
+pub use log_reading::image_blocks;
 pub use opening::{OpenFault, OpenWhy, SyncedLog};
+pub use page_shadow;
+pub use page_store;
 pub use store::Store;
-
-#[cfg(test)]
-mod open_tests;

@@ -16,7 +16,7 @@ impl<D: Disk> PageStore for Store<D> {
     ghost use Rattle.page_shadow.specs.Ledger.{is_held};
     ghost use Rattle.snapshot_store.specs.Paging.{GoesByPages, GoesByPages-join, GoesByPages-stay};
     ghost use Rattle.snapshot_store.specs.State.{State, books};
-    ghost use Rattle.store_model.specs.Books.{free_in, kept_names as kept_names_in, words_of_bytes};
+    ghost use Rattle.page_words.specs.store_model.Books.{free_in, kept_names as kept_names_in, words_of_bytes};
 
     ghost tells = { D.tells };
 

@@ -3,7 +3,7 @@ ghost use Rattle.std.specs.Prelude.{◌≡◌, ◌≤◌, ◌<◌, ◌+◌, true
 ghost use Rattle.disk_trait.specs.Disk.{HasCause};
 ghost use Rattle.disk_trait.specs.Image.{block_at};
 ghost use Rattle.log_reading.specs.Reads.{ReadsOnly};
-ghost use Rattle.store_model.specs.Books.{words_of_bytes};
+ghost use Rattle.page_words.specs.store_model.Books.{words_of_bytes};
 
 use disk_trait::{Disk, DiskFault};
 use page_words::words_in;

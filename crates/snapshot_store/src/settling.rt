@@ -1,10 +1,10 @@
 // What a record that was committed changes in memory.
 ghost use Rattle.std.specs.Prelude.{◌≡◌, ◌++◌, ◌∷◌, [], ◌<◌, ◌≤◌, All, false, if◌then◌else◌, filter, length, slice_index};
-ghost use Rattle.image_blocks.specs.Layout.{slot_count};
+ghost use Rattle.log_reading.specs.image_blocks.Layout.{slot_count};
 ghost use Rattle.snapshot_store.specs.Keeping.{AreKept, AreListed, HasRecounted};
 ghost use Rattle.snapshot_store.specs.Naming.{IsPlaced};
 ghost use Rattle.snapshot_store.specs.Shelves.{is_from};
-ghost use Rattle.store_model.specs.Books.{logged_recs};
+ghost use Rattle.page_words.specs.store_model.Books.{logged_recs};
 
 use crate::naming::{name_record, unname_below};
 use crate::shelf::Shelf;

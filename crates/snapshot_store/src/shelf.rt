@@ -1,11 +1,11 @@
 // Records with the blocks of their pages, in room that is taken once.
 ghost use Rattle.std.specs.Prelude.{◌≡◌, ◌<◌, ◌≤◌, ◌++◌, ◌∷◌, [], length, filter, slice_index, slice_index_or, IfOk};
-ghost use Rattle.image_blocks.specs.Layout.{slot_count};
+ghost use Rattle.log_reading.specs.image_blocks.Layout.{slot_count};
 ghost use Rattle.snapshot_store.specs.Shelves.{AreTallied, is_from, nothing_logged, records_of};
-ghost use Rattle.store_model.specs.Books.{logged_recs};
+ghost use Rattle.page_words.specs.store_model.Books.{logged_recs};
 
 use hop_base::{Cut, Entity, Rec};
-use image_blocks::SLOT_COUNT;
+use log_reading::image_blocks::SLOT_COUNT;
 use page_shadow::ShadowTable;
 use std::alloc::{AllocError as Memory, Global};
 use std::marker::Model;
@@ -23,9 +23,9 @@ pub(crate) struct Shelf {
 
 impl Model for Shelf {
     ghost use Rattle.std.specs.Prelude.{◌≡◌, ◌≤◌, List, length, take};
-    ghost use Rattle.image_blocks.specs.Layout.{slot_count};
+    ghost use Rattle.log_reading.specs.image_blocks.Layout.{slot_count};
     ghost use Rattle.snapshot_store.specs.Shelves.{AreTallied, logged_with};
-    ghost use Rattle.store_model.specs.Books.{Logged};
+    ghost use Rattle.page_words.specs.store_model.Books.{Logged};
 
     ghost Value = { List Logged };
 

@@ -1,13 +1,13 @@
 // The records of an image, over its disk.
 ghost use Rattle.std.specs.Prelude.{◌≡◌, ℕ, slice_index};
 ghost use Rattle.snapshot_store.specs.Shelves.{records_of};
-ghost use Rattle.store_model.specs.Books.{cut_in, free_in, kept_in, recs_in};
+ghost use Rattle.page_words.specs.store_model.Books.{cut_in, free_in, kept_in, recs_in};
 
 use crate::shelf::Shelf;
 use disk_trait::Disk;
 use hop_base::{Cut, Entity, Rec};
-use log_turn::Areas;
 use page_shadow::Ledger;
+use page_words::log_turn::Areas;
 use std::marker::Model;
 
 /// The records of an image, over its disk. In memory it has the records of the log, with the block of each page that their

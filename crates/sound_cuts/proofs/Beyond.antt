@@ -2,13 +2,13 @@
 use Rattle.std.proofs.Common.{◌≡◌, ℕ, ◌≤◌, Bool, true, false, ◌&&◌, ◌||◌, List, [], ◌∷◌, refl, ap, ◌∙◌, inl}
 use Rattle.std.specs.List.{list_any}
 use Rattle.hop_base.specs.declared.histories.Entry.{Entry}
-use Rattle.hop_model.specs.Histories.{AllBelow64, IsLegalFrom, Policy, Run, goes_on, has_wish, run_after, start_run, writes}
-use Rattle.hop_model.specs.Scripts.{Script}
-use Rattle.hop_model.specs.State.{KernelState, Supply}
-use Rattle.run_laws.specs.StepEntries.{is_step}
+use Rattle.sound_states.specs.hop_model.Histories.{AllBelow64, IsLegalFrom, Policy, Run, goes_on, has_wish, run_after, start_run, writes}
+use Rattle.sound_states.specs.hop_model.Scripts.{Script}
+use Rattle.sound_states.specs.hop_model.State.{KernelState, Supply}
+use Rattle.run_rules.specs.run_laws.StepEntries.{is_step}
 use Rattle.run_rules.specs.Wishes.{steps_on}
-use Rattle.sound_runs.proofs.Lengths.{IsBudgeted, entry_pays, not_written}
-use Rattle.sound_runs.proofs.Standing.{IsStanding, legal_below, standing_next}
+use Rattle.sound_states.proofs.sound_runs_lemmas.Lengths.{IsBudgeted, entry_pays, not_written}
+use Rattle.sound_states.proofs.sound_runs_lemmas.Standing.{IsStanding, legal_below, standing_next}
 use Rattle.sound_cuts.specs.Runs.{IsSoundRun}
 
 no_step : (b c : Bool) → c ≡ false → (b && c) ≡ false

@@ -4,19 +4,19 @@ use Rattle.std.proofs.lemmas.Bool.{cases_lt, false≢true}
 use Rattle.std.proofs.lemmas.Bool.Decides.{nat_tests}
 use Rattle.std.proofs.lemmas.List.{append_assoc}
 use Rattle.hop_base.specs.declared.histories.Entry.{Entry}
-use Rattle.hop_model.specs.Choices.{Among, Commit, IsBelow, IsClosedChoice, IsGreatest, greatest}
-use Rattle.hop_model.specs.Fronts.{IsChoice, tried_commits}
-use Rattle.hop_model.specs.Histories.{Policy, Run, commits_above, commits_in, event_of, has_wish, is_due, is_full, run_after, start_run}
-use Rattle.hop_model.specs.Parts.{after, part_of}
-use Rattle.hop_model.specs.Scripts.{Script}
-use Rattle.hop_model.specs.State.{KernelState, Supply}
-use Rattle.hop_model.proofs.Among.{among_map}
-use Rattle.hop_model.proofs.Lowering.{greatest_one, rising_cut}
-use Rattle.hop_model.proofs.StableCuts.{commits_grow}
-use Rattle.run_laws.proofs.Cuts.{cut_exists, cut_kept}
-use Rattle.run_laws.proofs.Places.{cuts_stay}
-use Rattle.run_laws.proofs.Wishes.{legal_front, run_append}
-use Rattle.sound_runs.proofs.Standing.{legal_below}
+use Rattle.sound_states.specs.hop_model.Choices.{Among, Commit, IsBelow, IsClosedChoice, IsGreatest, greatest}
+use Rattle.sound_states.specs.hop_model.Fronts.{IsChoice, tried_commits}
+use Rattle.sound_states.specs.hop_model.Histories.{Policy, Run, commits_above, commits_in, event_of, has_wish, is_due, is_full, run_after, start_run}
+use Rattle.sound_states.specs.hop_model.Parts.{after, part_of}
+use Rattle.sound_states.specs.hop_model.Scripts.{Script}
+use Rattle.sound_states.specs.hop_model.State.{KernelState, Supply}
+use Rattle.sound_states.proofs.hop_model_lemmas.Among.{among_map}
+use Rattle.sound_states.proofs.hop_model_lemmas.Lowering.{greatest_one, rising_cut}
+use Rattle.sound_states.proofs.hop_model_lemmas.StableCuts.{commits_grow}
+use Rattle.run_rules.proofs.run_laws_lemmas.Cuts.{cut_exists, cut_kept}
+use Rattle.run_rules.proofs.run_laws_lemmas.Places.{cuts_stay}
+use Rattle.run_rules.proofs.run_laws_lemmas.Wishes.{legal_front, run_append}
+use Rattle.sound_states.proofs.sound_runs_lemmas.Standing.{legal_below}
 use Rattle.sound_states.proofs.Empty.{none_beyond}
 use Rattle.run_rules.proofs.Fullness.{due_by, wish_writes}
 use Rattle.run_rules.proofs.Wishes.{wish_told}

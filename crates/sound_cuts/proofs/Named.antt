@@ -1,10 +1,10 @@
 -- The atlas of a sound state names exactly what is born.
 use Rattle.std.proofs.Common.{◌≡◌, ℕ, ◌<◌, true, false, ◌↔◌, IsTrue, inl, inr, refl, sym, ap, subst, ◌∙◌, arith}
 use Rattle.std.proofs.lemmas.Bool.{cases_lt, false≢true}
-use Rattle.hop_model.specs.Soundness.{is_born, is_born_container, is_born_locus}
-use Rattle.hop_model.specs.State.{AtlasState, ContainerCell, ContainerState, KernelState, LocusCell, LocusState, NotBorn, Supply}
-use Rattle.hop_model.specs.Steps.{atlas_in}
-use Rattle.sound_steps.proofs.Cells.{Fits, fits_in}
+use Rattle.sound_states.specs.hop_model.Soundness.{is_born, is_born_container, is_born_locus}
+use Rattle.sound_states.specs.hop_model.State.{AtlasState, ContainerCell, ContainerState, KernelState, LocusCell, LocusState, NotBorn, Supply}
+use Rattle.sound_states.specs.hop_model.Steps.{atlas_in}
+use Rattle.sound_states.proofs.sound_steps_lemmas.Cells.{Fits, fits_in}
 use Rattle.sound_states.specs.States.{IsSoundState}
 
 module _ (s : Supply) (v : KernelState) (k : IsSoundState s v) where

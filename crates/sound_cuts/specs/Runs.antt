@@ -2,15 +2,15 @@
 use Rattle.std.specs.Prelude.{◌≡◌, ◌<◌, ◌++◌, ℕ, List, false, true}
 use Rattle.std.specs.List.{list_any}
 use Rattle.hop_base.specs.declared.histories.Entry.{Entry}
-use Rattle.hop_model.specs.Choices.{IsGreatest}
-use Rattle.hop_model.specs.Histories.{IsLegalRun, Policy, commits_above, commits_in, event_of}
-use Rattle.hop_model.specs.Parts.{after, part_of}
-use Rattle.hop_model.specs.Scripts.{Script}
-use Rattle.hop_model.specs.State.{AtlasState, KernelState, Supply}
-use Rattle.hop_model.specs.Steps.{atlas_in}
+use Rattle.sound_states.specs.hop_model.Choices.{IsGreatest}
+use Rattle.sound_states.specs.hop_model.Histories.{IsLegalRun, Policy, commits_above, commits_in, event_of}
+use Rattle.sound_states.specs.hop_model.Parts.{after, part_of}
+use Rattle.sound_states.specs.hop_model.Scripts.{Script}
+use Rattle.sound_states.specs.hop_model.State.{AtlasState, KernelState, Supply}
+use Rattle.sound_states.specs.hop_model.Steps.{atlas_in}
 use Rattle.run_rules.specs.Wishes.{steps_on}
-use Rattle.script_form.specs.Rules.{IsScript}
-use Rattle.sound_runs.specs.Kinds.{NamesNoLocus}
+use Rattle.sound_states.specs.script_form.Rules.{IsScript}
+use Rattle.sound_states.specs.sound_runs.Kinds.{NamesNoLocus}
 use Rattle.sound_states.specs.States.{IsSoundState}
 
 -- a legal run of an allowed script, from a sound state in which none of the script's containers has a locus's name

@@ -7,20 +7,20 @@ use Rattle.std.proofs.lemmas.List.Elements.{All-cons, All-head, All-nil, All-tai
 use Rattle.hop_base.specs.declared.capabilities.Region.{Region}
 use Rattle.hop_base.specs.declared.histories.Entry.{Entry}
 use Rattle.hop_base.specs.declared.histories.Event.TheVariants.{Birth}
-use Rattle.hop_model.specs.Births.{knows_caps, knows_regions, edges_from, with_container_name, with_locus_name, container_from, locus_from, code_in, container_born, container_birth, locus_born, locus_in_host, locus_birth, birth_from, birth_named, next_birth_change, next_birth}
-use Rattle.hop_model.specs.Changes.{Change, ordered, changed, carried}
-use Rattle.hop_model.specs.Outcomes.{free_container, free_locus}
-use Rattle.hop_model.specs.Scripts.{ContainerTable, LocusTable, Script, container_named, container_table, locus_named, locus_table, next_name, number_in, number_of, place_of, text_eq}
-use Rattle.hop_model.specs.Soundness.{AreSound, IsSound, IsSoundCode, is_born_container}
-use Rattle.hop_model.specs.State.{Supply, Text, AtlasState, ContainerState, Cell, AtlasCell, ContainerCell, LocusCell, KernelState}
-use Rattle.hop_model.specs.Steps.{atlas_in}
-use Rattle.hop_model.proofs.Basics.{some_of_map, and_left}
-use Rattle.hop_model.proofs.Writes.{changed_cell}
+use Rattle.sound_steps.specs.hop_model.Births.{knows_caps, knows_regions, edges_from, with_container_name, with_locus_name, container_from, locus_from, code_in, container_born, container_birth, locus_born, locus_in_host, locus_birth, birth_from, birth_named, next_birth_change, next_birth}
+use Rattle.sound_steps.specs.hop_model.Changes.{Change, ordered, changed, carried}
+use Rattle.sound_steps.specs.hop_model.Outcomes.{free_container, free_locus}
+use Rattle.sound_steps.specs.hop_model.Scripts.{ContainerTable, LocusTable, Script, container_named, container_table, locus_named, locus_table, next_name, number_in, number_of, place_of, text_eq}
+use Rattle.sound_steps.specs.hop_model.Soundness.{AreSound, IsSound, IsSoundCode, is_born_container}
+use Rattle.sound_steps.specs.hop_model.State.{Supply, Text, AtlasState, ContainerState, Cell, AtlasCell, ContainerCell, LocusCell, KernelState}
+use Rattle.sound_steps.specs.hop_model.Steps.{atlas_in}
+use Rattle.sound_steps.proofs.hop_model_lemmas.Basics.{some_of_map, and_left}
+use Rattle.sound_steps.proofs.hop_model_lemmas.Writes.{changed_cell}
 use Rattle.script_form.specs.Rules.{IsScript, container_names}
 use Rattle.sound_steps.proofs.RegionLists.{shown}
 use Rattle.std.proofs.lemmas.List.{length_push}
 use Rattle.sound_runs.proofs.Ranges.{AllUnder, ordered_touches}
-use Rattle.hop_model.specs.LocalEvents.{touch_at}
+use Rattle.sound_steps.specs.hop_model.LocalEvents.{touch_at}
 use Rattle.sound_runs.proofs.Tables.{all_regions, born_container, born_locus, container_named_born}
 use Rattle.sound_runs.proofs.TableEdges.{model_containers, model_edges, model_loci}
 use Rattle.sound_runs.proofs.Found.{found_container, find_locus, text_same}

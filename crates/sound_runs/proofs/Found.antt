@@ -2,11 +2,11 @@
 use Rattle.std.proofs.Common.{◌≡◌, ℕ, Bool, true, false, ◌&&◌, ◌||◌, if◌then◌else◌, ◌==◌, nat_le, IsTrue, List, [], ◌∷◌, ◌++◌, length, Option, Some, None, is_some, unwrap_or, refl, sym, ap, subst, ◌∙◌, eqb-true}
 use Rattle.std.specs.List.{All, list_all}
 use Rattle.std.proofs.lemmas.List.Elements.{All-cons, All-head, All-nil, All-tail}
-use Rattle.hop_model.specs.Births.{knows_regions, number_or_0}
-use Rattle.hop_model.specs.Scripts.{ContainerTable, LocusTable, RegionTable, Script, atlas_name, container_named, container_table, locus_named, locus_table, number_in, text_eq}
-use Rattle.hop_model.specs.Soundness.{begins_with_letter, is_born_container, is_given_name, is_name_byte}
-use Rattle.hop_model.specs.State.{Text, AtlasState}
-use Rattle.hop_model.specs.Words.{or_else}
+use Rattle.sound_steps.specs.hop_model.Births.{knows_regions, number_or_0}
+use Rattle.sound_steps.specs.hop_model.Scripts.{ContainerTable, LocusTable, RegionTable, Script, atlas_name, container_named, container_table, locus_named, locus_table, number_in, text_eq}
+use Rattle.sound_steps.specs.hop_model.Soundness.{begins_with_letter, is_born_container, is_given_name, is_name_byte}
+use Rattle.sound_steps.specs.hop_model.State.{Text, AtlasState}
+use Rattle.sound_steps.specs.hop_model.Words.{or_else}
 use Rattle.script_form.specs.Rules.{AreContainerTables, AreDifferent, AreLocusTables, IsContainerTable, IsLocusTable, IsScript, container_names, is_among, locus_names}
 use Rattle.sound_runs.proofs.Tables.{container_named_born}
 

@@ -8,10 +8,10 @@ use Rattle.std.proofs.lemmas.List.Elements.{All-nil, All-weaker}
 use Rattle.hop_base.specs.declared.capabilities.Region.{Region}
 use Rattle.hop_base.specs.declared.instructions.Instr.{Instr}
 use Rattle.hop_base.specs.declared.instructions.Walk.{Walk}
-use Rattle.hop_model.specs.Births.{container_from, locus_from}
-use Rattle.hop_model.specs.Scripts.{ContainerTable, LocusTable, number_in, number_of}
-use Rattle.hop_model.specs.Soundness.{AreSound, HasNoCircle, IsSoundAtlas, IsSoundCall, IsSoundCode, IsSoundContainer, IsSoundLocus, IsSoundPrivate, IsSoundRegion, are_names_from, is_born, is_born_container, is_born_locus, is_given_name, regions_onto}
-use Rattle.hop_model.specs.State.{Supply, Text, AtlasState, ContainerState, LocusState, Cell, AtlasCell, ContainerCell, LocusCell}
+use Rattle.sound_steps.specs.hop_model.Births.{container_from, locus_from}
+use Rattle.sound_steps.specs.hop_model.Scripts.{ContainerTable, LocusTable, number_in, number_of}
+use Rattle.sound_steps.specs.hop_model.Soundness.{AreSound, HasNoCircle, IsSoundAtlas, IsSoundCall, IsSoundCode, IsSoundContainer, IsSoundLocus, IsSoundPrivate, IsSoundRegion, are_names_from, is_born, is_born_container, is_born_locus, is_given_name, regions_onto}
+use Rattle.sound_steps.specs.hop_model.State.{Supply, Text, AtlasState, ContainerState, LocusState, Cell, AtlasCell, ContainerCell, LocusCell}
 use Rattle.script_form.specs.Rules.{IsLocusTable}
 use Rattle.sound_steps.proofs.RegionLists.{shown}
 use Rattle.sound_runs.proofs.Found.{IsFound}

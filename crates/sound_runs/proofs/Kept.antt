@@ -6,14 +6,14 @@ use Rattle.std.proofs.lemmas.List.Sums.{sum_by-cons}
 use Rattle.hop_base.specs.Edges.{upto}
 use Rattle.hop_base.specs.declared.histories.Entry.{Entry}
 use Rattle.hop_base.specs.declared.histories.Event.TheVariants.{Birth, Step, Snap as SnapEvent, Stable, Tried}
-use Rattle.hop_model.specs.State.{Supply, KernelState}
-use Rattle.hop_model.specs.Choices.{Commit}
-use Rattle.hop_model.specs.Scripts.{Script}
-use Rattle.hop_model.specs.Soundness.{IsSound}
-use Rattle.hop_model.specs.Steps.{atlas_in}
-use Rattle.hop_model.specs.Vectors.{StampsBelow}
-use Rattle.hop_model.specs.Histories.{Policy, Run, may, May, has_changed, every_of, version_of, commit_of, commits_of, commits_above, goes_on, went_on, IsLegalFrom, IsLegalRun, start_run, run_after}
-use Rattle.hop_model.proofs.CommitStamps.{AllCommits}
+use Rattle.sound_steps.specs.hop_model.State.{Supply, KernelState}
+use Rattle.sound_steps.specs.hop_model.Choices.{Commit}
+use Rattle.sound_steps.specs.hop_model.Scripts.{Script}
+use Rattle.sound_steps.specs.hop_model.Soundness.{IsSound}
+use Rattle.sound_steps.specs.hop_model.Steps.{atlas_in}
+use Rattle.sound_steps.specs.hop_model.Vectors.{StampsBelow}
+use Rattle.sound_steps.specs.hop_model.Histories.{Policy, Run, may, May, has_changed, every_of, version_of, commit_of, commits_of, commits_above, goes_on, went_on, IsLegalFrom, IsLegalRun, start_run, run_after}
+use Rattle.sound_steps.proofs.hop_model_lemmas.CommitStamps.{AllCommits}
 use Rattle.script_form.specs.Rules.{IsScript}
 use Rattle.run_laws.specs.Versions.{OnlyBelow64}
 use Rattle.run_laws.proofs.Cuts.{chosen_same}

@@ -12,19 +12,19 @@ use Rattle.hop_base.specs.declared.instructions.Instr.{Instr}
 use Rattle.hop_base.specs.declared.instructions.Instr.TheVariants.{Stabilise}
 use Rattle.hop_base.specs.declared.instructions.Reply.{Reply}
 use Rattle.hop_base.specs.declared.instructions.Reply.TheVariants.{Ok}
-use Rattle.hop_model.specs.State.{Supply, AtlasState, LocusState, Cell, LocusCell, KernelState}
-use Rattle.hop_model.specs.Words.{put}
-use Rattle.hop_model.specs.Refusals.{instr_at, refusal}
-use Rattle.hop_model.specs.Acts.{act_by, allowed, wanted}
-use Rattle.hop_model.specs.Changes.{Access, merged, insert_access, ordered, touches_of}
-use Rattle.hop_model.specs.LocalEvents.{touch_at}
-use Rattle.hop_model.specs.Parts.{is_event, next_of, after_entry}
-use Rattle.hop_model.specs.Scripts.{Script}
-use Rattle.hop_model.specs.Soundness.{IsSound}
-use Rattle.hop_model.specs.Births.{next_birth}
-use Rattle.hop_model.specs.Steps.{atlas_in, seen_atlas, seen_other, outcome_in, with_atlas_access, with_other_access, with_newborn_access, accesses_of, change_of}
-use Rattle.hop_model.specs.Histories.{Policy, Run, may, May, event_of, by_event, writes, has_wish, has_changed, next_changed, every_of, version_of, owed_by, stabilises, asked_by, with_asked, locus_in, goes_on, went_on, noting, after_snap, after_stable, IsLegalFrom, IsLegalRun, start_run, run_after}
-use Rattle.hop_model.proofs.Faithful.{IsNewborn, wanted_is}
+use Rattle.sound_steps.specs.hop_model.State.{Supply, AtlasState, LocusState, Cell, LocusCell, KernelState}
+use Rattle.sound_steps.specs.hop_model.Words.{put}
+use Rattle.sound_steps.specs.hop_model.Refusals.{instr_at, refusal}
+use Rattle.sound_steps.specs.hop_model.Acts.{act_by, allowed, wanted}
+use Rattle.sound_steps.specs.hop_model.Changes.{Access, merged, insert_access, ordered, touches_of}
+use Rattle.sound_steps.specs.hop_model.LocalEvents.{touch_at}
+use Rattle.sound_steps.specs.hop_model.Parts.{is_event, next_of, after_entry}
+use Rattle.sound_steps.specs.hop_model.Scripts.{Script}
+use Rattle.sound_steps.specs.hop_model.Soundness.{IsSound}
+use Rattle.sound_steps.specs.hop_model.Births.{next_birth}
+use Rattle.sound_steps.specs.hop_model.Steps.{atlas_in, seen_atlas, seen_other, outcome_in, with_atlas_access, with_other_access, with_newborn_access, accesses_of, change_of}
+use Rattle.sound_steps.specs.hop_model.Histories.{Policy, Run, may, May, event_of, by_event, writes, has_wish, has_changed, next_changed, every_of, version_of, owed_by, stabilises, asked_by, with_asked, locus_in, goes_on, went_on, noting, after_snap, after_stable, IsLegalFrom, IsLegalRun, start_run, run_after}
+use Rattle.sound_steps.proofs.hop_model_lemmas.Faithful.{IsNewborn, wanted_is}
 use Rattle.script_form.specs.Rules.{IsScript}
 use Rattle.run_laws.proofs.Few.{found_true, never_less}
 use Rattle.run_laws.proofs.Wishes.{with_asked_at}

@@ -9,24 +9,24 @@ use Rattle.hop_base.specs.declared.capabilities.Region.{Region}
 use Rattle.hop_base.specs.declared.instructions.Instr.{Instr}
 use Rattle.hop_base.specs.declared.instructions.Instr.TheVariants.{Map, Unmap, Make, Spawn, Stop, Go, Snap}
 use Rattle.hop_base.specs.declared.instructions.Reply.{Reply}
-use Rattle.hop_model.specs.State.{Supply, Text, AtlasState, ContainerState, LocusState, Cell, NotBorn, AtlasCell, ContainerCell, LocusCell, KernelState}
-use Rattle.hop_model.specs.Words.{or_else}
-use Rattle.hop_model.specs.Refusals.{reg, instr_at, entity_of, new_region, refusal}
-use Rattle.hop_model.specs.Acts.{Act, alone, beside, beside_or_self, allowed, act_by, wanted}
-use Rattle.hop_model.specs.Outcomes.{Outcome, outcome, on_cell, with_newborn, map_region, map_by, map_refusal, unmap, unmap_at, make, make_at, spawn, spawn_at, free_container, free_locus}
-use Rattle.hop_model.specs.Changes.{Change, carried}
-use Rattle.hop_model.specs.Births.{birth_named, next_birth_change, next_birth}
-use Rattle.hop_model.specs.Scripts.{ContainerTable, LocusTable, Script, atlas_name, container_named, locus_named, number_of, next_container_name, next_locus_name, next_name, place_of, text_eq}
-use Rattle.hop_model.specs.Soundness.{IsSound}
-use Rattle.hop_model.specs.Steps.{atlas_in, seen_atlas, seen_other, outcome_in, with_atlas_access, with_other_access, with_newborn_access, accesses_of, change_of, running, numbered_change, step_change, step}
-use Rattle.hop_model.specs.Parts.{is_event, next_of}
-use Rattle.hop_model.specs.Histories.{Policy, Run, may, May, goes_on, event_of, births_owed, IsLegalFrom, IsLegalRun, start_run, run_after}
-use Rattle.hop_model.proofs.Basics.{some_of_map}
-use Rattle.hop_model.proofs.Faithful.{tally, atlas_of, IsNewborn, wanted_is}
-use Rattle.hop_model.proofs.LegalRuns.{state_goes_on}
-use Rattle.hop_model.proofs.StepTallies.{put_atlas, put_other, put_newborn}
-use Rattle.hop_model.proofs.Tallies.{atlas_of_is}
-use Rattle.hop_model.proofs.Writes.{cell_with, changed_cell}
+use Rattle.sound_steps.specs.hop_model.State.{Supply, Text, AtlasState, ContainerState, LocusState, Cell, NotBorn, AtlasCell, ContainerCell, LocusCell, KernelState}
+use Rattle.sound_steps.specs.hop_model.Words.{or_else}
+use Rattle.sound_steps.specs.hop_model.Refusals.{reg, instr_at, entity_of, new_region, refusal}
+use Rattle.sound_steps.specs.hop_model.Acts.{Act, alone, beside, beside_or_self, allowed, act_by, wanted}
+use Rattle.sound_steps.specs.hop_model.Outcomes.{Outcome, outcome, on_cell, with_newborn, map_region, map_by, map_refusal, unmap, unmap_at, make, make_at, spawn, spawn_at, free_container, free_locus}
+use Rattle.sound_steps.specs.hop_model.Changes.{Change, carried}
+use Rattle.sound_steps.specs.hop_model.Births.{birth_named, next_birth_change, next_birth}
+use Rattle.sound_steps.specs.hop_model.Scripts.{ContainerTable, LocusTable, Script, atlas_name, container_named, locus_named, number_of, next_container_name, next_locus_name, next_name, place_of, text_eq}
+use Rattle.sound_steps.specs.hop_model.Soundness.{IsSound}
+use Rattle.sound_steps.specs.hop_model.Steps.{atlas_in, seen_atlas, seen_other, outcome_in, with_atlas_access, with_other_access, with_newborn_access, accesses_of, change_of, running, numbered_change, step_change, step}
+use Rattle.sound_steps.specs.hop_model.Parts.{is_event, next_of}
+use Rattle.sound_steps.specs.hop_model.Histories.{Policy, Run, may, May, goes_on, event_of, births_owed, IsLegalFrom, IsLegalRun, start_run, run_after}
+use Rattle.sound_steps.proofs.hop_model_lemmas.Basics.{some_of_map}
+use Rattle.sound_steps.proofs.hop_model_lemmas.Faithful.{tally, atlas_of, IsNewborn, wanted_is}
+use Rattle.sound_steps.proofs.hop_model_lemmas.LegalRuns.{state_goes_on}
+use Rattle.sound_steps.proofs.hop_model_lemmas.StepTallies.{put_atlas, put_other, put_newborn}
+use Rattle.sound_steps.proofs.hop_model_lemmas.Tallies.{atlas_of_is}
+use Rattle.sound_steps.proofs.hop_model_lemmas.Writes.{cell_with, changed_cell}
 use Rattle.script_form.specs.Rules.{IsScript}
 use Rattle.run_laws.proofs.Writing.{running_is}
 use Rattle.run_laws.proofs.Wishes.{run_append, legal_back, legal_front}
@@ -247,7 +247,7 @@ step_keeps s me w r sound is =
     subst (λ b. KeepsNames b (atlas_in (r.1 0).cell)) (sym (ap atlas_in sound.1.atlas))
     (subst (λ k. KeepsNames sound.0 (atlas_in k)) (sym cell) (step_atlas s me w sound.0 sound.1.atlas l (above sound.0 at.0)))
   where
-    above : (a : AtlasState) → Rattle.std.specs.Prelude.IsTrue (Rattle.hop_model.specs.Soundness.is_born_locus a me) → 0 < me
+    above : (a : AtlasState) → Rattle.std.specs.Prelude.IsTrue (Rattle.sound_steps.specs.hop_model.Soundness.is_born_locus a me) → 0 < me
     above a born = grind (arith, nat_tests)
 
 -- NO BIRTH IS OWED AGAIN
@@ -271,7 +271,7 @@ module _ (s : Supply) (policy : Policy) (script : Script) (rules : IsScript scri
       let a = atlas_in (r.state 0).cell in
       let same = keeps_same a a refl refl in
       subst (λ (w : KernelState). KeepsNames a (atlas_in (w 0).cell)) (sym next)
-      (elim e.event as (λ ev. may s policy script r e ev → KeepsNames a (atlas_in ((if is_event ev then next_of (event_of s script) r.state (Rattle.hop_model.specs.Histories.by_event s script ev e.actor r.state) else r.state) 0).cell)) [
+      (elim e.event as (λ ev. may s policy script r e ev → KeepsNames a (atlas_in ((if is_event ev then next_of (event_of s script) r.state (Rattle.sound_steps.specs.hop_model.Histories.by_event s script ev e.actor r.state) else r.state) 0).cell)) [
         | Birth ↦ λ m. absurd (no_birth r.state e none m.1)
         | Step ↦ λ m. after_step r.state e.actor k.sound (step s e.actor r.state) refl
         | SnapEvent ↦ λ m. same

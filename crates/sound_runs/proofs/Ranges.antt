@@ -6,16 +6,16 @@ use Rattle.hop_base.specs.declared.instructions.Call.{Call}
 use Rattle.hop_base.specs.declared.instructions.Instr.{Instr}
 use Rattle.hop_base.specs.declared.instructions.Instr.TheVariants.{Load, Store, Invoke, Leave, Return, Map, Unmap, Take, Give, Make, Spawn, Stop, Go, Snap}
 use Rattle.hop_base.specs.declared.instructions.Reply.{Reply}
-use Rattle.hop_model.specs.State.{Supply, AtlasState, LocusState, Cell, KernelState}
-use Rattle.hop_model.specs.Words.{last_call}
-use Rattle.hop_model.specs.Refusals.{reg, instr_at, entity_of, refusal}
-use Rattle.hop_model.specs.Acts.{Act, alone, beside, beside_or_self, caller, container_of_call, allowed, act_by, wanted}
-use Rattle.hop_model.specs.Outcomes.{outcome, free_container, free_locus, make, make_at, spawn, spawn_at, with_newborn}
-use Rattle.hop_model.specs.Changes.{Access, merged, insert_access, ordered, touches_of}
-use Rattle.hop_model.specs.LocalEvents.{touch_at}
-use Rattle.hop_model.specs.Soundness.{IsSoundAtlas, IsSoundLocus, IsSoundCall, is_born}
-use Rattle.hop_model.specs.Steps.{with_atlas_access, with_other_access, with_newborn_access, accesses_of}
-use Rattle.hop_model.proofs.Faithful.{IsNewborn, free_container_is, wanted_is}
+use Rattle.sound_steps.specs.hop_model.State.{Supply, AtlasState, LocusState, Cell, KernelState}
+use Rattle.sound_steps.specs.hop_model.Words.{last_call}
+use Rattle.sound_steps.specs.hop_model.Refusals.{reg, instr_at, entity_of, refusal}
+use Rattle.sound_steps.specs.hop_model.Acts.{Act, alone, beside, beside_or_self, caller, container_of_call, allowed, act_by, wanted}
+use Rattle.sound_steps.specs.hop_model.Outcomes.{outcome, free_container, free_locus, make, make_at, spawn, spawn_at, with_newborn}
+use Rattle.sound_steps.specs.hop_model.Changes.{Access, merged, insert_access, ordered, touches_of}
+use Rattle.sound_steps.specs.hop_model.LocalEvents.{touch_at}
+use Rattle.sound_steps.specs.hop_model.Soundness.{IsSoundAtlas, IsSoundLocus, IsSoundCall, is_born}
+use Rattle.sound_steps.specs.hop_model.Steps.{with_atlas_access, with_other_access, with_newborn_access, accesses_of}
+use Rattle.sound_steps.proofs.hop_model_lemmas.Faithful.{IsNewborn, free_container_is, wanted_is}
 use Rattle.sound_steps.proofs.Growth.{born_container}
 use Rattle.sound_steps.proofs.ContainerActs.{look_born}
 use Rattle.sound_steps.proofs.OwnActs.{entity_born}

@@ -4,13 +4,13 @@ use Rattle.std.specs.List.{All}
 use Rattle.hop_base.specs.declared.histories.Entry.{Entry}
 use Rattle.hop_base.specs.declared.histories.Event.{Event}
 use Rattle.hop_base.specs.declared.histories.Event.TheVariants.{Birth, Step, Snap as SnapEvent, Stable, Tried}
-use Rattle.hop_model.specs.State.{Supply, KernelState}
-use Rattle.hop_model.specs.Scripts.{Script}
-use Rattle.hop_model.specs.Soundness.{IsSound}
-use Rattle.hop_model.specs.Steps.{atlas_in, step}
-use Rattle.hop_model.specs.Births.{next_birth}
-use Rattle.hop_model.specs.Parts.{is_event, next_of, after_entry, after, within, part_of}
-use Rattle.hop_model.specs.Histories.{Policy, Run, event_of, by_event, may, goes_on, went_on, IsLegalFrom, IsLegalRun, start_run}
+use Rattle.sound_steps.specs.hop_model.State.{Supply, KernelState}
+use Rattle.sound_steps.specs.hop_model.Scripts.{Script}
+use Rattle.sound_steps.specs.hop_model.Soundness.{IsSound}
+use Rattle.sound_steps.specs.hop_model.Steps.{atlas_in, step}
+use Rattle.sound_steps.specs.hop_model.Births.{next_birth}
+use Rattle.sound_steps.specs.hop_model.Parts.{is_event, next_of, after_entry, after, within, part_of}
+use Rattle.sound_steps.specs.hop_model.Histories.{Policy, Run, event_of, by_event, may, goes_on, went_on, IsLegalFrom, IsLegalRun, start_run}
 use Rattle.script_form.specs.Rules.{IsScript}
 use Rattle.sound_steps.proofs.Steps.{step_sound}
 use Rattle.sound_runs.proofs.Births.{NotLocus, birth_leaves}

@@ -5,17 +5,17 @@ use Rattle.std.proofs.lemmas.Bool.{false≢true}
 use Rattle.std.proofs.lemmas.Bool.Decides.{nat_tests}
 use Rattle.hop_base.specs.declared.histories.Entry.{Entry}
 use Rattle.hop_base.specs.declared.histories.Event.TheVariants.{Birth, Step, Snap as SnapEvent, Stable, Tried}
-use Rattle.hop_model.specs.State.{Supply, AtlasState, KernelState}
-use Rattle.hop_model.specs.Scripts.{Script}
-use Rattle.hop_model.specs.Soundness.{IsSound, is_born_locus}
-use Rattle.hop_model.specs.Steps.{atlas_in, change_of, outcome_in, seen_atlas, seen_other, accesses_of}
-use Rattle.hop_model.specs.Acts.{wanted}
-use Rattle.hop_model.specs.Births.{next_birth}
-use Rattle.hop_model.specs.LocalEvents.{touch_at}
-use Rattle.hop_model.specs.Parts.{is_event, after_entry}
-use Rattle.hop_model.specs.Histories.{Policy, Run, may, May, goes_on, went_on, event_of, IsLegalFrom, IsLegalRun, start_run, run_after, AllBelow64}
-use Rattle.hop_model.proofs.Basics.{some_of_map}
-use Rattle.hop_model.proofs.LegalRuns.{state_goes_on}
+use Rattle.sound_steps.specs.hop_model.State.{Supply, AtlasState, KernelState}
+use Rattle.sound_steps.specs.hop_model.Scripts.{Script}
+use Rattle.sound_steps.specs.hop_model.Soundness.{IsSound, is_born_locus}
+use Rattle.sound_steps.specs.hop_model.Steps.{atlas_in, change_of, outcome_in, seen_atlas, seen_other, accesses_of}
+use Rattle.sound_steps.specs.hop_model.Acts.{wanted}
+use Rattle.sound_steps.specs.hop_model.Births.{next_birth}
+use Rattle.sound_steps.specs.hop_model.LocalEvents.{touch_at}
+use Rattle.sound_steps.specs.hop_model.Parts.{is_event, after_entry}
+use Rattle.sound_steps.specs.hop_model.Histories.{Policy, Run, may, May, goes_on, went_on, event_of, IsLegalFrom, IsLegalRun, start_run, run_after, AllBelow64}
+use Rattle.sound_steps.proofs.hop_model_lemmas.Basics.{some_of_map}
+use Rattle.sound_steps.proofs.hop_model_lemmas.LegalRuns.{state_goes_on}
 use Rattle.script_form.specs.Rules.{IsScript}
 use Rattle.sound_steps.proofs.Cells.{locus_in}
 use Rattle.run_laws.proofs.Writing.{IsStep, step_is}

@@ -12,11 +12,11 @@ use Rattle.hop_base.specs.declared.capabilities.Private.{Private}
 use Rattle.hop_base.specs.declared.capabilities.Region.{Region}
 use Rattle.hop_base.specs.declared.instructions.Call.{Call}
 use Rattle.hop_base.specs.declared.instructions.Walk.{Walk}
-use Rattle.hop_model.specs.Births.{caps_from, number_or_0, region_from, regions_from}
-use Rattle.hop_model.specs.Scripts.{CapTable, RegionTable, atlas_name, container_named, locus_named, number_in, number_of, place_of, text_eq}
-use Rattle.hop_model.specs.Soundness.{AreApart, AreSound, AreSoundCaps, HasNoCircle, IsSoundCall, IsSoundContainer, IsSoundLocus, IsSoundPrivate, IsSoundRegion, are_names_from, is_born, is_born_container, is_born_locus, is_given_name, is_name_of, regions_onto}
-use Rattle.hop_model.specs.State.{Text, AtlasState, ContainerState, LocusState, Cell}
-use Rattle.hop_model.specs.Words.{insert_region, or_else}
+use Rattle.sound_steps.specs.hop_model.Births.{caps_from, number_or_0, region_from, regions_from}
+use Rattle.sound_steps.specs.hop_model.Scripts.{CapTable, RegionTable, atlas_name, container_named, locus_named, number_in, number_of, place_of, text_eq}
+use Rattle.sound_steps.specs.hop_model.Soundness.{AreApart, AreSound, AreSoundCaps, HasNoCircle, IsSoundCall, IsSoundContainer, IsSoundLocus, IsSoundPrivate, IsSoundRegion, are_names_from, is_born, is_born_container, is_born_locus, is_given_name, is_name_of, regions_onto}
+use Rattle.sound_steps.specs.hop_model.State.{Text, AtlasState, ContainerState, LocusState, Cell}
+use Rattle.sound_steps.specs.hop_model.Words.{insert_region, or_else}
 use Rattle.sound_steps.proofs.RegionLists.{shown, shown_more}
 use Rattle.script_form.specs.Rules.{AreAllApart, AreApart as AreApartTables, IsRegionTable}
 

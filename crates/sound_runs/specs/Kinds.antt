@@ -1,8 +1,8 @@
 -- Names of a script that stand in an atlas with the other kind.
 use Rattle.std.specs.Prelude.{◌≡◌, None, All}
-use Rattle.hop_model.specs.Scripts.{ContainerTable, Script, locus_named}
-use Rattle.hop_model.specs.State.{KernelState}
-use Rattle.hop_model.specs.Steps.{atlas_in}
+use Rattle.sound_steps.specs.hop_model.Scripts.{ContainerTable, Script, locus_named}
+use Rattle.sound_steps.specs.hop_model.State.{KernelState}
+use Rattle.sound_steps.specs.hop_model.Steps.{atlas_in}
 
 -- no name of the script's containers is a locus's in the atlas
 abbrev pub NamesNoLocus : Script → KernelState → Type 0

@@ -3,16 +3,18 @@
 
 ghost use Rattle.std.specs.Prelude.{◌≡◌, ◌≤◌, ◌+◌, ◌*◌, ◌++◌, ℕ, List, Some, count_by, false, length, nat_le};
 ghost use Rattle.hop_base.specs.declared.histories.Entry.{Entry};
-ghost use Rattle.hop_model.specs.State.{Supply, KernelState};
-ghost use Rattle.hop_model.specs.Births.{next_birth};
-ghost use Rattle.hop_model.specs.Histories.{AllBelow64, Policy, IsLegalRun, births_owed, event_of, run_after, start_run};
-ghost use Rattle.hop_model.specs.Parts.{after, part_of};
-ghost use Rattle.hop_model.specs.Scripts.{Script};
-ghost use Rattle.hop_model.specs.Soundness.{IsSound};
+ghost use Rattle.sound_steps.specs.hop_model.State.{Supply, KernelState};
+ghost use Rattle.sound_steps.specs.hop_model.Births.{next_birth};
+ghost use Rattle.sound_steps.specs.hop_model.Histories.{AllBelow64, Policy, IsLegalRun, births_owed, event_of, run_after, start_run};
+ghost use Rattle.sound_steps.specs.hop_model.Parts.{after, part_of};
+ghost use Rattle.sound_steps.specs.hop_model.Scripts.{Script};
+ghost use Rattle.sound_steps.specs.hop_model.Soundness.{IsSound};
 ghost use Rattle.script_form.specs.Rules.{IsScript};
-ghost use Rattle.hop_model.specs.Vectors.{StampsBelow};
+ghost use Rattle.sound_steps.specs.hop_model.Vectors.{StampsBelow};
 ghost use Rattle.run_laws.specs.Versions.{OnlyBelow64};
 ghost use Rattle.sound_runs.specs.Kinds.{NamesNoLocus};
+
+pub use script_form;
 
 /// A birth of a script's next name leaves a sound state, in which no name of the script's containers is a locus's either.
 pub fn sound_birth_law()

@@ -1,12 +1,12 @@
 -- The new cells of a birth.
 use Rattle.std.proofs.Common.{◌≡◌, ℕ, ◌&&◌, Bool, true, false, if◌then◌else◌, IsTrue, Option, Some, None, is_none, option_and_then, refl, ap, subst}
-use Rattle.hop_model.specs.Births.{birth_from, birth_named, container_birth, container_born, knows_caps, knows_regions, locus_birth, locus_born, locus_in_host, next_birth_change}
-use Rattle.hop_model.specs.Changes.{Change}
-use Rattle.hop_model.specs.Outcomes.{free_container, free_locus}
-use Rattle.hop_model.specs.Scripts.{ContainerTable, LocusTable, Script, container_named, container_table, locus_table, next_name, number_in, number_of}
-use Rattle.hop_model.specs.Soundness.{is_born_container}
-use Rattle.hop_model.specs.State.{AtlasState, KernelState, Supply, Text}
-use Rattle.hop_model.specs.Steps.{atlas_in}
+use Rattle.sound_runs.specs.hop_model.Births.{birth_from, birth_named, container_birth, container_born, knows_caps, knows_regions, locus_birth, locus_born, locus_in_host, next_birth_change}
+use Rattle.sound_runs.specs.hop_model.Changes.{Change}
+use Rattle.sound_runs.specs.hop_model.Outcomes.{free_container, free_locus}
+use Rattle.sound_runs.specs.hop_model.Scripts.{ContainerTable, LocusTable, Script, container_named, container_table, locus_table, next_name, number_in, number_of}
+use Rattle.sound_runs.specs.hop_model.Soundness.{is_born_container}
+use Rattle.sound_runs.specs.hop_model.State.{AtlasState, KernelState, Supply, Text}
+use Rattle.sound_runs.specs.hop_model.Steps.{atlas_in}
 use Rattle.sound_runs.proofs.Tables.{container_named_born}
 use Rattle.sound_states.proofs.Cells.{AreGood, IsGoodCell}
 
@@ -44,6 +44,6 @@ module _ (s : Supply) (script : Script) (w : KernelState) (a : AtlasState) (good
   by_next None c e = cc
   by_next (Some name) c e = by_name name (is_none (number_of a name)) c e
 
-  pub birth_good : (w 0).cell ≡ Rattle.hop_model.specs.State.AtlasCell a → (c : ℕ × Change) → next_birth_change s script w ≡ Some c → BearsGood c
+  pub birth_good : (w 0).cell ≡ Rattle.sound_runs.specs.hop_model.State.AtlasCell a → (c : ℕ × Change) → next_birth_change s script w ≡ Some c → BearsGood c
   unfolding next_birth_change
   birth_good at c e = by_next (next_name a script) c (subst (λ b. option_and_then (λ name. birth_named s script name w b) (next_name b script) ≡ Some c) (ap atlas_in at) e)

@@ -1,7 +1,7 @@
 -- New cells of a change, and what they leave at a number.
 use Rattle.std.proofs.Common.{◌≡◌, ℕ, ◌+◌, true, false, ◌==◌, nat_lt, if◌then◌else◌, ◌⊎◌, inl, inr, List, [], ◌∷◌, Option, Some, None, is_some, refl, subst}
-use Rattle.hop_model.specs.Changes.{Access, access_at, accessed, changed, insert_access, joined, merged, ordered, touches_of, written}
-use Rattle.hop_model.specs.State.{AtlasCell, Cell, ContainerCell, KernelState, LocusCell, NotBorn, Supply}
+use Rattle.sound_runs.specs.hop_model.Changes.{Access, access_at, accessed, changed, insert_access, joined, merged, ordered, touches_of, written}
+use Rattle.sound_runs.specs.hop_model.State.{AtlasCell, Cell, ContainerCell, KernelState, LocusCell, NotBorn, Supply}
 use Rattle.sound_states.specs.States.{IsSupplied}
 
 -- a born entity's cell, with the supplier's words past a container's pages

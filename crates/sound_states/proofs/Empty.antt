@@ -3,9 +3,9 @@ use Rattle.std.proofs.Common.{◌≡◌, ℕ, ◌≤◌, ◌<◌, true, false, �
 use Rattle.std.specs.List.{All}
 use Rattle.std.proofs.lemmas.Bool.Decides.{nat_tests}
 use Rattle.std.proofs.lemmas.List.Elements.{All-cons, All-nil}
-use Rattle.hop_model.specs.Scripts.{ContainerTable, locus_named}
-use Rattle.hop_model.specs.Soundness.{IsSound, IsSoundAtlas, is_born, is_born_container, is_born_locus, regions_onto}
-use Rattle.hop_model.specs.State.{AtlasCell, ContainerCell, ContainerState, KernelState, NotBorn, Supply, Text, empty_state, no_atlas}
+use Rattle.sound_runs.specs.hop_model.Scripts.{ContainerTable, locus_named}
+use Rattle.sound_runs.specs.hop_model.Soundness.{IsSound, IsSoundAtlas, is_born, is_born_container, is_born_locus, regions_onto}
+use Rattle.sound_runs.specs.hop_model.State.{AtlasCell, ContainerCell, ContainerState, KernelState, NotBorn, Supply, Text, empty_state, no_atlas}
 use Rattle.sound_runs.proofs.Ranges.{born_under}
 use Rattle.sound_states.specs.States.{IsSoundState, IsSupplied}
 

@@ -3,12 +3,12 @@ use Rattle.std.proofs.Common.{◌≡◌, ℕ, ◌≤◌, ◌<◌, true, false, �
 use Rattle.hop_base.specs.Touches.{IsRising}
 use Rattle.hop_base.specs.declared.histories.Entry.{Entry}
 use Rattle.hop_base.specs.declared.histories.Touch.{Touch}
-use Rattle.hop_model.specs.Changes.{joined}
-use Rattle.hop_model.specs.LocalEvents.{IsLocal, touch_at}
-use Rattle.hop_model.specs.State.{EntityState, KernelState}
-use Rattle.hop_model.specs.Vectors.{IsStamped, StampsBelow}
-use Rattle.hop_model.proofs.Covering.{all_touch_at}
-use Rattle.hop_model.proofs.Replay.{at_entity}
+use Rattle.sound_runs.specs.hop_model.Changes.{joined}
+use Rattle.sound_runs.specs.hop_model.LocalEvents.{IsLocal, touch_at}
+use Rattle.sound_runs.specs.hop_model.State.{EntityState, KernelState}
+use Rattle.sound_runs.specs.hop_model.Vectors.{IsStamped, StampsBelow}
+use Rattle.sound_runs.proofs.hop_model_lemmas.Covering.{all_touch_at}
+use Rattle.sound_runs.proofs.hop_model_lemmas.Replay.{at_entity}
 
 -- the joined clock is at most v at y where all clocks are, and the touch of y
 joined_top : (w : KernelState) (ts : List Touch) (y v : ℕ) → IsRising ts → ((x : ℕ) → (w x).stamp y ≤ v) → ((t : Touch) → touch_at ts y ≡ Some t → t.version ≤ v) → joined w ts y ≤ v

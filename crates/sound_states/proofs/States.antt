@@ -4,23 +4,23 @@ use Rattle.std.specs.List.{All}
 use Rattle.std.proofs.lemmas.Bool.{false≢true}
 use Rattle.hop_base.specs.declared.histories.Entry.{Entry}
 use Rattle.hop_base.specs.declared.histories.Event.TheVariants.{Birth, Step, Snap as SnapEvent, Stable, Tried}
-use Rattle.hop_model.specs.Acts.{wanted}
-use Rattle.hop_model.specs.Births.{next_birth, next_birth_change}
-use Rattle.hop_model.specs.Changes.{Access, Change, carried, changed, ordered}
-use Rattle.hop_model.specs.Histories.{Policy, IsLegalRun, by_event, event_of, start_run}
-use Rattle.hop_model.specs.Parts.{after, after_entry, is_event, next_of, part_of, within}
-use Rattle.hop_model.specs.Scripts.{Script}
-use Rattle.hop_model.specs.Soundness.{is_born}
-use Rattle.hop_model.specs.State.{Cell, ContainerState, ContainerCell, EntityState, KernelState, NotBorn, AtlasCell, LocusCell, Supply}
-use Rattle.hop_model.specs.Steps.{accesses_of, atlas_in, change_of, numbered_change, outcome_in, running, step, step_change}
-use Rattle.hop_model.proofs.Basics.{some_of_map}
-use Rattle.hop_model.proofs.Carried.{acts_stamped}
-use Rattle.hop_model.proofs.Locality.{next_birth_local, step_local}
-use Rattle.script_form.specs.Rules.{IsScript}
-use Rattle.run_laws.proofs.Writing.{running_is}
-use Rattle.sound_steps.proofs.Cells.{fits_in, locus_in}
-use Rattle.sound_steps.proofs.Growth.{born_container}
-use Rattle.sound_steps.proofs.Steps.{step_sound}
+use Rattle.sound_runs.specs.hop_model.Acts.{wanted}
+use Rattle.sound_runs.specs.hop_model.Births.{next_birth, next_birth_change}
+use Rattle.sound_runs.specs.hop_model.Changes.{Access, Change, carried, changed, ordered}
+use Rattle.sound_runs.specs.hop_model.Histories.{Policy, IsLegalRun, by_event, event_of, start_run}
+use Rattle.sound_runs.specs.hop_model.Parts.{after, after_entry, is_event, next_of, part_of, within}
+use Rattle.sound_runs.specs.hop_model.Scripts.{Script}
+use Rattle.sound_runs.specs.hop_model.Soundness.{is_born}
+use Rattle.sound_runs.specs.hop_model.State.{Cell, ContainerState, ContainerCell, EntityState, KernelState, NotBorn, AtlasCell, LocusCell, Supply}
+use Rattle.sound_runs.specs.hop_model.Steps.{accesses_of, atlas_in, change_of, numbered_change, outcome_in, running, step, step_change}
+use Rattle.sound_runs.proofs.hop_model_lemmas.Basics.{some_of_map}
+use Rattle.sound_runs.proofs.hop_model_lemmas.Carried.{acts_stamped}
+use Rattle.sound_runs.proofs.hop_model_lemmas.Locality.{next_birth_local, step_local}
+use Rattle.sound_runs.specs.script_form.Rules.{IsScript}
+use Rattle.sound_runs.proofs.run_laws_lemmas.Writing.{running_is}
+use Rattle.sound_runs.proofs.sound_steps_lemmas.Cells.{fits_in, locus_in}
+use Rattle.sound_runs.proofs.sound_steps_lemmas.Growth.{born_container}
+use Rattle.sound_runs.proofs.sound_steps_lemmas.Steps.{step_sound}
 use Rattle.sound_runs.proofs.Births.{NotLocus, birth_leaves}
 use Rattle.sound_runs.proofs.Ranges.{NamesBorn, wanted_born}
 use Rattle.sound_runs.proofs.Runs.{BirthsFirst, NoBirths, first_kept, legal_first}
@@ -48,7 +48,7 @@ words_of : (s : Supply) (cell : Cell) (c : ContainerState) → IsGoodCell s cell
 words_of s cell c good e = subst (IsGoodCell s) e good
 
 born_good : (s : Supply) (w : KernelState) (k : IsSoundState s w) (x : ℕ) → IsTrue (is_born k.sound.0 x) → IsGoodCell s (w x).cell
-born_good s w k x born = good_cell s (w x).cell (λ none. false≢true (sym (subst (Rattle.sound_steps.proofs.Cells.Fits k.sound.0 x) none (fits_in k.sound.0 (λ x. (w x).cell) k.sound.1 x)) ∙ born)) (k.words x)
+born_good s w k x born = good_cell s (w x).cell (λ none. false≢true (sym (subst (Rattle.sound_runs.proofs.sound_steps_lemmas.Cells.Fits k.sound.0 x) none (fits_in k.sound.0 (λ x. (w x).cell) k.sound.1 x)) ∙ born)) (k.words x)
 
 -- ONE EVENT
 

@@ -8,14 +8,14 @@ use Rattle.hop_base.specs.declared.instructions.Instr.{Instr}
 use Rattle.hop_base.specs.declared.instructions.Instr.TheVariants.{Load, Store, Invoke, Leave, Return, Map, Unmap, Take, Give, Make, Spawn, Stop, Go, Snap}
 use Rattle.hop_base.specs.declared.instructions.Reply.{Reply}
 use Rattle.hop_base.specs.declared.instructions.Reply.TheVariants.{ListFull, NoPage}
-use Rattle.hop_model.specs.State.{Supply, AtlasState, ContainerState, LocusState, Cell, ContainerCell, LocusCell, KernelState}
-use Rattle.hop_model.specs.Words.{cap_at, covers, denied, free_slot, last_call}
-use Rattle.hop_model.specs.Refusals.{reg, instr_at, entity_of, new_region, refusal}
-use Rattle.hop_model.specs.Acts.{Act, alone, beside, beside_or_self, allowed, act_by, wanted}
-use Rattle.hop_model.specs.Outcomes.{Outcome, back, back_to, by_other, by_refused, enter, entered, free_container, free_locus, give, give_at, given_cap, invoke, invoke_at, leave, leave_at, load, look_address, look_hops, looked, looked_by, make, make_at, map_by, map_refusal, map_region, on_cell, outcome, spawn, spawn_at, store, take_by, take_cap, through, unmap, unmap_at, with_newborn, with_other, with_word}
-use Rattle.hop_model.specs.Changes.{Access}
-use Rattle.hop_model.specs.Steps.{accesses_of, outcome_in, seen_atlas, seen_other, with_atlas_access, with_newborn_access, with_other_access}
-use Rattle.hop_model.proofs.Faithful.{IsNewborn, wanted_is}
+use Rattle.sound_runs.specs.hop_model.State.{Supply, AtlasState, ContainerState, LocusState, Cell, ContainerCell, LocusCell, KernelState}
+use Rattle.sound_runs.specs.hop_model.Words.{cap_at, covers, denied, free_slot, last_call}
+use Rattle.sound_runs.specs.hop_model.Refusals.{reg, instr_at, entity_of, new_region, refusal}
+use Rattle.sound_runs.specs.hop_model.Acts.{Act, alone, beside, beside_or_self, allowed, act_by, wanted}
+use Rattle.sound_runs.specs.hop_model.Outcomes.{Outcome, back, back_to, by_other, by_refused, enter, entered, free_container, free_locus, give, give_at, given_cap, invoke, invoke_at, leave, leave_at, load, look_address, look_hops, looked, looked_by, make, make_at, map_by, map_refusal, map_region, on_cell, outcome, spawn, spawn_at, store, take_by, take_cap, through, unmap, unmap_at, with_newborn, with_other, with_word}
+use Rattle.sound_runs.specs.hop_model.Changes.{Access}
+use Rattle.sound_runs.specs.hop_model.Steps.{accesses_of, outcome_in, seen_atlas, seen_other, with_atlas_access, with_newborn_access, with_other_access}
+use Rattle.sound_runs.proofs.hop_model_lemmas.Faithful.{IsNewborn, wanted_is}
 use Rattle.sound_states.specs.States.{IsSupplied}
 use Rattle.sound_states.proofs.Cells.{AreGood, IsGoodCell, IsGoodNew}
 
@@ -24,7 +24,7 @@ module _ (s : Supply) where
 
   through_good : (l : LocusState) (r : Region) (address : ℕ) (why : Option Reply) → IsGoodNew s (through l r address why).other
   through_good l r address (Some why) = tt
-  through_good l r address None = elim (nat_lt (look_hops l) 63) as (λ b. IsGoodNew s (if◌then◌else◌ {A = Outcome} b (Rattle.hop_model.specs.Outcomes.hop_to l r address) (Rattle.hop_model.specs.Outcomes.own_reply l Rattle.hop_base.specs.declared.instructions.Reply.TheVariants.Deep)).other) [ true ↦ tt | false ↦ tt ]
+  through_good l r address None = elim (nat_lt (look_hops l) 63) as (λ b. IsGoodNew s (if◌then◌else◌ {A = Outcome} b (Rattle.sound_runs.specs.hop_model.Outcomes.hop_to l r address) (Rattle.sound_runs.specs.hop_model.Outcomes.own_reply l Rattle.hop_base.specs.declared.instructions.Reply.TheVariants.Deep)).other) [ true ↦ tt | false ↦ tt ]
 
   by_region : (l : LocusState) (address needed : ℕ) (done : Outcome) (r : Option Region) → IsGoodNew s done.other → IsGoodNew s (looked_by l address needed done r).other
   by_region l address needed done (Some r) good = through_good l r address (denied r.rights.0 needed)
@@ -32,7 +32,7 @@ module _ (s : Supply) where
 
   looked_good : (l : LocusState) (c : ContainerState) (address needed : ℕ) (done : Outcome) → (address / 128 < c.pages → IsGoodNew s done.other) → IsGoodNew s (looked l c address needed done).other
   looked_good l c address needed done good =
-      elim (nat_lt (address / 128) c.pages) as (λ b. nat_lt (address / 128) c.pages ≡ b → IsGoodNew s (if◌then◌else◌ {A = Outcome} b (looked_by l address needed done (find (λ r. covers r (address / 128)) c.regions)) (Rattle.hop_model.specs.Outcomes.own_reply l NoPage)).other) [
+      elim (nat_lt (address / 128) c.pages) as (λ b. nat_lt (address / 128) c.pages ≡ b → IsGoodNew s (if◌then◌else◌ {A = Outcome} b (looked_by l address needed done (find (λ r. covers r (address / 128)) c.regions)) (Rattle.sound_runs.specs.hop_model.Outcomes.own_reply l NoPage)).other) [
         | true ↦ λ is. by_region l address needed done (find (λ r. covers r (address / 128)) c.regions) (good (ltb-true _ _ is))
         | false ↦ λ _. tt
       ] refl
@@ -40,7 +40,7 @@ module _ (s : Supply) where
   -- a word is stored on a page of the container
   stored_good : (c : ContainerState) (address word : ℕ) → address / 128 < c.pages → IsSupplied s c → IsSupplied s (with_word c address word)
   stored_good c address word page good at past =
-      elim (at == address) as (λ b. (at == address) ≡ b → (if b then word else c.words at) ≡ Rattle.hop_model.specs.Outcomes.supplied s c.tag at) [
+      elim (at == address) as (λ b. (at == address) ≡ b → (if b then word else c.words at) ≡ Rattle.sound_runs.specs.hop_model.Outcomes.supplied s c.tag at) [
         | true ↦ λ is. (let same = eqb-true _ _ is in absurd (omega (arith, same, page, past)))
         | false ↦ λ _. good at past
       ] refl

@@ -1,9 +1,9 @@
 -- What each state of a run keeps: its cells, versions, clocks and words.
 use Rattle.std.specs.Prelude.{◌≡◌, ◌≤◌, ◌<◌, ◌*◌, ◌↔◌, ℕ}
-use Rattle.hop_model.specs.Outcomes.{supplied}
-use Rattle.hop_model.specs.Soundness.{IsSound}
-use Rattle.hop_model.specs.State.{ContainerCell, ContainerState, KernelState, NotBorn, Supply}
-use Rattle.hop_model.specs.Vectors.{StampsBelow}
+use Rattle.sound_runs.specs.hop_model.Outcomes.{supplied}
+use Rattle.sound_runs.specs.hop_model.Soundness.{IsSound}
+use Rattle.sound_runs.specs.hop_model.State.{ContainerCell, ContainerState, KernelState, NotBorn, Supply}
+use Rattle.sound_runs.specs.hop_model.Vectors.{StampsBelow}
 
 -- past the container's pages its words are the supplier's
 abbrev pub IsSupplied : Supply → ContainerState → Type 0

@@ -4,14 +4,14 @@
 
 ghost use Rattle.std.specs.Prelude.{◌≡◌, ◌≤◌, ℕ, List, Some};
 ghost use Rattle.hop_base.specs.declared.histories.Entry.{Entry};
-ghost use Rattle.hop_model.specs.State.{Supply, KernelState, empty_state};
-ghost use Rattle.hop_model.specs.Births.{next_birth};
-ghost use Rattle.hop_model.specs.Histories.{Policy, IsLegalRun, event_of};
-ghost use Rattle.hop_model.specs.Parts.{after, part_of};
-ghost use Rattle.hop_model.specs.Scripts.{Script};
-ghost use Rattle.hop_model.specs.Steps.{step};
-ghost use Rattle.script_form.specs.Rules.{IsScript};
-ghost use Rattle.run_laws.specs.Versions.{OnlyBelow64};
+ghost use Rattle.sound_runs.specs.hop_model.State.{Supply, KernelState, empty_state};
+ghost use Rattle.sound_runs.specs.hop_model.Births.{next_birth};
+ghost use Rattle.sound_runs.specs.hop_model.Histories.{Policy, IsLegalRun, event_of};
+ghost use Rattle.sound_runs.specs.hop_model.Parts.{after, part_of};
+ghost use Rattle.sound_runs.specs.hop_model.Scripts.{Script};
+ghost use Rattle.sound_runs.specs.hop_model.Steps.{step};
+ghost use Rattle.sound_runs.specs.script_form.Rules.{IsScript};
+ghost use Rattle.sound_runs.specs.run_laws.Versions.{OnlyBelow64};
 ghost use Rattle.sound_runs.specs.Kinds.{NamesNoLocus};
 ghost use Rattle.sound_states.specs.States.{IsSoundState};
 

@@ -11,3 +11,4 @@ pub mod Leaving
 pub mod Mappings
 pub mod Newborns
 pub mod Steps
+pub use Rattle.hop_model.proofs as hop_model_lemmas

@@ -1,0 +1,1 @@
+pub use Rattle.hop_model.specs as hop_model

@@ -1,12 +1,12 @@
 -- Parts that keep their memory.
 use Rattle.std.proofs.Common.{◌≡◌, ℕ, Bool, List, Option, Some, None, option_map, refl, sym, ap, subst, ◌∙◌}
-use Rattle.hop_model.specs.State.{Supply}
-use Rattle.locus_machine.specs.declared.loci.Head.{Head}
-use Rattle.fault_paging.specs.declared.paged.PagedMemory.{PagedMemory}
-use Rattle.fault_paging.specs.Words.{AreCleanTrue, IsSoundTable}
-use Rattle.kernel_cells.specs.declared.cells.Part.{Part}
-use Rattle.kernel_cells.specs.declared.cells.Part.TheVariants as part
-use Rattle.beside_steps.specs.Besides.{KeepsMemory, head_of, memory_of}
+use Rattle.look_steps.specs.hop_model.State.{Supply}
+use Rattle.step_plans.specs.locus_machine.declared.loci.Head.{Head}
+use Rattle.step_plans.specs.fault_paging.declared.paged.PagedMemory.{PagedMemory}
+use Rattle.step_plans.specs.fault_paging.Words.{AreCleanTrue, IsSoundTable}
+use Rattle.look_steps.specs.kernel_cells.declared.cells.Part.{Part}
+use Rattle.look_steps.specs.kernel_cells.declared.cells.Part.TheVariants as part
+use Rattle.step_plans.specs.beside_steps.Besides.{KeepsMemory, head_of, memory_of}
 use Rattle.look_steps.specs.Looking.{MayLook}
 
 tags : Option Head → Option ℕ

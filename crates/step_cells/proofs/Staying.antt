@@ -2,15 +2,15 @@
 use Rattle.std.proofs.Common.{◌≡◌, ℕ, true, false, ◌&&◌, ◌==◌, List, Some, None, refl, sym, ap, ◌∙◌, eq-eqb}
 use Rattle.std.proofs.lemmas.Bool.{false≢true}
 use Rattle.hop_base.specs.declared.histories.Entry.{Entry}
-use Rattle.hop_model.specs.Histories.{writes}
-use Rattle.hop_model.specs.LocalEvents.{touch_at}
-use Rattle.hop_model.specs.State.{Supply, EntityState, KernelState}
-use Rattle.hop_model.specs.Steps.{step}
-use Rattle.hop_model.proofs.Basics.{both}
-use Rattle.hop_model.proofs.Locality.{step_local}
-use Rattle.hop_model.proofs.Replay.{any_at, at_entity}
-use Rattle.kernel_cells.specs.Cells.{HasCell}
-use Rattle.kernel_cells.specs.declared.cells.Cell.{Cell}
+use Rattle.look_steps.specs.hop_model.Histories.{writes}
+use Rattle.look_steps.specs.hop_model.LocalEvents.{touch_at}
+use Rattle.look_steps.specs.hop_model.State.{Supply, EntityState, KernelState}
+use Rattle.look_steps.specs.hop_model.Steps.{step}
+use Rattle.look_steps.proofs.hop_model_lemmas.Basics.{both}
+use Rattle.look_steps.proofs.hop_model_lemmas.Locality.{step_local}
+use Rattle.look_steps.proofs.hop_model_lemmas.Replay.{any_at, at_entity}
+use Rattle.look_steps.specs.kernel_cells.Cells.{HasCell}
+use Rattle.look_steps.specs.kernel_cells.declared.cells.Cell.{Cell}
 
 -- an entity that a step doesn't write stays
 unwritten_stays : (s : Supply) (me : ℕ) (w v : KernelState) (e : Entry) (x : ℕ) → step s me w ≡ Some (e, v) → writes e x ≡ false → v x ≡ w x

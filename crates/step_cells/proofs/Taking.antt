@@ -4,19 +4,19 @@ use Rattle.hop_base.specs.declared.histories.Answer.TheVariants.{Reply as Replie
 use Rattle.hop_base.specs.declared.histories.Entry.{Entry}
 use Rattle.hop_base.specs.declared.histories.Event.TheVariants.{Step}
 use Rattle.hop_base.specs.declared.instructions.Reply.TheVariants.{Ok}
-use Rattle.hop_model.specs.Changes.{carried}
-use Rattle.hop_model.specs.Histories.{Run, after_step, asked_by, locus_in}
-use Rattle.hop_model.specs.State.{Supply, LocusState, EntityState, KernelState}
-use Rattle.hop_model.specs.Steps.{numbered_change, running, step, step_change}
-use Rattle.event_clocks.specs.Clocks.{HasClock}
+use Rattle.look_steps.specs.hop_model.Changes.{carried}
+use Rattle.look_steps.specs.hop_model.Histories.{Run, after_step, asked_by, locus_in}
+use Rattle.look_steps.specs.hop_model.State.{Supply, LocusState, EntityState, KernelState}
+use Rattle.look_steps.specs.hop_model.Steps.{numbered_change, running, step, step_change}
+use Rattle.look_steps.specs.event_clocks.Clocks.{HasClock}
 use Rattle.vector_stamps.specs.Stamps.{component}
-use Rattle.kernel_cells.specs.declared.cells.Cell.{Cell}
-use Rattle.kernel_cells.specs.declared.cells.Part.{Part}
-use Rattle.kernel_cells.specs.declared.cells.Wish.{Wish}
-use Rattle.event_clocks.specs.declared.Clock.{Clock}
-use Rattle.kernel_cells.specs.Cells.{HasCell, part_of}
-use Rattle.kernel_cells.specs.Steps.{Steps}
-use Rattle.kernel_cells.specs.Wishes.{HasWish}
+use Rattle.look_steps.specs.kernel_cells.declared.cells.Cell.{Cell}
+use Rattle.look_steps.specs.kernel_cells.declared.cells.Part.{Part}
+use Rattle.look_steps.specs.kernel_cells.declared.cells.Wish.{Wish}
+use Rattle.look_steps.specs.event_clocks.declared.Clock.{Clock}
+use Rattle.look_steps.specs.kernel_cells.Cells.{HasCell, part_of}
+use Rattle.look_steps.specs.kernel_cells.Steps.{Steps}
+use Rattle.look_steps.specs.kernel_cells.Wishes.{HasWish}
 use Rattle.look_steps.specs.Looking.{HasCellWith, StepsSomehow, part_with}
 use Rattle.step_cells.specs.Advances.{AdvancesSomehow, StepsCells, TakesIn}
 

@@ -3,12 +3,12 @@ use Rattle.std.specs.Prelude.{◌≡◌, ℕ, List, [], ◌∷◌, Option}
 use Rattle.hop_base.specs.declared.histories.Answer.TheVariants.{Reply as Replied}
 use Rattle.hop_base.specs.declared.histories.Entry.{Entry}
 use Rattle.hop_base.specs.declared.instructions.Reply.TheVariants.{Ok}
-use Rattle.hop_model.specs.Histories.{Run, after_step, asked_by, locus_in}
-use Rattle.hop_model.specs.State.{Supply, LocusState, KernelState}
-use Rattle.kernel_cells.specs.declared.cells.Cell.{Cell}
-use Rattle.kernel_cells.specs.Cells.{HasCell}
-use Rattle.kernel_cells.specs.Steps.{Steps}
-use Rattle.kernel_cells.specs.Wishes.{HasWish}
+use Rattle.look_steps.specs.hop_model.Histories.{Run, after_step, asked_by, locus_in}
+use Rattle.look_steps.specs.hop_model.State.{Supply, LocusState, KernelState}
+use Rattle.look_steps.specs.kernel_cells.declared.cells.Cell.{Cell}
+use Rattle.look_steps.specs.kernel_cells.Cells.{HasCell}
+use Rattle.look_steps.specs.kernel_cells.Steps.{Steps}
+use Rattle.look_steps.specs.kernel_cells.Wishes.{HasWish}
 use Rattle.look_steps.specs.Looking.{StepsSomehow}
 
 -- the state has each of the cells

@@ -1,15 +1,15 @@
 // Steps of a locus over the cells that they touch.
 ghost use Rattle.std.specs.Prelude.{◌≡◌, ◌≢◌, ◌<◌, ◌^◌, ℕ, List, [], ◌∷◌};
-ghost use Rattle.hop_model.specs.State.{Supply};
-ghost use Rattle.beside_steps.specs.Besides.{FitsBeside, KeepsMemory};
+ghost use Rattle.look_steps.specs.hop_model.State.{Supply};
+ghost use Rattle.step_plans.specs.beside_steps.Besides.{FitsBeside, KeepsMemory};
 ghost use Rattle.step_plans.specs.Plans.{IsPlanned};
 ghost use Rattle.step_plans.specs.declared.plans.Plan.TheVariants as plan;
 ghost use Rattle.step_cells.specs.Advances.{StepsCells};
 
 use crate::noting::{named_by_snap, note};
-use beside_steps::step_beside;
 use hop_base::{Entry, Instr};
-use kernel_cells::{Cell, step_alone};
+use look_steps::kernel_cells::{Cell, step_alone};
+use step_plans::beside_steps::step_beside;
 
 /// The step of a locus that touches it alone.
 pub fn advance_alone(locus: &mut Cell) -> Entry

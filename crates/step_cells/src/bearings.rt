@@ -1,14 +1,14 @@
 // Steps of a locus that write the atlas.
 ghost use Rattle.std.specs.Prelude.{◌≡◌, ◌+◌, ◌<◌, ◌^◌, ℕ, List, [], ◌∷◌, length, Some};
 ghost use Rattle.atlas_dir.specs.Directory.{Directory};
-ghost use Rattle.hop_model.specs.State.{Supply};
-ghost use Rattle.locus_machine.specs.Loci.{locus_of};
-ghost use Rattle.locus_machine.specs.declared.loci.Head.{Head as AHead};
-ghost use Rattle.locus_machine.specs.declared.loci.Locus.{Locus as ALocus};
-ghost use Rattle.kernel_cells.specs.Cells.{IsRunning};
-ghost use Rattle.beside_steps.specs.Besides.{KeepsMemory};
+ghost use Rattle.look_steps.specs.hop_model.State.{Supply};
+ghost use Rattle.step_plans.specs.locus_machine.Loci.{locus_of};
+ghost use Rattle.step_plans.specs.locus_machine.declared.loci.Head.{Head as AHead};
+ghost use Rattle.step_plans.specs.locus_machine.declared.loci.Locus.{Locus as ALocus};
+ghost use Rattle.look_steps.specs.kernel_cells.Cells.{IsRunning};
+ghost use Rattle.step_plans.specs.beside_steps.Besides.{KeepsMemory};
 ghost use Rattle.birth_steps.specs.Bearing.{IsNewContainer, IsUnbornContainer, NoNumberFree};
-ghost use Rattle.map_steps.specs.Mapping.{IsDirectoryPart, IsHeadPart, MayMap};
+ghost use Rattle.step_plans.specs.map_steps.Mapping.{IsDirectoryPart, IsHeadPart, MayMap};
 ghost use Rattle.step_plans.specs.Plans.{IsPlanned};
 ghost use Rattle.step_plans.specs.declared.plans.Plan.TheVariants as plan;
 ghost use Rattle.step_cells.specs.Advances.{StepsCells};
@@ -16,8 +16,8 @@ ghost use Rattle.step_cells.specs.Advances.{StepsCells};
 use crate::noting::{named_by_snap, note};
 use birth_steps::{step_make, step_no_number, step_spawn};
 use hop_base::{Entry, Instr};
-use kernel_cells::{Cell, Part};
-use map_steps::step_mapping;
+use look_steps::kernel_cells::{Cell, Part};
+use step_plans::map_steps::step_mapping;
 
 /// The step of a locus that maps pages into a container, or unmaps them.
 pub fn advance_mapping(locus: &mut Cell, atlas: &mut Cell, other: &mut Cell, instr: Instr) -> Entry

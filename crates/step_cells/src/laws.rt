@@ -1,17 +1,17 @@
 // Laws of cells at a step. The functions do nothing: the contract of each is a law.
 ghost use Rattle.std.specs.Prelude.{◌≡◌, ℕ, Bool, List, Some, false};
 ghost use Rattle.hop_base.specs.declared.histories.Entry.{Entry as AnEntry};
-ghost use Rattle.hop_model.specs.Histories.{noting, writes, Run};
-ghost use Rattle.hop_model.specs.State.{KernelState, Supply};
-ghost use Rattle.hop_model.specs.Steps.{step};
-ghost use Rattle.kernel_cells.specs.Cells.{HasCell};
-ghost use Rattle.kernel_cells.specs.Wishes.{HasWish};
-ghost use Rattle.kernel_cells.specs.declared.cells.Cell.{Cell as ACell};
-ghost use Rattle.kernel_cells.specs.declared.cells.Part.{Part as APart};
+ghost use Rattle.look_steps.specs.hop_model.Histories.{noting, writes, Run};
+ghost use Rattle.look_steps.specs.hop_model.State.{KernelState, Supply};
+ghost use Rattle.look_steps.specs.hop_model.Steps.{step};
+ghost use Rattle.look_steps.specs.kernel_cells.Cells.{HasCell};
+ghost use Rattle.look_steps.specs.kernel_cells.Wishes.{HasWish};
+ghost use Rattle.look_steps.specs.kernel_cells.declared.cells.Cell.{Cell as ACell};
+ghost use Rattle.look_steps.specs.kernel_cells.declared.cells.Part.{Part as APart};
 ghost use Rattle.look_steps.specs.Looking.{MayLook};
-ghost use Rattle.beside_steps.specs.Besides.{KeepsMemory};
+ghost use Rattle.step_plans.specs.beside_steps.Besides.{KeepsMemory};
 
-use page_store::PageStore;
+use step_plans::page_store::PageStore;
 
 /// A cell whose entity a step doesn't write is as it was.
 pub fn unlent_cells_law()

@@ -1,19 +1,19 @@
 // The step of a locus that looks at a container.
 ghost use Rattle.std.specs.Prelude.{◌≡◌, ◌≤◌, ◌+◌, ◌<◌, ◌^◌, ℕ, [], ◌∷◌, IfErr, IfOk, OnErr, OnOk};
-ghost use Rattle.fault_paging.specs.Calls.{IsCausedBy};
-ghost use Rattle.kernel_cells.specs.Cells.{part_of};
+ghost use Rattle.step_plans.specs.fault_paging.Calls.{IsCausedBy};
+ghost use Rattle.look_steps.specs.kernel_cells.Cells.{part_of};
 ghost use Rattle.look_steps.specs.Looking.{LeavesMemory, LooksAtWord, MayLook};
 ghost use Rattle.step_plans.specs.Plans.{IsPlanned};
 ghost use Rattle.step_plans.specs.declared.plans.Plan.TheVariants as plan;
 ghost use Rattle.step_cells.specs.Advances.{AdvancesSomehow, StepsCells};
 
 use crate::noting::{named_by_snap, note};
-use fault_paging::PageFault;
 use hop_base::Entry;
-use kernel_cells::Cell;
+use look_steps::kernel_cells::Cell;
 use look_steps::step_look;
 use manager_gate::{Gate, Policy, Supplier};
-use page_store::PageStore;
+use step_plans::fault_paging::PageFault;
+use step_plans::page_store::PageStore;
 
 /// The step of a locus that makes one look of a load or a store at a container. On a fault of paging nothing has
 /// changed in the model, so that the same step can be tried again.

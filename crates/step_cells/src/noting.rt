@@ -2,19 +2,19 @@
 ghost use Rattle.std.specs.Prelude.{◌≡◌, ◌<◌, ℕ, List, Option};
 ghost use Rattle.hop_base.specs.declared.histories.Answer.TheVariants.{Reply as Replied};
 ghost use Rattle.hop_base.specs.declared.instructions.Reply.TheVariants.{Ok as OkReply};
-ghost use Rattle.hop_model.specs.Histories.{asked_by, asks, locus_in};
-ghost use Rattle.hop_model.specs.Refusals.{instr_at};
-ghost use Rattle.hop_model.specs.State.{LocusState, Supply};
-ghost use Rattle.wanted_act.specs.Views.{IsReadyLocus};
-ghost use Rattle.locus_machine.specs.Loci.{locus_of};
-ghost use Rattle.locus_machine.specs.declared.loci.Locus.{Locus as ALocus};
-ghost use Rattle.kernel_cells.specs.Cells.{part_of, IsRunning};
+ghost use Rattle.look_steps.specs.hop_model.Histories.{asked_by, asks, locus_in};
+ghost use Rattle.look_steps.specs.hop_model.Refusals.{instr_at};
+ghost use Rattle.look_steps.specs.hop_model.State.{LocusState, Supply};
+ghost use Rattle.step_plans.specs.wanted_act.Views.{IsReadyLocus};
+ghost use Rattle.step_plans.specs.locus_machine.Loci.{locus_of};
+ghost use Rattle.step_plans.specs.locus_machine.declared.loci.Locus.{Locus as ALocus};
+ghost use Rattle.look_steps.specs.kernel_cells.Cells.{part_of, IsRunning};
 ghost use Rattle.step_cells.specs.Advances.{TakesIn};
 
 use hop_base::{Answer, Entity, Entry, Instr, Reply};
-use kernel_cells::{Cell, Part};
-use locus_machine::Locus;
-use wanted_act::{fetch, named_entity};
+use look_steps::kernel_cells::{Cell, Part};
+use step_plans::locus_machine::Locus;
+use step_plans::wanted_act::{fetch, named_entity};
 
 /// The entity that the locus names where its instruction is a snap.
 fn named_by_locus(locus: &Locus) -> Option<Entity>

@@ -3,12 +3,12 @@ use Rattle.std.proofs.Common.{◌≡◌, ℕ, ◌<◌, Bool, true, false, ◌==�
 use Rattle.std.proofs.lemmas.Bool.Decides.{nat_tests}
 use Rattle.hop_base.specs.declared.instructions.Condition.{Condition}
 use Rattle.hop_base.specs.declared.instructions.Condition.TheVariants.{Running, Stopped, Halted}
-use Rattle.hop_model.specs.State.{Supply}
-use Rattle.locus_machine.specs.declared.loci.Head.{Head}
-use Rattle.locus_machine.specs.declared.loci.Locus.{Locus}
-use Rattle.kernel_cells.specs.declared.cells.Part.{Part}
-use Rattle.kernel_cells.specs.declared.cells.Part.TheVariants as part
-use Rattle.kernel_cells.specs.Cells.{container_cell, part_of}
+use Rattle.address_resolve.specs.hop_model.State.{Supply}
+use Rattle.address_resolve.specs.locus_machine.declared.loci.Head.{Head}
+use Rattle.address_resolve.specs.locus_machine.declared.loci.Locus.{Locus}
+use Rattle.map_steps.specs.kernel_cells.declared.cells.Part.{Part}
+use Rattle.map_steps.specs.kernel_cells.declared.cells.Part.TheVariants as part
+use Rattle.map_steps.specs.kernel_cells.Cells.{container_cell, part_of}
 use Rattle.step_plans.specs.declared.idle.Idle.TheVariants as idle
 use Rattle.step_plans.specs.Plans.{idle_by, idle_of}
 

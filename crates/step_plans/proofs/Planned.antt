@@ -4,13 +4,13 @@ use Rattle.hop_base.specs.declared.capabilities.Rights.{Rights}
 use Rattle.hop_base.specs.declared.instructions.Instr.{Instr}
 use Rattle.hop_base.specs.declared.instructions.Instr.TheVariants.{Set, Copy, Add, Sub, Jump, Jz, Load, Store, Invoke, Leave, Return, Map, Unmap, Lmap, Lunmap, Take, Give, Drop, Make, Spawn, Stop, Go, Snap, Stabilise, Print, Halt}
 use Rattle.hop_base.specs.declared.instructions.Reply.{Reply}
-use Rattle.hop_model.specs.Acts.{Act, act_by, allowed, alone, beside, beside_or_self, wanted}
-use Rattle.hop_model.specs.Refusals.{entity_of, instr_at, refusal}
-use Rattle.hop_model.specs.State.{LocusState}
-use Rattle.wanted_act.specs.Views.{may_name_itself}
-use Rattle.locus_machine.specs.Loci.{IsAlone}
-use Rattle.locus_machine.proofs.Alone.{wanted_allowed, wanted_says}
-use Rattle.beside_steps.specs.Besides.{WantsOther, calls_container}
+use Rattle.address_resolve.specs.hop_model.Acts.{Act, act_by, allowed, alone, beside, beside_or_self, wanted}
+use Rattle.address_resolve.specs.hop_model.Refusals.{entity_of, instr_at, refusal}
+use Rattle.address_resolve.specs.hop_model.State.{LocusState}
+use Rattle.address_resolve.specs.wanted_act.Views.{may_name_itself}
+use Rattle.address_resolve.specs.locus_machine.Loci.{IsAlone}
+use Rattle.address_resolve.proofs.locus_machine_lemmas.Alone.{wanted_allowed, wanted_says}
+use Rattle.map_steps.specs.beside_steps.Besides.{WantsOther, calls_container}
 use Rattle.step_plans.specs.Plans.{BearsNone, IsCallBeside}
 
 some_none : {A : Type 0} {x : A} → Some x ≡ None → ⊥

@@ -3,17 +3,17 @@ use Rattle.std.specs.Prelude.{◌≡◌, ◌≢◌, ℕ, ◌<◌, true, ◌||◌
 use Rattle.hop_base.specs.declared.instructions.Condition.{Condition}
 use Rattle.hop_base.specs.declared.instructions.Condition.TheVariants.{Running, Stopped, Halted}
 use Rattle.hop_base.specs.declared.instructions.Instr.{Instr}
-use Rattle.hop_model.specs.Acts.{wanted}
-use Rattle.hop_model.specs.State.{LocusState, Cell, NotBorn, AtlasCell, ContainerCell, LocusCell}
-use Rattle.wanted_act.specs.Views.{may_name_itself}
-use Rattle.locus_machine.specs.Loci.{IsAlone, locus_of}
-use Rattle.locus_machine.specs.declared.loci.Locus.{Locus}
-use Rattle.invocation.specs.Entries.{WantsBeside}
+use Rattle.address_resolve.specs.hop_model.Acts.{wanted}
+use Rattle.address_resolve.specs.hop_model.State.{LocusState, Cell, NotBorn, AtlasCell, ContainerCell, LocusCell}
+use Rattle.address_resolve.specs.wanted_act.Views.{may_name_itself}
+use Rattle.address_resolve.specs.locus_machine.Loci.{IsAlone, locus_of}
+use Rattle.address_resolve.specs.locus_machine.declared.loci.Locus.{Locus}
+use Rattle.address_resolve.specs.invocation.Entries.{WantsBeside}
 use Rattle.address_resolve.specs.Looks.{is_look}
-use Rattle.kernel_calls.specs.Calls.{WantsBirth, is_make, is_spawn}
-use Rattle.kernel_cells.specs.Cells.{IsRunning}
-use Rattle.kernel_cells.specs.declared.cells.Cell.{Cell as LentCell}
-use Rattle.beside_steps.specs.Besides.{WantsOther, calls_container}
+use Rattle.map_steps.specs.kernel_calls.Calls.{WantsBirth, is_make, is_spawn}
+use Rattle.map_steps.specs.kernel_cells.Cells.{IsRunning}
+use Rattle.map_steps.specs.kernel_cells.declared.cells.Cell.{Cell as LentCell}
+use Rattle.map_steps.specs.beside_steps.Besides.{WantsOther, calls_container}
 use Rattle.map_steps.specs.Mapping.{WantsMapping}
 use Rattle.step_plans.specs.declared.idle.Idle.{Idle}
 use Rattle.step_plans.specs.declared.idle.Idle.TheVariants as idle

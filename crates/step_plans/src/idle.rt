@@ -1,11 +1,11 @@
 // Loci that make no step.
 ghost use Rattle.std.specs.Prelude.{◌≡◌, ℕ, List};
-ghost use Rattle.hop_model.specs.State.{Supply};
-ghost use Rattle.kernel_cells.specs.Cells.{part_of};
+ghost use Rattle.address_resolve.specs.hop_model.State.{Supply};
+ghost use Rattle.map_steps.specs.kernel_cells.Cells.{part_of};
 ghost use Rattle.step_plans.specs.Plans.{idle_by, idle_of};
 
 use hop_base::Condition;
-use kernel_cells::{Cell, Part, Storage};
+use map_steps::kernel_cells::{Cell, Part, Storage};
 
 /// Why a locus can't step.
 #[derive(Clone, Copy, PartialEq, Eq, Debug)]

@@ -1,19 +1,19 @@
 // What a locus's step touches.
 ghost use Rattle.std.specs.Prelude.{◌≡◌, ◌≢◌, ◌&&◌, ◌==◌, ℕ, None, Some, IfErr, IfOk, List, true, false};
 ghost use Rattle.hop_base.specs.declared.instructions.Condition.TheVariants.{Running as RunningNow};
-ghost use Rattle.hop_model.specs.Acts.{wanted};
-ghost use Rattle.hop_model.specs.State.{LocusState, Supply};
-ghost use Rattle.wanted_act.specs.Views.{may_name_itself, IsReadyLocus};
-ghost use Rattle.locus_machine.specs.Loci.{locus_of};
-ghost use Rattle.locus_machine.specs.declared.loci.Locus.{Locus as ALocus};
-ghost use Rattle.beside_steps.specs.Besides.{WantsOther};
-ghost use Rattle.kernel_cells.specs.Cells.{part_of, IsRunning};
+ghost use Rattle.address_resolve.specs.hop_model.Acts.{wanted};
+ghost use Rattle.address_resolve.specs.hop_model.State.{LocusState, Supply};
+ghost use Rattle.address_resolve.specs.wanted_act.Views.{may_name_itself, IsReadyLocus};
+ghost use Rattle.address_resolve.specs.locus_machine.Loci.{locus_of};
+ghost use Rattle.address_resolve.specs.locus_machine.declared.loci.Locus.{Locus as ALocus};
+ghost use Rattle.map_steps.specs.beside_steps.Besides.{WantsOther};
+ghost use Rattle.map_steps.specs.kernel_cells.Cells.{part_of, IsRunning};
 ghost use Rattle.step_plans.specs.Plans.{idle_of, BearsNone, IsPlanned, PlansFor};
 
 use crate::idle::{Idle, why_idle};
+use address_resolve::locus_machine::Locus;
 use hop_base::{Entity, Instr};
-use kernel_cells::{Cell, Part};
-use locus_machine::Locus;
+use map_steps::kernel_cells::{Cell, Part};
 
 /// What the next step of a locus touches besides the locus.
 #[derive(Clone, Copy, Debug)]

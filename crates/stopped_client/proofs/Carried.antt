@@ -1,16 +1,16 @@
 -- A command was carried out, and what it left that memory didn't run out for.
 use Rattle.std.proofs.Common.{◌≡◌, List, [], ◌∷◌, refl, subst, inl, inr, arith}
 use Rattle.std.specs.Prelude.{codes}
-use Rattle.command_parts.specs.Seen.{gave}
-use Rattle.command_parts.specs.declared.statuses.Status.{Status}
-use Rattle.command_parts.specs.declared.statuses.Status.TheVariants.{Memory}
+use Rattle.hopper_top.specs.command_parts.Seen.{gave}
+use Rattle.hopper_top.specs.command_parts.declared.statuses.Status.{Status}
+use Rattle.hopper_top.specs.command_parts.declared.statuses.Status.TheVariants.{Memory}
 use Rattle.command_words.specs.Commands.{IsCommand}
 use Rattle.command_words.specs.declared.Command.{Command}
 use Rattle.command_words.specs.declared.Command.TheVariants.{Format}
 use Rattle.disk_trait.specs.declared.memory.MemoryDisk.{MemoryDisk}
-use Rattle.hop_model.specs.State.{Text}
+use Rattle.hopper_top.specs.hop_model.State.{Text}
 use Rattle.hopper_top.specs.Leaving.{CommandLeaves, Leaves}
-use Rattle.stream_edge.specs.Memory.{SinkState, SourceState}
+use Rattle.hopper_top.specs.stream_edge.Memory.{SinkState, SourceState}
 use Rattle.stopped_client.specs.Calls.{IsCalled, managers, new_sink, new_source, seen_call, seen_lines, seen_memory, seen_text}
 use Rattle.stopped_client.specs.declared.calling.Called.{Called}
 

@@ -1,23 +1,23 @@
 -- The image that `format` made: it means the state in which nothing is born, and its numbers are low.
 use Rattle.std.proofs.Common.{◌≡◌, ℕ, List, Some, sym, ap, subst, ◌∙◌, arith}
 use Rattle.std.proofs.lemmas.Option.{same_Some}
-use Rattle.command_parts.specs.Seen.{gave}
-use Rattle.command_parts.specs.Statuses.{ending}
-use Rattle.command_parts.specs.declared.statuses.Status.{Status}
-use Rattle.command_parts.specs.declared.statuses.Status.TheVariants.{Done}
+use Rattle.hopper_top.specs.command_parts.Seen.{gave}
+use Rattle.hopper_top.specs.command_parts.Statuses.{ending}
+use Rattle.hopper_top.specs.command_parts.declared.statuses.Status.{Status}
+use Rattle.hopper_top.specs.command_parts.declared.statuses.Status.TheVariants.{Done}
 use Rattle.command_words.specs.declared.Command.TheVariants.{Format}
 use Rattle.disk_trait.specs.Image.{Image, block_at}
 use Rattle.disk_trait.specs.MemoryDisk.{may_leave_of, reading_of}
 use Rattle.disk_trait.specs.declared.memory.MemoryDisk.{MemoryDisk}
-use Rattle.format_command.specs.Formats.{FormatLeaves, HasFormatted}
-use Rattle.hop_model.specs.State.{Supply, Text, empty_state}
-use Rattle.image_blocks.specs.Checks.{active_area, active_by}
-use Rattle.image_blocks.specs.Layout.{epoch_in, first_number, header_block}
-use Rattle.image_blocks.specs.declared.areas.Area.{Area}
-use Rattle.image_blocks.specs.declared.areas.Area.TheVariants.{A, B}
-use Rattle.image_meaning.specs.Empty.{IsFormatted}
-use Rattle.image_opening.specs.Images.{HasLowEpoch, HasTurnLeft}
-use Rattle.image_meaning.specs.Meaning.{Means}
+use Rattle.hopper_top.specs.format_command.Formats.{FormatLeaves, HasFormatted}
+use Rattle.hopper_top.specs.hop_model.State.{Supply, Text, empty_state}
+use Rattle.hopper_top.specs.image_blocks.Checks.{active_area, active_by}
+use Rattle.hopper_top.specs.image_blocks.Layout.{epoch_in, first_number, header_block}
+use Rattle.hopper_top.specs.image_blocks.declared.areas.Area.{Area}
+use Rattle.hopper_top.specs.image_blocks.declared.areas.Area.TheVariants.{A, B}
+use Rattle.hopper_top.specs.image_meaning.Empty.{IsFormatted}
+use Rattle.hopper_top.specs.image_opening.Images.{HasLowEpoch, HasTurnLeft}
+use Rattle.hopper_top.specs.image_meaning.Meaning.{Means}
 use Rattle.hopper_top.specs.Starts.{HasLowNumbers}
 use Rattle.stopped_client.specs.Calls.{IsCalled, new_sink, seen_lines, seen_memory}
 use Rattle.stopped_client.specs.declared.calling.Called.{Called}

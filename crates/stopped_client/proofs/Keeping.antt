@@ -1,11 +1,11 @@
 -- The promise, from what the three calls leave and what a stop may leave.
-use Rattle.std.proofs.Common.{◌≡◌, ◌≤◌, ◌<◌, ◌+◌, ◌-◌, ◌^◌, ℕ, [], inl, inr, min, sym, ap, subst, ◌∙◌, arith}
+use Rattle.std.proofs.Common.{◌≡◌, ◌≤◌, ◌<◌, ◌+◌, ◌-◌, ◌^◌, ℕ, [], inl, inr, min, sym, ap, subst, ◌∙◌, arith, false}
 use Rattle.std.proofs.lemmas.Bool.{cases_lt}
-use Rattle.command_parts.specs.Ends.{IsEmpty}
-use Rattle.command_parts.specs.Seen.{Call, SeenDisk, gave}
-use Rattle.command_parts.specs.Statuses.{Ending, Stopped, Unput, Whole, Wrong, ending}
-use Rattle.command_parts.specs.declared.statuses.Status.{Status}
-use Rattle.command_parts.specs.declared.faults.Fault.TheVariants.{Blocks, Disk, Foreign as BadImage, Memory, Script, Source, Usage}
+use Rattle.hopper_top.specs.command_parts.Ends.{IsEmpty}
+use Rattle.hopper_top.specs.command_parts.Seen.{Call, SeenDisk, gave}
+use Rattle.hopper_top.specs.command_parts.Statuses.{Ending, Stopped, Unput, Whole, Wrong, ending}
+use Rattle.hopper_top.specs.command_parts.declared.statuses.Status.{Status}
+use Rattle.hopper_top.specs.command_parts.declared.faults.Fault.TheVariants.{Blocks, Disk, Foreign as BadImage, Memory, Script, Source, Usage}
 use Rattle.command_words.specs.declared.Command.TheVariants.{Run, Show}
 use Rattle.disk_trait.specs.Image.{Image}
 use Rattle.disk_trait.specs.Kept.{IsTorn, MayLeave}
@@ -13,16 +13,17 @@ use Rattle.disk_trait.specs.KeptLaws.{MayLeave-since_now}
 use Rattle.disk_trait.specs.MemoryDisk.{left_since_of, may_leave_of, moments_of, reading_of, stood_at}
 use Rattle.disk_trait.specs.declared.calls.Torn.{Torn}
 use Rattle.disk_trait.specs.declared.memory.MemoryDisk.{MemoryDisk}
-use Rattle.hop_model.specs.State.{KernelState, Supply, Text, empty_state}
-use Rattle.image_meaning.proofs.Firsts.{not_both}
-use Rattle.image_meaning.proofs.Ones.{one_meaning}
-use Rattle.image_meaning.specs.Meaning.{Means}
-use Rattle.kernel_model.specs.Beginnings.{Beginning}
+use Rattle.hopper_top.specs.hop_model.Output.{output_of}
+use Rattle.hopper_top.specs.hop_model.State.{KernelState, Supply, Text, empty_state}
+use Rattle.hopper_top.proofs.image_meaning_lemmas.Firsts.{not_both}
+use Rattle.hopper_top.proofs.image_meaning_lemmas.Ones.{one_meaning}
+use Rattle.hopper_top.specs.image_meaning.Meaning.{Means}
+use Rattle.hopper_top.specs.kernel_model.Beginnings.{Beginning}
 use Rattle.hopper_top.specs.Starts.{HasLowNumbers}
 use Rattle.manager_gate.specs.Managers.{counted_word}
 use Rattle.hopper_top.specs.RunLeaving.{OfRun, RunLeaves}
 use Rattle.hopper_top.specs.Openings.{HasFailedSync, IsKeptImage, KeepsMeaning, run_from}
-use Rattle.run_outcomes.specs.Runs.{IsRun, IsServed}
+use Rattle.hopper_top.specs.run_outcomes.Runs.{IsRun, IsServed}
 use Rattle.watched_disk.specs.Handing.{next_moment}
 use Rattle.stopped_client.specs.Calls.{IsCalled, managers, seen_call, seen_memory}
 use Rattle.stopped_client.specs.Promise.{IsShownAs, KeepsBy, KeepsCut, KeepsNothing, KeepsPromise, answering}
@@ -68,7 +69,7 @@ shown_from formatted ran showed since stopped = record {
 }
 
 module _ (source : Text) (torn : Torn) (after : ℕ) (formatted ran showed : Called) (old left : MemoryDisk) (t : ℕ)
-    (fresh : HasNewImage old) (runs : IsCalled Run source old ran) (shows : IsCalled Show [] left showed)
+    (fresh : HasNewImage old) (runs : IsCalled (Run false) source old ran) (shows : IsCalled Show [] left showed)
     (stops : t ≡ min (moments_of old + after) (moments_of ran.outcome.disk)) (some : 0 < after)
     (tears : IsTorn torn (stood_at ran.outcome.disk t) (reading_of left)) (may : MayLeave (stood_at ran.outcome.disk t) (reading_of left)) where
   abbrev s : Shown
@@ -160,10 +161,10 @@ module _ (source : Text) (torn : Torn) (after : ℕ) (formatted ran showed : Cal
   means_kept_image kept = means_kept (kept tt (turn_left 4096 (reading_of old) fresh.formatted))
 
   -- BY HOW THE RUN ENDED
-  keeps_by : (ending : Ending) → RunLeaves managers seen (gave ran.outcome) ending → KeepsBy source torn s ending
+  keeps_by : (ending : Ending) → RunLeaves output_of managers seen (gave ran.outcome) ending → KeepsBy source torn s ending
   unfolding keeps_cut
   keeps_by Whole o =
-      let served = run_holds (λ b. IsServed b disk (gave ran.outcome) _) o in
+      let served = run_holds (λ b. IsServed output_of b disk (gave ran.outcome) _) o in
       record { keeps = keeps_cut _ o (λ b served. served.run); whole = served.whole; lines = runs.put ∙ served.output }
   keeps_by Unput o = keeps_cut _ o.0 (λ b served. served.run)
   keeps_by (Stopped (Blocks n)) o = keeps_cut _ o (λ b short. short.cut.run)

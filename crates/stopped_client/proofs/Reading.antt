@@ -1,19 +1,19 @@
 -- What `show` tells of an image whose meaning is known.
 use Rattle.std.proofs.Common.{◌≡◌, ℕ, sym, ap, subst, ◌∙◌}
-use Rattle.command_parts.specs.Seen.{gave}
-use Rattle.command_parts.specs.Statuses.{ending}
-use Rattle.command_parts.specs.declared.statuses.Status.{Status}
-use Rattle.command_parts.specs.declared.statuses.Status.TheVariants.{Done, Foreign}
+use Rattle.hopper_top.specs.command_parts.Seen.{gave}
+use Rattle.hopper_top.specs.command_parts.Statuses.{ending}
+use Rattle.hopper_top.specs.command_parts.declared.statuses.Status.{Status}
+use Rattle.hopper_top.specs.command_parts.declared.statuses.Status.TheVariants.{Done, Foreign}
 use Rattle.command_words.specs.declared.Command.TheVariants.{Show}
 use Rattle.disk_trait.specs.MemoryDisk.{reading_of}
 use Rattle.disk_trait.specs.declared.memory.MemoryDisk.{MemoryDisk}
-use Rattle.hop_model.specs.State.{KernelState, Text}
-use Rattle.image_meaning.proofs.Firsts.{not_both}
-use Rattle.image_meaning.proofs.Ones.{one_meaning}
-use Rattle.image_meaning.specs.Meaning.{Means}
+use Rattle.hopper_top.specs.hop_model.State.{KernelState, Text}
+use Rattle.hopper_top.proofs.image_meaning_lemmas.Firsts.{not_both}
+use Rattle.hopper_top.proofs.image_meaning_lemmas.Ones.{one_meaning}
+use Rattle.hopper_top.specs.image_meaning.Meaning.{Means}
 use Rattle.manager_gate.specs.Managers.{counted_word}
-use Rattle.plain_show.specs.Show.{shown}
-use Rattle.reading_commands.specs.Shows.{ShowLeaves}
+use Rattle.hopper_top.specs.plain_show.Show.{shown}
+use Rattle.hopper_top.specs.reading_commands.Shows.{ShowLeaves}
 use Rattle.stopped_client.specs.Calls.{IsCalled, new_sink, seen_lines, seen_memory}
 use Rattle.stopped_client.specs.declared.calling.Called.{Called}
 use Rattle.stopped_client.proofs.Carried.{HadMemory, command_leaves}

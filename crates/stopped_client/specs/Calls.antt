@@ -3,12 +3,12 @@ use Rattle.std.specs.Prelude.{◌≡◌, [], Some, length}
 use Rattle.command_words.specs.declared.Command.{Command}
 use Rattle.disk_trait.specs.MemoryDisk.{faults_of, left_since_of, may_leave_of, moments_of, reading_of}
 use Rattle.disk_trait.specs.declared.memory.MemoryDisk.{MemoryDisk}
-use Rattle.hop_model.specs.State.{Text}
+use Rattle.hopper_top.specs.hop_model.State.{Text}
 use Rattle.hopper_top.specs.Leaving.{Leaves}
 use Rattle.manager_gate.specs.Managers.{counted_word, is_due}
 use Rattle.hopper_top.specs.Openings.{Managers}
-use Rattle.stream_edge.specs.Memory.{SinkState, SourceState}
-use Rattle.command_parts.specs.Seen.{Call, SeenDisk, SeenSink, SeenSource, gave, seen_disk, seen_sink, seen_source}
+use Rattle.hopper_top.specs.stream_edge.Memory.{SinkState, SourceState}
+use Rattle.hopper_top.specs.command_parts.Seen.{Call, SeenDisk, SeenSink, SeenSource, gave, seen_disk, seen_sink, seen_source}
 use Rattle.stopped_client.specs.declared.calling.Called.{Called}
 
 -- the answers of the managers that the program has

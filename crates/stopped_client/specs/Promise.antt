@@ -4,22 +4,22 @@ use Rattle.disk_trait.specs.Image.{Image}
 use Rattle.disk_trait.specs.Kept.{IsTorn}
 use Rattle.disk_trait.specs.MemoryDisk.{moments_of, stood_at}
 use Rattle.disk_trait.specs.declared.calls.Torn.{Torn}
-use Rattle.hop_model.specs.Scripts.{Script as Tables}
-use Rattle.hop_model.specs.State.{KernelState, Text, empty_state}
-use Rattle.image_meaning.specs.Meaning.{Means}
-use Rattle.kernel_model.specs.Beginnings.{Beginning, IsLegal}
-use Rattle.kernel_model.specs.Left.{IsCutImage}
+use Rattle.hopper_top.specs.hop_model.Scripts.{Script as Tables}
+use Rattle.hopper_top.specs.hop_model.State.{KernelState, Text, empty_state}
+use Rattle.hopper_top.specs.image_meaning.Meaning.{Means}
+use Rattle.hopper_top.specs.kernel_model.Beginnings.{Beginning, IsLegal}
+use Rattle.hopper_top.specs.kernel_model.Left.{IsCutImage}
 use Rattle.manager_form.specs.Managing.{ManagerTables}
 use Rattle.manager_gate.specs.Managers.{counted_word}
-use Rattle.plain_show.specs.Show.{shown}
+use Rattle.hopper_top.specs.plain_show.Show.{shown}
 use Rattle.hopper_top.specs.Booked.{over}
 use Rattle.hopper_top.specs.Openings.{Managers, run_from}
-use Rattle.run_outcomes.specs.Runs.{printed}
-use Rattle.script_source.specs.Sources.{IsAccepted}
-use Rattle.serial_runs.specs.Serial.{IsWhole}
-use Rattle.command_parts.specs.Statuses.{Ending, Stopped, Unput, Whole, Wrong, ending}
-use Rattle.command_parts.specs.declared.faults.Fault.TheVariants.{Blocks, Disk, Foreign as BadImage, Memory, Script, Source, Usage}
-use Rattle.command_parts.specs.declared.statuses.Status.TheVariants.{Done, Foreign}
+use Rattle.hopper_top.specs.run_outcomes.Runs.{printed}
+use Rattle.hopper_top.specs.script_source.Sources.{IsAccepted}
+use Rattle.hopper_top.specs.serial_runs.Serial.{IsWhole}
+use Rattle.hopper_top.specs.command_parts.Statuses.{Ending, Stopped, Unput, Whole, Wrong, ending}
+use Rattle.hopper_top.specs.command_parts.declared.faults.Fault.TheVariants.{Blocks, Disk, Foreign as BadImage, Memory, Script, Source, Usage}
+use Rattle.hopper_top.specs.command_parts.declared.statuses.Status.TheVariants.{Done, Foreign}
 use Rattle.stopped_client.specs.Calls.{managers}
 use Rattle.stopped_client.specs.declared.stopping.Shown.{Shown}
 

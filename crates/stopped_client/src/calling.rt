@@ -4,12 +4,12 @@ ghost use Rattle.command_words.specs.Commands.{IsCommand};
 ghost use Rattle.command_words.specs.declared.Command.{Command};
 ghost use Rattle.stopped_client.specs.Calls.{IsCalled};
 
-use command_parts::Outcome;
 use disk_trait::MemoryDisk;
+use hopper_top::command_parts::Outcome;
 use hopper_top::hopper;
+use hopper_top::stream_edge::{MemorySink, MemorySource};
 use manager_gate::{CountedWords, EveryVersions, Policy, Supplier};
 use std::alloc::{AllocError, Global};
-use stream_edge::{MemorySink, MemorySource};
 
 /// How many bytes a call may put.
 const TEXT: u32 = 65_536;

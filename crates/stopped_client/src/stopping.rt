@@ -4,9 +4,9 @@ ghost use Rattle.disk_trait.specs.MemoryDisk.{moments_of};
 ghost use Rattle.stopped_client.specs.Promise.{KeepsPromise};
 
 use crate::calling::{Called, call, one_word, two_words};
-use command_parts::Status;
 use disk_trait::{MemoryDisk, Torn};
 use hop_base::Entry;
+use hopper_top::command_parts::Status;
 use std::alloc::{AllocError, Global};
 
 /// How many blocks the disk has, all of which the image takes.

@@ -5,7 +5,7 @@ use Rattle.std.proofs.lemmas.Bool.{cases_lt}
 use Rattle.std.proofs.lemmas.List.{get_or_default}
 use Rattle.std.proofs.lemmas.List.Sums.{length-filter}
 use Rattle.hop_base.specs.declared.records.Rec.{Rec}
-use Rattle.store_model.specs.Books.{Books, Logged, cut_in, kept_in, logged_recs, recs_in}
+use Rattle.snapshot_store.specs.store_model.Books.{Books, Logged, cut_in, kept_in, logged_recs, recs_in}
 
 count_recs : (p : Rec → Bool) (a : ℕ) (ls : List Logged) → fold (λ (n : ℕ) (r : Rec). n + cond {A = ℕ} (p r) 1 0) a (logged_recs ls) ≡ fold (λ (n : ℕ) (l : Logged). n + cond {A = ℕ} (p l.rec) 1 0) a ls
 count_recs p a [] = refl

@@ -4,7 +4,7 @@ use Rattle.std.specs.Prelude.{Err, IsErrOf, slice_index}
 use Rattle.std.proofs.lemmas.Bool.{false≢true}
 use Rattle.disk_trait.specs.Image.{Image}
 use Rattle.disk_trait.specs.declared.disk.NoBlocks.{NoBlocks as TooFew}
-use Rattle.store_model.specs.Books.{AreTrue}
+use Rattle.snapshot_store.specs.store_model.Books.{AreTrue}
 use Rattle.snapshot_store.specs.Committed.{HasFailedShut, HasNewRecord}
 use Rattle.snapshot_store.specs.State.{State, books}
 use Rattle.snapshot_store.specs.declared.faults.StoreFault.{StoreFault as Fault}

@@ -1,8 +1,8 @@
 -- What holds of a store of its own between calls.
 use Rattle.std.specs.Prelude.{◌≡◌, ℕ, ◌+◌, ◌≤◌, false}
 use Rattle.disk_trait.specs.Image.{Image}
-use Rattle.image_blocks.specs.Layout.{last_number}
-use Rattle.store_model.specs.Books.{AreTrue}
+use Rattle.snapshot_store.specs.image_blocks.Layout.{last_number}
+use Rattle.snapshot_store.specs.store_model.Books.{AreTrue}
 use Rattle.snapshot_store.specs.State.{State, books}
 
 -- its records' blobs are read, its epoch has risen with each commit at most, and its books are true

@@ -1,20 +1,20 @@
 // The blocks of pages that a store holds once it keeps the chosen records of an image.
 ghost use Rattle.std.specs.Prelude.{◌≡◌, ◌<◌, ◌^◌, ◌||◌, ℕ, All, AllPairs, true, false, length, slice_index, OnOk};
 ghost use Rattle.std.specs.List.{AllByRecursion, list_any};
-ghost use Rattle.hop_model.specs.Words.{put};
-ghost use Rattle.image_meaning.specs.Stores.{IsHeld};
-ghost use Rattle.log_reading.specs.Logs.{AreInRange, IsOlder};
-ghost use Rattle.page_shadow.specs.Ledger.{is_held};
+ghost use Rattle.snapshot_store.specs.hop_model.Words.{put};
+ghost use Rattle.restart.specs.image_meaning.Stores.{IsHeld};
+ghost use Rattle.snapshot_store.specs.log_reading.Logs.{AreInRange, IsOlder};
+ghost use Rattle.snapshot_store.specs.page_shadow.Ledger.{is_held};
 ghost use Rattle.snapshot_store.specs.Choosing.{are_chosen, books_kept, kept_rows, with_tables};
 ghost use Rattle.snapshot_store.specs.Holds.{names_page};
 ghost use Rattle.snapshot_store.specs.Naming.{IsPlaced};
 ghost use Rattle.snapshot_store.specs.Opening.{HasStableLog};
 ghost use Rattle.snapshot_store.specs.State.{books};
-ghost use Rattle.store_model.specs.Books.{kept_of, recs_in};
+ghost use Rattle.snapshot_store.specs.store_model.Books.{kept_of, recs_in};
 
 use disk_trait::Disk;
-use page_shadow::ShadowTable;
-use page_store::PageStore;
+use snapshot_store::page_shadow::ShadowTable;
+use snapshot_store::page_store::PageStore;
 use snapshot_store::{Store, StoreFault};
 
 /// Keeps the chosen records of an image that was opened, and gives back a block that one of their tables names.

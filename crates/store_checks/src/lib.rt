@@ -8,7 +8,11 @@ pub use kept_pages::keep_but_one;
 pub use own::{OwnStore, Unmade};
 
 #[cfg(test)]
+mod cut_finder_tests;
+#[cfg(test)]
 mod drawn_tests;
+#[cfg(test)]
+mod snapshot_store_open_tests;
 #[cfg(test)]
 mod test_stores;
 #[cfg(test)]

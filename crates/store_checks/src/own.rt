@@ -1,13 +1,13 @@
 // A store over an image that had no record.
 ghost use Rattle.std.specs.Prelude.{◌≡◌, ◌<◌, [], true, All, IfOk, count_by, nat_le, slice_index};
-ghost use Rattle.store_model.specs.Books.{recs_in};
+ghost use Rattle.snapshot_store.specs.store_model.Books.{recs_in};
 ghost use Rattle.snapshot_store.specs.State.{books};
 ghost use Rattle.store_checks.specs.Fit.{IsFit};
 
 use block_code::Blob;
 use disk_trait::Disk;
 use hop_base::{Cut, Entity, Rec};
-use page_shadow::ShadowTable;
+use snapshot_store::page_shadow::ShadowTable;
 use snapshot_store::{OpenFault, Store, StoreFault};
 use std::alloc::Global;
 use std::marker::Model;

@@ -1,14 +1,14 @@
 ghost use Rattle.std.specs.Prelude.{◌≤◌};
-ghost use Rattle.image_blocks.specs.Layout.{least_blocks, most_blocks};
+ghost use Rattle.snapshot_store.specs.image_blocks.Layout.{least_blocks, most_blocks};
 
 use crate::test_stores::{commit_versions, empty_store, ends_of, last_is_spelt, stamp_of};
 use block_code::Blob;
-use cut_finder::{MOST_RECORDS, greatest, is_ascending};
 use disk_trait::{MemoryDisk, Torn};
 use hop_base::{Cut, Entity};
-use image_blocks::Area;
-use log_reading::read_log;
 use snapshot_store::Store;
+use snapshot_store::cut_finder::{MOST_RECORDS, greatest, is_ascending};
+use snapshot_store::image_blocks::Area;
+use snapshot_store::log_reading::read_log;
 use std::alloc::Global;
 use std::process::Abort;
 use std::test::Fail;

@@ -6,16 +6,16 @@ use Rattle.std.proofs.lemmas.List.{map-append}
 use Rattle.disk_trait.specs.Disk.{Only}
 use Rattle.disk_trait.specs.Image.{Image, block_at}
 use Rattle.hop_base.specs.declared.records.Rec.{Rec}
-use Rattle.hop_model.proofs.Lowering.{greatest_is}
-use Rattle.hop_model.specs.Choices.{IsBelow, IsClosedChoice}
-use Rattle.cut_laws.specs.Agreeing.{nothing}
-use Rattle.cut_laws.specs.Records.{commits_of}
-use Rattle.image_blocks.specs.Layout.{slot_count}
-use Rattle.image_blocks.specs.Logs.{AreFitting, HasLog, Place}
-use Rattle.image_meaning.specs.Parts.{cut_of}
-use Rattle.image_meaning.specs.Stores.{IsFound, IsHeld, Page}
-use Rattle.log_turn.specs.Standing.{SameAreas, epoch_of, place_of, used_of}
-use Rattle.log_turn.specs.declared.areas.Areas.{Areas}
+use Rattle.store_model.proofs.hop_model_lemmas.Lowering.{greatest_is}
+use Rattle.store_model.specs.hop_model.Choices.{IsBelow, IsClosedChoice}
+use Rattle.store_model.specs.cut_laws.Agreeing.{nothing}
+use Rattle.store_model.specs.cut_laws.Records.{commits_of}
+use Rattle.store_model.specs.image_blocks.Layout.{slot_count}
+use Rattle.store_model.specs.image_blocks.Logs.{AreFitting, HasLog, Place}
+use Rattle.store_model.specs.image_meaning.Parts.{cut_of}
+use Rattle.store_model.specs.image_meaning.Stores.{IsFound, IsHeld, Page}
+use Rattle.store_model.specs.log_turn.Standing.{SameAreas, epoch_of, place_of, used_of}
+use Rattle.store_model.specs.log_turn.declared.areas.Areas.{Areas}
 use Rattle.store_model.specs.Books.{AreSmall, AreStored, Books, IsApart, IsBeforePool, Logged, cut_in, is_small, kept_for, kept_in, kept_of, logged_recs, page_for, recs_in}
 use Rattle.store_model.proofs.Keeping.{kept_agree}
 use Rattle.store_commit.specs.Ready.{AreAt, TrueAfterLaw, books_after, next_in, roomy_logged}

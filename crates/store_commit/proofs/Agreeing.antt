@@ -4,12 +4,12 @@ use Rattle.std.specs.Prelude.{filter}
 use Rattle.std.proofs.lemmas.Bool.{le-leb, leb-true}
 use Rattle.std.proofs.lemmas.List.Elements.{filter-append}
 use Rattle.hop_base.specs.declared.records.Rec.{Rec}
-use Rattle.hop_model.specs.Choices.{IsBelow, IsGreatest}
-use Rattle.cut_laws.specs.Agreeing.{nothing}
-use Rattle.cut_laws.specs.Records.{commits_of, is_rec_from, recs_from}
-use Rattle.cut_laws.proofs.Filters.{filter_within}
-use Rattle.cut_laws.proofs.Joins.{same_greatest}
-use Rattle.image_meaning.proofs.Choosing.{from_commits}
+use Rattle.store_model.specs.hop_model.Choices.{IsBelow, IsGreatest}
+use Rattle.store_model.specs.cut_laws.Agreeing.{nothing}
+use Rattle.store_model.specs.cut_laws.Records.{commits_of, is_rec_from, recs_from}
+use Rattle.store_model.proofs.cut_laws_lemmas.Filters.{filter_within}
+use Rattle.store_model.proofs.cut_laws_lemmas.Joins.{same_greatest}
+use Rattle.store_model.proofs.image_meaning_lemmas.Choosing.{from_commits}
 use Rattle.store_commit.specs.Agreed.{AgreedLaw}
 
 raise : (cut p : ℕ → ℕ) → IsBelow cut p → (r : Rec) → is_rec_from p r ≡ true → is_rec_from cut r ≡ true

@@ -9,15 +9,15 @@ use Rattle.disk_trait.specs.Moments.{LeavesOnly, Quiet}
 use Rattle.disk_trait.proofs.Images.{SameOutside-trans, SameOutside-weaker}
 use Rattle.disk_trait.proofs.Phases.{LeavesOnly-then, LeavesOnly-weaker, Moments}
 use Rattle.hop_base.specs.declared.records.Rec.{Rec}
-use Rattle.cut_laws.specs.Records.{AgreeInRecs}
-use Rattle.image_blocks.specs.Bodies.{blob_blocks, blocks_for}
-use Rattle.image_blocks.specs.Layout.{last_number, other, pool_at, slot_count}
-use Rattle.image_blocks.specs.Logs.{AreFitting, HasLog, IsNextSlot, IsTurned, Place}
-use Rattle.image_blocks.specs.declared.areas.Area.{Area}
-use Rattle.image_meaning.specs.Stores.{IsHeld, Kept, Page, recs_of}
-use Rattle.log_turn.specs.Stages.{IsLogging}
-use Rattle.log_turn.specs.Standing.{HasCounted, IsTurnedTo, Stands, area_of, epoch_of, place_of, used_of}
-use Rattle.log_turn.specs.declared.areas.Areas.{Areas}
+use Rattle.store_model.specs.cut_laws.Records.{AgreeInRecs}
+use Rattle.store_model.specs.image_blocks.Bodies.{blob_blocks, blocks_for}
+use Rattle.store_model.specs.image_blocks.Layout.{last_number, other, pool_at, slot_count}
+use Rattle.store_model.specs.image_blocks.Logs.{AreFitting, HasLog, IsNextSlot, IsTurned, Place}
+use Rattle.store_model.specs.image_blocks.declared.areas.Area.{Area}
+use Rattle.store_model.specs.image_meaning.Stores.{IsHeld, Kept, Page, recs_of}
+use Rattle.store_model.specs.log_turn.Stages.{IsLogging}
+use Rattle.store_model.specs.log_turn.Standing.{HasCounted, IsTurnedTo, Stands, area_of, epoch_of, place_of, used_of}
+use Rattle.store_model.specs.log_turn.declared.areas.Areas.{Areas}
 use Rattle.store_model.specs.Books.{AreStored, IsApart, IsBeforePool}
 use Rattle.store_commit.specs.Storing.{HasBlob, HasLogged, HasPlaces, IsBehind, IsBlobBlock, IsBlobOf, IsCommitBlock, IsNext, StoresOneMore, roomy_log, roomy_used}
 use Rattle.store_commit.proofs.Stays.{all_by_index, all_weaker, found_all, next_low}

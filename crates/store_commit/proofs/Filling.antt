@@ -9,10 +9,10 @@ use Rattle.disk_trait.specs.Image.{Image, SameOutside, block_at}
 use Rattle.disk_trait.specs.Moments.{Quiet}
 use Rattle.disk_tally.specs.Counts.{Begins, CountsOn, shown}
 use Rattle.hop_base.specs.declared.records.Rec.{Rec}
-use Rattle.image_blocks.specs.Bodies.{blob_blocks, blob_room, blocks_for}
-use Rattle.image_meaning.specs.Stores.{IsFound, IsHeld, Kept}
-use Rattle.log_turn.specs.Standing.{HasCounted, begun_of}
-use Rattle.log_turn.specs.declared.areas.Areas.{Areas}
+use Rattle.store_model.specs.image_blocks.Bodies.{blob_blocks, blob_room, blocks_for}
+use Rattle.store_model.specs.image_meaning.Stores.{IsFound, IsHeld, Kept}
+use Rattle.store_model.specs.log_turn.Standing.{HasCounted, begun_of}
+use Rattle.store_model.specs.log_turn.declared.areas.Areas.{Areas}
 use Rattle.store_commit.specs.Storing.{HasBlob, IsBlobBlock, IsBlobOf}
 
 -- as far as the blob is written

@@ -11,14 +11,14 @@ use Rattle.hop_base.specs.declared.records.Rec.{Rec}
 use Rattle.std.proofs.lemmas.Option.{get_or_from_slice_get, slice_get_within}
 use Rattle.std.proofs.lemmas.List.{get_or_past, length-map}
 use Rattle.hop_base.specs.Edges.{upto}
-use Rattle.hop_model.specs.Choices.{IsNarrow}
-use Rattle.hop_model.specs.Words.{first}
-use Rattle.image_blocks.proofs.Rest.{upto_len}
-use Rattle.cut_laws.specs.Records.{is_rec_from, commits_of, recs_from}
-use Rattle.image_blocks.specs.Bodies.{body_block, number_at, record_in}
-use Rattle.image_blocks.specs.Checks.{is_epoch, last_version, unless_at}
-use Rattle.image_blocks.specs.Logs.{IsFitting, AreFitting}
-use Rattle.image_blocks.proofs.LastVersions.{last_version-more}
+use Rattle.store_model.specs.hop_model.Choices.{IsNarrow}
+use Rattle.store_model.specs.hop_model.Words.{first}
+use Rattle.store_model.proofs.image_blocks_lemmas.Rest.{upto_len}
+use Rattle.store_model.specs.cut_laws.Records.{is_rec_from, commits_of, recs_from}
+use Rattle.store_model.specs.image_blocks.Bodies.{body_block, number_at, record_in}
+use Rattle.store_model.specs.image_blocks.Checks.{is_epoch, last_version, unless_at}
+use Rattle.store_model.specs.image_blocks.Logs.{IsFitting, AreFitting}
+use Rattle.store_model.proofs.image_blocks_lemmas.LastVersions.{last_version-more}
 use Rattle.store_commit.specs.Agreed.{KeptFitLaw}
 
 -- ONE TEST of a list that fails nowhere

@@ -6,14 +6,14 @@ use Rattle.disk_trait.specs.Image.{Image, SameOutside, block_at}
 use Rattle.disk_trait.specs.Moments.{LeavesOnly, Quiet}
 use Rattle.disk_trait.proofs.Phases.{LeavesOnly-from_quiet, LeavesOnly-now, LeavesOnly-weaker, Moments}
 use Rattle.hop_base.specs.declared.records.Rec.{Rec}
-use Rattle.cut_laws.specs.Records.{AgreeInRecs}
-use Rattle.image_blocks.specs.Layout.{gate_at, header_at, header_block, last_number, other, pool_at, slot_count}
-use Rattle.image_blocks.specs.Logs.{AreFitting, HasFront, HasLog, IsNextSlot, IsTurned, IsTurning, Place, next_place}
-use Rattle.image_blocks.proofs.Reading.{log_law}
-use Rattle.image_meaning.specs.Stores.{IsHeld, Kept, Stores, recs_of}
-use Rattle.log_turn.specs.Stages.{IsLogging}
-use Rattle.log_turn.specs.Standing.{SameAreas, Stands, place_of, used_of}
-use Rattle.log_turn.specs.declared.areas.Areas.{Areas}
+use Rattle.store_model.specs.cut_laws.Records.{AgreeInRecs}
+use Rattle.store_model.specs.image_blocks.Layout.{gate_at, header_at, header_block, last_number, other, pool_at, slot_count}
+use Rattle.store_model.specs.image_blocks.Logs.{AreFitting, HasFront, HasLog, IsNextSlot, IsTurned, IsTurning, Place, next_place}
+use Rattle.store_model.proofs.image_blocks_lemmas.Reading.{log_law}
+use Rattle.store_model.specs.image_meaning.Stores.{IsHeld, Kept, Stores, recs_of}
+use Rattle.store_model.specs.log_turn.Stages.{IsLogging}
+use Rattle.store_model.specs.log_turn.Standing.{SameAreas, Stands, place_of, used_of}
+use Rattle.store_model.specs.log_turn.declared.areas.Areas.{Areas}
 use Rattle.store_model.specs.Between.{stored_each}
 use Rattle.store_model.specs.Books.{AreApartFrom, AreStored, IsApart, IsBeforePool}
 use Rattle.store_commit.specs.Storing.{HasLogged, IsBehind, IsBlobBlock, StoresOneMore}

@@ -5,17 +5,17 @@ use Rattle.std.specs.List.{flat_map, list_any}
 use Rattle.std.proofs.lemmas.List.{map-append, get_or_default}
 use Rattle.disk_trait.specs.Image.{Image}
 use Rattle.hop_base.specs.declared.records.Rec.{Rec}
-use Rattle.hop_model.proofs.Lowering.{greatest_is}
-use Rattle.cut_laws.specs.Agreeing.{nothing}
-use Rattle.cut_laws.specs.Records.{AgreeInRecs, commits_of, recs_from}
-use Rattle.image_blocks.specs.Bodies.{blocks_for}
-use Rattle.image_blocks.specs.Layout.{pool_at}
-use Rattle.image_blocks.specs.Logs.{AreFitting, IsFitting, Place}
-use Rattle.image_blocks.proofs.Fits.{fitting_law}
-use Rattle.image_meaning.specs.Parts.{cut_of}
-use Rattle.image_meaning.specs.Stores.{IsFound, Kept, Page, recs_of}
-use Rattle.log_turn.specs.Standing.{epoch_of}
-use Rattle.log_turn.specs.declared.areas.Areas.{Areas}
+use Rattle.store_model.proofs.hop_model_lemmas.Lowering.{greatest_is}
+use Rattle.store_model.specs.cut_laws.Agreeing.{nothing}
+use Rattle.store_model.specs.cut_laws.Records.{AgreeInRecs, commits_of, recs_from}
+use Rattle.store_model.specs.image_blocks.Bodies.{blocks_for}
+use Rattle.store_model.specs.image_blocks.Layout.{pool_at}
+use Rattle.store_model.specs.image_blocks.Logs.{AreFitting, IsFitting, Place}
+use Rattle.store_model.proofs.image_blocks_lemmas.Fits.{fitting_law}
+use Rattle.store_model.specs.image_meaning.Parts.{cut_of}
+use Rattle.store_model.specs.image_meaning.Stores.{IsFound, Kept, Page, recs_of}
+use Rattle.store_model.specs.log_turn.Standing.{epoch_of}
+use Rattle.store_model.specs.log_turn.declared.areas.Areas.{Areas}
 use Rattle.store_model.specs.Books.{AreApartFrom, AreSmall, AreStored, Books, Logged, cut_in, is_used, kept_for, kept_in, kept_names, kept_of, logged_recs, names, page_for, recs_in}
 use Rattle.store_model.proofs.Keeping.{kept_recs}
 use Rattle.store_commit.specs.Agreed.{AreAgreed}

@@ -4,12 +4,12 @@ ghost use Rattle.disk_trait.specs.Disk.{HasCause};
 ghost use Rattle.disk_trait.specs.Image.{SameOutside};
 ghost use Rattle.disk_trait.specs.Moments.{Quiet};
 ghost use Rattle.disk_tally.specs.Counts.{Begins, shown};
-ghost use Rattle.log_turn.specs.Standing.{HasCounted, begun_of};
+ghost use Rattle.store_model.specs.log_turn.Standing.{HasCounted, begun_of};
 ghost use Rattle.store_commit.specs.Storing.{HasBlob, HasPlaces, IsBlobBlock};
 
 use disk_trait::{Disk, DiskFault};
 use hop_base::Rec;
-use log_turn::Areas;
+use store_model::log_turn::Areas;
 
 // Writes blocks where the record names them, and counts those that are begun. It makes nothing stable.
 pub(crate) fn write_blob<D: Disk>(

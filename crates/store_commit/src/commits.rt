@@ -5,22 +5,22 @@ ghost use Rattle.disk_trait.specs.Disk.{Only};
 ghost use Rattle.disk_trait.specs.Image.{SameOutside};
 ghost use Rattle.disk_trait.specs.Moments.{LeavesOnly};
 ghost use Rattle.hop_base.specs.declared.records.Rec.{Rec as Record};
-ghost use Rattle.cut_laws.specs.Records.{AgreeInRecs};
+ghost use Rattle.store_model.specs.cut_laws.Records.{AgreeInRecs};
 ghost use Rattle.disk_tally.specs.Counts.{Begins, shown};
-ghost use Rattle.image_blocks.specs.Layout.{last_number, pool_at, slot_count};
-ghost use Rattle.image_blocks.specs.Logs.{AreFitting};
-ghost use Rattle.image_meaning.specs.Stores.{Kept, Stores, recs_of};
-ghost use Rattle.log_turn.specs.Answers.{TurnAnswers};
-ghost use Rattle.log_turn.specs.Standing.{Stands, begun_of, epoch_of, has_failed, used_of};
+ghost use Rattle.store_model.specs.image_blocks.Layout.{last_number, pool_at, slot_count};
+ghost use Rattle.store_model.specs.image_blocks.Logs.{AreFitting};
+ghost use Rattle.store_model.specs.image_meaning.Stores.{Kept, Stores, recs_of};
+ghost use Rattle.store_model.specs.log_turn.Answers.{TurnAnswers};
+ghost use Rattle.store_model.specs.log_turn.Standing.{Stands, begun_of, epoch_of, has_failed, used_of};
 ghost use Rattle.store_model.specs.Books.{IsBeforePool};
 ghost use Rattle.store_commit.specs.Storing.{HasBlob, HasLogged, HasPlaces, IsCommitBlock, IsReady, Next, StoresOneMore, new_of, roomy_log, roomy_used};
 
 use crate::blobs::write_blob;
-use commit_log::LogFault;
 use disk_trait::Disk;
 use hop_base::Rec;
-use image_blocks::SLOT_COUNT;
-use log_turn::Areas;
+use store_model::commit_log::LogFault;
+use store_model::image_blocks::SLOT_COUNT;
+use store_model::log_turn::Areas;
 
 // Turns the log to the kept records where all its slots are used.
 fn make_room<D: Disk>(areas: &mut Areas, disk: &mut D, kept: &[Rec]) -> Result<(), LogFault>

@@ -4,11 +4,11 @@ use Rattle.std.proofs.lemmas.List.{get_or_past}
 use Rattle.std.specs.Prelude.{filter, map}
 use Rattle.disk_trait.specs.Image.{Image}
 use Rattle.hop_base.specs.declared.records.Rec.{Rec}
-use Rattle.hop_model.proofs.Lowering.{greatest_is}
-use Rattle.hop_model.specs.Choices.{IsNarrow}
-use Rattle.cut_laws.specs.Agreeing.{nothing}
-use Rattle.cut_laws.proofs.Filters.{filter_within}
-use Rattle.cut_laws.specs.Records.{AgreeInRecs, commits_of, is_rec_from, recs_from}
+use Rattle.image_meaning.proofs.hop_model_lemmas.Lowering.{greatest_is}
+use Rattle.image_meaning.specs.hop_model.Choices.{IsNarrow}
+use Rattle.image_meaning.specs.cut_laws.Agreeing.{nothing}
+use Rattle.image_meaning.proofs.cut_laws_lemmas.Filters.{filter_within}
+use Rattle.image_meaning.specs.cut_laws.Records.{AgreeInRecs, commits_of, is_rec_from, recs_from}
 use Rattle.image_meaning.specs.Stores.{recs_of}
 use Rattle.store_model.specs.Books.{Books, HaveComponents, Logged, cut_in, kept_for, kept_of, logged_recs, recs_in}
 

@@ -2,12 +2,12 @@
 use Rattle.std.specs.Prelude.{◌≡◌, ◌≢◌, ◌⊎◌, ℕ, ◌*◌, ◌-◌, ◌<◌, Bool, true, false, not, ◌&&◌, ◌||◌, ◌==◌, nat_le, if◌then◌else◌, List, [], ◌∷◌, ◌++◌, filter, count_by, length, map, slice_index}
 use Rattle.std.specs.List.{AllByRecursion, flat_map, list_all, list_any, range_with_len}
 use Rattle.disk_trait.specs.Image.{Image, block_at}
-use Rattle.cut_laws.specs.Records.{AgreeInRecs}
+use Rattle.image_meaning.specs.cut_laws.Records.{AgreeInRecs}
 use Rattle.hop_base.specs.Edges.{upto}
 use Rattle.hop_base.specs.declared.records.Rec.{Rec}
-use Rattle.image_blocks.specs.Bodies.{blob_blocks, blob_in, number_at}
-use Rattle.image_blocks.specs.Layout.{last_number, pool_at}
-use Rattle.image_blocks.specs.Logs.{AreFitting, HasFront, HasLog, Place}
+use Rattle.image_meaning.specs.image_blocks.Bodies.{blob_blocks, blob_in, number_at}
+use Rattle.image_meaning.specs.image_blocks.Layout.{last_number, pool_at}
+use Rattle.image_meaning.specs.image_blocks.Logs.{AreFitting, HasFront, HasLog, Place}
 use Rattle.image_meaning.specs.Parts.{cut_of}
 use Rattle.image_meaning.specs.Stores.{IsHeld, Kept, Page, Stores, recs_of}
 use Rattle.log_turn.specs.Standing.{SameAreas}

@@ -5,13 +5,16 @@
 
 ghost use Rattle.std.specs.Prelude.{◌≡◌, ℕ, false};
 ghost use Rattle.disk_trait.specs.Image.{Image};
-ghost use Rattle.cut_laws.specs.Records.{AgreeInRecs, recs_from};
+ghost use Rattle.image_meaning.specs.cut_laws.Records.{AgreeInRecs, recs_from};
 ghost use Rattle.image_meaning.specs.Stores.{Stores, recs_of};
 ghost use Rattle.store_model.specs.Between.{OnlyPages};
 ghost use Rattle.store_model.specs.Books.{AreSmall, AreTrue, Books, HaveComponents, cut_in, kept_of, recs_in};
 ghost use Rattle.store_model.specs.Owning.{OwnedLaw};
 
 use disk_trait::Disk;
+pub use image_meaning::image_blocks;
+pub use log_turn;
+pub use log_turn::commit_log;
 
 /// While the books are true, no number was too large and the disk hasn't failed, each image that a stop may leave stores the
 /// kept records.
@@ -43,15 +46,3 @@ pub fn pages_only_law<D: Disk>()
         → OnlyPages D.tells D.clock D.reading D.may_leave D.left_since b c y z m n
         → OnlyPages D.tells D.clock D.reading D.may_leave D.left_since a c x z k n }
 {}
-
-#[cfg(test)]
-mod tests {
-    use super::*;
-    use disk_trait::MemoryDisk;
-
-    #[test]
-    fn the_laws_hold_of_a_disk_in_memory(_rt: HostRuntime) {
-        stored_law::<MemoryDisk>();
-        pages_only_law::<MemoryDisk>();
-    }
-}

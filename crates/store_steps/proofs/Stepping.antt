@@ -3,25 +3,25 @@ use Rattle.std.proofs.Common.{◌≡◌, ◌↔◌, inl, inr, ℕ, ◌+◌, ◌<
 use Rattle.std.proofs.lemmas.Option.{slice_get_cases, slice_get_within}
 use Rattle.disk_trait.specs.Image.{Image}
 use Rattle.hop_base.specs.declared.histories.Entry.{Entry}
-use Rattle.hop_model.specs.Histories.{Run}
-use Rattle.hop_model.specs.State.{Supply, AtlasCell, NotBorn, empty_state, no_atlas}
-use Rattle.page_store.specs.declared.faults.PageFault.{PageFault}
-use Rattle.event_clocks.specs.declared.Clock.{Clock}
-use Rattle.store_model.specs.Books.{kept_names}
-use Rattle.snapshot_store.specs.Paging.{GoesByPages}
-use Rattle.snapshot_store.specs.State.{State, books}
-use Rattle.kernel_cells.specs.declared.cells.Cell.{Cell}
-use Rattle.kernel_cells.specs.declared.cells.Wish.{Wish}
-use Rattle.kernel_cells.specs.Wishes.{HasWish}
-use Rattle.step_plans.specs.Plans.{idle_of}
-use Rattle.step_plans.specs.declared.idle.Idle.{Idle as AnIdle}
-use Rattle.step_plans.specs.declared.idle.Idle.TheVariants.{Absent}
-use Rattle.cell_table.specs.Steps.{EntersStep, GoesOn, StaysAtFault}
-use Rattle.cell_table.specs.Tables.{AreClean, HasNews, HasTableWishes, IsOrderly, entity_in, left_of, state_in, tables_in}
-use Rattle.record_laws.specs.Cells.{words_on}
+use Rattle.table_steps.specs.hop_model.Histories.{Run}
+use Rattle.table_steps.specs.hop_model.State.{Supply, AtlasCell, NotBorn, empty_state, no_atlas}
+use Rattle.kernel_views.specs.page_store.declared.faults.PageFault.{PageFault}
+use Rattle.kernel_views.specs.event_clocks.declared.Clock.{Clock}
+use Rattle.kernel_views.specs.store_model.Books.{kept_names}
+use Rattle.kernel_views.specs.snapshot_store.Paging.{GoesByPages}
+use Rattle.kernel_views.specs.snapshot_store.State.{State, books}
+use Rattle.kernel_views.specs.kernel_cells.declared.cells.Cell.{Cell}
+use Rattle.kernel_views.specs.kernel_cells.declared.cells.Wish.{Wish}
+use Rattle.kernel_views.specs.kernel_cells.Wishes.{HasWish}
+use Rattle.table_steps.specs.step_plans.Plans.{idle_of}
+use Rattle.table_steps.specs.step_plans.declared.idle.Idle.{Idle as AnIdle}
+use Rattle.table_steps.specs.step_plans.declared.idle.Idle.TheVariants.{Absent}
+use Rattle.kernel_views.specs.cell_table.Steps.{EntersStep, GoesOn, StaysAtFault}
+use Rattle.kernel_views.specs.cell_table.Tables.{AreClean, HasNews, HasTableWishes, IsOrderly, entity_in, left_of, state_in, tables_in}
+use Rattle.kernel_views.specs.record_laws.Cells.{words_on}
 use Rattle.table_steps.specs.declared.stepping.StepFault.{StepFault}
 use Rattle.table_steps.specs.declared.stepping.StepFault.TheVariants.{Idle, Paging}
-use Rattle.kernel_model.specs.Beginnings.{Beginning}
+use Rattle.kernel_views.specs.kernel_model.Beginnings.{Beginning}
 use Rattle.kernel_views.specs.Events.{StepsOver, StopsOver}
 use Rattle.store_steps.specs.Leaving.{LeavesInOrder}
 

@@ -1,10 +1,10 @@
 -- What a step leaves of the cells and the store, whatever came of it.
 use Rattle.std.specs.Prelude.{◌≡◌, ℕ, ◌+◌, ◌≤◌, List, slice_get, Some}
 use Rattle.disk_trait.specs.Image.{Image}
-use Rattle.snapshot_store.specs.Paging.{GoesByPages}
-use Rattle.snapshot_store.specs.State.{State, books}
-use Rattle.kernel_cells.specs.declared.cells.Cell.{Cell}
-use Rattle.cell_table.specs.Tables.{IsOrderly}
+use Rattle.kernel_views.specs.snapshot_store.Paging.{GoesByPages}
+use Rattle.kernel_views.specs.snapshot_store.State.{State, books}
+use Rattle.kernel_views.specs.kernel_cells.declared.cells.Cell.{Cell}
+use Rattle.kernel_views.specs.cell_table.Tables.{IsOrderly}
 
 -- THE CELLS ARE IN ORDER again, versions rose by one at most, and only pages were read and written, at most one of them written; the disk's
 -- count of faults didn't fall.

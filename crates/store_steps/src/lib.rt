@@ -2,26 +2,26 @@
 #![tactic(auto)]
 
 ghost use Rattle.std.specs.Prelude.{◌≡◌, ◌↔◌, ℕ, List, Some, false, IfOk, IsErrOf, OnOk, slice_get};
-ghost use Rattle.hop_model.specs.State.{Supply};
-ghost use Rattle.page_store.specs.declared.faults.PageFault.{PageFault as AFault};
-ghost use Rattle.fault_paging.specs.Calls.{IsCausedBy};
-ghost use Rattle.step_plans.specs.Plans.{idle_of};
-ghost use Rattle.step_plans.specs.declared.idle.Idle.{Idle as AnIdle};
-ghost use Rattle.cell_table.specs.Steps.{EntersStep};
-ghost use Rattle.cell_table.specs.Tables.{left_of, state_in, AreClean, AreFewWrites, IsOrderly};
-ghost use Rattle.snapshot_store.specs.State.{books};
-ghost use Rattle.store_model.specs.Books.{free_in};
-ghost use Rattle.record_laws.specs.Cells.{words_on};
+ghost use Rattle.table_steps.specs.hop_model.State.{Supply};
+ghost use Rattle.kernel_views.specs.page_store.declared.faults.PageFault.{PageFault as AFault};
+ghost use Rattle.kernel_views.specs.fault_paging.Calls.{IsCausedBy};
+ghost use Rattle.table_steps.specs.step_plans.Plans.{idle_of};
+ghost use Rattle.table_steps.specs.step_plans.declared.idle.Idle.{Idle as AnIdle};
+ghost use Rattle.kernel_views.specs.cell_table.Steps.{EntersStep};
+ghost use Rattle.kernel_views.specs.cell_table.Tables.{left_of, state_in, AreClean, AreFewWrites, IsOrderly};
+ghost use Rattle.kernel_views.specs.snapshot_store.State.{books};
+ghost use Rattle.kernel_views.specs.store_model.Books.{free_in};
+ghost use Rattle.kernel_views.specs.record_laws.Cells.{words_on};
 ghost use Rattle.table_steps.specs.Wanting.{WantsWord};
-ghost use Rattle.kernel_model.specs.Beginnings.{Beginning};
+ghost use Rattle.kernel_views.specs.kernel_model.Beginnings.{Beginning};
 ghost use Rattle.kernel_views.specs.Events.{StepsOver, StopsOver};
 ghost use Rattle.store_steps.specs.Leaving.{LeavesInOrder};
 
 use disk_trait::Disk;
 use hop_base::{Entity, Entry};
-use kernel_cells::Cell;
+use kernel_views::kernel_cells::Cell;
+use kernel_views::snapshot_store::Store;
 use manager_gate::{Gate, Policy, Supplier};
-use snapshot_store::Store;
 use table_steps::{StepFault, advance};
 
 /// One step of the locus with this number, over the cells and the store of a kernel.

@@ -1,7 +1,7 @@
 //! Sources and sinks that fail.
 use crate::calls::{formatted, put_failing};
 use crate::scripts::{FIVE, PAST_THE_PAGE};
-use command_parts::Status;
+use hopper_top::command_parts::Status;
 use std::test::Fail;
 
 #[test]

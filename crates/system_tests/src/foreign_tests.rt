@@ -1,8 +1,8 @@
 //! Disks that hold no image, and images of which a byte is another.
 use crate::calls::{copy_of, disk_of, put, run};
 use crate::scripts::FIVE;
-use command_parts::Status;
 use disk_trait::{Disk, MemoryDisk};
+use hopper_top::command_parts::Status;
 use std::alloc::Global;
 use std::test::Fail;
 

@@ -6,9 +6,9 @@ use crate::scripts::{
     ALL_PAGES, ALWAYS_STABLE, BORN_WISHED, COUNTS_ON, FIVE, STABILISES, STABLE, WISHED,
     WISHED_BY_TWO, WISHED_BY_TWO_KEPT, WISHES, WISHES_KEPT,
 };
-use command_parts::Status;
 use disk_trait::MemoryDisk;
 use hop_base::{Entity, Event, Touch, Touched};
+use hopper_top::command_parts::Status;
 use std::test::Fail;
 
 #[test]

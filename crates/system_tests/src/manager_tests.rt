@@ -3,7 +3,7 @@ use crate::calls::{put, run, shown};
 use crate::scripts::{
     BORN_WISHED_BY_PROGRAM, NEVER_HALTS, PAGE_AND_PLACE, PRINTS, WISHED, WISHED_BY_PROGRAM,
 };
-use command_parts::Status;
+use hopper_top::command_parts::Status;
 use std::test::Fail;
 
 #[test]

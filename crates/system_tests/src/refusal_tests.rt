@@ -1,8 +1,8 @@
 //! Words and scripts that are refused.
 use crate::calls::{disk_of, formatted, put, run};
 use crate::scripts::FIVE;
-use command_parts::Status;
 use disk_trait::Disk;
+use hopper_top::command_parts::Status;
 use std::test::Fail;
 
 #[test]

@@ -7,8 +7,8 @@ use crate::scripts::{
     NO_SNAP, ORDERED, PAST_THE_PAGE, PRIVATE_FIRST, PRIVATE_IN_ONE_HOST, SNAP, STOPS_ITSELF,
     TAGGED, TAKES, UNSTABLE, WISHED, WISHES,
 };
-use command_parts::Status;
 use hop_base::{Answer, Entity, Entry, Event, Reply, Touch, Touched};
+use hopper_top::command_parts::Status;
 use std::test::Fail;
 
 #[test]

@@ -1,17 +1,17 @@
 -- The atlas that the cells of a table have.
 use Rattle.std.proofs.Common.{◌≡◌, ℕ, List, slice_get, Option, Some, None, refl, ap, ◌∙◌}
-use Rattle.hop_model.specs.State.{Supply}
-use Rattle.hop_model.specs.Steps.{atlas_in}
+use Rattle.table_steps.specs.hop_model.State.{Supply}
+use Rattle.table_steps.specs.hop_model.Steps.{atlas_in}
 use Rattle.atlas_dir.specs.Directory.{Directory}
-use Rattle.kernel_calls.specs.Calls.{atlas_state}
-use Rattle.locus_machine.specs.declared.loci.Head.{Head}
-use Rattle.locus_machine.specs.declared.loci.Locus.{Locus}
-use Rattle.kernel_cells.specs.declared.cells.Cell.{Cell}
-use Rattle.kernel_cells.specs.declared.cells.Part.{Part}
-use Rattle.kernel_cells.specs.declared.cells.Part.TheVariants as part
-use Rattle.kernel_cells.specs.Cells.{container_cell, locus_cell, part_of}
-use Rattle.cell_table.specs.Steps.{HasDirectory}
-use Rattle.cell_table.specs.Tables.{entity_in, state_in}
+use Rattle.table_steps.specs.kernel_calls.Calls.{atlas_state}
+use Rattle.table_steps.specs.locus_machine.declared.loci.Head.{Head}
+use Rattle.table_steps.specs.locus_machine.declared.loci.Locus.{Locus}
+use Rattle.cell_births.specs.kernel_cells.declared.cells.Cell.{Cell}
+use Rattle.cell_births.specs.kernel_cells.declared.cells.Part.{Part}
+use Rattle.cell_births.specs.kernel_cells.declared.cells.Part.TheVariants as part
+use Rattle.cell_births.specs.kernel_cells.Cells.{container_cell, locus_cell, part_of}
+use Rattle.table_steps.specs.cell_table.Steps.{HasDirectory}
+use Rattle.table_steps.specs.cell_table.Tables.{entity_in, state_in}
 use Rattle.table_births.specs.Births.{atlas_state_at, atlas_state_by, atlas_state_in}
 
 module _ (s : Supply) (words : ℕ → List ℕ) where

@@ -3,34 +3,34 @@ use Rattle.std.proofs.Common.{◌≡◌, inl, inr, ℕ, ◌+◌, ◌<◌, ◌≤
 use Rattle.std.specs.List.{All}
 use Rattle.hop_base.specs.declared.histories.Entry.{Entry}
 use Rattle.hop_base.specs.declared.histories.Event.TheVariants.{Birth}
-use Rattle.hop_model.specs.Births.{next_birth}
-use Rattle.hop_model.specs.Histories.{Run, births_owed, by_event, event_of, goes_on, never, writes}
-use Rattle.hop_model.specs.Parts.{IsNext, after_entry, is_event}
-use Rattle.hop_model.specs.Scripts.{ContainerTable, Script, locus_named, next_name}
-use Rattle.hop_model.specs.State.{AtlasState, EntityState, KernelState, NotBorn, AtlasCell, Supply, Text}
-use Rattle.hop_model.specs.Steps.{atlas_in}
-use Rattle.script_form.specs.Rules.{IsScript}
-use Rattle.run_laws.proofs.Tellings.{written_rises}
-use Rattle.sound_states.specs.States.{IsSoundState}
-use Rattle.sound_states.proofs.States.{birth_state}
-use Rattle.fitting_births.specs.Fitting.{Fits}
-use Rattle.fitting_births.proofs.Ends.{born_state, next_bears}
-use Rattle.kernel_cells.specs.declared.cells.Cell.{Cell}
-use Rattle.kernel_cells.specs.declared.cells.Wish.{Wish}
-use Rattle.kernel_cells.specs.Cells.{HasCell}
-use Rattle.kernel_cells.specs.Wishes.{HasWish}
-use Rattle.wish_laws.specs.Founded.{IsFoundedCell, TakesBirth}
-use Rattle.wish_laws.proofs.Recorded.{birth_wish}
-use Rattle.step_cells.specs.Advances.{HasCells}
+use Rattle.table_steps.specs.hop_model.Births.{next_birth}
+use Rattle.table_steps.specs.hop_model.Histories.{Run, births_owed, by_event, event_of, goes_on, never, writes}
+use Rattle.table_steps.specs.hop_model.Parts.{IsNext, after_entry, is_event}
+use Rattle.table_steps.specs.hop_model.Scripts.{ContainerTable, Script, locus_named, next_name}
+use Rattle.table_steps.specs.hop_model.State.{AtlasState, EntityState, KernelState, NotBorn, AtlasCell, Supply, Text}
+use Rattle.table_steps.specs.hop_model.Steps.{atlas_in}
+use Rattle.table_steps.specs.script_form.Rules.{IsScript}
+use Rattle.cell_births.proofs.run_laws_lemmas.Tellings.{written_rises}
+use Rattle.table_steps.specs.sound_states.States.{IsSoundState}
+use Rattle.table_steps.proofs.sound_states_lemmas.States.{birth_state}
+use Rattle.cell_births.specs.fitting_births.Fitting.{Fits}
+use Rattle.cell_births.proofs.fitting_births_lemmas.Ends.{born_state, next_bears}
+use Rattle.cell_births.specs.kernel_cells.declared.cells.Cell.{Cell}
+use Rattle.cell_births.specs.kernel_cells.declared.cells.Wish.{Wish}
+use Rattle.cell_births.specs.kernel_cells.Cells.{HasCell}
+use Rattle.cell_births.specs.kernel_cells.Wishes.{HasWish}
+use Rattle.cell_births.specs.wish_laws.Founded.{IsFoundedCell, TakesBirth}
+use Rattle.cell_births.proofs.wish_laws_lemmas.Recorded.{birth_wish}
+use Rattle.table_steps.specs.step_cells.Advances.{HasCells}
 use Rattle.cell_births.specs.Bearing.{Bears}
 use Rattle.cell_births.proofs.Readiness.{next_named}
-use Rattle.cell_table.specs.Lending.{ForPairs, IsApart, Lends}
-use Rattle.cell_table.specs.Quiet.{GoesQuietly}
-use Rattle.cell_table.specs.Tables.{AreNumbered, HasKind, HasTableWishes, IsOrderly, entity_in, state_in}
-use Rattle.cell_table.proofs.Having.{each_has, is_entity, no_supply, no_words, some_cell, state_has_all}
-use Rattle.cell_table.proofs.Kept.{clean_after, orderly_with, tables_same}
-use Rattle.cell_table.proofs.Lent.{spot}
-use Rattle.cell_table.proofs.PartKinds.{born_kind}
+use Rattle.table_steps.specs.cell_table.Lending.{ForPairs, IsApart, Lends}
+use Rattle.table_steps.specs.cell_table.Quiet.{GoesQuietly}
+use Rattle.table_steps.specs.cell_table.Tables.{AreNumbered, HasKind, HasTableWishes, IsOrderly, entity_in, state_in}
+use Rattle.table_steps.proofs.cell_table_lemmas.Having.{each_has, is_entity, no_supply, no_words, some_cell, state_has_all}
+use Rattle.table_steps.proofs.cell_table_lemmas.Kept.{clean_after, orderly_with, tables_same}
+use Rattle.table_steps.proofs.cell_table_lemmas.Lent.{spot}
+use Rattle.table_steps.proofs.cell_table_lemmas.PartKinds.{born_kind}
 use Rattle.table_births.specs.Births.{BearsQuietly, atlas_state_in, count_born}
 use Rattle.table_births.proofs.AtlasStates.{same_atlas}
 

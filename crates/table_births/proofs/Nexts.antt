@@ -2,27 +2,27 @@
 use Rattle.std.proofs.Common.{◌≡◌, ℕ, ◌+◌, Bool, List, length, None, unwrap_or, is_some, option_map, option_and_then, sym, ap, subst, ◌∙◌}
 use Rattle.hop_base.specs.declared.histories.Entry.{Entry}
 use Rattle.hop_base.specs.declared.histories.Event.TheVariants.{Birth}
-use Rattle.hop_model.specs.Births.{birth_named, next_birth, next_birth_change}
-use Rattle.hop_model.specs.Changes.{Change, carried}
-use Rattle.hop_model.specs.Scripts.{ContainerTable, LocusTable, Script, next_name}
-use Rattle.hop_model.specs.State.{KernelState, Supply}
-use Rattle.hop_model.specs.Steps.{atlas_in}
-use Rattle.script_form.specs.Rules.{IsScript}
-use Rattle.fitting_births.specs.Fitting.{Fits}
+use Rattle.table_steps.specs.hop_model.Births.{birth_named, next_birth, next_birth_change}
+use Rattle.table_steps.specs.hop_model.Changes.{Change, carried}
+use Rattle.table_steps.specs.hop_model.Scripts.{ContainerTable, LocusTable, Script, next_name}
+use Rattle.table_steps.specs.hop_model.State.{KernelState, Supply}
+use Rattle.table_steps.specs.hop_model.Steps.{atlas_in}
+use Rattle.table_steps.specs.script_form.Rules.{IsScript}
+use Rattle.cell_births.specs.fitting_births.Fitting.{Fits}
 use Rattle.atlas_dir.specs.Directory.{Directory, IsDirectory, entity_named}
-use Rattle.kernel_calls.specs.Calls.{atlas_state}
-use Rattle.directory_laws.proofs.NameLaws.{numbers_same}
-use Rattle.kernel_cells.specs.declared.cells.Cell.{Cell}
-use Rattle.script_against.specs.NextTables.{AreBornBefore, IsNextContainer, IsNextLocus, IsNextTable}
-use Rattle.script_against.specs.declared.tables.NextTable.{NextTable}
-use Rattle.script_against.specs.declared.tables.Progress.{Progress}
-use Rattle.script_against.proofs.ByKind.{container_number}
-use Rattle.script_against.proofs.Staying.{progress_stays}
+use Rattle.table_steps.specs.kernel_calls.Calls.{atlas_state}
+use Rattle.table_steps.proofs.directory_laws_lemmas.NameLaws.{numbers_same}
+use Rattle.cell_births.specs.kernel_cells.declared.cells.Cell.{Cell}
+use Rattle.cell_births.specs.script_against.NextTables.{AreBornBefore, IsNextContainer, IsNextLocus, IsNextTable}
+use Rattle.cell_births.specs.script_against.declared.tables.NextTable.{NextTable}
+use Rattle.cell_births.specs.script_against.declared.tables.Progress.{Progress}
+use Rattle.cell_births.proofs.script_against_lemmas.ByKind.{container_number}
+use Rattle.cell_births.proofs.script_against_lemmas.Staying.{progress_stays}
 use Rattle.cell_births.specs.Bearing.{MayBearContainer, MayBearLocus}
 use Rattle.cell_births.proofs.Readiness.{may_bear_container, may_bear_locus}
-use Rattle.cell_table.specs.Steps.{HasDirectory}
-use Rattle.cell_table.specs.Tables.{IsOrderly, state_in}
-use Rattle.cell_table.proofs.Having.{no_supply, no_words}
+use Rattle.table_steps.specs.cell_table.Steps.{HasDirectory}
+use Rattle.table_steps.specs.cell_table.Tables.{IsOrderly, state_in}
+use Rattle.table_steps.proofs.cell_table_lemmas.Having.{no_supply, no_words}
 use Rattle.table_steps.proofs.Facing.{cells}
 use Rattle.table_steps.proofs.FacingAtlas.{directory_sound}
 use Rattle.table_births.specs.Births.{BearsQuietly, NoBirthLeft, atlas_state_in}

@@ -2,19 +2,19 @@
 use Rattle.std.specs.Prelude.{◌≡◌, ℕ, ◌+◌, ◌≤◌, Bool, true, false, List, length, slice_get, slice_index, Option, Some, None}
 use Rattle.hop_base.specs.declared.histories.Entry.{Entry}
 use Rattle.hop_base.specs.declared.histories.Event.TheVariants.{Birth}
-use Rattle.hop_model.specs.Births.{next_birth}
-use Rattle.hop_model.specs.Histories.{Run, births_owed, goes_on, writes}
-use Rattle.hop_model.specs.Scripts.{Script, next_name}
-use Rattle.hop_model.specs.State.{AtlasState, Supply, no_atlas}
-use Rattle.fitting_births.specs.Fitting.{Fits}
-use Rattle.kernel_calls.specs.Calls.{atlas_state}
-use Rattle.kernel_cells.specs.declared.cells.Cell.{Cell}
-use Rattle.kernel_cells.specs.declared.cells.Part.{Part}
-use Rattle.kernel_cells.specs.declared.cells.Part.TheVariants as part
-use Rattle.script_against.specs.NextTables.{AreBornBefore}
-use Rattle.script_against.specs.declared.tables.Progress.{Progress}
-use Rattle.wish_laws.specs.Founded.{TakesBirth}
-use Rattle.cell_table.specs.Tables.{AreClean, HasTableWishes, IsOrderly, state_in, tables_in}
+use Rattle.table_steps.specs.hop_model.Births.{next_birth}
+use Rattle.table_steps.specs.hop_model.Histories.{Run, births_owed, goes_on, writes}
+use Rattle.table_steps.specs.hop_model.Scripts.{Script, next_name}
+use Rattle.table_steps.specs.hop_model.State.{AtlasState, Supply, no_atlas}
+use Rattle.cell_births.specs.fitting_births.Fitting.{Fits}
+use Rattle.table_steps.specs.kernel_calls.Calls.{atlas_state}
+use Rattle.cell_births.specs.kernel_cells.declared.cells.Cell.{Cell}
+use Rattle.cell_births.specs.kernel_cells.declared.cells.Part.{Part}
+use Rattle.cell_births.specs.kernel_cells.declared.cells.Part.TheVariants as part
+use Rattle.cell_births.specs.script_against.NextTables.{AreBornBefore}
+use Rattle.cell_births.specs.script_against.declared.tables.Progress.{Progress}
+use Rattle.cell_births.specs.wish_laws.Founded.{TakesBirth}
+use Rattle.table_steps.specs.cell_table.Tables.{AreClean, HasTableWishes, IsOrderly, state_in, tables_in}
 
 -- the directory that the part of an atlas's cell is
 abbrev pub atlas_state_by : Part → AtlasState

@@ -1,1 +1,2 @@
 pub mod Births
+pub use Rattle.cell_births.specs.script_against

@@ -1,20 +1,20 @@
 // The next birth of a script over the table.
 ghost use Rattle.std.specs.Prelude.{◌≡◌, ◌+◌, ℕ, Bool, List, IfNone, IfSome};
-ghost use Rattle.hop_model.specs.Scripts.{Script as Tables};
-ghost use Rattle.hop_model.specs.State.{Supply};
-ghost use Rattle.script_form.specs.Rules.{IsScript};
-ghost use Rattle.script_form.specs.Scripts.{tables_of};
-ghost use Rattle.fitting_births.specs.Fitting.{Fits};
-ghost use Rattle.script_against.specs.NextTables.{IsNextTable};
-ghost use Rattle.cell_table.specs.Steps.{IsInOrder};
-ghost use Rattle.cell_table.specs.Tables.{AreFewWrites, IsOrderly};
+ghost use Rattle.table_steps.specs.hop_model.Scripts.{Script as Tables};
+ghost use Rattle.table_steps.specs.hop_model.State.{Supply};
+ghost use Rattle.table_steps.specs.script_form.Rules.{IsScript};
+ghost use Rattle.table_steps.specs.script_form.Scripts.{tables_of};
+ghost use Rattle.cell_births.specs.fitting_births.Fitting.{Fits};
+ghost use Rattle.cell_births.specs.script_against.NextTables.{IsNextTable};
+ghost use Rattle.table_steps.specs.cell_table.Steps.{IsInOrder};
+ghost use Rattle.table_steps.specs.cell_table.Tables.{AreFewWrites, IsOrderly};
 ghost use Rattle.table_births.specs.Births.{AreUnderWay, BearsOn, BearsQuietly, EntersBirth, NoBirthLeft, atlas_state_in, count_born};
 
 use crate::lending::{atlas_of, free_container, go_container, go_locus, locus_numbers};
+use cell_births::kernel_cells::Cell;
+use cell_births::script_against::{NextTable, Progress, next_table};
 use hop_base::Entry;
-use kernel_cells::Cell;
-use script_against::{NextTable, Progress, next_table};
-use script_form::Script;
+use table_steps::script_form::Script;
 
 /// The birth of the table that is next.
 fn bear_table(cells: &mut [Cell], next: NextTable) -> Entry

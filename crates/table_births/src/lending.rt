@@ -1,21 +1,21 @@
 // The births of one table of a script, over the cells that it touches.
 ghost use Rattle.std.specs.Prelude.{◌≡◌, ◌+◌, ℕ, length};
-ghost use Rattle.hop_model.specs.Scripts.{Script as Tables};
-ghost use Rattle.script_form.specs.Rules.{IsScript};
-ghost use Rattle.script_form.specs.Scripts.{container_of, locus_of};
-ghost use Rattle.fitting_births.specs.Fitting.{Fits};
+ghost use Rattle.table_steps.specs.hop_model.Scripts.{Script as Tables};
+ghost use Rattle.table_steps.specs.script_form.Rules.{IsScript};
+ghost use Rattle.table_steps.specs.script_form.Scripts.{container_of, locus_of};
+ghost use Rattle.cell_births.specs.fitting_births.Fitting.{Fits};
 ghost use Rattle.atlas_dir.specs.Directory.{Directory};
-ghost use Rattle.script_against.specs.NextTables.{IsNextContainer, IsNextLocus};
+ghost use Rattle.cell_births.specs.script_against.NextTables.{IsNextContainer, IsNextLocus};
 ghost use Rattle.cell_births.specs.Bearing.{MayBearContainer, MayBearLocus};
-ghost use Rattle.cell_table.specs.Steps.{HasDirectory, IsInOrder};
-ghost use Rattle.cell_table.specs.Tables.{AreFewWrites};
+ghost use Rattle.table_steps.specs.cell_table.Steps.{HasDirectory, IsInOrder};
+ghost use Rattle.table_steps.specs.cell_table.Tables.{AreFewWrites};
 ghost use Rattle.table_births.specs.Births.{BearsQuietly, atlas_state_in};
 
 use atlas_dir::Atlas;
+use cell_births::kernel_cells::{Cell, Part};
 use cell_births::{bear_container, bear_locus};
 use hop_base::{Entity, Entry, Kind};
-use kernel_cells::{Cell, Part};
-use script_form::{ScriptContainer, ScriptLocus};
+use table_steps::script_form::{ScriptContainer, ScriptLocus};
 
 /// The atlas of a table of cells.
 pub fn atlas_of(cells: &[Cell]) -> &Atlas

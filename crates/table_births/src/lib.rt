@@ -6,4 +6,5 @@ mod bearing;
 mod lending;
 
 pub use bearing::bear_next;
+pub use cell_births::script_against;
 pub use lending::atlas_of;

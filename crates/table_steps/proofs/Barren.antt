@@ -1,14 +1,14 @@
 -- The cells of a birth for which no number is free.
 use Rattle.std.proofs.Common.{◌≡◌, ◌⊎◌, inl, inr, ℕ, ◌<◌, ◌≤◌, ◌^◌, Bool, List, length, slice_get, Some, arith}
 use Rattle.atlas_dir.specs.Directory.{Directory}
-use Rattle.locus_machine.specs.Loci.{locus_of}
-use Rattle.locus_machine.specs.declared.loci.Locus.{Locus}
-use Rattle.kernel_cells.specs.declared.cells.Cell.{Cell}
-use Rattle.kernel_cells.specs.declared.cells.Part.TheVariants as part
-use Rattle.kernel_cells.specs.Cells.{IsRunning}
-use Rattle.birth_steps.specs.Bearing.{NoNumberFree}
-use Rattle.step_plans.specs.declared.plans.Plan.{Plan}
-use Rattle.step_plans.specs.declared.plans.Plan.TheVariants as plan
+use Rattle.plan_laws.specs.locus_machine.Loci.{locus_of}
+use Rattle.plan_laws.specs.locus_machine.declared.loci.Locus.{Locus}
+use Rattle.plan_laws.specs.kernel_cells.declared.cells.Cell.{Cell}
+use Rattle.plan_laws.specs.kernel_cells.declared.cells.Part.TheVariants as part
+use Rattle.plan_laws.specs.kernel_cells.Cells.{IsRunning}
+use Rattle.plan_laws.specs.birth_steps.Bearing.{NoNumberFree}
+use Rattle.plan_laws.specs.step_plans.declared.plans.Plan.{Plan}
+use Rattle.plan_laws.specs.step_plans.declared.plans.Plan.TheVariants as plan
 use Rattle.cell_table.specs.Steps.{HasDirectory, IsPlannedAt}
 use Rattle.cell_table.specs.Tables.{AreFewWrites, IsOrderly}
 use Rattle.table_steps.proofs.Facing.{high_at, plan_of}

@@ -1,22 +1,22 @@
 -- What a table in order says of the cells that a step touches.
 use Rattle.std.proofs.Common.{◌≡◌, ◌≢◌, ℕ, ◌<◌, ◌^◌, Bool, List, slice_get, IsSome, Option, Some, None, sym, ap, ◌∙◌, subst}
 use Rattle.hop_base.specs.declared.instructions.Instr.{Instr}
-use Rattle.hop_model.specs.Soundness.{AreSound}
-use Rattle.hop_model.specs.State.{AtlasState, Cell as ModelCell, NotBorn, LocusCell}
-use Rattle.wanted_act.specs.Views.{IsReadyLocus}
-use Rattle.wanted_act.proofs.Ready.{ready}
-use Rattle.locus_machine.specs.Loci.{locus_of}
-use Rattle.locus_machine.specs.declared.loci.Head.{Head}
-use Rattle.locus_machine.specs.declared.loci.Locus.{Locus}
-use Rattle.kernel_cells.specs.declared.cells.Cell.{Cell}
-use Rattle.kernel_cells.specs.declared.cells.Part.{Part}
-use Rattle.kernel_cells.specs.declared.cells.Part.TheVariants as part
-use Rattle.kernel_cells.specs.Cells.{container_cell, part_of}
-use Rattle.beside_steps.specs.Besides.{FitsBeside}
+use Rattle.plan_laws.specs.hop_model.Soundness.{AreSound}
+use Rattle.plan_laws.specs.hop_model.State.{AtlasState, Cell as ModelCell, NotBorn, LocusCell}
+use Rattle.plan_laws.specs.wanted_act.Views.{IsReadyLocus}
+use Rattle.plan_laws.proofs.wanted_act_lemmas.Ready.{ready}
+use Rattle.plan_laws.specs.locus_machine.Loci.{locus_of}
+use Rattle.plan_laws.specs.locus_machine.declared.loci.Head.{Head}
+use Rattle.plan_laws.specs.locus_machine.declared.loci.Locus.{Locus}
+use Rattle.plan_laws.specs.kernel_cells.declared.cells.Cell.{Cell}
+use Rattle.plan_laws.specs.kernel_cells.declared.cells.Part.{Part}
+use Rattle.plan_laws.specs.kernel_cells.declared.cells.Part.TheVariants as part
+use Rattle.plan_laws.specs.kernel_cells.Cells.{container_cell, part_of}
+use Rattle.plan_laws.specs.beside_steps.Besides.{FitsBeside}
 use Rattle.plan_laws.proofs.SoundPlans.{fits_here, locus_here}
-use Rattle.step_plans.specs.Plans.{IsPlanned}
-use Rattle.step_plans.specs.declared.plans.Plan.{Plan}
-use Rattle.step_plans.specs.declared.plans.Plan.TheVariants as plan
+use Rattle.plan_laws.specs.step_plans.Plans.{IsPlanned}
+use Rattle.plan_laws.specs.step_plans.declared.plans.Plan.{Plan}
+use Rattle.plan_laws.specs.step_plans.declared.plans.Plan.TheVariants as plan
 use Rattle.cell_table.specs.Steps.{IsPlannedAt}
 use Rattle.cell_table.specs.Tables.{AreFewWrites, HasKind, IsOrderly, entity_in, state_in}
 pub use Rattle.cell_table.proofs.Having.{no_supply, no_words, some_cell}
@@ -72,7 +72,7 @@ module _ (held : ℕ → Bool) (cs : List Cell) (orderly : IsOrderly held cs) wh
       let at_a = orderly.numbers.each me a is_a in
       let at_b = orderly.numbers.each y b is_b in
       let f = fits_here atlas cells me (locus_of p.locus) are_sound (locus_at me a p.locus is_a p.runs.is) no_supply no_words i y b.part
-      (subst (λ m. Rattle.step_plans.specs.Plans.IsCallBeside m (locus_of p.locus) i y) at_a p.wants) (part_here y b is_b) in
+      (subst (λ m. Rattle.plan_laws.specs.step_plans.Plans.IsCallBeside m (locus_of p.locus) i y) at_a p.wants) (part_here y b is_b) in
       record {
         planned = subst (λ z. IsPlanned a (plan.Beside z i)) (sym at_b) p;
         fits = f.0;
@@ -85,7 +85,7 @@ module _ (held : ℕ → Bool) (cs : List Cell) (orderly : IsOrderly held cs) wh
   other_apart me y i planned b is_b =
       let p = planned.plan in
       (fits_here atlas cells me (locus_of p.locus) are_sound (locus_at me planned.cell p.locus planned.is p.runs.is) no_supply no_words i y b.part
-      (subst (λ m. Rattle.step_plans.specs.Plans.IsCallBeside m (locus_of p.locus) i y) (orderly.numbers.each me planned.cell planned.is) p.wants) (part_here y b is_b)).1
+      (subst (λ m. Rattle.plan_laws.specs.step_plans.Plans.IsCallBeside m (locus_of p.locus) i y) (orderly.numbers.each me planned.cell planned.is) p.wants) (part_here y b is_b)).1
 
   -- what fits a call is born
   pub fits_born : (i : Instr) (x : ℕ) (b : Cell) → slice_get cs x ≡ Some b → FitsBeside i b.part → cells x ≡ NotBorn → ⊥

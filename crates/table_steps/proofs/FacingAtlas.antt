@@ -1,26 +1,26 @@
 -- What a table in order says of the cells that a step touches with the atlas.
 use Rattle.std.proofs.Common.{◌≡◌, ℕ, ◌+◌, ◌<◌, ◌≤◌, ◌^◌, Bool, List, length, slice_get, IsSome, Some, refl, sym, ap, ◌∙◌, subst, arith}
 use Rattle.hop_base.specs.declared.instructions.Instr.{Instr}
-use Rattle.hop_model.specs.Soundness.{AreSound}
-use Rattle.hop_model.specs.State.{AtlasState, NotBorn, AtlasCell}
+use Rattle.plan_laws.specs.hop_model.Soundness.{AreSound}
+use Rattle.plan_laws.specs.hop_model.State.{AtlasState, NotBorn, AtlasCell}
 use Rattle.atlas_dir.specs.Directory.{Directory}
-use Rattle.kernel_calls.specs.Calls.{atlas_state}
-use Rattle.locus_machine.specs.Loci.{locus_of}
-use Rattle.locus_machine.specs.declared.loci.Head.{Head}
-use Rattle.locus_machine.specs.declared.loci.Locus.{Locus}
-use Rattle.kernel_cells.specs.declared.cells.Cell.{Cell}
-use Rattle.kernel_cells.specs.declared.cells.Part.{Part}
-use Rattle.kernel_cells.specs.declared.cells.Part.TheVariants as part
-use Rattle.kernel_cells.specs.Cells.{part_of}
-use Rattle.beside_steps.specs.Besides.{memory_of}
-use Rattle.birth_steps.specs.Bearing.{IsUnbornContainer}
-use Rattle.map_steps.specs.Mapping.{IsDirectoryPart, IsHeadPart, MayMap}
+use Rattle.plan_laws.specs.kernel_calls.Calls.{atlas_state}
+use Rattle.plan_laws.specs.locus_machine.Loci.{locus_of}
+use Rattle.plan_laws.specs.locus_machine.declared.loci.Head.{Head}
+use Rattle.plan_laws.specs.locus_machine.declared.loci.Locus.{Locus}
+use Rattle.plan_laws.specs.kernel_cells.declared.cells.Cell.{Cell}
+use Rattle.plan_laws.specs.kernel_cells.declared.cells.Part.{Part}
+use Rattle.plan_laws.specs.kernel_cells.declared.cells.Part.TheVariants as part
+use Rattle.plan_laws.specs.kernel_cells.Cells.{part_of}
+use Rattle.plan_laws.specs.beside_steps.Besides.{memory_of}
+use Rattle.plan_laws.specs.birth_steps.Bearing.{IsUnbornContainer}
+use Rattle.plan_laws.specs.map_steps.Mapping.{IsDirectoryPart, IsHeadPart, MayMap}
 use Rattle.plan_laws.proofs.SoundMaps.{map_here}
 use Rattle.plan_laws.proofs.SoundParts.{directory_part, unborn_part}
 use Rattle.plan_laws.proofs.SoundPlans.{around_container, around_locus}
-use Rattle.step_plans.specs.Plans.{IsPlanned}
-use Rattle.step_plans.specs.declared.plans.Plan.{Plan}
-use Rattle.step_plans.specs.declared.plans.Plan.TheVariants as plan
+use Rattle.plan_laws.specs.step_plans.Plans.{IsPlanned}
+use Rattle.plan_laws.specs.step_plans.declared.plans.Plan.{Plan}
+use Rattle.plan_laws.specs.step_plans.declared.plans.Plan.TheVariants as plan
 use Rattle.cell_table.specs.Steps.{HasDirectory, IsPlannedAt}
 use Rattle.cell_table.specs.Tables.{AreFewWrites, HasKind, IsOrderly}
 use Rattle.table_steps.proofs.Facing.{are_sound, atlas, cells, locus_at, no_supply, no_words, part_here, plan_of, some_cell}
@@ -94,7 +94,7 @@ module _ (held : ℕ → Bool) (cs : List Cell) (orderly : IsOrderly held cs) wh
         born = λ none. clash f.0 f.1.memory (sym (ap (part_of no_supply no_words) f.1.is) ∙ part_here held cs orderly y b is_b ∙ ap (cells held cs orderly) (sym at_b) ∙ none);
       }
     where
-      clash : (h : Head) (m : Rattle.fault_paging.specs.declared.paged.PagedMemory.PagedMemory) → part_of no_supply no_words (part.Container (record { head = Some h; memory = m })) ≡ NotBorn → ⊥
+      clash : (h : Head) (m : Rattle.plan_laws.specs.fault_paging.declared.paged.PagedMemory.PagedMemory) → part_of no_supply no_words (part.Container (record { head = Some h; memory = m })) ≡ NotBorn → ⊥
       clash h m e = cc
 
   -- BIRTHS

@@ -1,16 +1,16 @@
 -- What a table in order says of the container at which a step looks.
 use Rattle.std.proofs.Common.{◌≡◌, ℕ, ◌<◌, ◌^◌, Bool, List, slice_get, Some, sym, ap, ◌∙◌, subst, arith}
-use Rattle.hop_model.specs.State.{Supply}
-use Rattle.hop_model.specs.Steps.{step}
-use Rattle.locus_machine.specs.Loci.{locus_of}
-use Rattle.kernel_cells.specs.declared.cells.Cell.{Cell}
-use Rattle.beside_steps.specs.Besides.{memory_of}
-use Rattle.cell_laws.specs.Memories.{HasOwnMemory}
-use Rattle.look_steps.specs.Looking.{LooksAtWord, MayLook}
+use Rattle.plan_laws.specs.hop_model.State.{Supply}
+use Rattle.plan_laws.specs.hop_model.Steps.{step}
+use Rattle.plan_laws.specs.locus_machine.Loci.{locus_of}
+use Rattle.plan_laws.specs.kernel_cells.declared.cells.Cell.{Cell}
+use Rattle.plan_laws.specs.beside_steps.Besides.{memory_of}
+use Rattle.cell_table.specs.cell_laws.Memories.{HasOwnMemory}
+use Rattle.cell_table.specs.look_steps.Looking.{LooksAtWord, MayLook}
 use Rattle.plan_laws.proofs.SoundParts.{look_part}
 use Rattle.plan_laws.proofs.SoundPlans.{look_here}
-use Rattle.step_plans.specs.Plans.{IsPlanned}
-use Rattle.step_plans.specs.declared.plans.Plan.TheVariants as plan
+use Rattle.plan_laws.specs.step_plans.Plans.{IsPlanned}
+use Rattle.plan_laws.specs.step_plans.declared.plans.Plan.TheVariants as plan
 use Rattle.cell_table.specs.Steps.{IsPlannedAt}
 use Rattle.cell_table.specs.Tables.{AreClean, AreFewWrites, IsOrderly, memory_at, state_in}
 use Rattle.cell_table.proofs.Having.{state_has}

@@ -3,12 +3,12 @@ use Rattle.std.proofs.Common.{◌≡◌, inl, ℕ, ◌<◌, ◌≤◌, Bool, Lis
 use Rattle.std.proofs.lemmas.Option.{slice_get_within}
 use Rattle.hop_base.specs.declared.histories.Entry.{Entry}
 use Rattle.hop_base.specs.declared.instructions.Instr.{Instr}
-use Rattle.hop_model.specs.State.{NotBorn, LocusState, LocusCell, Cell as ModelCell, Supply}
-use Rattle.kernel_cells.specs.declared.cells.Cell.{Cell}
-use Rattle.beside_steps.specs.Besides.{FitsBeside, KeepsMemory}
-use Rattle.locus_machine.specs.Loci.{locus_of}
-use Rattle.step_plans.specs.declared.plans.Plan.TheVariants as plan
-use Rattle.step_cells.specs.Advances.{StepsCells}
+use Rattle.plan_laws.specs.hop_model.State.{NotBorn, LocusState, LocusCell, Cell as ModelCell, Supply}
+use Rattle.plan_laws.specs.kernel_cells.declared.cells.Cell.{Cell}
+use Rattle.plan_laws.specs.beside_steps.Besides.{FitsBeside, KeepsMemory}
+use Rattle.plan_laws.specs.locus_machine.Loci.{locus_of}
+use Rattle.plan_laws.specs.step_plans.declared.plans.Plan.TheVariants as plan
+use Rattle.cell_table.specs.step_cells.Advances.{StepsCells}
 use Rattle.cell_table.specs.Lending.{Lends}
 use Rattle.cell_table.specs.Steps.{IsPlannedAt, StepsQuietly}
 use Rattle.cell_table.specs.Tables.{AreNumbered, HasKind, IsOrderly, state_in}
@@ -25,8 +25,8 @@ lends_one cs a a' numbers is same = record {
   len = Rattle.std.proofs.lemmas.List.length-set cs a.clock.entity a';
   numbers = (same, tt);
   stood = (is, tt);
-  stand = (ap (slice_get (slice_set cs a.clock.entity a')) same ∙ Rattle.history_model.proofs.CellLemmas.slice_get-set_same cs a.clock.entity a' (slice_get_within cs a.clock.entity a is), tt);
-  others = λ x apart. Rattle.history_model.proofs.CellLemmas.slice_get-set_other cs a.clock.entity x a' (λ e. apart.0 (sym e));
+  stand = (ap (slice_get (slice_set cs a.clock.entity a')) same ∙ Rattle.plan_laws.proofs.history_model_lemmas.CellLemmas.slice_get-set_same cs a.clock.entity a' (slice_get_within cs a.clock.entity a is), tt);
+  others = λ x apart. Rattle.plan_laws.proofs.history_model_lemmas.CellLemmas.slice_get-set_other cs a.clock.entity x a' (λ e. apart.0 (sym e));
 }
 
 -- the locus has the higher number, or the lower

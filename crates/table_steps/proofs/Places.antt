@@ -1,6 +1,6 @@
 -- Elements of a list that is split for lending.
 use Rattle.std.proofs.Common.{◌≡◌, ◌≢◌, ℕ, ◌-◌, ◌<◌, List, ◌++◌, length, get_or, slice_get, slice_set, Some, refl, sym, ap, ◌∙◌, arith, length-append}
-use Rattle.history_model.proofs.CellLemmas.{slice_get-set_other, slice_get-set_same}
+use Rattle.plan_laws.proofs.history_model_lemmas.CellLemmas.{slice_get-set_other, slice_get-set_same}
 use Rattle.std.proofs.lemmas.Option.{slice_get-get_or}
 use Rattle.std.proofs.lemmas.List.{get_or_append_left, get_or-append_right, length-set, set-append_left, set-append_right}
 

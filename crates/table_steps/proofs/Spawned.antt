@@ -4,17 +4,17 @@ use Rattle.std.proofs.lemmas.Bool.Decides.{nat_tests}
 use Rattle.hop_base.specs.declared.histories.Entry.{Entry}
 use Rattle.hop_base.specs.declared.histories.Event.TheVariants.{Step}
 use Rattle.hop_base.specs.declared.instructions.Condition.TheVariants.{Running}
-use Rattle.hop_model.specs.Acts.{Act, wanted}
-use Rattle.hop_model.specs.Changes.{Access, carried_by, changed, insert_access, ordered}
-use Rattle.hop_model.specs.Outcomes.{Outcome, outcome}
-use Rattle.hop_model.specs.State.{AtlasState, Cell, EntityState, KernelState, LocusState, NotBorn, AtlasCell, LocusCell, Supply}
-use Rattle.hop_model.specs.Steps.{accesses_of, step, with_atlas_access, with_newborn_access, with_other_access}
-use Rattle.kernel_calls.specs.Calls.{WantsBirth, is_spawn}
-use Rattle.event_clocks.specs.Clocks.{writing}
-use Rattle.event_clocks.proofs.Changing.{access_third, written_at}
-use Rattle.kernel_cells.proofs.Stepping.{step_by}
-use Rattle.birth_steps.proofs.BirthSteps.{Touches, in_state, spawn_touches}
-use Rattle.birth_steps.proofs.Newborns.{bears_locus}
+use Rattle.plan_laws.specs.hop_model.Acts.{Act, wanted}
+use Rattle.plan_laws.specs.hop_model.Changes.{Access, carried_by, changed, insert_access, ordered}
+use Rattle.plan_laws.specs.hop_model.Outcomes.{Outcome, outcome}
+use Rattle.plan_laws.specs.hop_model.State.{AtlasState, Cell, EntityState, KernelState, LocusState, NotBorn, AtlasCell, LocusCell, Supply}
+use Rattle.plan_laws.specs.hop_model.Steps.{accesses_of, step, with_atlas_access, with_newborn_access, with_other_access}
+use Rattle.plan_laws.specs.kernel_calls.Calls.{WantsBirth, is_spawn}
+use Rattle.plan_laws.specs.event_clocks.Clocks.{writing}
+use Rattle.plan_laws.proofs.event_clocks_lemmas.Changing.{access_third, written_at}
+use Rattle.plan_laws.proofs.kernel_cells_lemmas.Stepping.{step_by}
+use Rattle.plan_laws.proofs.birth_steps_lemmas.BirthSteps.{Touches, in_state, spawn_touches}
+use Rattle.plan_laws.proofs.birth_steps_lemmas.Newborns.{bears_locus}
 
 some_state : (v u : KernelState) → Some v ≡ Some u → v ≡ u
 some_state v u e = cc

@@ -1,15 +1,15 @@
 -- The cells that were lent for a quiet step with the atlas.
 use Rattle.std.proofs.Common.{◌≡◌, ◌≢◌, inl, inr, ℕ, ◌+◌, ◌<◌, ◌≤◌, Bool, List, [], ◌∷◌, length, slice_get, Some, sym, ap, ◌∙◌, subst, arith}
 use Rattle.hop_base.specs.declared.histories.Entry.{Entry}
-use Rattle.hop_model.specs.State.{Supply}
+use Rattle.plan_laws.specs.hop_model.State.{Supply}
 use Rattle.atlas_dir.specs.Directory.{Directory}
-use Rattle.kernel_calls.specs.Calls.{atlas_state}
-use Rattle.locus_machine.specs.Loci.{locus_of}
-use Rattle.kernel_cells.specs.declared.cells.Cell.{Cell}
-use Rattle.birth_steps.specs.Bearing.{IsNewContainer, IsUnbornContainer}
-use Rattle.step_cells.specs.Advances.{StepsCells}
-use Rattle.step_plans.specs.declared.plans.Plan.{Plan}
-use Rattle.step_plans.specs.declared.plans.Plan.TheVariants as plan
+use Rattle.plan_laws.specs.kernel_calls.Calls.{atlas_state}
+use Rattle.plan_laws.specs.locus_machine.Loci.{locus_of}
+use Rattle.plan_laws.specs.kernel_cells.declared.cells.Cell.{Cell}
+use Rattle.plan_laws.specs.birth_steps.Bearing.{IsNewContainer, IsUnbornContainer}
+use Rattle.cell_table.specs.step_cells.Advances.{StepsCells}
+use Rattle.plan_laws.specs.step_plans.declared.plans.Plan.{Plan}
+use Rattle.plan_laws.specs.step_plans.declared.plans.Plan.TheVariants as plan
 use Rattle.cell_table.specs.Lending.{Lends}
 use Rattle.cell_table.specs.Steps.{HasDirectory, IsPlannedAt, StepsQuietly}
 use Rattle.cell_table.specs.Tables.{HasKind, IsOrderly, entity_in, state_in}

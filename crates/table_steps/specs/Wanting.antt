@@ -1,10 +1,10 @@
 -- What the next step of a locus over the table wants.
 use Rattle.std.specs.Prelude.{◌≡◌, ℕ, List, Some}
 use Rattle.hop_base.specs.declared.histories.Entry.{Entry}
-use Rattle.hop_model.specs.State.{KernelState, Supply}
-use Rattle.hop_model.specs.Steps.{step}
-use Rattle.kernel_cells.specs.declared.cells.Cell.{Cell}
-use Rattle.look_steps.specs.Looking.{IsWordStep}
+use Rattle.plan_laws.specs.hop_model.State.{KernelState, Supply}
+use Rattle.plan_laws.specs.hop_model.Steps.{step}
+use Rattle.plan_laws.specs.kernel_cells.declared.cells.Cell.{Cell}
+use Rattle.cell_table.specs.look_steps.Looking.{IsWordStep}
 use Rattle.cell_table.specs.Tables.{state_in}
 
 -- THE NEXT STEP of the locus reads or writes a word, whatever the blocks hold

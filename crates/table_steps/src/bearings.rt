@@ -1,14 +1,14 @@
 // Steps of a locus over the table that write the atlas.
 ghost use Rattle.std.specs.Prelude.{◌≡◌, ◌+◌, ◌<◌, ◌≤◌, ◌⊎◌, length};
 ghost use Rattle.atlas_dir.specs.Directory.{Directory, number_born};
-ghost use Rattle.step_plans.specs.declared.plans.Plan.TheVariants as plan;
+ghost use Rattle.plan_laws.specs.step_plans.declared.plans.Plan.TheVariants as plan;
 ghost use Rattle.cell_table.specs.Steps.{HasDirectory, IsInOrder, IsPlannedAt, StepsQuietly};
 ghost use Rattle.cell_table.specs.Tables.{AreFewWrites};
 
 use atlas_dir::{CONTAINERS, LOCI};
+use cell_table::step_cells::{advance_barren, advance_making, advance_mapping, advance_spawning};
 use hop_base::{Entity, Entry, Instr, Kind};
-use kernel_cells::{Cell, Part};
-use step_cells::{advance_barren, advance_making, advance_mapping, advance_spawning};
+use plan_laws::kernel_cells::{Cell, Part};
 
 /// A step that maps pages into a container, or unmaps them.
 pub(crate) fn go_mapping(cells: &mut [Cell], me: Entity, other: Entity, instr: Instr) -> Entry

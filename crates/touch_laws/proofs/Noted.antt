@@ -4,22 +4,22 @@ use Rattle.std.proofs.lemmas.Bool.{false≢true}
 use Rattle.hop_base.specs.declared.histories.Entry.{Entry}
 use Rattle.hop_base.specs.declared.histories.Event.TheVariants.{Step}
 use Rattle.hop_base.specs.declared.histories.Touch.{Touch}
-use Rattle.hop_model.specs.Histories.{Run, after_step, asked_by, locus_in, with_asked, writes}
-use Rattle.hop_model.specs.Soundness.{IsSound}
-use Rattle.hop_model.specs.State.{EntityState, KernelState, LocusState, Supply}
-use Rattle.hop_model.specs.Steps.{step, step_change}
-use Rattle.hop_model.specs.LocalEvents.{touch_at}
-use Rattle.hop_model.proofs.Basics.{and_left, and_right, both}
-use Rattle.hop_model.proofs.Carried.{acts_stamped}
-use Rattle.hop_model.proofs.Covering.{found}
-use Rattle.hop_model.proofs.Locality.{step_local}
-use Rattle.hop_model.proofs.Replay.{any_at, at_entity}
-use Rattle.run_laws.proofs.Wishes.{with_asked_at}
-use Rattle.run_laws.proofs.Writing.{IsStep, step_is, step_writes_asked, step_writes_own}
+use Rattle.sound_runs.specs.hop_model.Histories.{Run, after_step, asked_by, locus_in, with_asked, writes}
+use Rattle.sound_runs.specs.hop_model.Soundness.{IsSound}
+use Rattle.sound_runs.specs.hop_model.State.{EntityState, KernelState, LocusState, Supply}
+use Rattle.sound_runs.specs.hop_model.Steps.{step, step_change}
+use Rattle.sound_runs.specs.hop_model.LocalEvents.{touch_at}
+use Rattle.sound_runs.proofs.hop_model_lemmas.Basics.{and_left, and_right, both}
+use Rattle.sound_runs.proofs.hop_model_lemmas.Carried.{acts_stamped}
+use Rattle.sound_runs.proofs.hop_model_lemmas.Covering.{found}
+use Rattle.sound_runs.proofs.hop_model_lemmas.Locality.{step_local}
+use Rattle.sound_runs.proofs.hop_model_lemmas.Replay.{any_at, at_entity}
+use Rattle.wish_laws.proofs.run_laws_lemmas.Wishes.{with_asked_at}
+use Rattle.wish_laws.proofs.run_laws_lemmas.Writing.{IsStep, step_is, step_writes_asked, step_writes_own}
 use Rattle.sound_runs.proofs.Standing.{under_64}
-use Rattle.event_clocks.specs.Clocks.{HasClock}
-use Rattle.kernel_cells.specs.declared.cells.Cell.{Cell}
-use Rattle.kernel_cells.specs.Wishes.{HasWish}
+use Rattle.wish_laws.specs.event_clocks.Clocks.{HasClock}
+use Rattle.wish_laws.specs.kernel_cells.declared.cells.Cell.{Cell}
+use Rattle.wish_laws.specs.kernel_cells.Wishes.{HasWish}
 use Rattle.wish_laws.specs.Founded.{IsFounded, IsFoundedCell, IsFoundedIn}
 use Rattle.wish_laws.proofs.Founding.{same_founded}
 use Rattle.touch_laws.specs.Touching.{IsNoted, run_with}

@@ -5,26 +5,26 @@ use Rattle.hop_base.specs.declared.histories.Entry.{Entry}
 use Rattle.hop_base.specs.declared.histories.Touch.{Touch}
 use Rattle.hop_base.specs.declared.instructions.Instr.{Instr}
 use Rattle.hop_base.specs.declared.instructions.Instr.TheVariants.{Map, Unmap, Make, Spawn, Stop, Go, Snap}
-use Rattle.hop_model.specs.Acts.{Act, allowed, alone, beside, beside_or_self, wanted}
-use Rattle.hop_model.specs.Changes.{Access, insert_access, merged, ordered, touches_of}
-use Rattle.hop_model.specs.Histories.{writes}
-use Rattle.hop_model.specs.Outcomes.{Outcome, free_container, free_locus, make, make_at, outcome, spawn, spawn_at}
-use Rattle.hop_model.specs.Refusals.{entity_of, instr_at, reg, refusal}
-use Rattle.hop_model.specs.State.{AtlasState, Cell, KernelState, LocusCell, LocusState, Supply}
-use Rattle.hop_model.specs.Steps.{accesses_of, atlas_in, change_of, outcome_in, seen_atlas, seen_other, with_atlas_access, with_newborn_access, with_other_access}
-use Rattle.hop_model.proofs.Faithful.{wanted_is, IsNewborn}
-use Rattle.wanted_act.specs.Views.{may_name_itself}
-use Rattle.wanted_act.proofs.Beside.{wanted_same}
-use Rattle.locus_machine.proofs.Alone.{wanted_allowed, wanted_says}
-use Rattle.kernel_calls.specs.Calls.{WantsBirth, is_make, is_spawn}
-use Rattle.kernel_calls.proofs.BirthLemmas.{birth_instr, make_made, spawn_made}
-use Rattle.run_laws.proofs.Writing.{IsStep}
-use Rattle.kernel_cells.proofs.Stepping.{alone_bears}
-use Rattle.beside_steps.specs.Besides.{calls_container}
-use Rattle.beside_steps.proofs.Wants.{wanted_apart}
+use Rattle.sound_runs.specs.hop_model.Acts.{Act, allowed, alone, beside, beside_or_self, wanted}
+use Rattle.sound_runs.specs.hop_model.Changes.{Access, insert_access, merged, ordered, touches_of}
+use Rattle.sound_runs.specs.hop_model.Histories.{writes}
+use Rattle.sound_runs.specs.hop_model.Outcomes.{Outcome, free_container, free_locus, make, make_at, outcome, spawn, spawn_at}
+use Rattle.sound_runs.specs.hop_model.Refusals.{entity_of, instr_at, reg, refusal}
+use Rattle.sound_runs.specs.hop_model.State.{AtlasState, Cell, KernelState, LocusCell, LocusState, Supply}
+use Rattle.sound_runs.specs.hop_model.Steps.{accesses_of, atlas_in, change_of, outcome_in, seen_atlas, seen_other, with_atlas_access, with_newborn_access, with_other_access}
+use Rattle.sound_runs.proofs.hop_model_lemmas.Faithful.{wanted_is, IsNewborn}
+use Rattle.step_plans.specs.wanted_act.Views.{may_name_itself}
+use Rattle.step_plans.proofs.wanted_act_lemmas.Beside.{wanted_same}
+use Rattle.step_plans.proofs.locus_machine_lemmas.Alone.{wanted_allowed, wanted_says}
+use Rattle.wish_laws.specs.kernel_calls.Calls.{WantsBirth, is_make, is_spawn}
+use Rattle.wish_laws.proofs.kernel_calls_lemmas.BirthLemmas.{birth_instr, make_made, spawn_made}
+use Rattle.wish_laws.proofs.run_laws_lemmas.Writing.{IsStep}
+use Rattle.wish_laws.proofs.kernel_cells_lemmas.Stepping.{alone_bears}
+use Rattle.step_plans.specs.beside_steps.Besides.{calls_container}
+use Rattle.step_plans.proofs.beside_steps_lemmas.Wants.{wanted_apart}
 use Rattle.birth_steps.proofs.BirthSteps.{make_touches, spawn_touches}
 use Rattle.look_steps.proofs.LookSteps.{look_touches}
-use Rattle.map_steps.proofs.MapSteps.{mapping_touches}
+use Rattle.step_plans.proofs.map_steps_lemmas.MapSteps.{mapping_touches}
 use Rattle.step_plans.specs.Plans.{IsCallBeside, PlansFor}
 use Rattle.step_plans.specs.declared.plans.Plan.{Plan}
 use Rattle.step_plans.specs.declared.plans.Plan.TheVariants as plan

@@ -1,10 +1,10 @@
 -- What a step writes, by its plan, and what it leaves of a wish.
 use Rattle.std.specs.Prelude.{◌≡◌, ◌≢◌, ◌⊎◌, ℕ, ◌+◌, ◌-◌, ◌||◌, false, [], Option, Some, None}
 use Rattle.hop_base.specs.declared.histories.Entry.{Entry}
-use Rattle.hop_model.specs.Histories.{Run, asked_by, with_asked, writes}
-use Rattle.hop_model.specs.Outcomes.{free_container, free_locus}
-use Rattle.hop_model.specs.State.{AtlasState, KernelState, LocusState}
-use Rattle.kernel_cells.specs.declared.cells.Cell.{Cell}
+use Rattle.sound_runs.specs.hop_model.Histories.{Run, asked_by, with_asked, writes}
+use Rattle.sound_runs.specs.hop_model.Outcomes.{free_container, free_locus}
+use Rattle.sound_runs.specs.hop_model.State.{AtlasState, KernelState, LocusState}
+use Rattle.wish_laws.specs.kernel_cells.declared.cells.Cell.{Cell}
 use Rattle.step_plans.specs.declared.plans.Plan.{Plan}
 use Rattle.step_plans.specs.declared.plans.Plan.TheVariants as plan
 

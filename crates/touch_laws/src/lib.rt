@@ -4,18 +4,20 @@
 ghost use Rattle.std.specs.Prelude.{◌≡◌, ◌⊎◌, ◌≤◌, ℕ, List, Option, Some, false, true};
 ghost use Rattle.hop_base.specs.declared.histories.Entry.{Entry};
 ghost use Rattle.hop_base.specs.declared.histories.Event.TheVariants.{Step as StepEvent};
-ghost use Rattle.hop_model.specs.Histories.{after_step, locus_in, writes, Run};
-ghost use Rattle.hop_model.specs.Soundness.{IsSound};
-ghost use Rattle.hop_model.specs.State.{KernelState, LocusState, Supply};
-ghost use Rattle.hop_model.specs.Steps.{atlas_in, step};
-ghost use Rattle.event_clocks.specs.Clocks.{HasClock};
-ghost use Rattle.kernel_cells.specs.declared.cells.Cell.{Cell as ACell};
-ghost use Rattle.kernel_cells.specs.Cells.{HasCell};
-ghost use Rattle.kernel_cells.specs.Wishes.{HasWish};
+ghost use Rattle.sound_runs.specs.hop_model.Histories.{after_step, locus_in, writes, Run};
+ghost use Rattle.sound_runs.specs.hop_model.Soundness.{IsSound};
+ghost use Rattle.sound_runs.specs.hop_model.State.{KernelState, LocusState, Supply};
+ghost use Rattle.sound_runs.specs.hop_model.Steps.{atlas_in, step};
+ghost use Rattle.wish_laws.specs.event_clocks.Clocks.{HasClock};
+ghost use Rattle.wish_laws.specs.kernel_cells.declared.cells.Cell.{Cell as ACell};
+ghost use Rattle.wish_laws.specs.kernel_cells.Cells.{HasCell};
+ghost use Rattle.wish_laws.specs.kernel_cells.Wishes.{HasWish};
 ghost use Rattle.step_plans.specs.Plans.{IsPlanned};
 ghost use Rattle.step_plans.specs.declared.plans.Plan.{Plan as APlan};
 ghost use Rattle.wish_laws.specs.Founded.{IsFoundedCell, IsFoundedIn};
 ghost use Rattle.touch_laws.specs.Touching.{run_with, IsNoted, IsTouchedBy};
+
+pub use sound_runs::script_form;
 
 /// A step writes its locus, and besides it at most what its plan names.
 pub fn planned_touches_law()

@@ -6,17 +6,17 @@ use Rattle.hop_base.specs.declared.histories.Event.{Event}
 use Rattle.hop_base.specs.declared.histories.Event.TheVariants.{Birth, Step, Snap, Stable, Tried}
 use Rattle.actor_laws.proofs.Knowing.{IsKnown, actor_born, known_run, names_left, newborn_born}
 use Rattle.entry_laws.proofs.Splits.{Lacks, Lacks-name}
-use Rattle.entry_lines.specs.Entries.{event_word}
-use Rattle.history_model.proofs.PlainBirths.{sound_here}
-use Rattle.history_model.specs.Plains.{atlas_of}
-use Rattle.hop_model.specs.Histories.{May, Policy, Run, start_run}
-use Rattle.hop_model.specs.Scripts.{Script}
-use Rattle.hop_model.specs.Soundness.{IsSoundAtlas, is_born}
-use Rattle.hop_model.specs.State.{AtlasState, KernelState, Supply, Text}
-use Rattle.hop_model.specs.Steps.{atlas_in}
-use Rattle.run_laws.proofs.Wishes.{run_append}
-use Rattle.sound_runs.proofs.Ranges.{born_under}
-use Rattle.sound_runs.proofs.Standing.{IsStanding, standing_next}
+use Rattle.entry_laws.specs.entry_lines.Entries.{event_word}
+use Rattle.actor_laws.proofs.history_model_lemmas.PlainBirths.{sound_here}
+use Rattle.actor_laws.specs.history_model.Plains.{atlas_of}
+use Rattle.text_lines.specs.hop_model.Histories.{May, Policy, Run, start_run}
+use Rattle.text_lines.specs.hop_model.Scripts.{Script}
+use Rattle.text_lines.specs.hop_model.Soundness.{IsSoundAtlas, is_born}
+use Rattle.text_lines.specs.hop_model.State.{AtlasState, KernelState, Supply, Text}
+use Rattle.text_lines.specs.hop_model.Steps.{atlas_in}
+use Rattle.trace_steps.proofs.run_laws_lemmas.Wishes.{run_append}
+use Rattle.actor_laws.proofs.sound_runs_lemmas.Ranges.{born_under}
+use Rattle.actor_laws.proofs.sound_runs_lemmas.Standing.{IsStanding, standing_next}
 use Rattle.text_lines.specs.Lines.{name_in, word}
 use Rattle.trace_steps.specs.Standing.{Follows, Stands, run_of}
 use Rattle.trace_steps.specs.declared.checker.Checker.{Checker}
@@ -105,7 +105,7 @@ module _ (s : Supply) (policy : Policy) (script : Script) (w : KernelState) (es 
 
   pub same_name : (f : Entry) → May s policy script here f → (f.event ≡ Birth → ⊥) → name_in (names_after s script here f) f.actor ≡ name_in names f.actor
   same_name f m other =
-      let keeps = subst (λ (a : AtlasState). Rattle.history_model.specs.Lists.KeepsNames a (names_after s script here f)) names_are (names_left s policy script h.run.rules here f known.0 m other) in
+      let keeps = subst (λ (a : AtlasState). Rattle.actor_laws.specs.history_model.Lists.KeepsNames a (names_after s script here f)) names_are (names_left s policy script h.run.rules here f known.0 m other) in
       name_kept names sound_names (names_after s script here f) f.actor keeps (actor_here f m other)
 
   -- the name of the actor of what may be next is a word

@@ -8,19 +8,19 @@ use Rattle.hop_base.specs.declared.histories.Entry.{Entry}
 use Rattle.hop_base.specs.declared.histories.Event.{Event}
 use Rattle.hop_base.specs.declared.histories.Event.TheVariants.{Birth, Step, Snap, Stable, Tried}
 use Rattle.entry_laws.proofs.Splits.{Lacks, Lacks-append, Lacks-name}
-use Rattle.entry_lines.specs.Entries.{details, entry_line, entry_text, event_word}
-use Rattle.history_model.specs.Lists.{IsFront}
-use Rattle.history_model.specs.Plains.{atlas_of}
-use Rattle.hop_model.specs.Histories.{IsLegalFrom, IsLegalRun, May, Policy, Run, run_after, start_run}
-use Rattle.hop_model.specs.Scripts.{Script}
-use Rattle.hop_model.specs.State.{AtlasState, KernelState, Supply, Text}
-use Rattle.run_laws.proofs.Wishes.{legal_back}
+use Rattle.entry_laws.specs.entry_lines.Entries.{details, entry_line, entry_text, event_word}
+use Rattle.actor_laws.specs.history_model.Lists.{IsFront}
+use Rattle.actor_laws.specs.history_model.Plains.{atlas_of}
+use Rattle.text_lines.specs.hop_model.Histories.{IsLegalFrom, IsLegalRun, May, Policy, Run, run_after, start_run}
+use Rattle.text_lines.specs.hop_model.Scripts.{Script}
+use Rattle.text_lines.specs.hop_model.State.{AtlasState, KernelState, Supply, Text}
+use Rattle.trace_steps.proofs.run_laws_lemmas.Wishes.{legal_back}
 use Rattle.text_lines.specs.Lines.{name_in, word}
 use Rattle.trace_steps.specs.Standing.{Stands, run_of}
 use Rattle.trace_steps.specs.declared.checker.Checker.{Checker}
 use Rattle.trace_words.specs.Traces.{BeginsWith, GoesOnWith, IsPlayed, Spells, first_line, line_in, names_after, spelled}
 use Rattle.trace_check.specs.Reading.{HasRead, IsFault, IsPlayedFault, IsStop, IsUnwanted, NamesAlone, NamesNone, ReadsOnAt, SpellsNone, StopsAt, Wants, WantsFrom, named_words}
-use Rattle.sound_runs.proofs.Lengths.{length_bound}
+use Rattle.actor_laws.proofs.sound_runs_lemmas.Lengths.{length_bound}
 use Rattle.trace_check.specs.declared.faults.TraceFault.{TraceFault}
 use Rattle.trace_check.specs.declared.faults.TraceFault.TheVariants.{At, Memory}
 use Rattle.trace_words.proofs.Joined.{spelled-append}
@@ -209,7 +209,7 @@ module _ (s : Supply) (policy : Policy) (script : Script) (w : KernelState) (tra
       by_rest : (gs fs : List Entry) → fs ≡ es ++ gs → IsLegalFrom s policy script (run_of s script w es) gs → rest ≡ spelled s script (run_of s script w es) gs → IsFront (es ++ k.entry ∷ []) fs
       by_rest [] fs split legal is = absurd (line_end_is (names_after s script (run_of s script w es) k.entry) k.entry left (sym k.line ∙ is))
       by_rest (g ∷ gs) fs split legal is =
-          let same : g ≡ k.entry = k.only g (record { may = legal.0; behind = spelled s script (Rattle.hop_model.specs.Histories.goes_on s script (run_of s script w es) g) gs; line = is }) in
+          let same : g ≡ k.entry = k.only g (record { may = legal.0; behind = spelled s script (Rattle.text_lines.specs.hop_model.Histories.goes_on s script (run_of s script w es) g) gs; line = is }) in
           (gs, split ∙ ap (λ (d : Entry). es ++ d ∷ gs) same ∙ sym (append_assoc es (k.entry ∷ []) gs))
 
   -- a legal history is not long
@@ -234,7 +234,7 @@ module _ (s : Supply) (policy : Policy) (script : Script) (w : KernelState) (tra
     where
       by_rest : (gs : List Entry) → IsLegalFrom s policy script (run_of s script w es) gs → rest ≡ spelled s script (run_of s script w es) gs → ⊥
       by_rest [] legal is = some is
-      by_rest (g ∷ gs) legal is = wrong g (record { may = legal.0; behind = spelled s script (Rattle.hop_model.specs.Histories.goes_on s script (run_of s script w es) g) gs; line = is })
+      by_rest (g ∷ gs) legal is = wrong g (record { may = legal.0; behind = spelled s script (Rattle.text_lines.specs.hop_model.Histories.goes_on s script (run_of s script w es) g) gs; line = is })
 
   pub stopped : (rest ≡ [] → ⊥) → (number : ℕ) → number ≡ length es + 1 → (fault : TraceFault) → IsStop s policy script c rest number fault → IsFault s policy w script trace fault
   stopped some number count (At line want shown) stop =

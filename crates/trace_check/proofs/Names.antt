@@ -6,14 +6,14 @@ use Rattle.std.proofs.lemmas.Bool.Decides.{nat_tests}
 use Rattle.std.proofs.lemmas.Fmt.{length-decimal-le}
 use Rattle.std.proofs.lemmas.Option.{slice_get-get_or, slice_get_within}
 use Rattle.entry_laws.proofs.Splits.{Lacks, Lacks-decimal, Lacks-name}
-use Rattle.history_model.specs.Lists.{KeepsNames}
-use Rattle.hop_model.specs.Outcomes.{made_name}
-use Rattle.hop_model.specs.Scripts.{atlas_name, text_eq}
-use Rattle.hop_model.specs.Soundness.{IsSoundAtlas, are_names_from, begins_with_letter, is_born, is_born_container, is_born_locus, is_given_name, is_name_byte, is_name_of}
-use Rattle.hop_model.specs.State.{AtlasState, Text}
-use Rattle.plain_run.proofs.Growing.{not_atlas}
-use Rattle.plain_run.proofs.KnownNames.{same_text}
-use Rattle.sound_runs.proofs.Found.{text_same}
+use Rattle.actor_laws.specs.history_model.Lists.{KeepsNames}
+use Rattle.text_lines.specs.hop_model.Outcomes.{made_name}
+use Rattle.text_lines.specs.hop_model.Scripts.{atlas_name, text_eq}
+use Rattle.text_lines.specs.hop_model.Soundness.{IsSoundAtlas, are_names_from, begins_with_letter, is_born, is_born_container, is_born_locus, is_given_name, is_name_byte, is_name_of}
+use Rattle.text_lines.specs.hop_model.State.{AtlasState, Text}
+use Rattle.trace_steps.proofs.plain_run_lemmas.Growing.{not_atlas}
+use Rattle.trace_steps.proofs.plain_run_lemmas.KnownNames.{same_text}
+use Rattle.actor_laws.proofs.sound_runs_lemmas.Found.{text_same}
 use Rattle.text_lines.specs.Lines.{HasShortNames, name_in}
 
 -- A CLEAN NAME

@@ -7,8 +7,8 @@ use Rattle.std.proofs.lemmas.Bool.Decides.{nat_tests}
 use Rattle.std.proofs.lemmas.List.{get_or_append_left, length-append, take_all}
 use Rattle.std.proofs.lemmas.List.Sums.{passes_at_first, position_or_len_is, split_at_first}
 use Rattle.entry_laws.proofs.Splits.{Lacks}
-use Rattle.hop_model.specs.State.{Text}
-use Rattle.plain_run.proofs.NextNames.{drop_end}
+use Rattle.text_lines.specs.hop_model.State.{Text}
+use Rattle.trace_steps.proofs.plain_run_lemmas.NextNames.{drop_end}
 use Rattle.trace_words.specs.Traces.{BeginsWith}
 use Rattle.trace_check.specs.Words.{first_word, rest_words}
 

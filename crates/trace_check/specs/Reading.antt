@@ -1,14 +1,14 @@
 -- What a checker of a trace has read, and how it reads on.
 use Rattle.std.specs.Prelude.{◌≡◌, ℕ, List, [], ◌∷◌, ◌++◌, MatchOption, None, Option, Some, codes}
 use Rattle.hop_base.specs.declared.histories.Entry.{Entry}
-use Rattle.history_model.specs.Lists.{IsFront}
-use Rattle.hop_model.specs.Histories.{IsLegalRun, May, Policy, Run, start_run}
-use Rattle.hop_model.specs.Scripts.{Script}
-use Rattle.hop_model.specs.State.{KernelState, Supply, Text}
-use Rattle.entry_lines.specs.Entries.{event_word}
+use Rattle.actor_laws.specs.history_model.Lists.{IsFront}
+use Rattle.text_lines.specs.hop_model.Histories.{IsLegalRun, May, Policy, Run, start_run}
+use Rattle.text_lines.specs.hop_model.Scripts.{Script}
+use Rattle.text_lines.specs.hop_model.State.{KernelState, Supply, Text}
+use Rattle.entry_laws.specs.entry_lines.Entries.{event_word}
 use Rattle.text_lines.specs.Lines.{name_in, word}
 use Rattle.hop_base.specs.declared.histories.Event.TheVariants.{Birth}
-use Rattle.history_model.specs.Plains.{atlas_of}
+use Rattle.actor_laws.specs.history_model.Plains.{atlas_of}
 use Rattle.trace_steps.specs.Standing.{Follows, Stands, run_of}
 use Rattle.trace_steps.specs.declared.checker.Checker.{Checker}
 use Rattle.trace_words.specs.Traces.{BeginsWith, GoesOnWith, GoesWrong, IsWanted, Spells, WantText, first_line, line_in, names_after, spelled}

@@ -1,8 +1,8 @@
 -- The words of a line, and the names of a born entity.
 use Rattle.std.specs.Prelude.{◌≡◌, ◌==◌, ℕ, Bool, IsTrue}
 use Rattle.std.specs.List.{after_first, before_first}
-use Rattle.hop_model.specs.Soundness.{is_born}
-use Rattle.hop_model.specs.State.{AtlasState, Text}
+use Rattle.text_lines.specs.hop_model.Soundness.{is_born}
+use Rattle.text_lines.specs.hop_model.State.{AtlasState, Text}
 use Rattle.text_lines.specs.Lines.{name_in}
 
 abbrev pub is_blank : ℕ → Bool

@@ -10,3 +10,5 @@ mod words;
 
 pub use checks::check;
 pub use faults::TraceFault;
+pub use text_lines;
+pub use trace_steps::plain_run;

@@ -1,12 +1,12 @@
 //! The line of an entry, by the names of a plain atlas.
 ghost use Rattle.std.specs.Prelude.{◌≡◌, codes};
-ghost use Rattle.entry_lines.specs.Entries.{entry_text};
-ghost use Rattle.history_model.specs.Plains.{atlas_of};
+ghost use Rattle.entry_laws.specs.entry_lines.Entries.{entry_text};
+ghost use Rattle.actor_laws.specs.history_model.Plains.{atlas_of};
 ghost use Rattle.text_lines.specs.Lines.{HasShortNames};
 
+use actor_laws::history_model::PlainAtlas;
 use arrayvec::ArrayString;
-use entry_lines::write_entry;
-use history_model::PlainAtlas;
+use entry_laws::entry_lines::write_entry;
 use hop_base::{Entity, Entry};
 use text_lines::{LINE, NameLists, Names};
 

@@ -1,11 +1,11 @@
 //! Born entities by their names.
 ghost use Rattle.std.specs.Prelude.{◌≡◌, ◌<◌, ◌↔◌, ℕ, IfNone, IfSome, IsTrue, false, map, option_map, slice_get, string_bytes};
-ghost use Rattle.hop_model.specs.Soundness.{is_born};
-ghost use Rattle.history_model.specs.Born.{HasFewNames};
-ghost use Rattle.history_model.specs.Plains.{atlas_of};
+ghost use Rattle.text_lines.specs.hop_model.Soundness.{is_born};
+ghost use Rattle.actor_laws.specs.history_model.Born.{HasFewNames};
+ghost use Rattle.actor_laws.specs.history_model.Plains.{atlas_of};
 ghost use Rattle.trace_check.specs.Words.{IsNamed};
 
-use history_model::PlainAtlas;
+use actor_laws::history_model::PlainAtlas;
 use hop_base::{Entity, FIRST_CONTAINER, FIRST_LOCUS, Kind};
 
 /// The name at a place of a list.

@@ -1,13 +1,13 @@
 //! The entry that a line names.
 ghost use Rattle.std.specs.Prelude.{◌≡◌, ◌<◌, ◌^◌, ℕ, Bool, IfNone, IfOk, IfSome, false};
-ghost use Rattle.script_form.specs.Scripts.{tables_of};
+ghost use Rattle.actor_laws.specs.script_form.Scripts.{tables_of};
 ghost use Rattle.trace_check.specs.Reading.{NamesAlone, NamesBirth, NamesNoBirth, NamesNone, WantsFrom};
 ghost use Rattle.trace_steps.specs.Standing.{IsStanding, Managers};
 
 use crate::naming::{entity_named, is_named};
 use crate::words::{before, behind, event_named};
+use actor_laws::script_form::Script;
 use hop_base::{Entry, Event};
-use script_form::Script;
 use std::alloc::{AllocError, Global};
 use trace_steps::{Checker, birth, next};
 

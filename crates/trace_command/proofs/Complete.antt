@@ -2,22 +2,22 @@
 use Rattle.std.proofs.Common.{◌≡◌, inl, inr, ℕ, Option, Some, Ok, Err, refl, sym, ap, subst, ◌∙◌}
 use Rattle.std.specs.Prelude.{IfSome, string_bytes}
 use Rattle.hop_base.specs.declared.histories.Entry.{Entry}
-use Rattle.hop_model.specs.Scripts.{Script as Tables}
-use Rattle.hop_model.specs.State.{KernelState, Text}
-use Rattle.hop_model.specs.Steps.{atlas_in}
-use Rattle.image_meaning.proofs.Firsts.{not_both}
-use Rattle.image_meaning.proofs.Ones.{one_meaning}
-use Rattle.plain_run.specs.Fitting.{Fits, IsMisfit}
-use Rattle.script_form.specs.declared.refusals.Refusal.{Refusal}
-use Rattle.script_form.specs.declared.refusals.ScriptFault.TheVariants.{Refused}
-use Rattle.script_read.specs.Reading.{Reading, refused}
+use Rattle.trace_check.specs.hop_model.State.{KernelState, Text}
+use Rattle.trace_check.specs.hop_model.Steps.{atlas_in}
+use Rattle.image_tools.proofs.image_meaning_lemmas.Firsts.{not_both}
+use Rattle.image_tools.proofs.image_meaning_lemmas.Ones.{one_meaning}
+use Rattle.trace_check.specs.plain_run.Fitting.{Fits, IsMisfit}
+use Rattle.script_source.specs.script_form.declared.refusals.Refusal.{Refusal}
+use Rattle.script_source.specs.script_form.declared.refusals.ScriptFault.TheVariants.{Refused}
+use Rattle.script_source.specs.script_read.Reading.{Reading, refused}
 use Rattle.trace_check.specs.Reading.{SpellsNone}
-use Rattle.trace_steps.specs.Standing.{Managers}
-use Rattle.trace_words.specs.Traces.{GoesWrong}
-use Rattle.command_parts.specs.Seen.{Call, Gave}
-use Rattle.command_parts.specs.Statuses.{IsComplete, ending}
-use Rattle.command_parts.specs.declared.statuses.Status.{Status}
-use Rattle.command_parts.specs.declared.statuses.Status.TheVariants as status
+use Rattle.trace_check.specs.trace_steps.Standing.{Managers}
+use Rattle.trace_check.specs.trace_words.Traces.{GoesWrong}
+use Rattle.script_source.specs.command_parts.Seen.{Call, Gave}
+use Rattle.script_source.specs.command_parts.Statuses.{IsComplete, ending}
+use Rattle.script_source.specs.command_parts.declared.statuses.Status.{Status}
+use Rattle.script_source.specs.command_parts.declared.statuses.Status.TheVariants as status
+use Rattle.trace_command.specs.Booked.{over}
 use Rattle.trace_command.specs.Leaving.{CanCheck, IsRefused, TraceLeaves}
 use Rattle.trace_command.specs.Sources.{MeansTraced, OfSource, Traced, from_source, traced_meaning}
 use Rattle.trace_command.specs.Traces.{HasMisfit, IsWrong, OfState}
@@ -31,30 +31,34 @@ read_or other (Ok traced) = traced
 read_or other (Err blame) = other
 
 -- a source means one script and one trace
-one_traced : (bytes : Text) (script other : Tables) (trace behind : Text) → MeansTraced bytes script trace → MeansTraced bytes other behind
-    → ◌≡◌ {A = Traced} (record { script = script; trace = trace }) (record { script = other; trace = behind })
-one_traced bytes script other trace behind a b = ap (read_or (record { script = script; trace = trace })) (sym a ∙ b)
+one_traced : (bytes : Text) (a b : Traced) → MeansTraced bytes a → MeansTraced bytes b → a ≡ b
+one_traced bytes a b is also = ap (read_or a) (sym is ∙ also)
 
 -- and none if it is refused
-not_refused : (bytes : Text) (script : Tables) (trace : Text) (refusal : Refusal) → MeansTraced bytes script trace → traced_meaning bytes ≡ refused refusal.why (string_bytes refusal.key) → ⊥
-not_refused bytes script trace refusal means refuses = (let same = sym means ∙ refuses in absurd (cc))
+not_refused : (bytes : Text) (t : Traced) (refusal : Refusal) → MeansTraced bytes t → traced_meaning bytes ≡ refused refusal.why (string_bytes refusal.key) → ⊥
+not_refused bytes t refusal means refuses = (let same = sym means ∙ refuses in absurd (cc))
 
 module _ (m : Managers) (call : Call) (can : CanCheck m call) where
-  -- what is said of the state that the image means, and of what the source means, is said of these
-  of_these : (P : Tables → Text → KernelState → Type 0) → OfSource call.source (λ script trace. call.disk.tells → OfState m script call.disk (P script trace)) → P can.script can.trace can.state
+  -- this is said of the state that the image means by the managers of a script
+  abbrev SaysOf : (Traced → KernelState → Type 0) → Traced → Type 0
+  SaysOf P t = call.disk.tells → OfState (over t.brought m) t.script call.disk (P t)
+
+  -- what is said of it, and of what the source means, is said of these
+  of_these : (P : Traced → KernelState → Type 0) → OfSource call.source (SaysOf P) → P can.traced can.state
   of_these P said =
-      let traced : ◌≡◌ {A = Traced} (record { script = said.script; trace = said.trace }) (record { script = can.script; trace = can.trace }) =
-      one_traced can.bytes said.script can.script said.trace can.trace (of_known call.source.before can.bytes (λ bytes. MeansTraced bytes said.script said.trace) can.known said.means) can.read in
-      let of = said.holds can.told in
-      let one : of.state ≡ can.state = one_meaning m.word call.disk.before.reading of.state can.state of.means can.means in
-      subst (λ (t : Traced). P t.script t.trace can.state) traced (subst (P said.script said.trace) one of.holds)
+      let traced : said.traced ≡ can.traced = one_traced can.bytes said.traced can.traced (of_known call.source.before can.bytes (λ bytes. MeansTraced bytes said.traced) can.known said.means) can.read in
+      let of = subst (SaysOf P) traced said.holds can.told in
+      let one : of.state ≡ can.state = one_meaning (over can.traced.brought m).word call.disk.before.reading of.state can.state of.means can.means in
+      subst (P can.traced) one of.holds
 
-  not_misfit : (refusal : Refusal) → OfSource call.source (λ script trace. HasMisfit m script call.disk refusal) → ⊥
-  not_misfit refusal said = (of_these (λ script trace w. IsMisfit (atlas_in (w 0).cell) script (Refused refusal)) said).1 can.fits
+  not_misfit : (refusal : Refusal) → OfSource call.source (λ t. HasMisfit (over t.brought m) t.script call.disk refusal) → ⊥
+  not_misfit refusal said = (of_these (λ t w. IsMisfit (atlas_in (w 0).cell) t.script (Refused refusal)) said).1 can.fits
 
-  not_wrong : (number : ℕ) (want : Option Entry) (text : Text) → OfSource call.source (λ script trace. IsWrong m script call.disk trace number want text) → ⊥
+  not_wrong : (number : ℕ) (want : Option Entry) (text : Text) → OfSource call.source (λ t. IsWrong (over t.brought m) t.script call.disk t.trace number want text) → ⊥
   not_wrong number want text said =
-      (of_these (λ script trace w. Fits (atlas_in (w 0).cell) script × GoesWrong m.word m.wish w script trace number want text × SpellsNone m.word m.wish w script trace) said).2 can.lines can.legal
+      (of_these (λ t w. Fits (atlas_in (w 0).cell) t.script × GoesWrong (over t.brought m).word (over t.brought m).wish w t.script t.trace number want text
+      × SpellsNone (over t.brought m).word (over t.brought m).wish w t.script t.trace) said).2
+      can.lines can.legal
 
   pub complete : (gave : Gave) (s : Status) → TraceLeaves m (from_source call.source) call.sink call.disk gave (ending s) → (call.source.rose → ⊥) → (call.disk.rose → ⊥) → (call.sink.rose → ⊥) → IsComplete s
   complete gave status.Done leaves source disk sink = inl refl
@@ -66,7 +70,7 @@ module _ (m : Managers) (call : Call) (can : CanCheck m call) where
     where
       by_why : IsRefused m (from_source call.source) call.sink call.disk gave refusal → IsComplete (status.Script refusal)
       by_why (inl (refuses, same)) =
-          absurd (not_refused can.bytes can.script can.trace refusal can.read (of_known call.source.before can.bytes (λ bytes. traced_meaning bytes ≡ refused refusal.why (string_bytes refusal.key)) can.known refuses))
+          absurd (not_refused can.bytes can.traced refusal can.read (of_known call.source.before can.bytes (λ bytes. traced_meaning bytes ≡ refused refusal.why (string_bytes refusal.key)) can.known refuses))
       by_why (inr misfit) = absurd (not_misfit refusal misfit)
   complete gave (status.Foreign block place) leaves source disk sink = absurd (not_both call.disk.before.reading _ can.means.accepted (leaves.ends.1.holds can.told))
   complete gave (status.TraceWrong number want) leaves source disk sink = absurd (not_wrong number want leaves.ends.text leaves.ends.wrong)

@@ -3,35 +3,38 @@ use Rattle.std.proofs.Common.{◌≡◌, inl, inr, Option, Some, None, ap, sym, 
 use Rattle.std.specs.Prelude.{IfSome, string_bytes}
 use Rattle.std.specs.Io.KnownBytes.{IsAtEnd}
 use Rattle.disk_trait.specs.Image.{Image}
-use Rattle.hop_model.specs.Scripts.{Script as Tables}
-use Rattle.hop_model.specs.State.{Text}
-use Rattle.script_form.specs.declared.refusals.Refusal.{Refusal}
-use Rattle.script_read.specs.Reading.{refused}
-use Rattle.trace_steps.specs.Standing.{Managers}
-use Rattle.command_parts.specs.Ends.{IsUnrun}
-use Rattle.command_parts.specs.Seen.{Gave, IsOnlyRead, SeenDisk, SeenSink, SeenSource, seen_disk}
-use Rattle.command_parts.specs.Statuses.{Ending, Stopped as StoppedBy, Unput, Whole, Wrong as WrongIn, ending, status_by}
-use Rattle.command_parts.specs.declared.faults.Fault.{Fault}
-use Rattle.command_parts.specs.declared.faults.Fault.TheVariants.{Script, Foreign, Disk, Source, Memory}
-use Rattle.command_parts.proofs.Endings.{by_done, by_fault, by_sink}
+use Rattle.trace_check.specs.hop_model.State.{Text}
+use Rattle.script_source.specs.script_form.declared.refusals.Refusal.{Refusal}
+use Rattle.script_source.specs.script_read.Reading.{refused}
+use Rattle.trace_check.specs.trace_steps.Standing.{Managers}
+use Rattle.script_source.specs.command_parts.Ends.{IsUnrun}
+use Rattle.script_source.specs.command_parts.Seen.{Gave, IsOnlyRead, SeenDisk, SeenSink, SeenSource, seen_disk}
+use Rattle.script_source.specs.command_parts.Statuses.{Ending, Stopped as StoppedBy, Unput, Whole, Wrong as WrongIn, ending, status_by}
+use Rattle.script_source.specs.command_parts.declared.faults.Fault.{Fault}
+use Rattle.script_source.specs.command_parts.declared.faults.Fault.TheVariants.{Script, Foreign, Disk, Source, Memory}
+use Rattle.script_source.proofs.command_parts_lemmas.Endings.{by_done, by_fault, by_sink}
+use Rattle.trace_command.specs.Booked.{over}
 use Rattle.trace_command.specs.Leaving.{StopsTrace, TraceEnds, TraceLeaves}
-use Rattle.trace_command.specs.Sources.{IsRefusalOf, MeansTraced, OfBytes, OfSource, ReadFrom, StopsTraced, from_parts, from_source, traced_meaning}
+use Rattle.trace_command.specs.Sources.{IsRefusalOf, MeansTraced, OfBytes, OfSource, ReadFrom, StopsTraced, Traced, from_parts, from_source, traced_meaning}
 use Rattle.trace_command.specs.Verdicts.{EndsWith, IsJudged}
 use Rattle.trace_command.specs.declared.judging.Verdict.{Verdict}
 use Rattle.trace_command.specs.declared.judging.Verdict.TheVariants.{Legal, Wrong, Stopped}
 
-module _ (m : Managers) (script : Tables) (trace : Text) (sink : SeenSink) (disk : SeenDisk) (gave : Gave) where
+module _ (m : Managers) (t : Traced) (sink : SeenSink) (disk : SeenDisk) (gave : Gave) where
   abbrev Ends : Ending → Type 0
-  Ends = TraceEnds m (from_parts script trace) sink disk gave
+  Ends = TraceEnds m (from_parts t) sink disk gave
 
-  stops : (fault : Fault) → IsJudged m script trace disk (Stopped fault) → IsUnrun sink gave fault → StopsTrace m (from_parts script trace) sink disk gave fault
+  abbrev IsJudgedRight : Verdict → Type 0
+  IsJudgedRight = IsJudged (over t.brought m) t.script t.trace disk
+
+  stops : (fault : Fault) → IsJudgedRight (Stopped fault) → IsUnrun sink gave fault → StopsTrace m (from_parts t) sink disk gave fault
   stops (Script refusal) told unrun = (unrun, inr told)
   stops (Foreign block place) told unrun = (unrun, told)
   stops Disk told unrun = (unrun, told)
   stops Memory told unrun = unrun
   stops fault told unrun = absurd told
 
-  pub ends_by : (v : Verdict) → IsJudged m script trace disk v → EndsWith sink gave v → Ends (ending gave.status)
+  pub ends_by : (v : Verdict) → IsJudgedRight v → EndsWith sink gave v → Ends (ending gave.status)
   ends_by (Legal lines) told (empty, inl (is, put)) = by_done Ends gave.status is (record { empty = empty; lines = lines; legal = told; output = put })
   ends_by (Legal lines) told (empty, inr (is, part, rose)) = by_sink Ends gave.status is (record { empty = empty; lines = lines; legal = told; output = part }, rose)
   ends_by (Wrong line want text) told (empty, is, gained) = subst Ends (sym (ap ending is)) (record { empty = empty; text = text.bytes; wrong = told; output = gained })
@@ -39,7 +42,7 @@ module _ (m : Managers) (script : Tables) (trace : Text) (sink : SeenSink) (disk
 
 -- WHAT IS SAID of what was read is said of what it was read from
 module _ (m : Managers) (from to : ReadFrom) (sink : SeenSink) (disk : SeenDisk) (gave : Gave)
-    (means : (P : Tables → Text → Type 0) → from.means P → to.means P) (refused : (refusal : Refusal) → from.refused refusal → to.refused refusal) (rose : from.rose → to.rose) where
+    (means : (P : Traced → Type 0) → from.means P → to.means P) (refused : (refusal : Refusal) → from.refused refusal → to.refused refusal) (rose : from.rose → to.rose) where
   stops_from : (fault : Fault) → StopsTrace m from sink disk gave fault → StopsTrace m to sink disk gave fault
   stops_from (Script refusal) (unrun, inl (is, same)) = (unrun, inl (refused refusal is, same))
   stops_from (Script refusal) (unrun, inr misfit) = (unrun, inr (means _ misfit))
@@ -73,8 +76,8 @@ module _ (source : SeenSource) (bytes read : Text) (whole : IfSome source.before
       by None is = tt
       by (Some left) is = subst P (same ∙ is) h
 
-  pub of_source : IfSome source.before (λ _. IsAtEnd source.after) → (P : Tables → Text → Type 0) → OfBytes read P → OfSource source P
-  of_source ended P h = record { script = h.script; trace = h.trace; means = all_of (λ left. MeansTraced left h.script h.trace) h.means; ended = ended; holds = h.holds }
+  pub of_source : IfSome source.before (λ _. IsAtEnd source.after) → (P : Traced → Type 0) → OfBytes read P → OfSource source P
+  of_source ended P h = record { traced = h.traced; means = all_of (λ left. MeansTraced left h.traced) h.means; ended = ended; holds = h.holds }
 
   pub refused_source : (refusal : Refusal) → traced_meaning read ≡ refused refusal.why (string_bytes refusal.key) → IsRefusalOf source.before refusal
   refused_source refusal is = all_of (λ left. traced_meaning left ≡ refused refusal.why (string_bytes refusal.key)) is

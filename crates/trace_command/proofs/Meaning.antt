@@ -2,21 +2,21 @@
 use Rattle.std.proofs.Common.{◌≡◌, ℕ, ◌+◌, ◌<◌, ◌≤◌, Bool, true, false, if◌then◌else◌, nat_le, length, drop, take, Ok, Option, Some, None, option_map, codes, string_bytes, ap, ap₂, sym, subst, ◌∙◌, arith}
 use Rattle.std.specs.Prelude.{IfSome}
 use Rattle.std.proofs.lemmas.Bool.Decides.{nat_tests}
-use Rattle.hop_model.specs.State.{Text}
-use Rattle.script_form.specs.declared.refusals.Refusal.{Refusal}
-use Rattle.script_form.specs.declared.refusals.ScriptFault.{ScriptFault}
-use Rattle.script_form.specs.declared.refusals.ScriptFault.TheVariants.{Refused, Memory as NoRoom}
-use Rattle.script_form.specs.declared.refusals.Why.{Why}
-use Rattle.script_form.specs.declared.refusals.Why.TheVariants.{Long, Missing}
-use Rattle.script_read.specs.Meaning.{Source as ScriptSource, script_meaning}
-use Rattle.script_read.specs.Reading.{IsBlamed, IsFaultOf, Reading, ◌>>=◌, or_refused, refused}
+use Rattle.trace_check.specs.hop_model.State.{Text}
+use Rattle.script_source.specs.script_form.declared.refusals.Refusal.{Refusal}
+use Rattle.script_source.specs.script_form.declared.refusals.ScriptFault.{ScriptFault}
+use Rattle.script_source.specs.script_form.declared.refusals.ScriptFault.TheVariants.{Refused, Memory as NoRoom}
+use Rattle.script_source.specs.script_form.declared.refusals.Why.{Why}
+use Rattle.script_source.specs.script_form.declared.refusals.Why.TheVariants.{Long, Missing}
+use Rattle.script_source.specs.script_read.Meaning.{Source as ScriptSource, script_meaning}
+use Rattle.script_source.specs.script_read.Reading.{IsBlamed, IsFaultOf, Reading, ◌>>=◌, or_refused, refused}
 use Rattle.script_source.specs.Sources.{IsFaultOfStop}
-use Rattle.stream_edge.specs.Reading.{IsFault}
-use Rattle.stream_edge.specs.declared.reading.ReadStop.{ReadStop}
-use Rattle.stream_edge.specs.declared.reading.ReadStop.TheVariants as stop
-use Rattle.command_parts.specs.Seen.{SeenSource}
-use Rattle.command_parts.specs.declared.faults.Fault.{Fault}
-use Rattle.command_parts.specs.declared.faults.Fault.TheVariants.{Script, Memory}
+use Rattle.image_tools.specs.stream_edge.Reading.{IsFault}
+use Rattle.image_tools.specs.stream_edge.declared.reading.ReadStop.{ReadStop}
+use Rattle.image_tools.specs.stream_edge.declared.reading.ReadStop.TheVariants as stop
+use Rattle.script_source.specs.command_parts.Seen.{SeenSource}
+use Rattle.script_source.specs.command_parts.declared.faults.Fault.{Fault}
+use Rattle.script_source.specs.command_parts.declared.faults.Fault.TheVariants.{Script, Memory}
 use Rattle.trace_command.specs.Parts.{Parts, parts_at, parts_of, rule_from}
 use Rattle.trace_command.specs.Sources.{IsRefusalOf, MeansTraced, StopsTraced, Traced, most_bytes, parts_meaning, traced_meaning, with_trace}
 
@@ -52,7 +52,7 @@ module _ (bytes : Text) (short : length bytes ≤ most_bytes) where
     meaning_at = meaning_short ∙ ap (λ (o : Option ℕ). by_parts (option_map (parts_at bytes) o)) is
 
     -- the script before it is read
-    pub meaning_ok : (source : ScriptSource) (trace : Text) → script_meaning (take at bytes) ≡ Ok source → trace ≡ drop (at + 4) bytes → MeansTraced bytes source.script.tables trace
+    pub meaning_ok : (source : ScriptSource) (trace : Text) → script_meaning (take at bytes) ≡ Ok source → trace ≡ drop (at + 4) bytes → MeansTraced bytes (with_trace trace source)
     meaning_ok source trace read same =
         meaning_at
         ∙ (ap (λ (r : Reading ScriptSource). r >>= (λ (s : ScriptSource). Ok (with_trace (drop (at + 4) bytes) s))) read

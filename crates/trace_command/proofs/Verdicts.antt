@@ -1,30 +1,30 @@
 -- A verdict from each state that may be the image's is one from the image.
 use Rattle.std.proofs.Common.{◌≡◌, ℕ, List, Result, Ok, Err, IfErr, IfOk, ap, sym, subst, refl, arith}
 use Rattle.disk_trait.specs.Image.{Image}
-use Rattle.history_model.specs.Events.{state_with}
-use Rattle.history_model.specs.Plains.{atlas_of, cells_of}
-use Rattle.history_model.specs.declared.plain.Plain.{Plain}
-use Rattle.hop_model.specs.Scripts.{Script as Tables}
-use Rattle.hop_model.specs.State.{AtlasState, KernelState, Text}
-use Rattle.hop_model.specs.Steps.{atlas_in}
-use Rattle.image_blocks.specs.Checks.{Bad}
-use Rattle.image_meaning.specs.Foreign.{IsForeign}
+use Rattle.image_tools.specs.history_model.Events.{state_with}
+use Rattle.image_tools.specs.history_model.Plains.{atlas_of, cells_of}
+use Rattle.image_tools.specs.history_model.declared.plain.Plain.{Plain}
+use Rattle.trace_check.specs.hop_model.Scripts.{Script as Tables}
+use Rattle.trace_check.specs.hop_model.State.{AtlasState, KernelState, Text}
+use Rattle.trace_check.specs.hop_model.Steps.{atlas_in}
+use Rattle.image_tools.specs.image_blocks.Checks.{Bad}
+use Rattle.image_tools.specs.image_meaning.Foreign.{IsForeign}
 use Rattle.image_tools.specs.Facts.{MeansState}
-use Rattle.log_reading.specs.declared.faults.ReadingFault.{ReadingFault}
-use Rattle.log_reading.specs.declared.faults.ReadingFault.TheVariants as reading
-use Rattle.meant_states.proofs.Meant.{meant_state}
-use Rattle.plain_run.specs.Fitting.{Fits, IsMisfit}
-use Rattle.script_form.specs.declared.refusals.ScriptFault.{ScriptFault}
-use Rattle.script_form.specs.declared.refusals.ScriptFault.TheVariants as refusal
-use Rattle.trace_steps.specs.Standing.{Managers}
+use Rattle.script_source.specs.log_reading.declared.faults.ReadingFault.{ReadingFault}
+use Rattle.script_source.specs.log_reading.declared.faults.ReadingFault.TheVariants as reading
+use Rattle.image_tools.proofs.meant_states_lemmas.Meant.{meant_state}
+use Rattle.trace_check.specs.plain_run.Fitting.{Fits, IsMisfit}
+use Rattle.script_source.specs.script_form.declared.refusals.ScriptFault.{ScriptFault}
+use Rattle.script_source.specs.script_form.declared.refusals.ScriptFault.TheVariants as refusal
+use Rattle.trace_check.specs.trace_steps.Standing.{Managers}
 use Rattle.trace_check.specs.Reading.{IsFault}
 use Rattle.trace_check.specs.declared.faults.TraceFault.{TraceFault}
 use Rattle.trace_check.specs.declared.faults.TraceFault.TheVariants as checked
-use Rattle.trace_words.specs.Traces.{Begins, Spells}
-use Rattle.command_parts.specs.Faults.{fault_of_reading, fault_of_script}
-use Rattle.command_parts.specs.Seen.{SeenDisk}
-use Rattle.command_parts.specs.declared.faults.Fault.{Fault}
-use Rattle.command_parts.specs.declared.faults.Fault.TheVariants.{Script, Memory}
+use Rattle.trace_check.specs.trace_words.Traces.{Begins, Spells}
+use Rattle.script_source.specs.command_parts.Faults.{fault_of_reading, fault_of_script}
+use Rattle.script_source.specs.command_parts.Seen.{SeenDisk}
+use Rattle.script_source.specs.command_parts.declared.faults.Fault.{Fault}
+use Rattle.script_source.specs.command_parts.declared.faults.Fault.TheVariants.{Script, Memory}
 use Rattle.trace_command.specs.Verdicts.{IsFitFault, IsJudged, IsVerdict, StopsJudging, verdict_of}
 use Rattle.trace_command.specs.declared.judging.Verdict.{Verdict}
 use Rattle.trace_command.specs.declared.judging.Verdict.TheVariants.{Legal, Wrong, Stopped}

@@ -1,56 +1,57 @@
 -- What the command `check-trace` leaves.
 use Rattle.std.specs.Prelude.{◌≡◌, ◌⊎◌, ℕ, ◌++◌, Option, Some, codes, decimal}
 use Rattle.std.specs.Io.KnownBytes.{Appends}
-use Rattle.stream_edge.specs.Streams.{AppendsPart}
+use Rattle.image_tools.specs.stream_edge.Streams.{AppendsPart}
 use Rattle.hop_base.specs.declared.histories.Entry.{Entry}
-use Rattle.hop_model.specs.Scripts.{Script as Tables}
-use Rattle.hop_model.specs.State.{KernelState, Text}
-use Rattle.hop_model.specs.Steps.{atlas_in}
-use Rattle.image_meaning.specs.Foreign.{IsForeign}
-use Rattle.image_meaning.specs.Meaning.{Means}
-use Rattle.plain_run.specs.Fitting.{Fits}
-use Rattle.script_form.specs.declared.refusals.Refusal.{Refusal}
-use Rattle.trace_steps.specs.Standing.{Managers}
-use Rattle.trace_words.specs.Traces.{Spells}
-use Rattle.command_parts.specs.Ends.{Gains, IsEmpty, IsUnrun}
-use Rattle.command_parts.specs.Faults.{line, wrong_line}
-use Rattle.command_parts.specs.Seen.{Call, Gave, IsOnlyRead, SeenDisk, SeenSink}
-use Rattle.command_parts.specs.Statuses.{Ending, Stopped, Unput, Whole, Wrong}
-use Rattle.command_parts.specs.declared.faults.Fault.{Fault}
-use Rattle.command_parts.specs.declared.faults.Fault.TheVariants.{Script, Foreign, Disk, Source, Memory}
-use Rattle.trace_command.specs.Sources.{MeansTraced, ReadFrom}
+use Rattle.trace_check.specs.hop_model.State.{KernelState, Text}
+use Rattle.trace_check.specs.hop_model.Steps.{atlas_in}
+use Rattle.image_tools.specs.image_meaning.Foreign.{IsForeign}
+use Rattle.image_tools.specs.image_meaning.Meaning.{Means}
+use Rattle.trace_check.specs.plain_run.Fitting.{Fits}
+use Rattle.script_source.specs.script_form.declared.refusals.Refusal.{Refusal}
+use Rattle.trace_check.specs.trace_steps.Standing.{Managers}
+use Rattle.trace_check.specs.trace_words.Traces.{Spells}
+use Rattle.script_source.specs.command_parts.Ends.{Gains, IsEmpty, IsUnrun}
+use Rattle.script_source.specs.command_parts.Faults.{line, wrong_line}
+use Rattle.script_source.specs.command_parts.Seen.{Call, Gave, IsOnlyRead, SeenDisk, SeenSink}
+use Rattle.script_source.specs.command_parts.Statuses.{Ending, Stopped, Unput, Whole, Wrong}
+use Rattle.script_source.specs.command_parts.declared.faults.Fault.{Fault}
+use Rattle.script_source.specs.command_parts.declared.faults.Fault.TheVariants.{Script, Foreign, Disk, Source, Memory}
+use Rattle.trace_command.specs.Booked.{over}
+use Rattle.trace_command.specs.Sources.{MeansTraced, ReadFrom, Traced}
 use Rattle.trace_command.specs.Traces.{HasMisfit, IsLegal, IsWrong}
 
 -- the line of a trace that is that of a legal history: how many lines it has
 abbrev pub ok_line : ℕ → Text
 ok_line lines = line (codes "ok " ++ decimal lines)
 
+-- The managers that the script brings answer for their numbers, and the handed-in ones for all others, in what the image means too.
 module _ (m : Managers) (from : ReadFrom) (sink : SeenSink) (disk : SeenDisk) (gave : Gave) where
   -- LEGAL: nothing was run, the trace is that of a legal history of the script from the state that the image means, and the number of its
   -- lines was put
   pub record HasAccepted (Puts : Text → Type 0) : Type 0 where
     pub empty : IsEmpty gave
     pub lines : ℕ
-    pub legal : from.means (λ script trace. IsLegal m script disk trace lines)
+    pub legal : from.means (λ t. IsLegal (over t.brought m) t.script disk t.trace lines)
     pub output : Puts (ok_line lines)
 
   -- WRONG in this line, which wants this entry, or none: nothing was run, and the line of the fault was put
   pub record HasRefused (number : ℕ) (want : Option Entry) : Type 0 where
     pub empty : IsEmpty gave
     pub text : Text
-    pub wrong : from.means (λ script trace. IsWrong m script disk trace number want text)
+    pub wrong : from.means (λ t. IsWrong (over t.brought m) t.script disk t.trace number want text)
     pub output : Gains sink (wrong_line number text)
 
   -- refused: the source, before any call of the disk; or its script, which doesn't fit the image
   abbrev pub IsRefused : Refusal → Type 0
-  IsRefused refusal = (from.refused refusal × disk.same) ⊎ from.means (λ script trace. HasMisfit m script disk refusal)
+  IsRefused refusal = (from.refused refusal × disk.same) ⊎ from.means (λ t. HasMisfit (over t.brought m) t.script disk refusal)
 
   -- STOPPED by this fault. What stops first decides: the source, the image, the script against it, the trace.
   abbrev pub StopsTrace : Fault → Type 0
   StopsTrace (Script refusal) = IsUnrun sink gave (Script refusal) × IsRefused refusal
   StopsTrace (Foreign block place) =
-      IsUnrun sink gave (Foreign block place) × from.means (λ script trace. disk.tells → IsForeign disk.before.reading (record { block = block; place = place }))
-  StopsTrace Disk = IsUnrun sink gave Disk × from.means (λ script trace. disk.rose)
+      IsUnrun sink gave (Foreign block place) × from.means (λ t. disk.tells → IsForeign disk.before.reading (record { block = block; place = place }))
+  StopsTrace Disk = IsUnrun sink gave Disk × from.means (λ t. disk.rose)
   StopsTrace Source = IsUnrun sink gave Source × from.rose × disk.same
   StopsTrace Memory = IsUnrun sink gave Memory
   StopsTrace fault = ⊥
@@ -66,17 +67,16 @@ module _ (m : Managers) (from : ReadFrom) (sink : SeenSink) (disk : SeenDisk) (g
     pub only_read : IsOnlyRead disk
     pub ends : TraceEnds ending
 
--- IT CAN BE DONE: the source is known, and means a script and a trace; the image means a state, which the script fits, and from which the
--- trace is that of a legal history
+-- IT CAN BE DONE: the source is known, and means a script with its managers and a trace; the image means a state, which the script fits, and
+-- from which the trace is that of a legal history
 pub record CanCheck (m : Managers) (call : Call) : Type 0 where
   pub told : call.disk.tells
   pub bytes : Text
   pub known : call.source.before ≡ Some bytes
-  pub script : Tables
-  pub trace : Text
-  pub read : MeansTraced bytes script trace
+  pub traced : Traced
+  pub read : MeansTraced bytes traced
   pub state : KernelState
-  pub means : Means m.word call.disk.before.reading state
-  pub fits : Fits (atlas_in (state 0).cell) script
+  pub means : Means (over traced.brought m).word call.disk.before.reading state
+  pub fits : Fits (atlas_in (state 0).cell) traced.script
   pub lines : ℕ
-  pub legal : Spells m.word m.wish state script trace lines
+  pub legal : Spells (over traced.brought m).word (over traced.brought m).wish state traced.script traced.trace lines

@@ -1,7 +1,7 @@
 -- The parts of a source: a script, and behind a line `---` a trace.
 use Rattle.std.specs.Prelude.{ℕ, ◌+◌, ◌==◌, ◌&&◌, Bool, true, if◌then◌else◌, [], ◌∷◌, Option, Some, None, option_map, bytes_eq, codes, drop, take}
 use Rattle.std.specs.List.{before_first}
-use Rattle.hop_model.specs.State.{Text}
+use Rattle.trace_check.specs.hop_model.State.{Text}
 
 -- the first line of the text is `---`, whether or not a line feed ends it
 abbrev pub is_rule : Text → Bool

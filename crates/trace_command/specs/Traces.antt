@@ -1,17 +1,17 @@
 -- What the check of a trace tells, from the state that an image means.
 use Rattle.std.specs.Prelude.{ℕ, Option}
 use Rattle.hop_base.specs.declared.histories.Entry.{Entry}
-use Rattle.hop_model.specs.Scripts.{Script as Tables}
-use Rattle.hop_model.specs.State.{KernelState, Text}
-use Rattle.hop_model.specs.Steps.{atlas_in}
-use Rattle.image_meaning.specs.Meaning.{Means}
-use Rattle.plain_run.specs.Fitting.{Fits, IsMisfit}
-use Rattle.script_form.specs.declared.refusals.Refusal.{Refusal}
-use Rattle.script_form.specs.declared.refusals.ScriptFault.TheVariants.{Refused}
+use Rattle.trace_check.specs.hop_model.Scripts.{Script as Tables}
+use Rattle.trace_check.specs.hop_model.State.{KernelState, Text}
+use Rattle.trace_check.specs.hop_model.Steps.{atlas_in}
+use Rattle.image_tools.specs.image_meaning.Meaning.{Means}
+use Rattle.trace_check.specs.plain_run.Fitting.{Fits, IsMisfit}
+use Rattle.script_source.specs.script_form.declared.refusals.Refusal.{Refusal}
+use Rattle.script_source.specs.script_form.declared.refusals.ScriptFault.TheVariants.{Refused}
 use Rattle.trace_check.specs.Reading.{SpellsNone}
-use Rattle.trace_steps.specs.Standing.{Managers}
-use Rattle.trace_words.specs.Traces.{GoesWrong, Spells}
-use Rattle.command_parts.specs.Seen.{SeenDisk}
+use Rattle.trace_check.specs.trace_steps.Standing.{Managers}
+use Rattle.trace_check.specs.trace_words.Traces.{GoesWrong, Spells}
+use Rattle.script_source.specs.command_parts.Seen.{SeenDisk}
 
 module _ (m : Managers) (script : Tables) (disk : SeenDisk) where
   -- the image means this state, of which this holds

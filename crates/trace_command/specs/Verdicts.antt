@@ -1,23 +1,23 @@
 -- A verdict on a trace, and how a command ends with it.
 use Rattle.std.specs.Prelude.{◌≡◌, ℕ, Err, Ok, Result, ⊤}
-use Rattle.hop_model.specs.Scripts.{Script as Tables}
-use Rattle.hop_model.specs.State.{KernelState, Text}
-use Rattle.hop_model.specs.Steps.{atlas_in}
-use Rattle.image_meaning.specs.Foreign.{IsForeign}
-use Rattle.plain_run.specs.Fitting.{Fits, IsMisfit}
-use Rattle.script_form.specs.declared.refusals.ScriptFault.TheVariants.{Refused}
+use Rattle.trace_check.specs.hop_model.Scripts.{Script as Tables}
+use Rattle.trace_check.specs.hop_model.State.{KernelState, Text}
+use Rattle.trace_check.specs.hop_model.Steps.{atlas_in}
+use Rattle.image_tools.specs.image_meaning.Foreign.{IsForeign}
+use Rattle.trace_check.specs.plain_run.Fitting.{Fits, IsMisfit}
+use Rattle.script_source.specs.script_form.declared.refusals.ScriptFault.TheVariants.{Refused}
 use Rattle.trace_check.specs.Reading.{SpellsNone}
 use Rattle.trace_check.specs.declared.faults.TraceFault.{TraceFault}
 use Rattle.trace_check.specs.declared.faults.TraceFault.TheVariants as checked
-use Rattle.trace_steps.specs.Standing.{Managers}
-use Rattle.trace_words.specs.Traces.{GoesWrong, Spells}
-use Rattle.command_parts.specs.Ends.{Gains, IsEmpty, IsPut, IsUnrun}
-use Rattle.command_parts.specs.Faults.{wrong_line}
-use Rattle.command_parts.specs.Seen.{Gave, SeenDisk, SeenSink}
-use Rattle.command_parts.specs.Statuses.{status_by}
-use Rattle.command_parts.specs.declared.faults.Fault.{Fault}
-use Rattle.command_parts.specs.declared.faults.Fault.TheVariants.{Script, Foreign, Disk, Memory}
-use Rattle.command_parts.specs.declared.statuses.Status.TheVariants.{TraceWrong}
+use Rattle.trace_check.specs.trace_steps.Standing.{Managers}
+use Rattle.trace_check.specs.trace_words.Traces.{GoesWrong, Spells}
+use Rattle.script_source.specs.command_parts.Ends.{Gains, IsEmpty, IsPut, IsUnrun}
+use Rattle.script_source.specs.command_parts.Faults.{wrong_line}
+use Rattle.script_source.specs.command_parts.Seen.{Gave, SeenDisk, SeenSink}
+use Rattle.script_source.specs.command_parts.Statuses.{status_by}
+use Rattle.script_source.specs.command_parts.declared.faults.Fault.{Fault}
+use Rattle.script_source.specs.command_parts.declared.faults.Fault.TheVariants.{Script, Foreign, Disk, Memory}
+use Rattle.script_source.specs.command_parts.declared.statuses.Status.TheVariants.{TraceWrong}
 use Rattle.trace_command.specs.Leaving.{ok_line}
 use Rattle.trace_command.specs.Traces.{HasMisfit, IsLegal, IsWrong}
 use Rattle.trace_command.specs.declared.judging.Verdict.{Verdict}

@@ -1,44 +1,76 @@
 //! The command `check-trace`.
 ghost use Rattle.std.specs.Prelude.{◌≡◌, ◌≤◌, ◌<◌, ◌^◌, ℕ, Bool, length};
 ghost use Rattle.disk_trait.specs.Counts.{Rose};
-ghost use Rattle.script_form.specs.Rules.{IsScript};
-ghost use Rattle.script_form.specs.Scripts.{tables_of};
-ghost use Rattle.trace_steps.specs.Standing.{Managers};
-ghost use Rattle.command_parts.specs.Seen.{gave, seen_disk, seen_sink, seen_source};
-ghost use Rattle.command_parts.specs.Statuses.{IsComplete, ending};
+ghost use Rattle.manager_form.specs.Managing.{AreScriptManagers, managers_of};
+ghost use Rattle.script_source.specs.script_form.Rules.{IsScript};
+ghost use Rattle.script_source.specs.script_form.Scripts.{tables_of};
+ghost use Rattle.trace_check.specs.trace_steps.Standing.{Managers};
+ghost use Rattle.script_source.specs.command_parts.Seen.{gave, seen_disk, seen_sink, seen_source};
+ghost use Rattle.script_source.specs.command_parts.Statuses.{IsComplete, ending};
+ghost use Rattle.trace_command.specs.Booked.{over};
 ghost use Rattle.trace_command.specs.Leaving.{CanCheck, TraceLeaves};
-ghost use Rattle.trace_command.specs.Sources.{from_bytes, from_parts, from_source, most_bytes};
+ghost use Rattle.trace_command.specs.Sources.{from_bytes, from_parts, from_source, most_bytes, traced_of};
 
-use crate::judging::judge;
+use crate::judging::judge_by;
 use crate::putting::end_by;
-use crate::reading::{read_bytes, read_traced};
-use command_parts::{Fault, Outcome, end_with};
+use crate::reading::{Traced, read_bytes, read_traced};
 use disk_trait::Disk;
-use script_form::Script;
+use image_tools::stream_edge::{Sink, Source};
+use manager_code::Book;
+use manager_gate::{Answers, AskedPolicy, AskedSupplier, Gate};
+use script_source::command_parts::{Fault, Outcome, end_with};
 use std::alloc::Global;
-use stream_edge::{Sink, Source};
+use std::marker::{Brand, PhantomData};
 
-/// Checks a trace of a script that was read, and puts the verdict.
-fn check_read<W: Sink, D: Disk, S: Fn(u64, u32, u16) -> u64, P: Fn(u32, u64) -> bool>(
+/// Checks a trace of a script that was read, by its managers over the handed-in ones, and puts the verdict. `N` has the answers of the
+/// handed-in ones, and `B` those of the script's over them.
+fn check_read<
+    W: Sink,
+    D: Disk,
+    S: Fn(u64, u32, u16) -> u64,
+    P: Fn(u32, u64) -> bool,
+    N: Answers,
+    B: Answers,
+>(
     alloc: Global,
-    script: &Script,
-    trace: &[u8],
+    traced: &Traced<'_>,
     sink: &mut W,
     mut disk: D,
     supply: &S,
     policy: &P,
 ) -> Outcome<D>
-    ghost m: { Managers }
     requires words { (t p a : ℕ) → t < 2 ^ 64 → p < 256 → a < 128 → S.pre supply.now t p a }
-    requires supplied { (t p a r : ℕ) → t < 2 ^ 64 → p < 256 → a < 128 → S.post supply.now t p a r → r ≡ m.word t p a }
+    requires supplied { (t p a r : ℕ) → t < 2 ^ 64 → p < 256 → a < 128 → S.post supply.now t p a r → r ≡ N.word t p a }
     requires callable { (every since : ℕ) → every < 2 ^ 32 → since < 2 ^ 64 → P.pre policy.now every since }
-    requires answers { (every since : ℕ) (r : Bool) → every < 2 ^ 32 → since < 2 ^ 64 → P.post policy.now every since r → r ≡ m.wish every since }
-    requires allowed { IsScript (tables_of script.now) }
-    ensures leaves { TraceLeaves m (from_parts (tables_of script.now) trace.now) (seen_sink W.held W.faults sink.old sink.new)
+    requires answers { (every since : ℕ) (r : Bool) → every < 2 ^ 32 → since < 2 ^ 64 → P.post policy.now every since r → r ≡ N.wish every since }
+    requires allowed { IsScript (tables_of traced.now.read.script) }
+    requires managers { AreScriptManagers (managers_of traced.now.read.managers) }
+    requires booked { over (managers_of traced.now.read.managers) (record { word = N.word; wish = N.wish }) ≡ record { word = B.word; wish = B.wish } }
+    ensures leaves { TraceLeaves (record { word = N.word; wish = N.wish }) (from_parts (traced_of traced.now)) (seen_sink W.held W.faults sink.old sink.new)
         (seen_disk D.tells D.block_count D.reading D.may_leave D.left_since D.clock D.faults disk result.disk) (gave result) (ending result.status) }
     ensures count { W.faults sink.old ≤ W.faults sink.new }
 {
-    let verdict = judge(alloc, &mut disk, script, trace, supply, policy);
+    let supplier: AskedSupplier<S, N> = AskedSupplier {
+        ask: supply,
+        of: PhantomData,
+    };
+    let asked: AskedPolicy<P, N> = AskedPolicy {
+        ask: policy,
+        of: PhantomData,
+    };
+    let handed = Gate::new(supplier, asked);
+    let book = Book {
+        managers: &traced.read.managers,
+        outer: &handed,
+    };
+    let gate = Gate::new(&book, &book);
+    let verdict = judge_by::<D, _, _, B>(
+        alloc,
+        &mut disk,
+        &traced.read.script,
+        traced.trace,
+        &gate,
+    );
     end_by(alloc, sink, disk, verdict)
 }
 
@@ -62,22 +94,17 @@ fn check_bytes<W: Sink, D: Disk, S: Fn(u64, u32, u16) -> u64, P: Fn(u32, u64) ->
     ensures count { W.faults sink.old ≤ W.faults sink.new }
 {
     match read_traced(alloc, bytes) {
-        Ok(traced) => check_read(
-            alloc,
-            &traced.script,
-            traced.trace,
-            sink,
-            disk,
-            supply,
-            policy,
-        ),
+        Ok(traced) => {
+            check_read::<W, D, S, P, Brand, Brand>(alloc, &traced, sink, disk, supply, policy)
+        }
         Err(fault) => end_with(alloc, sink, disk, Fault::from(fault)),
     }
 }
 
 /// Checks whether the trace that a source holds is that of a legal history of its script, from the state that the image on a disk means. The
 /// source has a script, a line `---` and the trace; the first such line counts. The line `ok LINES` is put, or `fault 10 LINE want ENTRY`
-/// with the first line that is that of no entry that may be next. The disk is only read: no write and no sync is begun.
+/// with the first line that is that of no entry that may be next. The managers that the script brings answer for their numbers, and the
+/// handed-in ones for all others, in what the image means too. The disk is only read: no write and no sync is begun.
 ///
 /// What stops the call first decides: the source, with at most 67,108,864 bytes and 1,048,576 before the line `---`; the image; the script
 /// against it; the trace. It takes memory for as many bytes, for the script, for what `read_image` takes, and for what a check keeps.

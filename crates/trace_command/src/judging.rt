@@ -1,27 +1,28 @@
 // The verdict on a trace.
 ghost use Rattle.std.specs.Prelude.{◌≡◌, ◌≤◌, ◌<◌, ◌^◌, ℕ, All, Bool};
-ghost use Rattle.history_model.specs.Born.{AreEdges};
-ghost use Rattle.history_model.specs.Plains.{cells_of};
-ghost use Rattle.hop_model.specs.Soundness.{IsSound};
-ghost use Rattle.hop_model.specs.State.{KernelState};
-ghost use Rattle.log_reading.specs.Reads.{ReadsOnly};
-ghost use Rattle.script_form.specs.Rules.{IsScript};
-ghost use Rattle.script_form.specs.Scripts.{tables_of};
-ghost use Rattle.trace_steps.specs.Standing.{Managers};
-ghost use Rattle.trace_words.specs.Traces.{Begins};
-ghost use Rattle.command_parts.specs.Seen.{seen_disk};
+ghost use Rattle.image_tools.specs.history_model.Born.{AreEdges};
+ghost use Rattle.image_tools.specs.history_model.Plains.{cells_of};
+ghost use Rattle.trace_check.specs.hop_model.Soundness.{IsSound};
+ghost use Rattle.trace_check.specs.hop_model.State.{KernelState};
+ghost use Rattle.script_source.specs.log_reading.Reads.{ReadsOnly};
+ghost use Rattle.script_source.specs.script_form.Rules.{IsScript};
+ghost use Rattle.script_source.specs.script_form.Scripts.{tables_of};
+ghost use Rattle.trace_check.specs.trace_steps.Standing.{Managers};
+ghost use Rattle.trace_check.specs.trace_words.Traces.{Begins};
+ghost use Rattle.script_source.specs.command_parts.Seen.{seen_disk};
 ghost use Rattle.trace_command.specs.Verdicts.{IsJudged, IsVerdict, verdict_of as told_verdict};
 
 use arrayvec::ArrayString;
-use command_parts::Fault;
 use disk_trait::Disk;
-use history_model::Plain;
 use hop_base::Entry;
+use image_tools::history_model::Plain;
 use image_tools::{ImageFacts, read_image};
-use plain_run::against;
-use script_form::Script;
+use manager_gate::{Answers, Gate, Policy, Supplier};
+use script_source::command_parts::Fault;
+use script_source::script_form::Script;
 use std::alloc::Global;
-use text_lines::LINE;
+use trace_check::plain_run::against;
+use trace_check::text_lines::LINE;
 use trace_check::{TraceFault, check};
 
 /// What became of a trace that was to be checked.
@@ -77,8 +78,8 @@ fn verdict_from<S: Fn(u64, u32, u16) -> u64, P: Fn(u32, u64) -> bool>(
     }
 }
 
-/// Checks a trace of a script from the state that the image on a disk means. The disk is only read.
-pub(crate) fn judge<D: Disk, S: Fn(u64, u32, u16) -> u64, P: Fn(u32, u64) -> bool>(
+/// Checks a trace of a script from the state that the image on a disk means. The disk is only read. `N` has the answers of the managers.
+fn judge<D: Disk, S: Fn(u64, u32, u16) -> u64, P: Fn(u32, u64) -> bool, N: Answers>(
     alloc: Global,
     disk: &mut D,
     script: &Script,
@@ -86,13 +87,13 @@ pub(crate) fn judge<D: Disk, S: Fn(u64, u32, u16) -> u64, P: Fn(u32, u64) -> boo
     supply: &S,
     policy: &P,
 ) -> Verdict
-    ghost m: { Managers }
     requires words { (t p a : ℕ) → t < 2 ^ 64 → p < 256 → a < 128 → S.pre supply.now t p a }
-    requires supplied { (t p a r : ℕ) → t < 2 ^ 64 → p < 256 → a < 128 → S.post supply.now t p a r → r ≡ m.word t p a }
+    requires supplied { (t p a r : ℕ) → t < 2 ^ 64 → p < 256 → a < 128 → S.post supply.now t p a r → r ≡ N.word t p a }
     requires callable { (every since : ℕ) → every < 2 ^ 32 → since < 2 ^ 64 → P.pre policy.now every since }
-    requires answers { (every since : ℕ) (r : Bool) → every < 2 ^ 32 → since < 2 ^ 64 → P.post policy.now every since r → r ≡ m.wish every since }
+    requires answers { (every since : ℕ) (r : Bool) → every < 2 ^ 32 → since < 2 ^ 64 → P.post policy.now every since r → r ≡ N.wish every since }
     requires allowed { IsScript (tables_of script.now) }
-    ensures judged { IsJudged m (tables_of script.now) trace.now (seen_disk D.tells D.block_count D.reading D.may_leave D.left_since D.clock D.faults disk.old disk.new) result }
+    ensures judged { IsJudged (record { word = N.word; wish = N.wish }) (tables_of script.now) trace.now
+        (seen_disk D.tells D.block_count D.reading D.may_leave D.left_since D.clock D.faults disk.old disk.new) result }
     ensures same { ReadsOnly D.tells D.block_count D.reading D.may_leave D.left_since D.clock D.faults disk.old disk.new }
 {
     match read_image(alloc, disk, supply) {
@@ -101,4 +102,34 @@ pub(crate) fn judge<D: Disk, S: Fn(u64, u32, u16) -> u64, P: Fn(u32, u64) -> boo
         }
         Err(fault) => Verdict::Stopped(Fault::from(fault)),
     }
+}
+
+/// Checks a trace of a script by the managers of a gate, whose answers `N` has. The disk is only read.
+pub(crate) fn judge_by<D: Disk, S: Supplier, P: Policy, N: Answers>(
+    alloc: Global,
+    disk: &mut D,
+    script: &Script,
+    trace: &[u8],
+    gate: &Gate<S, P>,
+) -> Verdict
+    requires supplies { S.keeps gate.now.supply }
+    requires wishes { P.keeps gate.now.policy }
+    requires word { S.word gate.now.supply ≡ N.word }
+    requires wish { P.wish gate.now.policy ≡ N.wish }
+    requires allowed { IsScript (tables_of script.now) }
+    ensures judged { IsJudged (record { word = N.word; wish = N.wish }) (tables_of script.now) trace.now
+        (seen_disk D.tells D.block_count D.reading D.may_leave D.left_since D.clock D.faults disk.old disk.new) result }
+    ensures same { ReadsOnly D.tells D.block_count D.reading D.may_leave D.left_since D.clock D.faults disk.old disk.new }
+{
+    let words = |tag: u64, page: u32, place: u16|
+        requires keeps { S.keeps gate.now.supply }
+        requires page { page < 256 }
+        requires place { place < 128 }
+        ensures { result ≡ S.word gate.entry.now.supply tag page place }
+    { gate.supply.word(tag, page, place) };
+    let wishes = |every: u32, since: u64|
+        requires { P.keeps gate.now.policy }
+        ensures { result ≡ P.wish gate.entry.now.policy every since }
+    { gate.policy.wish(every, since) };
+    judge::<D, _, _, N>(alloc, disk, script, trace, &words, &wishes)
 }

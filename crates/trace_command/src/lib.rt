@@ -9,6 +9,3 @@ mod putting;
 mod reading;
 
 pub use checking::check_trace;
-
-#[cfg(test)]
-mod tests;

@@ -1,20 +1,20 @@
 // The line of a verdict.
 ghost use Rattle.std.specs.Prelude.{◌≡◌, ◌≤◌, OnErr};
 ghost use Rattle.disk_trait.specs.Counts.{Rose};
-ghost use Rattle.stream_edge.specs.Streams.{Puts};
-ghost use Rattle.command_parts.specs.Ends.{IsPut};
-ghost use Rattle.command_parts.specs.Faults.{wrong_line};
-ghost use Rattle.command_parts.specs.Seen.{gave, seen_sink};
+ghost use Rattle.image_tools.specs.stream_edge.Streams.{Puts};
+ghost use Rattle.script_source.specs.command_parts.Ends.{IsPut};
+ghost use Rattle.script_source.specs.command_parts.Faults.{wrong_line};
+ghost use Rattle.script_source.specs.command_parts.Seen.{gave, seen_sink};
 ghost use Rattle.trace_command.specs.Leaving.{ok_line};
 ghost use Rattle.trace_command.specs.Verdicts.{EndsWith};
 
 use crate::judging::Verdict;
 use arrayvec::ArrayString;
-use command_parts::{Outcome, Status, empty_outcome, end_with};
+use image_tools::stream_edge::{Sink, SinkFault};
 use itoa::Buffer;
+use script_source::command_parts::{Outcome, Status, empty_outcome, end_with};
 use std::alloc::Global;
-use stream_edge::{Sink, SinkFault};
-use text_lines::LINE;
+use trace_check::text_lines::LINE;
 
 /// A length that no text with one number exceeds.
 const NUMBER: usize = 48;

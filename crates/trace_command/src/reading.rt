@@ -1,28 +1,29 @@
 // A source, read to a script and a trace.
 ghost use Rattle.std.specs.Prelude.{◌≡◌, ◌≤◌, ◌<◌, IfErr, IfOk, IfSome, OnOk, Some, codes, length, true, vec_len};
 ghost use Rattle.std.specs.Io.KnownBytes.{IsAtEnd};
-ghost use Rattle.script_form.specs.Rules.{IsScript};
-ghost use Rattle.script_form.specs.Scripts.{tables_of};
-ghost use Rattle.script_read.specs.Reading.{IsBlamed, IsFaultOf};
-ghost use Rattle.command_parts.specs.Seen.{seen_source};
+ghost use Rattle.manager_form.specs.Managing.{AreScriptManagers, managers_of};
+ghost use Rattle.script_source.specs.script_form.Rules.{IsScript};
+ghost use Rattle.script_source.specs.script_form.Scripts.{tables_of};
+ghost use Rattle.script_source.specs.script_read.Reading.{IsBlamed, IsFaultOf};
+ghost use Rattle.script_source.specs.command_parts.Seen.{seen_source};
 ghost use Rattle.trace_command.specs.Parts.{rule_from};
-ghost use Rattle.trace_command.specs.Sources.{MeansTraced, StopsTraced, most_bytes, traced_meaning};
+ghost use Rattle.trace_command.specs.Sources.{MeansTraced, StopsTraced, most_bytes, traced_meaning, traced_of};
 
 use crate::parting::{behind_rule, rule_place};
-use command_parts::Fault;
-use script_form::{Refusal, Script, ScriptFault, Why};
-use script_read::read_script;
+use image_tools::stream_edge::{Source, read_all};
+use script_source::command_parts::Fault;
 use script_source::fault_of_stop;
+use script_source::script_form::{Refusal, ScriptFault, Why};
+use script_source::script_read::{ManagedScript, read_script};
 use std::alloc::Global;
-use stream_edge::{Source, read_all};
 
 /// How many bytes a script and its trace may have, with the line between them.
 const MOST_BYTES: usize = 67_108_864;
 
-/// A script, and the trace behind it.
+/// A script with the managers that it brings, and the trace behind it.
 #[derive(Drop)]
 pub(crate) struct Traced<'a> {
-    pub(crate) script: Script,
+    pub(crate) read: ManagedScript,
     pub(crate) trace: &'a [u8],
 }
 
@@ -53,29 +54,31 @@ pub(crate) fn read_bytes<R: Source>(alloc: Global, source: &mut R) -> Result<Vec
     }
 }
 
-/// The script before the line that begins here, and the trace behind it.
+/// The script before the line that begins here with its managers, and the trace behind it.
 fn read_parts(alloc: Global, bytes: &[u8], at: usize) -> Result<Traced<'_>, ScriptFault>
     requires short { length bytes.now ≤ most_bytes }
     requires place { rule_from true bytes.now 0 ≡ Some at }
     requires within { at < length bytes.now }
-    ensures means { IfOk result (λ t. MeansTraced bytes.entry.now (tables_of t.script) t.trace.now) }
-    ensures rules { IfOk result (λ t. IsScript (tables_of t.script)) }
+    ensures means { IfOk result (λ t. MeansTraced bytes.entry.now (traced_of t)) }
+    ensures rules { IfOk result (λ t. IsScript (tables_of t.read.script)) }
+    ensures managers { IfOk result (λ t. AreScriptManagers (managers_of t.read.managers)) }
     ensures fault { IfErr result (IsFaultOf (traced_meaning bytes.entry.now)) }
 {
     match read_script(alloc, &bytes[..at]) {
         Ok(read) => Ok(Traced {
-            script: read.script,
+            read,
             trace: behind_rule(bytes, at),
         }),
         Err(fault) => Err(fault),
     }
 }
 
-/// The script and the trace that the bytes stand for.
+/// The script with its managers and the trace that the bytes stand for.
 pub(crate) fn read_traced(alloc: Global, bytes: &[u8]) -> Result<Traced<'_>, ScriptFault>
     requires short { length bytes.now ≤ most_bytes }
-    ensures means { IfOk result (λ t. MeansTraced bytes.entry.now (tables_of t.script) t.trace.now) }
-    ensures rules { IfOk result (λ t. IsScript (tables_of t.script)) }
+    ensures means { IfOk result (λ t. MeansTraced bytes.entry.now (traced_of t)) }
+    ensures rules { IfOk result (λ t. IsScript (tables_of t.read.script)) }
+    ensures managers { IfOk result (λ t. AreScriptManagers (managers_of t.read.managers)) }
     ensures fault { IfErr result (IsFaultOf (traced_meaning bytes.entry.now)) }
 {
     match rule_place(bytes) {

@@ -1,7 +1,7 @@
 //! The cut over all commits, and those at or above it.
 ghost use Rattle.std.specs.Prelude.{◌≡◌, ℕ, ◌≤◌, ◌<◌, ◌++◌, ◌∷◌, [], OnOk, OnErr, length, nat_le};
-ghost use Rattle.hop_model.specs.Choices.{IsGreatest};
-ghost use Rattle.cut_laws.specs.Records.{commits_of, recs_from};
+ghost use Rattle.cut_finder.specs.hop_model.Choices.{IsGreatest};
+ghost use Rattle.cut_finder.specs.cut_laws.Records.{commits_of, recs_from};
 ghost use Rattle.cut_finder.specs.Records.{choice, IsAscending};
 ghost use Rattle.trace_parts.specs.Cuts.{records_of};
 ghost use Rattle.trace_parts.specs.Flags.{mark_at};

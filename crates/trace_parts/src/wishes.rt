@@ -1,7 +1,7 @@
 //! Wishes for snapshot records.
 ghost use Rattle.std.specs.Prelude.{◌≡◌, ℕ, ◌<◌, ◌&&◌, ◌||◌, ◌-◌, ◌^◌, Bool, not, false, true, slice_index};
-ghost use Rattle.hop_model.specs.Histories.{with_asked};
-ghost use Rattle.hop_model.specs.Words.{put};
+ghost use Rattle.cut_finder.specs.hop_model.Histories.{with_asked};
+ghost use Rattle.cut_finder.specs.hop_model.Words.{put};
 ghost use Rattle.trace_parts.specs.Flags.{mark_at, wrote_in};
 
 use crate::touches::writes;

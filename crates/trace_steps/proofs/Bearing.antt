@@ -4,24 +4,24 @@ use Rattle.std.proofs.lemmas.Bool.{false≢true}
 use Rattle.hop_base.specs.declared.histories.Entry.{Entry}
 use Rattle.hop_base.specs.declared.histories.Event.{Event}
 use Rattle.hop_base.specs.declared.histories.Event.TheVariants.{Birth}
-use Rattle.hop_model.specs.Births.{birth, birth_named, next_birth, next_birth_change}
-use Rattle.hop_model.specs.Changes.{Change, carried}
-use Rattle.hop_model.specs.Histories.{May, Policy, Run, births_owed, by_event, event_of, may as may_be}
-use Rattle.hop_model.specs.Parts.{after_entry, is_event, next_of}
-use Rattle.hop_model.specs.Scripts.{Script, next_name}
-use Rattle.hop_model.specs.Soundness.{IsSound}
-use Rattle.hop_model.specs.State.{AtlasState, Cell, KernelState, Supply, Text}
-use Rattle.hop_model.specs.Steps.{atlas_in}
-use Rattle.hop_model.proofs.LegalRuns.{next_legal}
-use Rattle.history_model.specs.Born.{AreEdges, AreOfOneKind, IsUndefined}
-use Rattle.history_model.specs.Events.{Bears, Has}
-use Rattle.history_model.specs.Plains.{atlas_of, cells_of}
-use Rattle.history_model.specs.declared.plain.Plain.{Plain}
+use Rattle.plain_run.specs.hop_model.Births.{birth, birth_named, next_birth, next_birth_change}
+use Rattle.plain_run.specs.hop_model.Changes.{Change, carried}
+use Rattle.plain_run.specs.hop_model.Histories.{May, Policy, Run, births_owed, by_event, event_of, may as may_be}
+use Rattle.plain_run.specs.hop_model.Parts.{after_entry, is_event, next_of}
+use Rattle.plain_run.specs.hop_model.Scripts.{Script, next_name}
+use Rattle.plain_run.specs.hop_model.Soundness.{IsSound}
+use Rattle.plain_run.specs.hop_model.State.{AtlasState, Cell, KernelState, Supply, Text}
+use Rattle.plain_run.specs.hop_model.Steps.{atlas_in}
+use Rattle.plain_run.proofs.hop_model_lemmas.LegalRuns.{next_legal}
+use Rattle.plain_run.specs.history_model.Born.{AreEdges, AreOfOneKind, IsUndefined}
+use Rattle.plain_run.specs.history_model.Events.{Bears, Has}
+use Rattle.plain_run.specs.history_model.Plains.{atlas_of, cells_of}
+use Rattle.plain_run.specs.history_model.declared.plain.Plain.{Plain}
 use Rattle.plain_run.proofs.Goings.{state_is}
 use Rattle.plain_run.proofs.Growing.{born_atlas, kinds_after}
 use Rattle.plain_run.proofs.KnownNames.{next_name_is}
 use Rattle.plain_run.proofs.Openings.{birth_event, borne, goes_on_birth, next_is_birth}
-use Rattle.sound_runs.proofs.Standing.{under_next}
+use Rattle.plain_run.proofs.sound_runs_lemmas.Standing.{under_next}
 use Rattle.trace_parts.specs.Clocks.{clock_at, joined_in}
 use Rattle.trace_parts.specs.Flags.{mark_at, wrote_in}
 use Rattle.trace_parts.specs.declared.clocks.Clocks.{Clocks}

@@ -5,20 +5,20 @@ use Rattle.std.proofs.lemmas.Bool.{cases_lt}
 use Rattle.std.proofs.lemmas.Bool.Decides.{nat_tests}
 use Rattle.std.proofs.lemmas.List.{get_or_past}
 use Rattle.hop_base.specs.Edges.{upto}
-use Rattle.hop_model.specs.Choices.{Commit}
-use Rattle.hop_model.specs.Histories.{Policy, Run, chosen_commits, commits_of, start_run}
-use Rattle.hop_model.specs.Scripts.{Script, next_name}
-use Rattle.hop_model.specs.Soundness.{IsSound}
-use Rattle.hop_model.specs.State.{KernelState, Supply}
-use Rattle.cut_laws.specs.Agreeing.{from_cut}
-use Rattle.cut_laws.specs.Records.{commits_of as rec_commits}
-use Rattle.history_model.specs.Born.{AreEdges, AreOfOneKind}
-use Rattle.history_model.specs.Plains.{atlas_of, cells_of}
-use Rattle.history_model.specs.declared.plain.Plain.{Plain}
+use Rattle.plain_run.specs.hop_model.Choices.{Commit}
+use Rattle.plain_run.specs.hop_model.Histories.{Policy, Run, chosen_commits, commits_of, start_run}
+use Rattle.plain_run.specs.hop_model.Scripts.{Script, next_name}
+use Rattle.plain_run.specs.hop_model.Soundness.{IsSound}
+use Rattle.plain_run.specs.hop_model.State.{KernelState, Supply}
+use Rattle.trace_parts.specs.cut_laws.Agreeing.{from_cut}
+use Rattle.trace_parts.specs.cut_laws.Records.{commits_of as rec_commits}
+use Rattle.plain_run.specs.history_model.Born.{AreEdges, AreOfOneKind}
+use Rattle.plain_run.specs.history_model.Plains.{atlas_of, cells_of}
+use Rattle.plain_run.specs.history_model.declared.plain.Plain.{Plain}
 use Rattle.plain_run.proofs.Placing.{zeros_at}
-use Rattle.run_laws.proofs.Cuts.{chosen_same}
-use Rattle.script_form.specs.Rules.{IsScript}
-use Rattle.sound_runs.proofs.Counting.{upto_less}
+use Rattle.run_rules.proofs.run_laws_lemmas.Cuts.{chosen_same}
+use Rattle.plain_run.specs.script_form.Rules.{IsScript}
+use Rattle.plain_run.proofs.sound_runs_lemmas.Counting.{upto_less}
 use Rattle.trace_parts.specs.Clocks.{clock_at}
 use Rattle.trace_parts.specs.Cuts.{records_of}
 use Rattle.trace_parts.specs.Flags.{mark_at}

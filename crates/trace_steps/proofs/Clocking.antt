@@ -4,17 +4,17 @@ use Rattle.std.specs.List.{list_any}
 use Rattle.std.proofs.lemmas.Bool.{false≢true}
 use Rattle.hop_base.specs.declared.histories.Entry.{Entry}
 use Rattle.hop_base.specs.declared.histories.Touch.{Touch}
-use Rattle.hop_model.specs.Changes.{joined}
-use Rattle.hop_model.specs.Histories.{Policy, Run, event_of, writes}
-use Rattle.hop_model.specs.LocalEvents.{touch_at}
-use Rattle.hop_model.specs.Parts.{IsNext, after_entry}
-use Rattle.hop_model.specs.Scripts.{Script}
-use Rattle.hop_model.specs.State.{KernelState, Supply}
-use Rattle.hop_model.proofs.Basics.{and_left, and_right}
-use Rattle.hop_model.proofs.Covering.{Is_next, found, is_next}
-use Rattle.hop_model.proofs.LegalRuns.{event_of_local, event_of_stamped}
-use Rattle.hop_model.proofs.Replay.{at_entity}
-use Rattle.run_laws.proofs.Writing.{entry_stays}
+use Rattle.plain_run.specs.hop_model.Changes.{joined}
+use Rattle.plain_run.specs.hop_model.Histories.{Policy, Run, event_of, writes}
+use Rattle.plain_run.specs.hop_model.LocalEvents.{touch_at}
+use Rattle.plain_run.specs.hop_model.Parts.{IsNext, after_entry}
+use Rattle.plain_run.specs.hop_model.Scripts.{Script}
+use Rattle.plain_run.specs.hop_model.State.{KernelState, Supply}
+use Rattle.plain_run.proofs.hop_model_lemmas.Basics.{and_left, and_right}
+use Rattle.plain_run.proofs.hop_model_lemmas.Covering.{Is_next, found, is_next}
+use Rattle.plain_run.proofs.hop_model_lemmas.LegalRuns.{event_of_local, event_of_stamped}
+use Rattle.plain_run.proofs.hop_model_lemmas.Replay.{at_entity}
+use Rattle.run_rules.proofs.run_laws_lemmas.Writing.{entry_stays}
 use Rattle.trace_parts.specs.Clocks.{clock_at, joined_in}
 use Rattle.trace_parts.specs.Flags.{wrote_in}
 use Rattle.trace_parts.specs.declared.clocks.Clocks.{Clocks}

@@ -6,14 +6,14 @@ use Rattle.std.proofs.lemmas.List.Elements.{All-cons, All-nil}
 use Rattle.std.proofs.lemmas.List.Kept.{AllPairs-cons}
 use Rattle.std.proofs.lemmas.List.Sums.{length-filter, sum_by-cons}
 use Rattle.hop_base.specs.declared.records.Rec.{Rec}
-use Rattle.hop_model.specs.Choices.{Commit, IsBelow, IsGreatest}
-use Rattle.hop_model.specs.Histories.{Run, commits_above}
-use Rattle.hop_model.proofs.Lowering.{greatest_one, rising_cut}
-use Rattle.cut_finder.specs.Records.{IsAscending, choice}
-use Rattle.cut_laws.specs.Agreeing.{from_cut, is_from}
-use Rattle.cut_laws.specs.Records.{commit_of, commits_of, is_rec_from, recs_from}
-use Rattle.cut_laws.proofs.Filters.{kept, more}
-use Rattle.cut_laws.proofs.Joins.{greatest_of_kept}
+use Rattle.plain_run.specs.hop_model.Choices.{Commit, IsBelow, IsGreatest}
+use Rattle.plain_run.specs.hop_model.Histories.{Run, commits_above}
+use Rattle.plain_run.proofs.hop_model_lemmas.Lowering.{greatest_one, rising_cut}
+use Rattle.trace_parts.specs.cut_finder.Records.{IsAscending, choice}
+use Rattle.trace_parts.specs.cut_laws.Agreeing.{from_cut, is_from}
+use Rattle.trace_parts.specs.cut_laws.Records.{commit_of, commits_of, is_rec_from, recs_from}
+use Rattle.trace_parts.proofs.cut_laws_lemmas.Filters.{kept, more}
+use Rattle.trace_parts.proofs.cut_laws_lemmas.Joins.{greatest_of_kept}
 use Rattle.run_rules.specs.Records.{AreAbove, AreAscending}
 use Rattle.trace_parts.specs.Cuts.{records_of}
 use Rattle.trace_parts.specs.declared.cuts.Cuts.{Cuts}

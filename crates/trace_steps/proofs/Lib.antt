@@ -11,3 +11,5 @@ pub mod Stabling
 pub mod Bearing
 pub mod Beginning
 pub mod Single
+pub use Rattle.plain_run.proofs as plain_run_lemmas
+pub use Rattle.run_rules.proofs.run_laws_lemmas

@@ -4,13 +4,13 @@ use Rattle.std.proofs.lemmas.Bool.{false≢true}
 use Rattle.hop_base.specs.declared.histories.Entry.{Entry}
 use Rattle.hop_base.specs.declared.histories.Event.TheVariants.{Snap as SnapEvent, Tried}
 use Rattle.hop_base.specs.declared.records.Rec.{Rec}
-use Rattle.hop_model.specs.Choices.{Commit, IsGreatest}
-use Rattle.hop_model.specs.Histories.{May, MayCommit, Policy, Run, after_snap, commit_of, goes_on, is_full, mark, may as may_be}
-use Rattle.hop_model.specs.Scripts.{Script}
-use Rattle.hop_model.specs.State.{KernelState, Supply}
-use Rattle.hop_model.specs.Words.{put}
-use Rattle.cut_finder.specs.Records.{IsAscending, choice}
-use Rattle.cut_laws.specs.Records.{commits_of, recs_from}
+use Rattle.plain_run.specs.hop_model.Choices.{Commit, IsGreatest}
+use Rattle.plain_run.specs.hop_model.Histories.{May, MayCommit, Policy, Run, after_snap, commit_of, goes_on, is_full, mark, may as may_be}
+use Rattle.plain_run.specs.hop_model.Scripts.{Script}
+use Rattle.plain_run.specs.hop_model.State.{KernelState, Supply}
+use Rattle.plain_run.specs.hop_model.Words.{put}
+use Rattle.trace_parts.specs.cut_finder.Records.{IsAscending, choice}
+use Rattle.trace_parts.specs.cut_laws.Records.{commits_of, recs_from}
 use Rattle.trace_parts.specs.Clocks.{clock_at}
 use Rattle.trace_parts.specs.Cuts.{records_of}
 use Rattle.trace_parts.specs.Flags.{mark_at}

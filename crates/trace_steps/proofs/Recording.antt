@@ -3,10 +3,10 @@ use Rattle.std.proofs.Common.{◌≡◌, ℕ, zero, suc, ◌+◌, ◌<◌, ◌�
 use Rattle.std.proofs.lemmas.List.Elements.{filter-append}
 use Rattle.std.proofs.lemmas.List.Sums.{count_by-le-length, length-filter}
 use Rattle.hop_base.specs.Edges.{upto}
-use Rattle.sound_runs.proofs.Counting.{AllLess, upto_less}
+use Rattle.plain_run.proofs.sound_runs_lemmas.Counting.{AllLess, upto_less}
 use Rattle.hop_base.specs.declared.records.Rec.{Rec}
-use Rattle.hop_model.specs.Histories.{Run, commit_of, commits_of, has_changed, version_of}
-use Rattle.cut_laws.specs.Records.{commit_of as rec_commit, commits_of as rec_commits}
+use Rattle.plain_run.specs.hop_model.Histories.{Run, commit_of, commits_of, has_changed, version_of}
+use Rattle.trace_parts.specs.cut_laws.Records.{commit_of as rec_commit, commits_of as rec_commits}
 use Rattle.trace_parts.specs.Clocks.{clock_at}
 use Rattle.trace_parts.specs.declared.clocks.Clocks.{Clocks}
 use Rattle.trace_steps.specs.Keeping.{HasClocks}

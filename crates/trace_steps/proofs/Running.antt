@@ -2,18 +2,18 @@
 use Rattle.std.proofs.Common.{◌≡◌, ℕ, ◌≤◌, List, [], ◌∷◌, ◌++◌, length, refl, sym, ap, subst, ◌∙◌, arith}
 use Rattle.hop_base.specs.declared.histories.Entry.{Entry}
 use Rattle.hop_base.specs.declared.records.Rec.{Rec}
-use Rattle.hop_model.specs.Choices.{Commit, IsGreatest}
-use Rattle.hop_model.specs.Histories.{AllBelow64, IsLegalFrom, May, Policy, Run, goes_on, is_full, run_after, start_run}
-use Rattle.hop_model.specs.Scripts.{Script}
-use Rattle.hop_model.specs.State.{KernelState, Supply}
-use Rattle.cut_finder.specs.Records.{IsAscending, choice}
-use Rattle.cut_laws.specs.Agreeing.{from_cut}
-use Rattle.cut_laws.specs.Records.{commits_of, recs_from}
-use Rattle.run_laws.proofs.Cuts.{cut_after, cut_greatest}
+use Rattle.plain_run.specs.hop_model.Choices.{Commit, IsGreatest}
+use Rattle.plain_run.specs.hop_model.Histories.{AllBelow64, IsLegalFrom, May, Policy, Run, goes_on, is_full, run_after, start_run}
+use Rattle.plain_run.specs.hop_model.Scripts.{Script}
+use Rattle.plain_run.specs.hop_model.State.{KernelState, Supply}
+use Rattle.trace_parts.specs.cut_finder.Records.{IsAscending, choice}
+use Rattle.trace_parts.specs.cut_laws.Agreeing.{from_cut}
+use Rattle.trace_parts.specs.cut_laws.Records.{commits_of, recs_from}
+use Rattle.run_rules.proofs.run_laws_lemmas.Cuts.{cut_after, cut_greatest}
 use Rattle.run_rules.specs.Records.{AreAbove, AreAscending}
 use Rattle.run_rules.proofs.Ascending.{commits_ascend}
-use Rattle.sound_runs.proofs.Kept.{kept_few}
-use Rattle.sound_runs.proofs.Standing.{legal_below}
+use Rattle.plain_run.proofs.sound_runs_lemmas.Kept.{kept_few}
+use Rattle.plain_run.proofs.sound_runs_lemmas.Standing.{legal_below}
 use Rattle.std.specs.Prelude.{nat_le}
 use Rattle.trace_parts.specs.Cuts.{records_of}
 use Rattle.trace_parts.specs.declared.cuts.Cuts.{Cuts}

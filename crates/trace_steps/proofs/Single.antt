@@ -2,10 +2,10 @@
 use Rattle.std.proofs.Common.{◌≡◌, Option, Some, None, Result, Ok, Err, IfOk, IfSome, IfNone, option_map, refl, sym, ap, subst, ◌∙◌}
 use Rattle.hop_base.specs.declared.histories.Entry.{Entry}
 use Rattle.hop_base.specs.declared.histories.Event.TheVariants.{Birth, Step, Snap as SnapEvent, Stable, Tried}
-use Rattle.hop_model.specs.Histories.{May, Policy, Run, mark, may as may_be, version_of}
-use Rattle.hop_model.specs.Scripts.{Script}
-use Rattle.hop_model.specs.State.{KernelState, Supply}
-use Rattle.hop_model.specs.Steps.{step}
+use Rattle.plain_run.specs.hop_model.Histories.{May, Policy, Run, mark, may as may_be, version_of}
+use Rattle.plain_run.specs.hop_model.Scripts.{Script}
+use Rattle.plain_run.specs.hop_model.State.{KernelState, Supply}
+use Rattle.plain_run.specs.hop_model.Steps.{step}
 
 one : (e f : Entry) → Some f ≡ Some e → f ≡ e
 one e f h = cc

@@ -5,12 +5,12 @@ use Rattle.hop_base.specs.Edges.{upto}
 use Rattle.hop_base.specs.declared.histories.Entry.{Entry}
 use Rattle.hop_base.specs.declared.histories.Event.TheVariants.{Stable}
 use Rattle.hop_base.specs.declared.records.Rec.{Rec}
-use Rattle.hop_model.specs.Choices.{IsGreatest}
-use Rattle.hop_model.specs.Histories.{May, Policy, Run, after_stable, commits_of, goes_on, has_changed, is_full, mark, may as may_be}
-use Rattle.hop_model.specs.Scripts.{Script}
-use Rattle.hop_model.specs.State.{KernelState, Supply}
-use Rattle.cut_finder.specs.Records.{IsAscending, choice}
-use Rattle.cut_laws.specs.Records.{commits_of as rec_commits, recs_from}
+use Rattle.plain_run.specs.hop_model.Choices.{IsGreatest}
+use Rattle.plain_run.specs.hop_model.Histories.{May, Policy, Run, after_stable, commits_of, goes_on, has_changed, is_full, mark, may as may_be}
+use Rattle.plain_run.specs.hop_model.Scripts.{Script}
+use Rattle.plain_run.specs.hop_model.State.{KernelState, Supply}
+use Rattle.trace_parts.specs.cut_finder.Records.{IsAscending, choice}
+use Rattle.trace_parts.specs.cut_laws.Records.{commits_of as rec_commits, recs_from}
 use Rattle.trace_parts.specs.Clocks.{clock_at}
 use Rattle.trace_parts.specs.Cuts.{records_of}
 use Rattle.trace_parts.specs.Flags.{mark_at}

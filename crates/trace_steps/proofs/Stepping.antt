@@ -11,27 +11,27 @@ use Rattle.hop_base.specs.declared.histories.Event.{Event}
 use Rattle.hop_base.specs.declared.histories.Event.TheVariants.{Step}
 use Rattle.hop_base.specs.declared.histories.Touch.{Touch}
 use Rattle.hop_base.specs.declared.instructions.Reply.TheVariants.{Ok}
-use Rattle.hop_model.specs.Changes.{Change, carried}
-use Rattle.hop_model.specs.Histories.{May, Policy, Run, after_step, asked_by, by_event, event_of, every_of, goes_on, is_due, locus_in, may as may_be, noting, owed_by, start_run, went_on, with_asked, writes}
-use Rattle.hop_model.specs.LocalEvents.{touch_at}
-use Rattle.hop_model.specs.Parts.{after, after_entry, is_event, next_of}
-use Rattle.hop_model.specs.Scripts.{Script, next_name}
-use Rattle.hop_model.specs.State.{Cell, KernelState, LocusState, Supply}
-use Rattle.hop_model.specs.Steps.{atlas_in, numbered_change, running, step, step_change}
-use Rattle.hop_model.specs.Words.{put}
-use Rattle.hop_model.proofs.LegalRuns.{next_legal, state_after}
-use Rattle.hop_model.specs.Soundness.{IsSound}
-use Rattle.history_model.specs.Born.{AreEdges}
-use Rattle.history_model.specs.Events.{AreFewVersions, Has, StepsTo}
-use Rattle.history_model.specs.Lists.{KeepsNames}
-use Rattle.history_model.specs.Plains.{atlas_of, cells_of}
-use Rattle.history_model.specs.declared.plain.Plain.{Plain}
+use Rattle.plain_run.specs.hop_model.Changes.{Change, carried}
+use Rattle.plain_run.specs.hop_model.Histories.{May, Policy, Run, after_step, asked_by, by_event, event_of, every_of, goes_on, is_due, locus_in, may as may_be, noting, owed_by, start_run, went_on, with_asked, writes}
+use Rattle.plain_run.specs.hop_model.LocalEvents.{touch_at}
+use Rattle.plain_run.specs.hop_model.Parts.{after, after_entry, is_event, next_of}
+use Rattle.plain_run.specs.hop_model.Scripts.{Script, next_name}
+use Rattle.plain_run.specs.hop_model.State.{Cell, KernelState, LocusState, Supply}
+use Rattle.plain_run.specs.hop_model.Steps.{atlas_in, numbered_change, running, step, step_change}
+use Rattle.plain_run.specs.hop_model.Words.{put}
+use Rattle.plain_run.proofs.hop_model_lemmas.LegalRuns.{next_legal, state_after}
+use Rattle.plain_run.specs.hop_model.Soundness.{IsSound}
+use Rattle.plain_run.specs.history_model.Born.{AreEdges}
+use Rattle.plain_run.specs.history_model.Events.{AreFewVersions, Has, StepsTo}
+use Rattle.plain_run.specs.history_model.Lists.{KeepsNames}
+use Rattle.plain_run.specs.history_model.Plains.{atlas_of, cells_of}
+use Rattle.plain_run.specs.history_model.declared.plain.Plain.{Plain}
 use Rattle.plain_run.proofs.Goings.{state_is, step_entry}
 use Rattle.plain_run.proofs.Keeping.{next_kept}
-use Rattle.run_laws.proofs.Tellings.{versions_told}
-use Rattle.sound_runs.proofs.Lengths.{length_bound}
-use Rattle.sound_runs.proofs.Standing.{IsStanding, actor_range, standing_over, under_64}
-use Rattle.run_laws.proofs.Writing.{step_is}
+use Rattle.run_rules.proofs.run_laws_lemmas.Tellings.{versions_told}
+use Rattle.plain_run.proofs.sound_runs_lemmas.Lengths.{length_bound}
+use Rattle.plain_run.proofs.sound_runs_lemmas.Standing.{IsStanding, actor_range, standing_over, under_64}
+use Rattle.run_rules.proofs.run_laws_lemmas.Writing.{step_is}
 use Rattle.trace_parts.specs.Clocks.{clock_at, joined_in}
 use Rattle.trace_parts.specs.Flags.{mark_at, wrote_in}
 use Rattle.trace_parts.specs.declared.clocks.Clocks.{Clocks}

@@ -2,11 +2,11 @@
 use Rattle.std.proofs.Common.{◌≡◌, ℕ, ◌-◌, ◌<◌, Bool, true, false, not, ◌&&◌, ◌||◌, IsTrue, ◌↔◌, List, [], ◌∷◌, nat_lt, if◌then◌else◌, Some, None, is_some, slice_index, inl, inr, refl, sym, ap, subst, ◌∙◌, arith}
 use Rattle.std.specs.Prelude.{find}
 use Rattle.hop_base.specs.Edges.{upto}
-use Rattle.hop_model.specs.Histories.{MayCommit, Policy, Run, every_of, has_changed, has_wish, is_full}
-use Rattle.hop_model.specs.Scripts.{Script}
-use Rattle.hop_model.specs.State.{Supply}
-use Rattle.history_model.specs.Plains.{cells_of}
-use Rattle.sound_runs.proofs.Counting.{AllLess, upto_less}
+use Rattle.plain_run.specs.hop_model.Histories.{MayCommit, Policy, Run, every_of, has_changed, has_wish, is_full}
+use Rattle.plain_run.specs.hop_model.Scripts.{Script}
+use Rattle.plain_run.specs.hop_model.State.{Supply}
+use Rattle.plain_run.specs.history_model.Plains.{cells_of}
+use Rattle.plain_run.proofs.sound_runs_lemmas.Counting.{AllLess, upto_less}
 use Rattle.trace_parts.specs.Flags.{mark_at}
 use Rattle.trace_steps.specs.Recording.{first_changed, is_changed}
 use Rattle.trace_steps.specs.Standing.{Keeps}

@@ -1,10 +1,10 @@
 -- What wishes rest on goes on with each kind of entry.
 use Rattle.std.proofs.Common.{◌≡◌, ℕ, ◌<◌, Bool, true, false, not, ◌&&◌, ◌||◌, ◌==◌, if◌then◌else◌, List, Option, Some, None, slice_index, sym, ap, ◌∙◌}
 use Rattle.hop_base.specs.declared.histories.Entry.{Entry}
-use Rattle.hop_model.specs.Histories.{Run, after_birth, after_snap, after_stable, after_step, asked_by, is_full, noting, owing_births, version_of, with_asked, writes}
-use Rattle.hop_model.specs.Scripts.{Script}
-use Rattle.hop_model.specs.State.{KernelState, LocusState}
-use Rattle.hop_model.specs.Words.{put}
+use Rattle.plain_run.specs.hop_model.Histories.{Run, after_birth, after_snap, after_stable, after_step, asked_by, is_full, noting, owing_births, version_of, with_asked, writes}
+use Rattle.plain_run.specs.hop_model.Scripts.{Script}
+use Rattle.plain_run.specs.hop_model.State.{KernelState, LocusState}
+use Rattle.plain_run.specs.hop_model.Words.{put}
 use Rattle.trace_parts.specs.Flags.{mark_at, wrote_in}
 use Rattle.trace_parts.specs.declared.wishes.Wishes.{Wishes}
 use Rattle.trace_steps.specs.Keeping.{HasWishes}

@@ -3,7 +3,7 @@ use Rattle.std.specs.Prelude.{ℕ, ◌-◌, ◌&&◌, ◌||◌, Bool, not, List,
 use Rattle.hop_base.specs.declared.histories.Answer.{Answer}
 use Rattle.hop_base.specs.declared.histories.Answer.TheVariants.{Quiet, Hop, Reply as Replied, Read, Print}
 use Rattle.hop_base.specs.declared.instructions.Reply.TheVariants.{Ok}
-use Rattle.hop_model.specs.Histories.{Policy}
+use Rattle.plain_run.specs.hop_model.Histories.{Policy}
 use Rattle.trace_parts.specs.Flags.{mark_at}
 use Rattle.trace_parts.specs.declared.wishes.Wishes.{Wishes}
 

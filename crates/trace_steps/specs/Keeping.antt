@@ -1,9 +1,9 @@
 -- What a checker keeps of what the rules of a legal run look at.
 use Rattle.std.specs.Prelude.{◌≡◌, ℕ, ◌<◌, slice_index}
-use Rattle.cut_finder.specs.Records.{choice}
-use Rattle.cut_laws.specs.Agreeing.{from_cut}
-use Rattle.cut_laws.specs.Records.{commits_of}
-use Rattle.hop_model.specs.Histories.{Run, is_full}
+use Rattle.trace_parts.specs.cut_finder.Records.{choice}
+use Rattle.trace_parts.specs.cut_laws.Agreeing.{from_cut}
+use Rattle.trace_parts.specs.cut_laws.Records.{commits_of}
+use Rattle.plain_run.specs.hop_model.Histories.{Run, is_full}
 use Rattle.trace_parts.specs.Clocks.{clock_at}
 use Rattle.trace_parts.specs.Flags.{mark_at}
 use Rattle.trace_parts.specs.declared.clocks.Clocks.{Clocks}

@@ -2,18 +2,18 @@
 use Rattle.std.specs.Prelude.{◌≡◌, ℕ, ◌<◌, ◌≤◌, ◌^◌, true, false, Option, None, Some, List, [], ◌∷◌, ◌++◌, is_some, slice_index}
 use Rattle.hop_base.specs.declared.histories.Entry.{Entry}
 use Rattle.hop_base.specs.declared.histories.Event.{Event}
-use Rattle.history_model.specs.Born.{AreEdges, AreOfOneKind}
-use Rattle.history_model.specs.Events.{Has, state_with}
-use Rattle.history_model.specs.Plains.{atlas_of, cells_of}
-use Rattle.history_model.specs.declared.plain.Plain.{Plain}
-use Rattle.hop_model.specs.Histories.{IsLegalRun, May, MayCommit, Policy, Run, births_owed, run_after, start_run}
-use Rattle.hop_model.specs.Scripts.{Script}
-use Rattle.hop_model.specs.Soundness.{IsSound}
-use Rattle.hop_model.specs.State.{KernelState, Supply, Text}
-use Rattle.hop_model.specs.Vectors.{StampsBelow}
-use Rattle.run_laws.specs.Versions.{OnlyBelow64}
-use Rattle.script_form.specs.Rules.{IsScript}
-use Rattle.sound_runs.specs.Kinds.{NamesNoLocus}
+use Rattle.plain_run.specs.history_model.Born.{AreEdges, AreOfOneKind}
+use Rattle.plain_run.specs.history_model.Events.{Has, state_with}
+use Rattle.plain_run.specs.history_model.Plains.{atlas_of, cells_of}
+use Rattle.plain_run.specs.history_model.declared.plain.Plain.{Plain}
+use Rattle.plain_run.specs.hop_model.Histories.{IsLegalRun, May, MayCommit, Policy, Run, births_owed, run_after, start_run}
+use Rattle.plain_run.specs.hop_model.Scripts.{Script}
+use Rattle.plain_run.specs.hop_model.Soundness.{IsSound}
+use Rattle.plain_run.specs.hop_model.State.{KernelState, Supply, Text}
+use Rattle.plain_run.specs.hop_model.Vectors.{StampsBelow}
+use Rattle.run_rules.specs.run_laws.Versions.{OnlyBelow64}
+use Rattle.plain_run.specs.script_form.Rules.{IsScript}
+use Rattle.plain_run.specs.sound_runs.Kinds.{NamesNoLocus}
 use Rattle.trace_steps.specs.Keeping.{HasClocks, HasCuts, HasWishes}
 use Rattle.trace_steps.specs.declared.checker.Checker.{Checker}
 

@@ -1,17 +1,17 @@
 //! A birth of the script's next name.
 ghost use Rattle.std.specs.Prelude.{◌≡◌, ℕ, IfNone, IfOk, IfSome, Some, None, false};
 ghost use Rattle.hop_base.specs.declared.histories.Event.TheVariants.{Birth as BirthEvent};
-ghost use Rattle.hop_model.specs.Scripts.{next_name as next_of};
-ghost use Rattle.history_model.specs.Plains.{atlas_of};
-ghost use Rattle.script_form.specs.Scripts.{tables_of};
+ghost use Rattle.plain_run.specs.hop_model.Scripts.{next_name as next_of};
+ghost use Rattle.plain_run.specs.history_model.Plains.{atlas_of};
+ghost use Rattle.plain_run.specs.script_form.Scripts.{tables_of};
 ghost use Rattle.trace_steps.specs.Standing.{GoesOn, IsStanding, Managers, Refuses, owing};
-ghost use Rattle.history_model.specs.Born.{HasFewNames};
+ghost use Rattle.plain_run.specs.history_model.Born.{HasFewNames};
 
 use crate::checker::Checker;
-use history_model::plain_birth;
 use hop_base::{Entity, Entry};
+use plain_run::history_model::plain_birth;
 use plain_run::next_name;
-use script_form::Script;
+use plain_run::script_form::Script;
 use std::alloc::{AllocError, Global};
 
 /// Whether names are left to be born. After the last birth the Stable of the atlas is owed.

@@ -1,6 +1,6 @@
 //! What a checker of histories keeps.
-use history_model::Plain;
 use hop_base::Entity;
+use plain_run::history_model::Plain;
 use trace_parts::{Clocks, Cuts, Wishes};
 
 /// All that the rules of a legal run look at, behind the entries so far.

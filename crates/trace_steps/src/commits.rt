@@ -1,9 +1,9 @@
 //! Commits: of one entity, or of all that have changed.
 ghost use Rattle.std.specs.Prelude.{◌≡◌, ◌+◌, ◌≤◌, ◌++◌, ◌∷◌, [], ℕ, List, OnOk, length, slice_index};
 ghost use Rattle.hop_base.specs.declared.records.Rec.{Rec as ARec};
-ghost use Rattle.hop_model.specs.Choices.{IsGreatest};
-ghost use Rattle.cut_finder.specs.Records.{choice, IsAscending};
-ghost use Rattle.cut_laws.specs.Records.{commits_of, recs_from};
+ghost use Rattle.plain_run.specs.hop_model.Choices.{IsGreatest};
+ghost use Rattle.trace_parts.specs.cut_finder.Records.{choice, IsAscending};
+ghost use Rattle.trace_parts.specs.cut_laws.Records.{commits_of, recs_from};
 ghost use Rattle.trace_parts.specs.Clocks.{clock_at};
 ghost use Rattle.trace_steps.specs.Recording.{AreRecordsAt, IsRecordAt, all_changed};
 

@@ -1,7 +1,7 @@
 //! The entry that follows, by its event and actor.
 ghost use Rattle.std.specs.Prelude.{◌≡◌, ◌<◌, ◌^◌, ℕ, Bool, IfNone, IfOk, IfSome, false};
 ghost use Rattle.hop_base.specs.declared.histories.Event.TheVariants.{Birth as BirthEvent};
-ghost use Rattle.script_form.specs.Scripts.{tables_of};
+ghost use Rattle.plain_run.specs.script_form.Scripts.{tables_of};
 ghost use Rattle.trace_steps.specs.Standing.{GoesOn, IsStanding, Managers, Refuses};
 
 use crate::births::birth;
@@ -10,7 +10,7 @@ use crate::snaps::{snap, try_record};
 use crate::stables::stable;
 use crate::steps::step;
 use hop_base::{Entity, Entry, Event};
-use script_form::Script;
+use plain_run::script_form::Script;
 use std::alloc::{AllocError, Global};
 
 /// The birth of this entity, if it is the next one.

@@ -16,6 +16,7 @@ pub use births::birth;
 pub use checker::Checker;
 pub use commits::{commit_one, record_of};
 pub use following::next;
+pub use plain_run;
 pub use queries::{every_at, has_wish, may_commit};
 pub use snaps::{snap, try_record};
 pub use stables::stable;

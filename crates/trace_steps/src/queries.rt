@@ -1,15 +1,15 @@
 //! What may be committed next.
 ghost use Rattle.std.specs.Prelude.{◌≡◌, ◌<◌, ◌^◌, ◌↔◌, ℕ, Bool, IsTrue, Some};
-ghost use Rattle.hop_model.specs.Histories.{Policy as AnyPolicy, MayCommit, Run, every_of, has_wish as model_wish};
-ghost use Rattle.hop_model.specs.Scripts.{Script};
-ghost use Rattle.hop_model.specs.State.{Supply};
-ghost use Rattle.history_model.specs.Plains.{cells_of};
+ghost use Rattle.plain_run.specs.hop_model.Histories.{Policy as AnyPolicy, MayCommit, Run, every_of, has_wish as model_wish};
+ghost use Rattle.plain_run.specs.hop_model.Scripts.{Script};
+ghost use Rattle.plain_run.specs.hop_model.State.{Supply};
+ghost use Rattle.plain_run.specs.history_model.Plains.{cells_of};
 ghost use Rattle.trace_steps.specs.Recording.{first_changed};
 ghost use Rattle.trace_steps.specs.Standing.{Keeps};
 
 use crate::checker::Checker;
-use history_model::Plain;
 use hop_base::{Entity, FIRST_CONTAINER, FIRST_LOCUS, Kind};
+use plain_run::history_model::Plain;
 
 /// The interval of an entity's snapshots, 0 where it is not born. The atlas's is 1.
 pub fn every_at(state: &Plain, entity: Entity) -> u32

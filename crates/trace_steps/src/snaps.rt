@@ -2,9 +2,9 @@
 ghost use Rattle.std.specs.Prelude.{◌≡◌, ◌<◌, ◌^◌, ◌++◌, ◌∷◌, [], ℕ, Bool, false, List, IfNone, IfOk, IfSome, OnOk, slice_index};
 ghost use Rattle.hop_base.specs.declared.histories.Entry.{Entry as AnEntry};
 ghost use Rattle.hop_base.specs.declared.histories.Event.TheVariants.{Snap as SnapEvent, Tried as TriedEvent};
-ghost use Rattle.hop_model.specs.Histories.{MayCommit, Policy as AnyPolicy, mark as model_mark};
-ghost use Rattle.hop_model.specs.Scripts.{Script};
-ghost use Rattle.hop_model.specs.State.{KernelState, Supply};
+ghost use Rattle.plain_run.specs.hop_model.Histories.{MayCommit, Policy as AnyPolicy, mark as model_mark};
+ghost use Rattle.plain_run.specs.hop_model.Scripts.{Script};
+ghost use Rattle.plain_run.specs.hop_model.State.{KernelState, Supply};
 ghost use Rattle.trace_steps.specs.Standing.{CanCommit, GoesOn, IsStanding, Refuses, Stands, run_of};
 
 use crate::checker::Checker;

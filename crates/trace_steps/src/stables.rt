@@ -2,9 +2,9 @@
 ghost use Rattle.std.specs.Prelude.{◌≡◌, ◌++◌, ◌∷◌, [], ◌↔◌, ℕ, List, IfNone, IfOk, IfSome, IsTrue, OnOk, Some, false};
 ghost use Rattle.hop_base.specs.declared.histories.Entry.{Entry as AnEntry};
 ghost use Rattle.hop_base.specs.declared.histories.Event.TheVariants.{Stable as StableEvent};
-ghost use Rattle.hop_model.specs.Histories.{Policy as AnyPolicy, mark as model_mark};
-ghost use Rattle.hop_model.specs.Scripts.{Script};
-ghost use Rattle.hop_model.specs.State.{KernelState, Supply};
+ghost use Rattle.plain_run.specs.hop_model.Histories.{Policy as AnyPolicy, mark as model_mark};
+ghost use Rattle.plain_run.specs.hop_model.Scripts.{Script};
+ghost use Rattle.plain_run.specs.hop_model.State.{KernelState, Supply};
 ghost use Rattle.trace_parts.specs.Clocks.{clock_at};
 ghost use Rattle.trace_steps.specs.Recording.{Appends};
 ghost use Rattle.trace_steps.specs.Standing.{GoesOn, IsStanding, OwesStable, Refuses, Stands};

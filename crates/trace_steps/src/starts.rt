@@ -1,22 +1,22 @@
 //! A checker before the first entry.
 ghost use Rattle.std.specs.Prelude.{◌≡◌, ◌≤◌, ◌^◌, [], All, IfOk, false};
-ghost use Rattle.hop_model.specs.Histories.{Policy as AnyPolicy};
-ghost use Rattle.hop_model.specs.Soundness.{IsSound};
-ghost use Rattle.hop_model.specs.State.{Supply};
-ghost use Rattle.history_model.specs.Born.{AreEdges, AreOfOneKind};
-ghost use Rattle.history_model.specs.Plains.{atlas_of, cells_of};
-ghost use Rattle.script_form.specs.Rules.{IsScript};
-ghost use Rattle.script_form.specs.Scripts.{tables_of};
+ghost use Rattle.plain_run.specs.hop_model.Histories.{Policy as AnyPolicy};
+ghost use Rattle.plain_run.specs.hop_model.Soundness.{IsSound};
+ghost use Rattle.plain_run.specs.hop_model.State.{Supply};
+ghost use Rattle.plain_run.specs.history_model.Born.{AreEdges, AreOfOneKind};
+ghost use Rattle.plain_run.specs.history_model.Plains.{atlas_of, cells_of};
+ghost use Rattle.plain_run.specs.script_form.Rules.{IsScript};
+ghost use Rattle.plain_run.specs.script_form.Scripts.{tables_of};
 ghost use Rattle.trace_parts.specs.Clocks.{clock_at};
 ghost use Rattle.trace_steps.specs.Recording.{Opens};
 ghost use Rattle.trace_steps.specs.Standing.{Stands, fresh};
 
 use crate::checker::Checker;
 use crate::stables::append_changed;
-use history_model::Plain;
 use hop_base::Cut;
+use plain_run::history_model::Plain;
 use plain_run::next_name;
-use script_form::Script;
+use plain_run::script_form::Script;
 use std::alloc::{AllocError, Global};
 use trace_parts::{Clocks, Cuts, Wishes};
 

@@ -1,15 +1,15 @@
 //! A step of a locus.
 ghost use Rattle.std.specs.Prelude.{◌≡◌, ◌+◌, ◌<◌, ◌^◌, ◌↔◌, ℕ, Bool, IfNone, IfOk, IfSome, IsTrue, false, slice_index};
 ghost use Rattle.hop_base.specs.declared.histories.Event.TheVariants.{Step as StepEvent};
-ghost use Rattle.hop_model.specs.Words.{put};
-ghost use Rattle.script_form.specs.Scripts.{tables_of};
+ghost use Rattle.plain_run.specs.hop_model.Words.{put};
+ghost use Rattle.plain_run.specs.script_form.Scripts.{tables_of};
 ghost use Rattle.trace_steps.specs.Standing.{CanStep, GoesOn, IsStanding, Managers, Refuses};
 
 use crate::checker::Checker;
 use crate::wants::{asked_at, intervals, is_any_due, owed_at, where_ok};
-use history_model::plain_step;
 use hop_base::{Entity, Entry, FIRST_LOCUS};
-use script_form::Script;
+use plain_run::history_model::plain_step;
+use plain_run::script_form::Script;
 use std::alloc::AllocError;
 
 /// Counts one more step of the locus.

@@ -1,9 +1,9 @@
 -- The lines of a history, piece by piece.
 use Rattle.std.proofs.Common.{◌≡◌, List, [], ◌∷◌, ◌++◌, refl, sym, ap, ◌∙◌, append_assoc}
 use Rattle.hop_base.specs.declared.histories.Entry.{Entry}
-use Rattle.hop_model.specs.Histories.{Run, goes_on, run_after}
-use Rattle.hop_model.specs.Scripts.{Script}
-use Rattle.hop_model.specs.State.{Supply, Text}
+use Rattle.entry_lines.specs.hop_model.Histories.{Run, goes_on, run_after}
+use Rattle.entry_lines.specs.hop_model.Scripts.{Script}
+use Rattle.entry_lines.specs.hop_model.State.{Supply, Text}
 use Rattle.trace_words.specs.Traces.{line_in, spelled}
 
 pub spelled-append : (s : Supply) (script : Script) (r : Run) (es fs : List Entry) → spelled s script r (es ++ fs) ≡ spelled s script r es ++ spelled s script (run_after s script r es) fs

@@ -4,12 +4,12 @@ use Rattle.std.specs.List.{before_first}
 use Rattle.hop_base.specs.declared.histories.Entry.{Entry}
 use Rattle.hop_base.specs.declared.histories.Event.{Event}
 use Rattle.hop_base.specs.declared.histories.Event.TheVariants.{Birth, Step, Snap, Stable, Tried}
-use Rattle.hop_model.specs.Histories.{IsLegalRun, May, Policy, Run, goes_on, run_after, start_run}
-use Rattle.hop_model.specs.Scripts.{Script}
-use Rattle.hop_model.specs.State.{Supply, Text, AtlasState, Cell, KernelState}
-use Rattle.hop_model.specs.Steps.{atlas_in}
+use Rattle.entry_lines.specs.hop_model.Histories.{IsLegalRun, May, Policy, Run, goes_on, run_after, start_run}
+use Rattle.entry_lines.specs.hop_model.Scripts.{Script}
+use Rattle.entry_lines.specs.hop_model.State.{Supply, Text, AtlasState, Cell, KernelState}
+use Rattle.entry_lines.specs.hop_model.Steps.{atlas_in}
 use Rattle.entry_lines.specs.Entries.{entry_line, entry_text, event_word}
-use Rattle.text_lines.specs.Lines.{name_in, word}
+use Rattle.entry_lines.specs.text_lines.Lines.{name_in, word}
 
 -- THE START: these cells and versions, and clocks in which no component is above the version of the entity that it counts
 pub record Begins (w : KernelState) (born : ℕ → Cell) (counts : List ℕ) : Type 0 where

@@ -4,9 +4,9 @@
 
 ghost use Rattle.std.specs.Prelude.{◌≡◌, ◌++◌, List};
 ghost use Rattle.hop_base.specs.declared.histories.Entry.{Entry};
-ghost use Rattle.hop_model.specs.Histories.{Run, run_after};
-ghost use Rattle.hop_model.specs.Scripts.{Script};
-ghost use Rattle.hop_model.specs.State.{Supply};
+ghost use Rattle.entry_lines.specs.hop_model.Histories.{Run, run_after};
+ghost use Rattle.entry_lines.specs.hop_model.Scripts.{Script};
+ghost use Rattle.entry_lines.specs.hop_model.State.{Supply};
 ghost use Rattle.trace_words.specs.Traces.{spelled};
 
 /// The lines of a history are those of its front, and then those of the rest where the front ends.

@@ -5,8 +5,8 @@ use Rattle.std.proofs.lemmas.Bool.{eqb-false}
 use Rattle.std.proofs.lemmas.Fmt.{length-decimal-le}
 use Rattle.std.proofs.lemmas.Option.{slice_get_within}
 use Rattle.atlas_dir.specs.Directory.{Directory, IsDirectory, IsNameOf, name_of}
-use Rattle.hop_model.specs.Scripts.{atlas_name}
-use Rattle.hop_model.specs.State.{Text}
+use Rattle.text_lines.specs.hop_model.Scripts.{atlas_name}
+use Rattle.text_lines.specs.hop_model.State.{Text}
 use Rattle.kernel_calls.specs.Calls.{atlas_state}
 use Rattle.text_lines.specs.Lines.{HasShortNames, name_in}
 

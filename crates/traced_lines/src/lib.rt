@@ -3,7 +3,5 @@
 
 mod tracing;
 
+pub use entry_lines;
 pub use tracing::put_traced;
-
-#[cfg(test)]
-mod tests;

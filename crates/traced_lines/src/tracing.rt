@@ -3,13 +3,13 @@ ghost use Rattle.std.specs.Prelude.{◌≡◌, ◌≤◌, OnErr};
 ghost use Rattle.disk_trait.specs.Counts.{Rose};
 ghost use Rattle.entry_lines.specs.Entries.{trace_of};
 ghost use Rattle.kernel_calls.specs.Calls.{atlas_state};
-ghost use Rattle.stream_edge.specs.Streams.{Puts};
+ghost use Rattle.entry_lines.specs.stream_edge.Streams.{Puts};
 
 use arrayvec::ArrayString;
 use atlas_dir::Atlas;
 use entry_lines::put_trace;
+use entry_lines::stream_edge::{Sink, SinkFault};
 use hop_base::{Entity, Entry, Kind};
-use stream_edge::{Sink, SinkFault};
 use text_lines::{LINE, Names};
 
 /// The names of a directory.

@@ -4,10 +4,10 @@ use Rattle.std.proofs.lemmas.Bool.{false≢true}
 use Rattle.std.proofs.lemmas.Bool.Decides.{nat_tests}
 use Rattle.hop_base.specs.declared.histories.Entry.{Entry}
 use Rattle.hop_base.specs.declared.histories.Event.TheVariants.{Birth, Step, Snap as SnapEvent, Stable, Tried}
-use Rattle.hop_model.specs.State.{EntityState, KernelState, Supply}
-use Rattle.hop_model.specs.Scripts.{Script}
-use Rattle.hop_model.specs.Histories.{Policy, Run, IsLegalFrom, IsLegalRun, May, asked_by, goes_on, has_changed, has_wish, every_of, locus_in, may, run_after, start_run, version_of, went_on, writes}
-use Rattle.hop_model.proofs.LegalRuns.{next_legal}
+use Rattle.kernel_cells.specs.hop_model.State.{EntityState, KernelState, Supply}
+use Rattle.kernel_cells.specs.hop_model.Scripts.{Script}
+use Rattle.kernel_cells.specs.hop_model.Histories.{Policy, Run, IsLegalFrom, IsLegalRun, May, asked_by, goes_on, has_changed, has_wish, every_of, locus_in, may, run_after, start_run, version_of, went_on, writes}
+use Rattle.kernel_cells.proofs.hop_model_lemmas.LegalRuns.{next_legal}
 use Rattle.run_laws.proofs.Tellings.{written_rises}
 use Rattle.run_laws.proofs.Wishes.{with_asked_at}
 use Rattle.run_laws.proofs.Writing.{entry_stays, step_is, step_writes_asked}

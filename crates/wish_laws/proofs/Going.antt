@@ -3,13 +3,13 @@ use Rattle.std.proofs.Common.{◌≡◌, ℕ, ◌+◌, true, false, ◌||◌, �
 use Rattle.std.proofs.lemmas.Bool.{false≢true}
 use Rattle.hop_base.specs.declared.histories.Entry.{Entry}
 use Rattle.hop_base.specs.declared.histories.Event.TheVariants.{Step}
-use Rattle.hop_model.specs.State.{EntityState, KernelState, Supply}
-use Rattle.hop_model.specs.Scripts.{Script}
-use Rattle.hop_model.specs.Steps.{step}
-use Rattle.hop_model.specs.Words.{put}
-use Rattle.hop_model.specs.Parts.{IsNext, is_event, next_of}
-use Rattle.hop_model.specs.Histories.{Run, after_step, asked_by, by_event, event_of, goes_on, locus_in, never, went_on, with_asked, writes}
-use Rattle.hop_model.proofs.LegalRuns.{state_goes_on}
+use Rattle.kernel_cells.specs.hop_model.State.{EntityState, KernelState, Supply}
+use Rattle.kernel_cells.specs.hop_model.Scripts.{Script}
+use Rattle.kernel_cells.specs.hop_model.Steps.{step}
+use Rattle.kernel_cells.specs.hop_model.Words.{put}
+use Rattle.kernel_cells.specs.hop_model.Parts.{IsNext, is_event, next_of}
+use Rattle.kernel_cells.specs.hop_model.Histories.{Run, after_step, asked_by, by_event, event_of, goes_on, locus_in, never, went_on, with_asked, writes}
+use Rattle.kernel_cells.proofs.hop_model_lemmas.LegalRuns.{state_goes_on}
 use Rattle.run_laws.proofs.Wishes.{with_asked_at}
 use Rattle.run_laws.proofs.Writing.{IsStep, step_is, step_writes_asked, step_writes_own, entry_stays}
 use Rattle.kernel_cells.specs.declared.cells.Cell.{Cell}

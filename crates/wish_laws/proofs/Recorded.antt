@@ -3,10 +3,10 @@ use Rattle.std.proofs.Common.{◌≡◌, ℕ, ◌+◌, ◌<◌, Bool, true, fals
 use Rattle.hop_base.specs.declared.histories.Entry.{Entry}
 use Rattle.hop_base.specs.declared.histories.Event.{Event}
 use Rattle.hop_base.specs.declared.histories.Event.TheVariants.{Birth, Step, Snap as SnapEvent, Stable, Tried}
-use Rattle.hop_model.specs.State.{Supply}
-use Rattle.hop_model.specs.Scripts.{Script}
-use Rattle.hop_model.specs.Histories.{Run, goes_on, version_of, went_on, writes}
-use Rattle.event_clocks.specs.declared.Clock.{Clock}
+use Rattle.kernel_cells.specs.hop_model.State.{Supply}
+use Rattle.kernel_cells.specs.hop_model.Scripts.{Script}
+use Rattle.kernel_cells.specs.hop_model.Histories.{Run, goes_on, version_of, went_on, writes}
+use Rattle.kernel_cells.specs.event_clocks.declared.Clock.{Clock}
 use Rattle.kernel_cells.specs.declared.cells.Cell.{Cell}
 use Rattle.kernel_cells.specs.declared.cells.Wish.{Wish}
 use Rattle.kernel_cells.specs.Cells.{HasCell}

@@ -2,7 +2,7 @@
 use Rattle.std.specs.Prelude.{◌≡◌, ℕ, ◌<◌, ◌≤◌, Bool, true, false, not, ◌&&◌, ◌||◌}
 use Rattle.hop_base.specs.declared.histories.Event.{Event}
 use Rattle.hop_base.specs.declared.histories.Event.TheVariants.{Birth, Step, Snap, Stable, Tried}
-use Rattle.hop_model.specs.Histories.{Run, version_of}
+use Rattle.kernel_cells.specs.hop_model.Histories.{Run, version_of}
 use Rattle.kernel_cells.specs.declared.cells.Cell.{Cell}
 
 -- the newest record is no newer than the entity, and older where a step wrote the entity or a snap named it since that record

@@ -4,14 +4,17 @@
 ghost use Rattle.std.specs.Prelude.{◌≡◌, ℕ, List, Some, true, false};
 ghost use Rattle.hop_base.specs.declared.histories.Entry.{Entry};
 ghost use Rattle.hop_base.specs.declared.histories.Event.TheVariants.{Birth as BirthEvent, Snap as SnapEvent, Stable as StableEvent};
-ghost use Rattle.hop_model.specs.State.{KernelState, Supply};
-ghost use Rattle.hop_model.specs.Scripts.{Script};
-ghost use Rattle.hop_model.specs.Steps.{step};
-ghost use Rattle.hop_model.specs.Histories.{Policy, Run, IsLegalRun, after_step, goes_on, has_changed, has_wish, locus_in, run_after, start_run, writes};
+ghost use Rattle.kernel_cells.specs.hop_model.State.{KernelState, Supply};
+ghost use Rattle.kernel_cells.specs.hop_model.Scripts.{Script};
+ghost use Rattle.kernel_cells.specs.hop_model.Steps.{step};
+ghost use Rattle.kernel_cells.specs.hop_model.Histories.{Policy, Run, IsLegalRun, after_step, goes_on, has_changed, has_wish, locus_in, run_after, start_run, writes};
 ghost use Rattle.kernel_cells.specs.declared.cells.Cell.{Cell as ACell};
 ghost use Rattle.kernel_cells.specs.Cells.{HasCell};
 ghost use Rattle.kernel_cells.specs.Wishes.{HasWish};
 ghost use Rattle.wish_laws.specs.Founded.{IsFoundedCell, IsFoundedIn, IsRecordMark, IsRecordedNow, TakesBirth};
+
+pub use kernel_cells;
+pub use kernel_cells::{event_clocks, fault_paging, locus_machine};
 
 /// In a legal run an entity that a step wrote or a snap named since its newest commit has changed since, so each entity with an
 /// open wish has; and each cell that the run has says the same.

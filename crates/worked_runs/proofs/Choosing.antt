@@ -1,8 +1,8 @@
 -- Greatest closed choices over short lists of commits.
 use Rattle.std.proofs.Common.{◌≡◌, ℕ, ◌≤◌, ◌==◌, false, if◌then◌else◌, List, [], ◌∷◌, ◌⊎◌, inl, inr, sym, subst, ◌∙◌, arith}
 use Rattle.std.proofs.lemmas.Bool.Decides.{nat_tests}
-use Rattle.hop_model.specs.Choices.{Among, Commit, IsBelow, IsClosedChoice}
-use Rattle.hop_model.proofs.CommitStamps.{AllCommits}
+use Rattle.run_laws.specs.hop_model.Choices.{Among, Commit, IsBelow, IsClosedChoice}
+use Rattle.run_laws.proofs.hop_model_lemmas.CommitStamps.{AllCommits}
 use Rattle.worked_runs.specs.Snapshots.{version_at}
 
 -- the record is at most this choice, or rests on more than a closed choice q gives

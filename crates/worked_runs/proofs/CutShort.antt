@@ -3,14 +3,14 @@ use Rattle.std.proofs.Common.{◌≡◌, ℕ, ◌≤◌, true, false, ◌==◌, 
 use Rattle.std.proofs.lemmas.Bool.{false≢true}
 use Rattle.hop_base.specs.declared.histories.Entry.{Entry}
 use Rattle.hop_base.specs.declared.histories.Event.TheVariants.{Stable}
-use Rattle.hop_model.specs.Acts.{allowed, wanted}
-use Rattle.hop_model.specs.Changes.{changed}
-use Rattle.hop_model.specs.Choices.{Among, Commit, IsBelow, IsGreatest}
-use Rattle.hop_model.specs.Fronts.{tried_commits}
-use Rattle.hop_model.specs.Histories.{IsLegalRun, May, Run, commits_in, goes_on, mark, never, next_changed, run_after, start_run}
-use Rattle.hop_model.specs.Outcomes.{local_act, on_cell, outcome, store, with_newborn}
-use Rattle.hop_model.specs.Refusals.{refusal}
-use Rattle.hop_model.specs.Steps.{change_of, step, step_change}
+use Rattle.run_laws.specs.hop_model.Acts.{allowed, wanted}
+use Rattle.run_laws.specs.hop_model.Changes.{changed}
+use Rattle.run_laws.specs.hop_model.Choices.{Among, Commit, IsBelow, IsGreatest}
+use Rattle.run_laws.specs.hop_model.Fronts.{tried_commits}
+use Rattle.run_laws.specs.hop_model.Histories.{IsLegalRun, May, Run, commits_in, goes_on, mark, never, next_changed, run_after, start_run}
+use Rattle.run_laws.specs.hop_model.Outcomes.{local_act, on_cell, outcome, store, with_newborn}
+use Rattle.run_laws.specs.hop_model.Refusals.{refusal}
+use Rattle.run_laws.specs.hop_model.Steps.{change_of, step, step_change}
 use Rattle.worked_runs.specs.Snapshots.{no_tables, no_words, version_at, wrote}
 use Rattle.worked_runs.specs.CutShort.{behind_record, behind_stabilise, behind_store, first, first_record, reached_by_both, saver, second, second_tried, stabilises, stopped, stores, third, with_first_record}
 use Rattle.worked_runs.proofs.Choosing.{all_below, at_start, other_way, zero_below, only_version}

@@ -3,14 +3,14 @@ use Rattle.std.proofs.Common.{◌≡◌, ℕ, zero, suc, ◌+◌, ◌≤◌, Boo
 use Rattle.std.proofs.lemmas.Bool.{false≢true}
 use Rattle.std.proofs.lemmas.Bool.Decides.{nat_tests}
 use Rattle.hop_base.specs.declared.histories.Entry.{Entry}
-use Rattle.hop_model.specs.Acts.{allowed, wanted}
-use Rattle.hop_model.specs.Changes.{changed}
-use Rattle.hop_model.specs.Choices.{Commit, IsGreatest, IsNarrow, greatest}
-use Rattle.hop_model.specs.Histories.{IsLegalRun, May, Run, commits_above, commits_in, goes_on, has_wish, is_due, is_full, run_after, start_run, version_of}
-use Rattle.hop_model.specs.Outcomes.{local_act, on_cell, outcome, store, with_newborn}
-use Rattle.hop_model.specs.Refusals.{refusal}
-use Rattle.hop_model.specs.Steps.{change_of, step, step_change}
-use Rattle.hop_model.proofs.Lowering.{greatest_is, greatest_one}
+use Rattle.run_laws.specs.hop_model.Acts.{allowed, wanted}
+use Rattle.run_laws.specs.hop_model.Changes.{changed}
+use Rattle.run_laws.specs.hop_model.Choices.{Commit, IsGreatest, IsNarrow, greatest}
+use Rattle.run_laws.specs.hop_model.Histories.{IsLegalRun, May, Run, commits_above, commits_in, goes_on, has_wish, is_due, is_full, run_after, start_run, version_of}
+use Rattle.run_laws.specs.hop_model.Outcomes.{local_act, on_cell, outcome, store, with_newborn}
+use Rattle.run_laws.specs.hop_model.Refusals.{refusal}
+use Rattle.run_laws.specs.hop_model.Steps.{change_of, step, step_change}
+use Rattle.run_laws.proofs.hop_model_lemmas.Lowering.{greatest_is, greatest_one}
 use Rattle.run_laws.proofs.Few.{above_cons}
 use Rattle.worked_runs.specs.Snapshots.{no_tables, no_words, version_at, wrote}
 use Rattle.worked_runs.specs.FullContainer.{begun, behind, each_so_many, place_1, place_2, place_3, place_4, place_5, place_6, place_7, place_8, recorded_at, stores, two_stores_more, writer}
@@ -193,7 +193,7 @@ pub wish_7 : has_wish each_so_many place_7 1 ≡ true
 unfolding changed
 wish_7 = refl
 
-met_full : (policy : Rattle.hop_model.specs.Histories.Policy) (r : Run) (x : ℕ) → r.was_full x ≡ true → is_due policy r x ≡ false
+met_full : (policy : Rattle.run_laws.specs.hop_model.Histories.Policy) (r : Run) (x : ℕ) → r.was_full x ≡ true → is_due policy r x ≡ false
 met_full policy r x is = ap (λ b. has_wish policy r x && not b) is ∙ none (has_wish policy r x)
   where
     none : (h : Bool) → (h && false) ≡ false

@@ -1,10 +1,10 @@
 -- The run that follows one whose snapshot was abandoned.
 use Rattle.std.proofs.Common.{◌≡◌, ℕ, ◌≤◌, true, false, ◌==◌, if◌then◌else◌, ◌⊎◌, inl, inr, List, [], ◌∷◌, Some, lit≤, max, option_map, refl, sym, ap, subst, arith, eqb-true}
 use Rattle.hop_base.specs.declared.histories.Event.TheVariants.{Stable}
-use Rattle.hop_model.specs.Births.{next_birth, next_birth_change}
-use Rattle.hop_model.specs.Changes.{changed}
-use Rattle.hop_model.specs.Choices.{Among, Commit, IsBelow, IsGreatest}
-use Rattle.hop_model.specs.Histories.{IsLegalRun, May, Run, commits_in, goes_on, mark, never, start_run}
+use Rattle.run_laws.specs.hop_model.Births.{next_birth, next_birth_change}
+use Rattle.run_laws.specs.hop_model.Changes.{changed}
+use Rattle.run_laws.specs.hop_model.Choices.{Among, Commit, IsBelow, IsGreatest}
+use Rattle.run_laws.specs.hop_model.Histories.{IsLegalRun, May, Run, commits_in, goes_on, mark, never, start_run}
 use Rattle.worked_runs.specs.Snapshots.{no_words, recorded, version_at}
 use Rattle.worked_runs.specs.SecondRun.{bears, behind_birth, chosen_again, second_run, with_helper, with_newborn}
 use Rattle.worked_runs.proofs.Choosing.{all_below, at_start, other_way, zero_below}

@@ -1,13 +1,13 @@
 -- The run of a snapshot that counts only with a second one.
 use Rattle.std.proofs.Common.{◌≡◌, ℕ, ◌+◌, ◌≤◌, Bool, true, false, not, ◌&&◌, ◌==◌, cond, nat_le, if◌then◌else◌, ◌⊎◌, inl, inr, List, [], ◌∷◌, lit<, lit≤, max, refl, sym, ap, subst, ◌∙◌, arith, eqb-true}
 use Rattle.std.proofs.lemmas.Bool.Decides.{nat_tests}
-use Rattle.hop_model.specs.Choices.{Among, Commit, IsBelow, IsGreatest}
-use Rattle.hop_model.specs.Histories.{IsLegalRun, commits_above, commits_in, run_after, start_run}
-use Rattle.hop_model.specs.Refusals.{refusal}
-use Rattle.hop_model.specs.Acts.{allowed, wanted}
-use Rattle.hop_model.specs.Outcomes.{local_act, on_cell, with_newborn, outcome}
-use Rattle.hop_model.specs.Changes.{changed}
-use Rattle.hop_model.specs.Steps.{change_of, step_change}
+use Rattle.run_laws.specs.hop_model.Choices.{Among, Commit, IsBelow, IsGreatest}
+use Rattle.run_laws.specs.hop_model.Histories.{IsLegalRun, commits_above, commits_in, run_after, start_run}
+use Rattle.run_laws.specs.hop_model.Refusals.{refusal}
+use Rattle.run_laws.specs.hop_model.Acts.{allowed, wanted}
+use Rattle.run_laws.specs.hop_model.Outcomes.{local_act, on_cell, with_newborn, outcome}
+use Rattle.run_laws.specs.hop_model.Changes.{changed}
+use Rattle.run_laws.specs.hop_model.Steps.{change_of, step_change}
 use Rattle.run_laws.proofs.Few.{above_cons}
 use Rattle.worked_runs.specs.Snapshots.{always, both_snapshots, no_tables, no_words, one_snapshot, reached, recorded, version_at}
 

@@ -5,12 +5,12 @@ use Rattle.hop_base.specs.declared.histories.Entry.{Entry}
 use Rattle.hop_base.specs.declared.histories.Event.{Event}
 use Rattle.hop_base.specs.declared.histories.Event.TheVariants.{Birth, Step}
 use Rattle.hop_base.specs.declared.histories.Touch.{Touch}
-use Rattle.hop_model.specs.Births.{next_birth}
-use Rattle.hop_model.specs.Histories.{IsLegalFrom, May, Policy, Run, after_birth, after_step, by_event, event_of, goes_on, has_wish, is_due, locus_in, noting, owing_births, run_after, went_on}
-use Rattle.hop_model.specs.Parts.{after_entry, is_event, next_of}
-use Rattle.hop_model.specs.Scripts.{Script}
-use Rattle.hop_model.specs.State.{KernelState, LocusCell, LocusState, Supply}
-use Rattle.hop_model.specs.Steps.{step}
+use Rattle.run_laws.specs.hop_model.Births.{next_birth}
+use Rattle.run_laws.specs.hop_model.Histories.{IsLegalFrom, May, Policy, Run, after_birth, after_step, by_event, event_of, goes_on, has_wish, is_due, locus_in, noting, owing_births, run_after, went_on}
+use Rattle.run_laws.specs.hop_model.Parts.{after_entry, is_event, next_of}
+use Rattle.run_laws.specs.hop_model.Scripts.{Script}
+use Rattle.run_laws.specs.hop_model.State.{KernelState, LocusCell, LocusState, Supply}
+use Rattle.run_laws.specs.hop_model.Steps.{step}
 use Rattle.worked_runs.specs.Places.{stepped}
 
 abbrev pub entry_in : Entry × KernelState → Entry

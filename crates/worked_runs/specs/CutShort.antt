@@ -5,11 +5,11 @@ use Rattle.hop_base.specs.declared.histories.Entry.{Entry}
 use Rattle.hop_base.specs.declared.histories.Event.TheVariants.{Snap as SnapEvent, Step, Tried}
 use Rattle.hop_base.specs.declared.instructions.Instr.TheVariants.{Halt, Stabilise, Store}
 use Rattle.hop_base.specs.declared.instructions.Reply.TheVariants.{Ok}
-use Rattle.hop_model.specs.Changes.{changed}
-use Rattle.hop_model.specs.Histories.{Run, mark, start_run}
-use Rattle.hop_model.specs.Refusals.{rights_with}
-use Rattle.hop_model.specs.State.{ContainerCell, ContainerState, KernelState, LocusCell, LocusState}
-use Rattle.hop_model.specs.Words.{put}
+use Rattle.run_laws.specs.hop_model.Changes.{changed}
+use Rattle.run_laws.specs.hop_model.Histories.{Run, mark, start_run}
+use Rattle.run_laws.specs.hop_model.Refusals.{rights_with}
+use Rattle.run_laws.specs.hop_model.State.{ContainerCell, ContainerState, KernelState, LocusCell, LocusState}
+use Rattle.run_laws.specs.hop_model.Words.{put}
 use Rattle.worked_runs.specs.Snapshots.{box, keeper, wrote}
 use Rattle.worked_runs.specs.Places.{snapped, stepped, world}
 

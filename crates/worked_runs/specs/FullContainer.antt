@@ -6,10 +6,10 @@ use Rattle.hop_base.specs.declared.histories.Event.TheVariants.{Snap as SnapEven
 use Rattle.hop_base.specs.declared.instructions.Instr.TheVariants.{Store}
 use Rattle.hop_base.specs.declared.instructions.Reply.TheVariants.{Ok}
 use Rattle.std.specs.Prelude.{Some}
-use Rattle.hop_model.specs.Changes.{changed}
-use Rattle.hop_model.specs.Histories.{Policy, Run, mark, start_run}
-use Rattle.hop_model.specs.State.{ContainerCell, ContainerState, KernelState, LocusCell, LocusState}
-use Rattle.hop_model.specs.Words.{put}
+use Rattle.run_laws.specs.hop_model.Changes.{changed}
+use Rattle.run_laws.specs.hop_model.Histories.{Policy, Run, mark, start_run}
+use Rattle.run_laws.specs.hop_model.State.{ContainerCell, ContainerState, KernelState, LocusCell, LocusState}
+use Rattle.run_laws.specs.hop_model.Words.{put}
 use Rattle.worked_runs.specs.Snapshots.{box, keeper, wrote}
 use Rattle.worked_runs.specs.Places.{snapped, stepped, world}
 

@@ -1,8 +1,8 @@
 -- What the worked runs begin from, and what the rules look at behind each entry, with its state named.
 use Rattle.std.specs.Prelude.{◌==◌, ℕ, Some, if◌then◌else◌}
 use Rattle.hop_base.specs.declared.histories.Entry.{Entry}
-use Rattle.hop_model.specs.Histories.{Run, after_snap, after_step, noting}
-use Rattle.hop_model.specs.State.{AtlasCell, Cell, ContainerCell, ContainerState, KernelState, LocusCell, LocusState, NotBorn}
+use Rattle.run_laws.specs.hop_model.Histories.{Run, after_snap, after_step, noting}
+use Rattle.run_laws.specs.hop_model.State.{AtlasCell, Cell, ContainerCell, ContainerState, KernelState, LocusCell, LocusState, NotBorn}
 use Rattle.worked_runs.specs.Snapshots.{one_container_one_locus, version_at}
 
 abbrev pub cell_of : ContainerState → LocusState → ℕ → Cell

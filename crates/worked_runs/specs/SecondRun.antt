@@ -5,10 +5,10 @@ use Rattle.hop_base.specs.declared.histories.Answer.TheVariants.{Quiet}
 use Rattle.hop_base.specs.declared.histories.Entry.{Entry}
 use Rattle.hop_base.specs.declared.histories.Event.TheVariants.{Birth, Stable}
 use Rattle.hop_base.specs.declared.instructions.Condition.TheVariants.{Running}
-use Rattle.hop_model.specs.Changes.{changed}
-use Rattle.hop_model.specs.Histories.{Run, after_birth, mark, noting, owing_births, start_run}
-use Rattle.hop_model.specs.Scripts.{ContainerTable, LocusTable, Script}
-use Rattle.hop_model.specs.State.{AtlasCell, AtlasState, ContainerCell, KernelState, LocusCell, LocusState}
+use Rattle.run_laws.specs.hop_model.Changes.{changed}
+use Rattle.run_laws.specs.hop_model.Histories.{Run, after_birth, mark, noting, owing_births, start_run}
+use Rattle.run_laws.specs.hop_model.Scripts.{ContainerTable, LocusTable, Script}
+use Rattle.run_laws.specs.hop_model.State.{AtlasCell, AtlasState, ContainerCell, KernelState, LocusCell, LocusState}
 use Rattle.worked_runs.specs.Snapshots.{box, one_container_one_locus, recorded, wrote}
 
 -- the container is there already

@@ -7,11 +7,11 @@ use Rattle.hop_base.specs.declared.histories.Touch.{Touch}
 use Rattle.hop_base.specs.declared.instructions.Condition.TheVariants.{Running}
 use Rattle.hop_base.specs.declared.instructions.Instr.TheVariants.{Snap, Halt}
 use Rattle.hop_base.specs.declared.instructions.Reply.TheVariants.{Ok}
-use Rattle.hop_model.specs.Choices.{Commit}
-use Rattle.hop_model.specs.Histories.{Policy, mark}
-use Rattle.hop_model.specs.Refusals.{rights_with}
-use Rattle.hop_model.specs.Scripts.{Script}
-use Rattle.hop_model.specs.State.{AtlasCell, AtlasState, Cell, ContainerCell, ContainerState, KernelState, LocusCell, LocusState, NotBorn, Supply}
+use Rattle.run_laws.specs.hop_model.Choices.{Commit}
+use Rattle.run_laws.specs.hop_model.Histories.{Policy, mark}
+use Rattle.run_laws.specs.hop_model.Refusals.{rights_with}
+use Rattle.run_laws.specs.hop_model.Scripts.{Script}
+use Rattle.run_laws.specs.hop_model.State.{AtlasCell, AtlasState, Cell, ContainerCell, ContainerState, KernelState, LocusCell, LocusState, NotBorn, Supply}
 
 abbrev pub no_words : Supply
 no_words tag page place = 0

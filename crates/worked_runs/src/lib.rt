@@ -3,10 +3,10 @@
 
 ghost use Rattle.std.specs.Prelude.{[], ◌∷◌, ◌≡◌, Some, false, true};
 ghost use Rattle.hop_base.specs.declared.histories.Event.TheVariants.{Stable};
-ghost use Rattle.hop_model.specs.Choices.{IsGreatest};
-ghost use Rattle.hop_model.specs.Fronts.{tried_commits};
-ghost use Rattle.hop_model.specs.Histories.{IsLegalRun, May, commits_in, event_of, has_wish, is_due, is_full, mark, never, next_changed, run_after, start_run};
-ghost use Rattle.hop_model.specs.Parts.{after, part_of};
+ghost use Rattle.run_laws.specs.hop_model.Choices.{IsGreatest};
+ghost use Rattle.run_laws.specs.hop_model.Fronts.{tried_commits};
+ghost use Rattle.run_laws.specs.hop_model.Histories.{IsLegalRun, May, commits_in, event_of, has_wish, is_due, is_full, mark, never, next_changed, run_after, start_run};
+ghost use Rattle.run_laws.specs.hop_model.Parts.{after, part_of};
 ghost use Rattle.worked_runs.specs.Snapshots.{always, asks, both_snapshots, entities_and_versions, no_tables, no_words, one_snapshot, reached, recorded, version_at};
 ghost use Rattle.worked_runs.specs.CutShort.{first, reached_by_both, stopped, third, two_steps, with_first_record};
 ghost use Rattle.worked_runs.specs.FullContainer.{begun, behind, each_so_many, one_store_more, recorded_at, two_stores_more, until_full};

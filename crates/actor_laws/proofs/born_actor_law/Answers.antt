@@ -1,4 +1,4 @@
-use Rattle.hop_model.specs.Histories.{run_after, start_run}
+use Rattle.history_model.specs.hop_model.Histories.{run_after, start_run}
 use Rattle.actor_laws.proofs.Knowing.{actor_born, known_run, names_left, newborn_born}
 use Rattle.actor_laws.proofs.born_actor_law.Goals as goal
 

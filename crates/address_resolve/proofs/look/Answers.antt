@@ -1,8 +1,8 @@
 use Rattle.std.proofs.Common.{IfOk, sym, ap, subst, ◌∙◌}
 use Rattle.std.proofs.lemmas.Result.{IfOk-weaker}
-use Rattle.hop_model.specs.Outcomes.{looked}
-use Rattle.locus_machine.specs.Loci.{container_with, locus_of}
-use Rattle.locus_machine.specs.declared.loci.Locus.{Locus}
+use Rattle.fault_paging.specs.hop_model.Outcomes.{looked}
+use Rattle.invocation.specs.locus_machine.Loci.{container_with, locus_of}
+use Rattle.invocation.specs.locus_machine.declared.loci.Locus.{Locus}
 use Rattle.fault_paging.specs.Words.{words_of}
 use Rattle.address_resolve.specs.Looks.{done_by, LooksSomehow, ReachesSomehow}
 use Rattle.address_resolve.proofs.Cases.{shows_looked}

@@ -1,9 +1,9 @@
-use Rattle.std.proofs.Common.{rules, ◌≡◌, ◌∙◌, sym, string_bytes, true, codes, Some}
+use Rattle.std.proofs.Common.{rules, ◌≡◌, ◌∙◌, sym, string_bytes, true, codes, Some, arith}
 use Rattle.std.specs.Prelude.{slice_get}
 use Rattle.std.specs.List.{list_any}
 use Rattle.clap.proofs.WalkLemmas.{list_any-map}
 use Rattle.command_words.specs.Forms as form
-use Rattle.command_words.proofs.Words.{no_command, no_format, none_in_bytes, string_front}
+use Rattle.command_words.proofs.Words.{first_letter, no_command, no_number, none_in_bytes}
 use Rattle.command_words.proofs.read_command.Goals as goal
 
 pub returns-then-any_is_refused-clause-none : goal.returns-then-any_is_refused-clause-none
@@ -17,14 +17,26 @@ one_value-requires c = none_in_bytes c.args.words.now (search rules)
 pub has_no_value-requires : goal.has_no_value-requires
 has_no_value-requires c = none_in_bytes c.args.words.now (search rules)
 
-pub has_no_value-requires-in-show : goal.has_no_value-requires-in-show
-has_no_value-requires-in-show c = none_in_bytes c.args.words.now (search rules)
+pub has_no_value-requires-in-text : goal.has_no_value-requires-in-text
+has_no_value-requires-in-text c = none_in_bytes c.args.words.now (search rules)
 
 pub has_no_value-requires-in-report : goal.has_no_value-requires-in-report
 has_no_value-requires-in-report c = none_in_bytes c.args.words.now (search rules)
+
+pub one_value-requires-in-drill : goal.one_value-requires-in-drill
+one_value-requires-in-drill c = none_in_bytes c.args.words.now (search rules)
+
+pub trace_flag-requires : goal.trace_flag-requires
+trace_flag-requires c = none_in_bytes c.args.words.now (search rules)
 
 pub returns-in-None-clause-none : goal.returns-in-None-clause-none
 returns-in-None-clause-none c =
     let front : slice_get c.args.words.now 0 ≡ Some c.in-Some.first.now = search rules in
     let named : string_bytes c.in-Some.first.now ≡ codes "format" = search rules in
-    no_format _ _ named (string_front c.args.words.now c.in-Some.first.now front) (search rules)
+    no_number _ 102 (first_letter c.args.words.now c.in-Some.first.now _ front named) (omega arith) (λ e. omega arith) (search rules)
+
+pub returns-in-None-2-clause-none : goal.returns-in-None-2-clause-none
+returns-in-None-2-clause-none c =
+    let front : slice_get c.args.words.now 0 ≡ Some c.in-Some.first.now = search rules in
+    let named : string_bytes c.in-Some.first.now ≡ codes "drill" = search rules in
+    no_number _ 100 (first_letter c.args.words.now c.in-Some.first.now _ front named) (omega arith) (λ e. omega arith) (search rules)

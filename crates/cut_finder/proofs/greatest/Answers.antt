@@ -1,5 +1,5 @@
 use Rattle.std.proofs.Common.{ℕ, subst}
-use Rattle.hop_model.specs.Choices.{IsGreatest}
+use Rattle.cut_laws.specs.hop_model.Choices.{IsGreatest}
 use Rattle.cut_laws.specs.Records.{commits_of}
 use Rattle.cut_finder.specs.Records.{choice}
 use Rattle.cut_finder.proofs.Fronts.{zeros}

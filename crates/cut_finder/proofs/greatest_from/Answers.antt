@@ -1,6 +1,6 @@
 use Rattle.std.proofs.Common.{subst}
 use Rattle.hop_base.specs.declared.records.Cut.{Cut}
-use Rattle.hop_model.specs.Choices.{IsGreatest}
+use Rattle.cut_laws.specs.hop_model.Choices.{IsGreatest}
 use Rattle.cut_laws.specs.Records.{commits_of}
 use Rattle.cut_finder.specs.Records.{choice}
 use Rattle.cut_finder.proofs.Lowering.{ends}

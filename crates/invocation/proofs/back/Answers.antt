@@ -1,5 +1,5 @@
 use Rattle.std.proofs.Common.{ap, sym, ◌∙◌}
-use Rattle.hop_model.specs.Outcomes.{enter}
+use Rattle.locus_machine.specs.hop_model.Outcomes.{enter}
 use Rattle.locus_machine.specs.Loci.{locus_of, container_with}
 use Rattle.invocation.proofs.Entered.{has_caller, back_enters, invoked_entered}
 use Rattle.invocation.proofs.back.Goals as goal

@@ -1,6 +1,6 @@
 use Rattle.std.proofs.Common.{◌≤◌, ◌<◌, length, refl, ap, ◌∙◌}
 use Rattle.hop_base.specs.declared.instructions.Reply.TheVariants.{NoEntry, ListFull}
-use Rattle.hop_model.specs.Outcomes.{enter}
+use Rattle.locus_machine.specs.hop_model.Outcomes.{enter}
 use Rattle.locus_machine.specs.Loci.{locus_of, container_with}
 use Rattle.invocation.specs.Entries.{is_invoke}
 use Rattle.invocation.proofs.Entered.{within, invoke_none, invoke_full, invoke_enters, invoked_refused, invoked_entered}

@@ -1,4 +1,4 @@
-use Rattle.snapshot_store.specs.State.{State, books}
+use Rattle.kernel_records.specs.snapshot_store.State.{State, books}
 use Rattle.kernel_records.specs.Committing.{HasPages}
 use Rattle.cell_table.specs.Tables.{IsOrderly}
 use Rattle.kernel_views.proofs.Leaving.{LeftCell}

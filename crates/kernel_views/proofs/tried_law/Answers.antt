@@ -1,6 +1,6 @@
 use Rattle.std.proofs.Common.{sym, subst}
-use Rattle.snapshot_store.specs.State.{State}
-use Rattle.wish_laws.specs.Founded.{IsFoundedCell}
+use Rattle.kernel_records.specs.snapshot_store.State.{State}
+use Rattle.kernel_records.specs.wish_laws.Founded.{IsFoundedCell}
 use Rattle.kernel_views.proofs.Leaving.{LeftCell}
 use Rattle.kernel_views.proofs.Behind.{pages_order}
 use Rattle.kernel_views.proofs.Trying.{stopped}

@@ -1,9 +1,9 @@
 use Rattle.std.proofs.Common.{[], lit<, refl, inl}
-use Rattle.hop_model.specs.Refusals.{refusal}
-use Rattle.hop_model.specs.Acts.{allowed, wanted}
-use Rattle.hop_model.specs.Outcomes.{local_act, on_cell, with_newborn, outcome}
-use Rattle.hop_model.specs.Changes.{changed}
-use Rattle.hop_model.specs.Steps.{change_of, step_change}
+use Rattle.sound_states.specs.hop_model.Refusals.{refusal}
+use Rattle.sound_states.specs.hop_model.Acts.{allowed, wanted}
+use Rattle.sound_states.specs.hop_model.Outcomes.{local_act, on_cell, with_newborn, outcome}
+use Rattle.sound_states.specs.hop_model.Changes.{changed}
+use Rattle.sound_states.specs.hop_model.Steps.{change_of, step_change}
 use Rattle.law_limits.specs.Beyond.{halts}
 use Rattle.law_limits.proofs.beyond_64_holds.Goals as goal
 

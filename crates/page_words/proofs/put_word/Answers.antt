@@ -1,4 +1,4 @@
-use Rattle.image_blocks.proofs.Filling.{ok_gives}
+use Rattle.store_model.proofs.image_blocks_lemmas.Filling.{ok_gives}
 use Rattle.page_words.proofs.Words.{put_here, put_others}
 use Rattle.page_words.proofs.put_word.Goals as goal
 

@@ -1,5 +1,5 @@
 use Rattle.std.proofs.Common.{arith}
-use Rattle.hop_model.specs.Histories.{start_run}
+use Rattle.cut_laws.specs.hop_model.Histories.{start_run}
 use Rattle.run_laws.proofs.Tellings.{none_writes, steps_told, versions_told}
 use Rattle.run_laws.proofs.run_counts_law.Goals as goal
 

@@ -1,4 +1,4 @@
-use Rattle.hop_model.specs.Histories.{run_after, start_run}
+use Rattle.serial_runs.specs.hop_model.Histories.{run_after, start_run}
 use Rattle.serial_runs.proofs.Openings.{birth_may, new_calm}
 use Rattle.serial_turns.proofs.Bearing.{bearing_behind, bearing_front, bearing_last, bearing_more, bearing_over, begins}
 use Rattle.serial_turns.proofs.births_law.Goals as goal

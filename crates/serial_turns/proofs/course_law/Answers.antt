@@ -1,5 +1,5 @@
 use Rattle.std.proofs.Common.{Some, None, refl, append-nil, ◌∙◌}
-use Rattle.hop_model.specs.Serial.{looks_of}
+use Rattle.serial_runs.specs.hop_model.Serial.{looks_of}
 use Rattle.serial_turns.specs.Turns.{before_pick}
 use Rattle.serial_turns.proofs.Course.{all_picked, loci_first, locus_more, pick_more, picks_first, rounded}
 use Rattle.serial_turns.proofs.course_law.Goals as goal

@@ -1,6 +1,6 @@
 use Rattle.std.proofs.Common.{Some, None, is_some, nat_lt}
-use Rattle.hop_model.specs.Histories.{never}
-use Rattle.hop_model.specs.Steps.{running}
+use Rattle.serial_runs.specs.hop_model.Histories.{never}
+use Rattle.serial_runs.specs.hop_model.Steps.{running}
 use Rattle.std.proofs.lemmas.Bool.{and_parts}
 use Rattle.serial_runs.proofs.Rounds.{step_some}
 use Rattle.serial_turns.proofs.Looks.{look_behind, look_idle}

@@ -1,4 +1,4 @@
-use Rattle.hop_model.specs.Histories.{never}
+use Rattle.serial_runs.specs.hop_model.Histories.{never}
 use Rattle.serial_runs.proofs.Rounds.{few_left}
 use Rattle.serial_turns.proofs.Whereabouts.{look_behind_takes, round_takes}
 use Rattle.serial_turns.proofs.steps_left_law.Goals as goal

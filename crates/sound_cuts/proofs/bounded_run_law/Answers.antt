@@ -1,7 +1,7 @@
-use Rattle.run_laws.proofs.Few.{at_most_five, at_most_four, four_if_changed}
-use Rattle.sound_runs.proofs.Kept.{kept_few}
-use Rattle.sound_runs.proofs.Lengths.{length_bound}
-use Rattle.sound_runs.proofs.Standing.{legal_below}
+use Rattle.run_rules.proofs.run_laws_lemmas.Few.{at_most_five, at_most_four, four_if_changed}
+use Rattle.sound_states.proofs.sound_runs_lemmas.Kept.{kept_few}
+use Rattle.sound_states.proofs.sound_runs_lemmas.Lengths.{length_bound}
+use Rattle.sound_states.proofs.sound_runs_lemmas.Standing.{legal_below}
 use Rattle.sound_states.proofs.Empty.{none_beyond}
 use Rattle.sound_cuts.proofs.bounded_run_law.Goals as goal
 

@@ -1,5 +1,5 @@
 use Rattle.std.proofs.Common.{◌↔◌, ◌<◌, IsTrue, subst}
-use Rattle.hop_model.specs.Soundness.{is_born}
+use Rattle.sound_states.specs.hop_model.Soundness.{is_born}
 use Rattle.run_rules.proofs.CutStates.{cut_version}
 use Rattle.sound_states.proofs.States.{part_state as part_sound}
 use Rattle.sound_cuts.specs.Runs.{part_atlas, part_state}

@@ -1,7 +1,7 @@
 use Rattle.std.proofs.Common.{[], ◌++◌}
-use Rattle.hop_model.specs.Histories.{commits_in}
-use Rattle.cut_laws.proofs.Joins.{from_nothing, to_nothing}
-use Rattle.run_laws.proofs.Starts.{starts_held}
+use Rattle.sound_states.specs.hop_model.Histories.{commits_in}
+use Rattle.run_rules.proofs.cut_laws_lemmas.Joins.{from_nothing, to_nothing}
+use Rattle.run_rules.proofs.run_laws_lemmas.Starts.{starts_held}
 use Rattle.sound_states.proofs.Empty.{none_beyond}
 use Rattle.sound_cuts.proofs.opened_choice_law.Goals as goal
 

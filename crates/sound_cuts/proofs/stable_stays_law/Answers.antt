@@ -1,6 +1,6 @@
 use Rattle.std.proofs.Common.{[], ◌∷◌, ◌++◌}
-use Rattle.hop_model.proofs.StableCuts.{stable_part, stable_versions}
-use Rattle.sound_runs.proofs.Standing.{legal_below}
+use Rattle.sound_states.proofs.hop_model_lemmas.StableCuts.{stable_part, stable_versions}
+use Rattle.sound_states.proofs.sound_runs_lemmas.Standing.{legal_below}
 use Rattle.sound_cuts.proofs.stable_stays_law.Goals as goal
 
 pub returns-clause-versions : goal.returns-clause-versions

@@ -1,5 +1,5 @@
-use Rattle.record_laws.specs.Cells.{words_on}
-use Rattle.step_plans.specs.declared.idle.Idle.TheVariants.{Absent}
+use Rattle.kernel_views.specs.record_laws.Cells.{words_on}
+use Rattle.table_steps.specs.step_plans.declared.idle.Idle.TheVariants.{Absent}
 use Rattle.store_steps.proofs.Stepping.{leaves, stays_clean, steps_over, stops_over}
 use Rattle.store_steps.proofs.step_over.Goals as goal
 

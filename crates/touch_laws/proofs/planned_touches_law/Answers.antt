@@ -1,6 +1,6 @@
 use Rattle.std.proofs.Common.{ap, ◌∙◌}
-use Rattle.locus_machine.specs.Loci.{locus_of}
-use Rattle.kernel_cells.specs.Cells.{part_of}
+use Rattle.step_plans.specs.locus_machine.Loci.{locus_of}
+use Rattle.wish_laws.specs.kernel_cells.Cells.{part_of}
 use Rattle.touch_laws.proofs.Noted.{made}
 use Rattle.touch_laws.proofs.Touched.{plan_writes}
 use Rattle.touch_laws.proofs.planned_touches_law.Goals as goal

@@ -1,4 +1,4 @@
-use Rattle.hop_model.specs.Histories.{run_after, start_run}
+use Rattle.kernel_cells.specs.hop_model.Histories.{run_after, start_run}
 use Rattle.wish_laws.proofs.Founding.{cell_founded, founded, wish_changed}
 use Rattle.wish_laws.proofs.founded_wish_law.Goals as goal
 

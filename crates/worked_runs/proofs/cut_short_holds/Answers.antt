@@ -1,6 +1,6 @@
 use Rattle.std.proofs.Common.{◌≡◌, [], ◌∷◌, Some, sym, ap, subst}
 use Rattle.hop_base.specs.declared.histories.Event.TheVariants.{Stable}
-use Rattle.hop_model.specs.Histories.{May, Run, mark, never, next_changed}
+use Rattle.run_laws.specs.hop_model.Histories.{May, Run, mark, never, next_changed}
 use Rattle.worked_runs.specs.CutShort.{first_record}
 use Rattle.worked_runs.specs.Snapshots.{entities_and_versions, no_tables, no_words}
 use Rattle.worked_runs.proofs.CutShort.{behind_two, legal, completed_are, no_stable, owes, still_owes, tried_are, with_it, without}

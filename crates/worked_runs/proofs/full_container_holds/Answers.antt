@@ -1,5 +1,5 @@
 use Rattle.std.proofs.Common.{◌≡◌, [], true, false, sym, ap, subst}
-use Rattle.hop_model.specs.Histories.{May, Run, has_wish, is_due, is_full}
+use Rattle.run_laws.specs.hop_model.Histories.{May, Run, has_wish, is_due, is_full}
 use Rattle.worked_runs.specs.FullContainer.{each_so_many, recorded_at}
 use Rattle.worked_runs.specs.Snapshots.{entities_and_versions, no_tables, no_words}
 use Rattle.worked_runs.proofs.FullContainer.{all_on, commits_are, cut, full_6, full_7, legal, no_record, not_due_7, seven_on, six_on, wish_7}

@@ -1,6 +1,6 @@
 use Rattle.std.proofs.Common.{◌≡◌, refl, sym, ap, subst}
-use Rattle.hop_model.specs.Changes.{changed}
-use Rattle.hop_model.specs.Histories.{Run}
+use Rattle.run_laws.specs.hop_model.Changes.{changed}
+use Rattle.run_laws.specs.hop_model.Histories.{Run}
 use Rattle.worked_runs.specs.Snapshots.{entities_and_versions}
 use Rattle.worked_runs.proofs.SecondRun.{all_are, born_on, cut, legal}
 use Rattle.worked_runs.proofs.second_run_holds.Goals as goal

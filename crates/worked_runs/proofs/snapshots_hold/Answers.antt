@@ -1,9 +1,9 @@
 use Rattle.std.proofs.Common.{refl}
-use Rattle.hop_model.specs.Refusals.{refusal}
-use Rattle.hop_model.specs.Acts.{allowed, wanted}
-use Rattle.hop_model.specs.Outcomes.{local_act, on_cell, with_newborn, outcome}
-use Rattle.hop_model.specs.Changes.{changed}
-use Rattle.hop_model.specs.Steps.{change_of, step_change}
+use Rattle.run_laws.specs.hop_model.Refusals.{refusal}
+use Rattle.run_laws.specs.hop_model.Acts.{allowed, wanted}
+use Rattle.run_laws.specs.hop_model.Outcomes.{local_act, on_cell, with_newborn, outcome}
+use Rattle.run_laws.specs.hop_model.Changes.{changed}
+use Rattle.run_laws.specs.hop_model.Steps.{change_of, step_change}
 use Rattle.worked_runs.proofs.Snapshots.{abandoned, both, legal}
 use Rattle.worked_runs.proofs.snapshots_hold.Goals as goal
 

@@ -1,5 +1,5 @@
 use Rattle.std.proofs.Common.{◌≡◌, ◌∙◌, Bool, true, false, not, Option, Some, None, is_some, codes, map, string_bytes, length, ap, sym, arith, rules}
-use Rattle.hop_model.specs.Scripts.{place_of}
+use Rattle.history_model.specs.hop_model.Scripts.{place_of}
 use Rattle.history_model.proofs.PlainBirths.{few_names}
 use Rattle.act_checks.proofs.beside.bear.Goals as goal
 

@@ -1,6 +1,6 @@
 use Rattle.std.proofs.Common.{map, string_bytes, sym, subst}
-use Rattle.hop_model.specs.Soundness.{IsSound}
-use Rattle.hop_model.specs.State.{no_atlas}
+use Rattle.history_model.specs.hop_model.Soundness.{IsSound}
+use Rattle.history_model.specs.hop_model.State.{no_atlas}
 use Rattle.history_model.specs.Plains.{cells_by, edges_of}
 use Rattle.history_model.proofs.EmptyLemmas.{sound_empty}
 use Rattle.act_checks.proofs.beside.empty_state.Goals as goal

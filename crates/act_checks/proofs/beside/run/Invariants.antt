@@ -1,4 +1,4 @@
-use Rattle.hop_model.specs.Soundness.{IsSound}
+use Rattle.history_model.specs.hop_model.Soundness.{IsSound}
 use Rattle.history_model.specs.Born.{AreEdges}
 use Rattle.history_model.specs.Plains.{cells_of}
 use Rattle.act_checks.proofs.beside.run.Given as goal

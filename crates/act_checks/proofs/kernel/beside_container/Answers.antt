@@ -1,7 +1,7 @@
 use Rattle.std.proofs.Common.{IsTrue, refl, sym, subst}
 use Rattle.hop_base.specs.declared.instructions.Instr.{Instr}
-use Rattle.invocation.specs.Entries.{is_return}
-use Rattle.locus_machine.specs.Loci.{locus_of}
+use Rattle.kernel_calls.specs.invocation.Entries.{is_return}
+use Rattle.kernel_calls.specs.locus_machine.Loci.{locus_of}
 use Rattle.kernel_calls.specs.Calls.{is_take, is_give}
 use Rattle.act_checks.proofs.WantLemmas.{wanted_beside}
 use Rattle.act_checks.proofs.kernel.beside_container.Goals as goal

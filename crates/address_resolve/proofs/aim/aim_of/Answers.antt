@@ -1,7 +1,7 @@
 use Rattle.std.proofs.Common.{◌≡◌, ℕ, sym, ap, ◌∙◌}
-use Rattle.hop_model.specs.Outcomes.{look_address, looked}
-use Rattle.hop_model.specs.Refusals.{instr_at, reg}
-use Rattle.locus_machine.specs.Loci.{locus_of}
+use Rattle.fault_paging.specs.hop_model.Outcomes.{look_address, looked}
+use Rattle.fault_paging.specs.hop_model.Refusals.{instr_at, reg}
+use Rattle.invocation.specs.locus_machine.Loci.{locus_of}
 use Rattle.address_resolve.specs.declared.aim.Access.{Access}
 use Rattle.address_resolve.specs.Looks.{done_by, needed_by}
 use Rattle.address_resolve.proofs.Making.{load_made, only_looks, store_made}

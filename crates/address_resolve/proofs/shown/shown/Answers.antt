@@ -1,7 +1,7 @@
 use Rattle.std.proofs.Common.{◌<◌, ◌/◌, sym, ◌∙◌, subst, arith}
-use Rattle.hop_model.specs.Words.{denied}
-use Rattle.wanted_act.specs.Views.{IsReadyLocus}
-use Rattle.locus_machine.specs.Loci.{container_with, locus_of}
+use Rattle.fault_paging.specs.hop_model.Words.{denied}
+use Rattle.invocation.specs.wanted_act.Views.{IsReadyLocus}
+use Rattle.invocation.specs.locus_machine.Loci.{container_with, locus_of}
 use Rattle.address_resolve.proofs.Cases.{looked_through, ready_through, region_shows, shows_as, through_shows}
 use Rattle.address_resolve.proofs.shown.shown.Goals as goal
 

@@ -2,7 +2,7 @@ use Rattle.std.proofs.Common.{refl, sym, subst}
 use Rattle.std.proofs.lemmas.Result.{err_from_is_err_and}
 use Rattle.fault_paging.proofs.Bringing.{room_err, room_ok}
 use Rattle.hop_base.specs.declared.histories.Answer.TheVariants.{Read}
-use Rattle.locus_machine.specs.Loci.{locus_of}
+use Rattle.invocation.specs.locus_machine.Loci.{locus_of}
 use Rattle.address_resolve.specs.Looks.{ReachesSomehow}
 use Rattle.address_resolve.proofs.Somehow.{load_reaches, store_reaches}
 use Rattle.address_resolve.proofs.word.at_word.Goals as goal

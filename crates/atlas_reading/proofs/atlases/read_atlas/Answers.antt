@@ -1,6 +1,6 @@
 use Rattle.std.proofs.Common.{length}
 use Rattle.hop_base.specs.declared.entities.Kind.TheVariants.{Atlas}
-use Rattle.kernel_calls.specs.Calls.{atlas_state}
+use Rattle.directory_laws.specs.kernel_calls.Calls.{atlas_state}
 use Rattle.snapshot_reading.proofs.Whole.{all, malformed, near, near_past, none_left, not_none, too_long}
 use Rattle.atlas_reading.specs.Atlases.{IsAtlasSpelled}
 use Rattle.atlas_reading.proofs.atlases.read_atlas.Goals as goal

@@ -1,6 +1,6 @@
 use Rattle.std.proofs.Common.{sym, ap}
-use Rattle.hop_model.specs.State.{no_atlas}
-use Rattle.locus_machine.specs.Loci.{locus_of}
+use Rattle.kernel_cells.specs.hop_model.State.{no_atlas}
+use Rattle.kernel_cells.specs.locus_machine.Loci.{locus_of}
 use Rattle.kernel_cells.specs.Cells.{part_of}
 use Rattle.beside_steps.proofs.Wants.{fits_touches}
 use Rattle.beside_steps.proofs.BesideSteps.{stepped_both}

@@ -1,5 +1,5 @@
 use Rattle.std.proofs.Common.{◌<◌, ◌≤◌, sym, subst, arith}
-use Rattle.event_clocks.specs.Clocks.{CarriesTwo}
+use Rattle.kernel_cells.specs.event_clocks.Clocks.{CarriesTwo}
 use Rattle.hop_base.specs.declared.histories.Event.TheVariants.{Step}
 use Rattle.beside_steps.proofs.Pairs.{pair_below, pair_above}
 use Rattle.beside_steps.proofs.besides.write_both.Goals as goal

@@ -1,4 +1,4 @@
-use Rattle.locus_machine.specs.Loci.{locus_of}
+use Rattle.kernel_cells.specs.locus_machine.Loci.{locus_of}
 use Rattle.beside_steps.proofs.Wants.{snap_within, snap_makes}
 use Rattle.beside_steps.proofs.parts.record_it.Goals as goal
 

@@ -1,9 +1,9 @@
 use Rattle.std.proofs.Common.{◌<◌, sym, ap, subst, arith}
-use Rattle.hop_model.specs.Acts.{wanted}
-use Rattle.hop_model.specs.Outcomes.{outcome}
-use Rattle.hop_model.specs.State.{NotBorn}
-use Rattle.locus_machine.specs.Loci.{locus_of}
-use Rattle.kernel_calls.specs.Calls.{atlas_state}
+use Rattle.kernel_cells.specs.hop_model.Acts.{wanted}
+use Rattle.kernel_cells.specs.hop_model.Outcomes.{outcome}
+use Rattle.kernel_cells.specs.hop_model.State.{NotBorn}
+use Rattle.kernel_cells.specs.locus_machine.Loci.{locus_of}
+use Rattle.kernel_cells.specs.kernel_calls.Calls.{atlas_state}
 use Rattle.kernel_cells.specs.Cells.{part_of}
 use Rattle.birth_steps.specs.Bearing.{MakesNewborn}
 use Rattle.birth_steps.proofs.BirthSteps.{make_touches, stepped_low}

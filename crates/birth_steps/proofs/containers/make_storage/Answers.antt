@@ -1,7 +1,7 @@
 use Rattle.std.proofs.Common.{sym, ap, ◌∙◌}
-use Rattle.hop_model.specs.State.{Supply, NotBorn}
-use Rattle.locus_machine.specs.Loci.{locus_of}
-use Rattle.kernel_calls.specs.Calls.{atlas_state, born_head}
+use Rattle.kernel_cells.specs.hop_model.State.{Supply, NotBorn}
+use Rattle.kernel_cells.specs.locus_machine.Loci.{locus_of}
+use Rattle.kernel_cells.specs.kernel_calls.Calls.{atlas_state, born_head}
 use Rattle.birth_steps.proofs.Newborns.{bears_container, born_some, head_pages}
 use Rattle.birth_steps.proofs.containers.make_storage.Goals as goal
 

@@ -1,10 +1,10 @@
 use Rattle.std.proofs.Common.{◌+◌, length, sym, ap, ◌∙◌}
-use Rattle.hop_model.specs.Acts.{wanted}
-use Rattle.hop_model.specs.Outcomes.{outcome}
-use Rattle.hop_model.specs.State.{NotBorn, AtlasCell, LocusCell}
+use Rattle.kernel_cells.specs.hop_model.Acts.{wanted}
+use Rattle.kernel_cells.specs.hop_model.Outcomes.{outcome}
+use Rattle.kernel_cells.specs.hop_model.State.{NotBorn, AtlasCell, LocusCell}
 use Rattle.hop_base.specs.declared.histories.Answer.TheVariants.{Reply as Replied}
-use Rattle.locus_machine.specs.Loci.{locus_of}
-use Rattle.kernel_calls.specs.Calls.{atlas_state}
+use Rattle.kernel_cells.specs.locus_machine.Loci.{locus_of}
+use Rattle.kernel_cells.specs.kernel_calls.Calls.{atlas_state}
 use Rattle.kernel_cells.specs.Cells.{part_of}
 use Rattle.birth_steps.specs.Bearing.{MakesNewborn}
 use Rattle.birth_steps.proofs.Newborns.{of_atlas}

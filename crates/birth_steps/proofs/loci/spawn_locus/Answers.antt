@@ -1,6 +1,6 @@
-use Rattle.hop_model.specs.State.{NotBorn}
-use Rattle.locus_machine.specs.Loci.{locus_of}
-use Rattle.kernel_calls.specs.Calls.{atlas_state}
+use Rattle.kernel_cells.specs.hop_model.State.{NotBorn}
+use Rattle.kernel_cells.specs.locus_machine.Loci.{locus_of}
+use Rattle.kernel_cells.specs.kernel_calls.Calls.{atlas_state}
 use Rattle.birth_steps.proofs.Newborns.{bears_locus, makes_locus}
 use Rattle.birth_steps.proofs.loci.spawn_locus.Goals as goal
 

@@ -1,8 +1,8 @@
 use Rattle.std.proofs.Common.{◌+◌, length, sym, ap, ◌∙◌}
-use Rattle.hop_model.specs.Acts.{wanted}
-use Rattle.hop_model.specs.Outcomes.{outcome}
-use Rattle.hop_model.specs.State.{NotBorn, LocusCell}
-use Rattle.locus_machine.specs.Loci.{locus_of}
+use Rattle.kernel_cells.specs.hop_model.Acts.{wanted}
+use Rattle.kernel_cells.specs.hop_model.Outcomes.{outcome}
+use Rattle.kernel_cells.specs.hop_model.State.{NotBorn, LocusCell}
+use Rattle.kernel_cells.specs.locus_machine.Loci.{locus_of}
 use Rattle.kernel_cells.specs.Cells.{locus_cell, part_of}
 use Rattle.kernel_cells.specs.declared.cells.Part.TheVariants as part
 use Rattle.birth_steps.specs.Bearing.{MakesNewborn}

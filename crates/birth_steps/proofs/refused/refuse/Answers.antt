@@ -1,5 +1,5 @@
-use Rattle.hop_model.specs.State.{NotBorn}
-use Rattle.locus_machine.specs.Loci.{locus_of}
+use Rattle.kernel_cells.specs.hop_model.State.{NotBorn}
+use Rattle.kernel_cells.specs.locus_machine.Loci.{locus_of}
 use Rattle.birth_steps.proofs.NoNumbers.{makes_none, none_within}
 use Rattle.birth_steps.proofs.refused.refuse.Goals as goal
 

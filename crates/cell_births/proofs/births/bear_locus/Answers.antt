@@ -1,9 +1,9 @@
 use Rattle.std.proofs.Common.{◌≡◌, ◌<◌, ◌∷◌, [], true, not, ◌&&◌, refl, sym, ap, ◌∙◌, arith}
-use Rattle.hop_model.specs.Histories.{writes}
-use Rattle.hop_model.specs.State.{AtlasCell}
-use Rattle.script_form.specs.Scripts.{locus_of}
-use Rattle.kernel_calls.specs.Calls.{atlas_state}
-use Rattle.kernel_cells.specs.Cells.{part_of}
+use Rattle.wish_laws.specs.hop_model.Histories.{writes}
+use Rattle.wish_laws.specs.hop_model.State.{AtlasCell}
+use Rattle.script_against.specs.script_form.Scripts.{locus_of}
+use Rattle.wish_laws.specs.kernel_calls.Calls.{atlas_state}
+use Rattle.wish_laws.specs.kernel_cells.Cells.{part_of}
 use Rattle.cell_births.specs.Bearing.{IsBirthEntry}
 use Rattle.cell_births.proofs.Bearing.{born_locus, entry_three, last_three, middle_three}
 use Rattle.cell_births.proofs.births.bear_locus.Goals as goal

@@ -1,15 +1,15 @@
 use Rattle.std.proofs.Common.{◌≡◌, ◌≤◌, ℕ, ◌+◌, ◌++◌, ◌∷◌, [], if◌then◌else◌, ◌==◌, map, string_bytes, sym, ap, subst, ◌∙◌}
 use Rattle.std.specs.List.{All}
 use Rattle.hop_base.specs.declared.capabilities.Region.{Region}
-use Rattle.hop_model.specs.Births.{regions_from}
-use Rattle.hop_model.specs.Outcomes.{supplied}
-use Rattle.hop_model.specs.Scripts.{number_in}
-use Rattle.hop_model.specs.State.{ContainerCell}
-use Rattle.sound_steps.proofs.RegionLists.{shown}
-use Rattle.script_form.specs.Scripts.{region_of}
+use Rattle.wish_laws.specs.hop_model.Births.{regions_from}
+use Rattle.wish_laws.specs.hop_model.Outcomes.{supplied}
+use Rattle.wish_laws.specs.hop_model.Scripts.{number_in}
+use Rattle.wish_laws.specs.hop_model.State.{ContainerCell}
+use Rattle.script_against.proofs.sound_steps_lemmas.RegionLists.{shown}
+use Rattle.script_against.specs.script_form.Scripts.{region_of}
 use Rattle.atlas_dir.specs.Directory.{edges_of}
-use Rattle.locus_machine.specs.Loci.{container_with}
-use Rattle.kernel_calls.specs.Calls.{atlas_state}
+use Rattle.wish_laws.specs.locus_machine.Loci.{container_with}
+use Rattle.wish_laws.specs.kernel_calls.Calls.{atlas_state}
 use Rattle.cell_births.proofs.Linking.{same_atlas, targets_small}
 use Rattle.cell_births.proofs.containers.bear_storage.Goals as goal
 

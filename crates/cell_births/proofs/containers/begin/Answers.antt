@@ -1,6 +1,6 @@
 use Rattle.std.proofs.Common.{ap, refl}
-use Rattle.hop_model.specs.State.{ContainerCell}
-use Rattle.locus_machine.specs.Loci.{container_with}
+use Rattle.wish_laws.specs.hop_model.State.{ContainerCell}
+use Rattle.wish_laws.specs.locus_machine.Loci.{container_with}
 use Rattle.birth_steps.proofs.Zeros.{zero_at, zero_held, zero_words}
 use Rattle.cell_births.proofs.containers.begin.Goals as goal
 

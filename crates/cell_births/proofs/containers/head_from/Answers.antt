@@ -1,12 +1,12 @@
 use Rattle.std.proofs.Common.{◌≡◌, map, string_bytes, sym, ap, subst, ◌∙◌}
 use Rattle.std.specs.List.{All}
-use Rattle.hop_model.specs.Births.{container_from, regions_from, caps_from}
-use Rattle.hop_model.specs.Outcomes.{supplied}
-use Rattle.hop_model.specs.Scripts.{number_in}
-use Rattle.hop_model.specs.State.{ContainerState}
-use Rattle.script_form.specs.Rules.{IsRegionTable}
-use Rattle.script_form.specs.Scripts.{container_of, region_of, cap_of}
-use Rattle.kernel_calls.specs.Calls.{atlas_state}
+use Rattle.wish_laws.specs.hop_model.Births.{container_from, regions_from, caps_from}
+use Rattle.wish_laws.specs.hop_model.Outcomes.{supplied}
+use Rattle.wish_laws.specs.hop_model.Scripts.{number_in}
+use Rattle.wish_laws.specs.hop_model.State.{ContainerState}
+use Rattle.script_against.specs.script_form.Rules.{IsRegionTable}
+use Rattle.script_against.specs.script_form.Scripts.{container_of, region_of, cap_of}
+use Rattle.wish_laws.specs.kernel_calls.Calls.{atlas_state}
 use Rattle.cell_births.proofs.containers.head_from.Goals as goal
 
 pub regions_from-head-requires-clause-ranges : goal.regions_from-head-requires-clause-ranges

@@ -1,5 +1,5 @@
 use Rattle.std.proofs.Common.{◌≡◌, ℕ, ◌+◌, ◌==◌, if◌then◌else◌, take}
-use Rattle.sound_steps.proofs.RegionLists.{shown}
+use Rattle.script_against.proofs.sound_steps_lemmas.RegionLists.{shown}
 use Rattle.atlas_dir.specs.Directory.{edges_of}
 use Rattle.cell_births.proofs.containers.link.Given as goal
 

@@ -1,7 +1,7 @@
 use Rattle.std.proofs.Common.{Some, unwrap_or, if◌then◌else◌, ap, ◌∙◌}
-use Rattle.hop_model.specs.Scripts.{number_of}
-use Rattle.kernel_calls.specs.Calls.{atlas_state}
-use Rattle.directory_laws.proofs.NameLaws.{numbers_same}
+use Rattle.wish_laws.specs.hop_model.Scripts.{number_of}
+use Rattle.wish_laws.specs.kernel_calls.Calls.{atlas_state}
+use Rattle.script_against.proofs.directory_laws_lemmas.NameLaws.{numbers_same}
 use Rattle.cell_births.proofs.names.known_number.Goals as goal
 
 pub returns : goal.returns

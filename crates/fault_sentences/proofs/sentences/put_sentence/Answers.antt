@@ -1,5 +1,5 @@
 use Rattle.std.proofs.Common.{◌∙◌, ap, ap₂, subst, sym}
-use Rattle.hop_model.specs.State.{Text}
+use Rattle.command_parts.specs.hop_model.State.{Text}
 use Rattle.stream_edge.specs.Streams.{Puts}
 use Rattle.fault_sentences.specs.Sentences.{blocks_sentence, foreign_sentence, refusal_sentence, sentence, trace_sentence}
 use Rattle.fault_sentences.proofs.sentences.put_sentence.Goals as goal

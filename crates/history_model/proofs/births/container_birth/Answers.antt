@@ -3,7 +3,7 @@ use Rattle.std.proofs.lemmas.List.{map_push}
 use Rattle.hop_model.specs.Births.{regions_from}
 use Rattle.hop_model.specs.Scripts.{number_in}
 use Rattle.hop_model.specs.State.{Supply, ContainerState}
-use Rattle.script_form.specs.Scripts.{container_of as table_of}
+use Rattle.sound_runs.specs.script_form.Scripts.{container_of as table_of}
 use Rattle.history_model.specs.Born.{edges_below}
 use Rattle.history_model.specs.Plains.{atlas_of, edges_of}
 use Rattle.sound_runs.proofs.Tables.{length_regions}

@@ -3,7 +3,7 @@ use Rattle.std.proofs.lemmas.List.{map_push}
 use Rattle.std.proofs.lemmas.Option.{slice_get_read, slice_get_within}
 use Rattle.hop_model.specs.Births.{locus_from}
 use Rattle.hop_model.specs.Scripts.{container_named, number_in}
-use Rattle.script_form.specs.Scripts.{locus_of as table_of}
+use Rattle.sound_runs.specs.script_form.Scripts.{locus_of as table_of}
 use Rattle.history_model.specs.Plains.{atlas_of, edges_of}
 use Rattle.history_model.proofs.PlainBirths.{LocusAdded, few_names, host_place, locus_added_bears, locus_added_sound, locus_number, still_sound}
 use Rattle.hop_model.specs.State.{Supply}

@@ -1,9 +1,9 @@
 use Rattle.std.proofs.Common.{◌≡◌, ◌∙◌, false, List, Option, Some, None, is_some, option_map, find, map, string_bytes, refl, sym, ap}
 use Rattle.hop_model.specs.Scripts.{container_table as container_table_by, locus_table as locus_table_by, text_eq}
 use Rattle.hop_model.specs.State.{Text}
-use Rattle.script_form.specs.Scripts.{container_of, locus_of, tables_of}
-use Rattle.script_form.specs.declared.ScriptContainer.{ScriptContainer}
-use Rattle.script_form.specs.declared.ScriptLocus.{ScriptLocus}
+use Rattle.sound_runs.specs.script_form.Scripts.{container_of, locus_of, tables_of}
+use Rattle.sound_runs.specs.script_form.declared.ScriptContainer.{ScriptContainer}
+use Rattle.sound_runs.specs.script_form.declared.ScriptLocus.{ScriptLocus}
 use Rattle.history_model.specs.Plains.{atlas_of, cells_of}
 use Rattle.history_model.proofs.ActLemmas.{ok_by, some_by, none_by}
 use Rattle.history_model.proofs.PlainBirths.{few_names}

@@ -2,7 +2,7 @@ use Rattle.std.proofs.Common.{◌≡◌, ◌-◌, string_bytes, ap, ◌∙◌, a
 use Rattle.std.proofs.lemmas.List.{length-set}
 use Rattle.hop_model.specs.Births.{number_or_0}
 use Rattle.hop_model.specs.Scripts.{number_in}
-use Rattle.script_form.specs.Scripts.{cap_of}
+use Rattle.sound_runs.specs.script_form.Scripts.{cap_of}
 use Rattle.history_model.specs.Plains.{atlas_of}
 use Rattle.history_model.proofs.TableLemmas.{caps_more}
 use Rattle.history_model.proofs.tables.caps_from.Goals as goal

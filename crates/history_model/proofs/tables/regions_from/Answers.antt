@@ -1,7 +1,7 @@
 use Rattle.std.proofs.Common.{◌≡◌, ◌-◌, string_bytes, ap, ◌∙◌, arith}
 use Rattle.hop_model.specs.Births.{number_or_0}
 use Rattle.hop_model.specs.Scripts.{number_in}
-use Rattle.script_form.specs.Scripts.{region_of}
+use Rattle.sound_runs.specs.script_form.Scripts.{region_of}
 use Rattle.history_model.specs.Plains.{atlas_of}
 use Rattle.history_model.proofs.TableLemmas.{regions_more}
 use Rattle.history_model.proofs.tables.regions_from.Goals as goal

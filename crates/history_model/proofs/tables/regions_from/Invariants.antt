@@ -1,7 +1,7 @@
 use Rattle.std.proofs.Common.{◌≡◌, drop, map}
 use Rattle.hop_model.specs.Births.{regions_from}
 use Rattle.hop_model.specs.Scripts.{number_in}
-use Rattle.script_form.specs.Scripts.{region_of}
+use Rattle.sound_runs.specs.script_form.Scripts.{region_of}
 use Rattle.history_model.specs.Plains.{atlas_of}
 use Rattle.history_model.proofs.tables.regions_from.Given as goal
 

@@ -1,12 +1,12 @@
 use Rattle.std.proofs.Common.{rules, ◌≡◌}
-use Rattle.command_words.specs.declared.Command.TheVariants.{Report, Run, Show}
-use Rattle.hopper_top.proofs.Doing.{can_report, can_run, can_show}
+use Rattle.command_words.specs.declared.Command.TheVariants.{CheckTrace, Drill, Report, Run, Show}
+use Rattle.hopper_top.proofs.Doing.{can_check, can_drill, can_report, can_run, can_show}
 use Rattle.hopper_top.proofs.top.do_command.Goals as goal
 
 pub returns-in-Run-clause-complete : goal.returns-in-Run-clause-complete
 returns-in-Run-clause-complete g c can source disk sink room =
-    let is : c.args.command ≡ Run = search rules in
-    c.run_script.ensures.complete (can_run g.m _ _ is can) source disk sink room
+    let is : c.args.command ≡ Run c.in-Run.trace = search rules in
+    c.run_script.ensures.complete (can_run g.m _ _ _ is can) source disk sink room
 
 pub returns-in-Show-clause-complete : goal.returns-in-Show-clause-complete
 returns-in-Show-clause-complete g c can source disk sink room =
@@ -19,3 +19,13 @@ returns-in-Report-clause-complete g c can source disk sink room =
     let is : c.args.command ≡ Report = search rules in
     let both = can_report g.m _ _ is can in
     c.report_image.ensures.complete both.0 both.1 disk sink
+
+pub returns-in-Drill-clause-complete : goal.returns-in-Drill-clause-complete
+returns-in-Drill-clause-complete g c can source disk sink room =
+    let is : c.args.command ≡ Drill c.in-Drill.number = search rules in
+    c.run_drill.ensures.complete (can_drill g.m _ _ _ is can) disk sink room
+
+pub returns-in-CheckTrace-clause-complete : goal.returns-in-CheckTrace-clause-complete
+returns-in-CheckTrace-clause-complete g c can source disk sink room =
+    let is : c.args.command ≡ CheckTrace = search rules in
+    c.check_trace.ensures.complete (can_check g.m _ _ is can) source disk sink

@@ -6,10 +6,10 @@ use Rattle.disk_trait.specs.Disk.{Only}
 use Rattle.disk_trait.specs.Image.{Image}
 use Rattle.disk_trait.specs.Moments.{LeavesOnly}
 use Rattle.disk_trait.proofs.Phases.{LeavesOnly-now, LeavesOnly-weaker, told}
-use Rattle.image_parts.specs.Parts.{IsAcceptedWith}
-use Rattle.part_checks.specs.Chosen.{parts_of}
-use Rattle.snapshot_store.specs.State.{books}
-use Rattle.snapshot_store.specs.declared.opening.OpenWhy.TheVariants as why
+use Rattle.opened_cells.specs.image_parts.Parts.{IsAcceptedWith}
+use Rattle.opened_cells.specs.part_checks.Chosen.{parts_of}
+use Rattle.kernel_views.specs.snapshot_store.State.{books}
+use Rattle.kernel_views.specs.snapshot_store.declared.opening.OpenWhy.TheVariants as why
 use Rattle.image_opening.specs.Images.{HasBegun, HasImageCause, HasKeepCause, HasTurnLeft, HoldsImage, MeansSame, MeansSince, StopsShort, WasRefused}
 use Rattle.image_opening.proofs.Clauses.{begins_behind, both, err_weaker, foreign_not_failed, keep_cause, keep_not_foreign, match_weaker, open_not_foreign, settled, since_sync}
 use Rattle.image_opening.proofs.keeping.keep_image.Goals as goal

@@ -5,11 +5,11 @@ use Rattle.disk_tally.specs.Counts.{Begins, shown}
 use Rattle.disk_trait.specs.Image.{SameOutside}
 use Rattle.disk_trait.specs.Moments.{LeavesOnly}
 use Rattle.disk_trait.proofs.Phases.{LeavesOnly-now, told}
-use Rattle.image_meaning.specs.Stores.{IsHeld}
-use Rattle.log_reading.specs.Logs.{AreInRange, IsLogOf}
-use Rattle.snapshot_store.specs.Choosing.{IsKeeping, are_chosen, books_kept}
-use Rattle.snapshot_store.specs.State.{State, books}
-use Rattle.store_model.specs.Books.{IsBeforePool, kept_of, recs_in}
+use Rattle.opened_cells.specs.image_meaning.Stores.{IsHeld}
+use Rattle.kernel_views.specs.log_reading.Logs.{AreInRange, IsLogOf}
+use Rattle.kernel_views.specs.snapshot_store.Choosing.{IsKeeping, are_chosen, books_kept}
+use Rattle.kernel_views.specs.snapshot_store.State.{State, books}
+use Rattle.kernel_views.specs.store_model.Books.{IsBeforePool, kept_of, recs_in}
 use Rattle.image_opening.specs.Images.{AreReadOf, HasBegun, MeansSame}
 use Rattle.image_opening.specs.Opened.{IsRead}
 use Rattle.image_opening.proofs.Clauses.{holds, is_read, low_epoch, moments, opened, settled}

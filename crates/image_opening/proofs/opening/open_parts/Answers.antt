@@ -1,9 +1,9 @@
 use Rattle.std.proofs.Common.{◌⊎◌, inr, List, sym, subst, ap, ◌∙◌}
 use Rattle.disk_trait.specs.Image.{Image}
 use Rattle.disk_trait.specs.Moments.{LeavesOnly}
-use Rattle.snapshot_store.specs.State.{State, books}
-use Rattle.kernel_cells.specs.declared.cells.Cell.{Cell}
-use Rattle.store_model.specs.Books.{logged_recs}
+use Rattle.kernel_views.specs.snapshot_store.State.{State, books}
+use Rattle.kernel_views.specs.kernel_cells.declared.cells.Cell.{Cell}
+use Rattle.kernel_views.specs.store_model.Books.{logged_recs}
 use Rattle.image_opening.specs.Images.{HasBegun, IsOpened, MeansSame, MeansSince}
 use Rattle.image_opening.proofs.Newest.{newest_in_books}
 use Rattle.image_opening.proofs.Starting.{starts}

@@ -1,9 +1,9 @@
 use Rattle.std.proofs.Common.{subst}
 use Rattle.disk_trait.specs.Image.{Image}
 use Rattle.disk_trait.proofs.Phases.{told}
-use Rattle.image_parts.specs.Parts.{IsAcceptedWith}
-use Rattle.part_checks.specs.Chosen.{parts_of}
-use Rattle.snapshot_store.proofs.Opened.{read_behind}
+use Rattle.opened_cells.specs.image_parts.Parts.{IsAcceptedWith}
+use Rattle.opened_cells.specs.part_checks.Chosen.{parts_of}
+use Rattle.kernel_views.proofs.snapshot_store_lemmas.Opened.{read_behind}
 use Rattle.image_opening.proofs.Clauses.{image_cause, still_synced}
 use Rattle.image_opening.proofs.reading.read_image.Goals as goal
 

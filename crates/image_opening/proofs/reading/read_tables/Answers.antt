@@ -1,5 +1,5 @@
-use Rattle.snapshot_store.specs.OpenFaults.{why}
-use Rattle.snapshot_store.proofs.Opened.{why_not}
+use Rattle.kernel_views.specs.snapshot_store.OpenFaults.{why}
+use Rattle.kernel_views.proofs.snapshot_store_lemmas.Opened.{why_not}
 use Rattle.image_opening.specs.Images.{HasPartsCause}
 use Rattle.image_opening.proofs.Clauses.{parts_cause}
 use Rattle.image_opening.proofs.reading.read_tables.Goals as goal

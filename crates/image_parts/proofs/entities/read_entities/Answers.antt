@@ -2,11 +2,11 @@ use Rattle.std.proofs.Common.{◌≡◌, ◌+◌, ◌++◌, ◌∷◌, [], ℕ, 
 use Rattle.std.proofs.lemmas.List.{length-append}
 use Rattle.disk_trait.specs.Image.{Image}
 use Rattle.hop_base.specs.declared.records.Rec.{Rec}
-use Rattle.image_meaning.specs.Parts.{chosen}
-use Rattle.log_reading.proofs.ReadSoFar.{ReadsOnly-trans}
-use Rattle.part_checks.specs.Chosen.{record_in}
-use Rattle.part_checks.specs.Fits.{AreChosen}
-use Rattle.part_checks.specs.declared.chosen.ChosenEntity.{ChosenEntity}
+use Rattle.blob_loading.specs.image_meaning.Parts.{chosen}
+use Rattle.blob_loading.proofs.log_reading_lemmas.ReadSoFar.{ReadsOnly-trans}
+use Rattle.blob_loading.specs.part_checks.Chosen.{record_in}
+use Rattle.blob_loading.specs.part_checks.Fits.{AreChosen}
+use Rattle.blob_loading.specs.part_checks.declared.chosen.ChosenEntity.{ChosenEntity}
 use Rattle.image_parts.specs.Choosing.{IsBadEntity}
 use Rattle.image_parts.proofs.Reading.{ChosenTo, FormedTo, IsFormedEntity, IsSpeltEntity, SpeltTo, all_chosen, all_formed, all_spelt, first_bad_blob, with_one}
 use Rattle.image_parts.proofs.Verdicts.{handed_on}

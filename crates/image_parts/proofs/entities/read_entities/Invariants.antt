@@ -1,5 +1,5 @@
 use Rattle.std.proofs.Common.{◌≡◌, ◌≤◌, length}
-use Rattle.log_reading.specs.Reads.{ReadsOnly}
+use Rattle.blob_loading.specs.log_reading.Reads.{ReadsOnly}
 use Rattle.image_parts.proofs.Reading.{ChosenTo, FormedTo, SpeltTo}
 use Rattle.image_parts.proofs.entities.read_entities.Given as goal
 

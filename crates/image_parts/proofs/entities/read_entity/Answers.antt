@@ -1,8 +1,8 @@
 use Rattle.std.proofs.Common.{ℕ, List, subst}
 use Rattle.std.specs.Prelude.{slice_index}
 use Rattle.hop_base.specs.declared.records.Rec.{Rec}
-use Rattle.image_meaning.specs.Parts.{IsFormed, IsSpelt}
-use Rattle.part_checks.specs.Chosen.{part_of}
+use Rattle.blob_loading.specs.image_meaning.Parts.{IsFormed, IsSpelt}
+use Rattle.blob_loading.specs.part_checks.Chosen.{part_of}
 use Rattle.image_parts.specs.Choosing.{IsChosenSlot}
 use Rattle.image_parts.proofs.Reading.{slot_bad, slot_entity}
 use Rattle.image_parts.proofs.Verdicts.{handed_on}

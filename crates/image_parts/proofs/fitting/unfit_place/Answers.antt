@@ -1,9 +1,9 @@
 use Rattle.std.proofs.Common.{ℕ, List, length, ap, sym, subst, ◌∙◌, arith}
 use Rattle.std.specs.Prelude.{slice_index}
 use Rattle.hop_base.specs.declared.records.Rec.{Rec}
-use Rattle.image_meaning.specs.Parts.{chosen_by}
-use Rattle.part_checks.specs.Chosen.{parts_of}
-use Rattle.part_checks.specs.Fits.{IsFirstUnfit}
+use Rattle.blob_loading.specs.image_meaning.Parts.{chosen_by}
+use Rattle.blob_loading.specs.part_checks.Chosen.{parts_of}
+use Rattle.blob_loading.specs.part_checks.Fits.{IsFirstUnfit}
 use Rattle.image_parts.specs.Choosing.{IsChosenSlot}
 use Rattle.image_parts.proofs.Slots.{slot_few}
 use Rattle.image_parts.proofs.Unfit.{bad_at, told_chosen, unfit_at}

@@ -1,14 +1,14 @@
 use Rattle.std.proofs.Common.{List, Option, sym, subst}
 use Rattle.disk_trait.specs.Image.{Image}
 use Rattle.hop_base.specs.declared.records.Rec.{Rec}
-use Rattle.image_blocks.specs.Checks.{Bad}
-use Rattle.image_meaning.specs.Foreign.{IsUnfit}
-use Rattle.image_meaning.specs.Parts.{AreSpelt}
-use Rattle.log_reading.specs.Logs.{AreInRange}
-use Rattle.log_reading.specs.declared.log.ImageLog.{ImageLog}
-use Rattle.part_checks.specs.Chosen.{parts_of}
-use Rattle.part_checks.specs.Fits.{AreFit}
-use Rattle.part_checks.specs.declared.chosen.ChosenEntity.{ChosenEntity}
+use Rattle.blob_loading.specs.image_blocks.Checks.{Bad}
+use Rattle.blob_loading.specs.image_meaning.Foreign.{IsUnfit}
+use Rattle.blob_loading.specs.image_meaning.Parts.{AreSpelt}
+use Rattle.blob_loading.specs.log_reading.Logs.{AreInRange}
+use Rattle.blob_loading.specs.log_reading.declared.log.ImageLog.{ImageLog}
+use Rattle.blob_loading.specs.part_checks.Chosen.{parts_of}
+use Rattle.blob_loading.specs.part_checks.Fits.{AreFit}
+use Rattle.blob_loading.specs.part_checks.declared.chosen.ChosenEntity.{ChosenEntity}
 use Rattle.image_parts.proofs.Unfit.{accepted_with, blob_meaning, unfit_meaning}
 use Rattle.image_parts.proofs.Verdicts.{handed_on, if_none, if_some, memory_not_told, not_told, told_bad}
 use Rattle.image_parts.proofs.parts.read_parts.Goals as goal

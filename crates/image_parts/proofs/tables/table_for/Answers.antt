@@ -1,5 +1,5 @@
 use Rattle.std.proofs.Common.{Option, subst, sym}
-use Rattle.part_checks.specs.Chosen.{part_in}
+use Rattle.blob_loading.specs.part_checks.Chosen.{part_in}
 use Rattle.image_parts.specs.Tables.{IsTableOf, blocks_in}
 use Rattle.image_parts.proofs.Placing.{empty_table}
 use Rattle.image_parts.proofs.tables.table_for.Goals as goal

@@ -1,7 +1,7 @@
 use Rattle.std.proofs.Common.{◌≡◌, ◌*◌, ℕ, ap, subst, sym, ◌∙◌}
-use Rattle.history_model.specs.Plains.{container_of}
-use Rattle.hop_model.specs.State.{ContainerCell, ContainerState}
-use Rattle.locus_machine.specs.Loci.{container_with}
+use Rattle.plain_parts.specs.history_model.Plains.{container_of}
+use Rattle.plain_parts.specs.hop_model.State.{ContainerCell, ContainerState}
+use Rattle.plain_parts.specs.locus_machine.Loci.{container_with}
 use Rattle.plain_parts.specs.Words.{words_with}
 use Rattle.image_tools.specs.Words.{IsSparse}
 use Rattle.image_tools.proofs.containers.container_with.Goals as goal

@@ -3,13 +3,13 @@ use Rattle.std.specs.Prelude.{All}
 use Rattle.std.proofs.lemmas.List.{length-append}
 use Rattle.std.proofs.lemmas.List.Elements.{All-push}
 use Rattle.disk_trait.specs.Image.{block_at}
-use Rattle.history_model.specs.Plains.{container_cell, container_of}
-use Rattle.history_model.specs.declared.plain.PlainContainer.{PlainContainer}
-use Rattle.hop_model.specs.State.{ContainerCell}
-use Rattle.image_meaning.specs.Parts.{Part}
-use Rattle.log_reading.proofs.ReadSoFar.{ReadsOnly-trans}
-use Rattle.part_checks.specs.Chosen.{part_in, parts_of}
-use Rattle.part_checks.specs.declared.chosen.ChosenEntity.{ChosenEntity}
+use Rattle.plain_parts.specs.history_model.Plains.{container_cell, container_of}
+use Rattle.plain_parts.specs.history_model.declared.plain.PlainContainer.{PlainContainer}
+use Rattle.plain_parts.specs.hop_model.State.{ContainerCell}
+use Rattle.meant_states.specs.image_meaning.Parts.{Part}
+use Rattle.image_parts.proofs.log_reading_lemmas.ReadSoFar.{ReadsOnly-trans}
+use Rattle.image_parts.specs.part_checks.Chosen.{part_in, parts_of}
+use Rattle.image_parts.specs.part_checks.declared.chosen.ChosenEntity.{ChosenEntity}
 use Rattle.image_tools.specs.States.{IsCellOf, IsSparseContainer}
 use Rattle.image_tools.proofs.Listing.{more, read_part, same_bytes}
 use Rattle.image_tools.proofs.containers.containers_of.Goals as goal

@@ -2,9 +2,9 @@
 use Rattle.std.proofs.Common.{◌≡◌, ◌<◌, ◌≤◌, ◌+◌, ℕ, length, slice_get}
 use Rattle.std.specs.Prelude.{All}
 use Rattle.disk_trait.specs.Image.{block_at}
-use Rattle.history_model.specs.Plains.{container_cell}
-use Rattle.log_reading.specs.Reads.{ReadsOnly}
-use Rattle.part_checks.specs.Chosen.{parts_of}
+use Rattle.plain_parts.specs.history_model.Plains.{container_cell}
+use Rattle.image_parts.specs.log_reading.Reads.{ReadsOnly}
+use Rattle.image_parts.specs.part_checks.Chosen.{parts_of}
 use Rattle.image_tools.specs.States.{IsCellOf, IsSparseContainer}
 use Rattle.image_tools.proofs.containers.containers_of.Given as goal
 

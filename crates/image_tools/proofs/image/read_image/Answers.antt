@@ -1,16 +1,16 @@
 use Rattle.std.proofs.Common.{◌≡◌, ℕ, List, Option, inr, sym, ap, subst, ◌∙◌}
 use Rattle.disk_trait.specs.Image.{Image, block_at}
-use Rattle.history_model.specs.Plains.{cells_of}
+use Rattle.plain_parts.specs.history_model.Plains.{cells_of}
 use Rattle.hop_base.specs.declared.records.Rec.{Rec}
-use Rattle.image_meaning.specs.Foreign.{IsBadMeaning}
-use Rattle.image_meaning.specs.Parts.{Part, cut_of}
+use Rattle.meant_states.specs.image_meaning.Foreign.{IsBadMeaning}
+use Rattle.meant_states.specs.image_meaning.Parts.{Part, cut_of}
 use Rattle.image_parts.proofs.Verdicts.{handed_on}
 use Rattle.image_parts.specs.Parts.{ArePartsOf, IsAcceptedWith}
-use Rattle.log_reading.proofs.ReadSoFar.{ReadsOnly-trans}
-use Rattle.log_reading.specs.Logs.{IsKnown, IsLogOf}
-use Rattle.log_reading.specs.declared.log.ImageLog.{ImageLog}
-use Rattle.part_checks.specs.Chosen.{parts_of}
-use Rattle.part_checks.specs.declared.chosen.ChosenEntity.{ChosenEntity}
+use Rattle.image_parts.proofs.log_reading_lemmas.ReadSoFar.{ReadsOnly-trans}
+use Rattle.image_parts.specs.log_reading.Logs.{IsKnown, IsLogOf}
+use Rattle.image_parts.specs.log_reading.declared.log.ImageLog.{ImageLog}
+use Rattle.image_parts.specs.part_checks.Chosen.{parts_of}
+use Rattle.image_parts.specs.part_checks.declared.chosen.ChosenEntity.{ChosenEntity}
 use Rattle.image_tools.specs.States.{cell_in}
 use Rattle.image_tools.proofs.Aside.{accepted_means, sound_cells, taken_of}
 use Rattle.image_tools.proofs.Low.{all_low}

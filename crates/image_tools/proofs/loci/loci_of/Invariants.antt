@@ -1,7 +1,7 @@
 -- The loci so far are there.
 use Rattle.std.proofs.Common.{◌≡◌, ◌<◌, ◌+◌, ℕ, length, slice_get}
-use Rattle.history_model.specs.Plains.{locus_cell}
-use Rattle.part_checks.specs.Chosen.{parts_of}
+use Rattle.plain_parts.specs.history_model.Plains.{locus_cell}
+use Rattle.image_parts.specs.part_checks.Chosen.{parts_of}
 use Rattle.image_tools.specs.States.{cell_with}
 use Rattle.image_tools.proofs.loci.loci_of.Given as goal
 

@@ -1,8 +1,8 @@
 use Rattle.std.proofs.Common.{◌≡◌, ◌+◌, ◌*◌, ◌<◌, ℕ, List, length, min, refl, sym, subst, arith}
 use Rattle.disk_trait.specs.Image.{Image, block_at}
 use Rattle.std.specs.Prelude.{slice_index}
-use Rattle.image_meaning.specs.Parts.{word_in}
-use Rattle.log_reading.proofs.ReadSoFar.{ReadsOnly-trans}
+use Rattle.meant_states.specs.image_meaning.Parts.{word_in}
+use Rattle.image_parts.proofs.log_reading_lemmas.ReadSoFar.{ReadsOnly-trans}
 use Rattle.plain_parts.specs.Words.{words_with}
 use Rattle.image_tools.specs.Words.{IsSparse}
 use Rattle.image_tools.proofs.Reading.{all_read, page_read, there_at}

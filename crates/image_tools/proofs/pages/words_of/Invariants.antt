@@ -1,7 +1,7 @@
 -- The words of the pages so far are kept.
 use Rattle.std.proofs.Common.{◌≤◌, ◌*◌}
 use Rattle.disk_trait.specs.Image.{block_at}
-use Rattle.log_reading.specs.Reads.{ReadsOnly}
+use Rattle.image_parts.specs.log_reading.Reads.{ReadsOnly}
 use Rattle.image_tools.specs.Words.{IsSparse}
 use Rattle.image_tools.proofs.Reading.{ReadTo}
 use Rattle.image_tools.proofs.pages.words_of.Given as goal

@@ -1,10 +1,10 @@
 use Rattle.std.proofs.Common.{◌≡◌, ap, ◌∙◌}
 use Rattle.hop_base.specs.declared.entities.Kind.TheVariants.{Container}
 use Rattle.hop_base.specs.declared.instructions.Reply.TheVariants.{Ok}
-use Rattle.hop_model.specs.State.{ContainerState}
-use Rattle.hop_model.specs.Outcomes.{finish, made_container, code_for, supplied}
-use Rattle.hop_model.specs.Refusals.{reg}
-use Rattle.locus_machine.specs.Loci.{locus_of, container_with}
+use Rattle.invocation.specs.hop_model.State.{ContainerState}
+use Rattle.invocation.specs.hop_model.Outcomes.{finish, made_container, code_for, supplied}
+use Rattle.invocation.specs.hop_model.Refusals.{reg}
+use Rattle.invocation.specs.locus_machine.Loci.{locus_of, container_with}
 use Rattle.kernel_calls.proofs.BirthLemmas.{new_state, birth_none, birth_some, make_refused, make_born}
 use Rattle.kernel_calls.proofs.births.make_one.Goals as goal
 

@@ -1,6 +1,6 @@
 use Rattle.std.proofs.Common.{Option, ℕ, sym, ap, ◌∙◌}
-use Rattle.hop_model.specs.Outcomes.{code_for}
-use Rattle.locus_machine.specs.Loci.{locus_of}
+use Rattle.invocation.specs.hop_model.Outcomes.{code_for}
+use Rattle.invocation.specs.locus_machine.Loci.{locus_of}
 use Rattle.kernel_calls.proofs.BirthLemmas.{new_state}
 use Rattle.kernel_calls.proofs.births.new_head.Goals as goal
 

@@ -1,8 +1,8 @@
 use Rattle.std.proofs.Common.{ap, ◌∙◌}
 use Rattle.hop_base.specs.declared.entities.Kind.TheVariants.{Locus}
 use Rattle.hop_base.specs.declared.instructions.Reply.TheVariants.{Ok}
-use Rattle.hop_model.specs.Outcomes.{finish}
-use Rattle.locus_machine.specs.Loci.{locus_of}
+use Rattle.invocation.specs.hop_model.Outcomes.{finish}
+use Rattle.invocation.specs.locus_machine.Loci.{locus_of}
 use Rattle.kernel_calls.proofs.BirthLemmas.{birth_none, birth_some, spawn_refused, spawn_born}
 use Rattle.kernel_calls.proofs.births.spawn_one.Goals as goal
 

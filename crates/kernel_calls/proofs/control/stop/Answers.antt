@@ -1,9 +1,9 @@
 use Rattle.std.proofs.Common.{refl, sym, ap, ◌∙◌}
 use Rattle.hop_base.specs.declared.instructions.Condition.{Condition}
 use Rattle.hop_base.specs.declared.instructions.Reply.TheVariants.{Ok}
-use Rattle.hop_model.specs.State.{LocusCell}
-use Rattle.hop_model.specs.Outcomes.{with_other}
-use Rattle.locus_machine.specs.Loci.{locus_of}
+use Rattle.invocation.specs.hop_model.State.{LocusCell}
+use Rattle.invocation.specs.hop_model.Outcomes.{with_other}
+use Rattle.invocation.specs.locus_machine.Loci.{locus_of}
 use Rattle.invocation.proofs.Entered.{within}
 use Rattle.kernel_calls.specs.Calls.{is_stop}
 use Rattle.kernel_calls.proofs.CallLemmas.{other_made}

@@ -1,7 +1,7 @@
 use Rattle.std.proofs.Common.{refl}
 use Rattle.hop_base.specs.declared.instructions.Condition.TheVariants.{Stopped}
 use Rattle.hop_base.specs.declared.instructions.Reply.TheVariants.{Ok}
-use Rattle.locus_machine.specs.Loci.{locus_of}
+use Rattle.invocation.specs.locus_machine.Loci.{locus_of}
 use Rattle.invocation.proofs.Entered.{within}
 use Rattle.kernel_calls.specs.Calls.{is_stop}
 use Rattle.kernel_calls.proofs.CallLemmas.{own_made}

@@ -1,9 +1,9 @@
 use Rattle.std.proofs.Common.{◌≡◌, refl, sym, ap, ◌∙◌, subst}
 use Rattle.hop_base.specs.declared.capabilities.Region.{Region}
-use Rattle.hop_model.specs.Refusals.{instr_at, refusal, no_page, new_region}
-use Rattle.hop_model.specs.Outcomes.{map_region}
+use Rattle.invocation.specs.hop_model.Refusals.{instr_at, refusal, no_page, new_region}
+use Rattle.invocation.specs.hop_model.Outcomes.{map_region}
 use Rattle.atlas_dir.specs.Directory.{IsBornContainer}
-use Rattle.locus_machine.specs.Loci.{locus_of, container_with}
+use Rattle.invocation.specs.locus_machine.Loci.{locus_of, container_with}
 use Rattle.invocation.proofs.Entered.{instr_is, within}
 use Rattle.kernel_calls.specs.Calls.{is_map, atlas_state}
 use Rattle.kernel_calls.proofs.BirthLemmas.{atlas_as}

@@ -1,10 +1,10 @@
 use Rattle.std.proofs.Common.{◌+◌, List, refl, sym, ap, ◌∙◌}
 use Rattle.hop_base.specs.declared.capabilities.Region.{Region}
 use Rattle.hop_base.specs.declared.instructions.Reply.TheVariants.{NoPage, Overlap, Circle, ListFull}
-use Rattle.hop_model.specs.State.{ContainerCell}
-use Rattle.hop_model.specs.Outcomes.{edge_put}
-use Rattle.hop_model.specs.Words.{insert_region}
-use Rattle.locus_machine.specs.Loci.{locus_of, container_with}
+use Rattle.invocation.specs.hop_model.State.{ContainerCell}
+use Rattle.invocation.specs.hop_model.Outcomes.{edge_put}
+use Rattle.invocation.specs.hop_model.Words.{insert_region}
+use Rattle.invocation.specs.locus_machine.Loci.{locus_of, container_with}
 use Rattle.kernel_calls.specs.Calls.{atlas_state}
 use Rattle.kernel_calls.proofs.BirthLemmas.{atlas_refused}
 use Rattle.kernel_calls.proofs.MapLemmas.{map_past, map_meets, map_circle, map_full, map_done, closes, stays_open, no_path, never_err, has_room, is_filled, added, edge_state, atlas_done}

@@ -1,10 +1,10 @@
 use Rattle.std.proofs.Common.{◌-◌, ◌<◌, not, List, Some, filter, find, refl, sym, ap, ◌∙◌, subst}
 use Rattle.hop_base.specs.declared.capabilities.Region.{Region}
 use Rattle.hop_base.specs.declared.instructions.Reply.TheVariants.{NoRegion}
-use Rattle.hop_model.specs.State.{ContainerCell}
-use Rattle.hop_model.specs.Outcomes.{edge_put, with_atlas}
+use Rattle.invocation.specs.hop_model.State.{ContainerCell}
+use Rattle.invocation.specs.hop_model.Outcomes.{edge_put, with_atlas}
 use Rattle.region_map.specs.Regions.{begins_at}
-use Rattle.locus_machine.specs.Loci.{locus_of, container_with}
+use Rattle.invocation.specs.locus_machine.Loci.{locus_of, container_with}
 use Rattle.kernel_calls.specs.Calls.{atlas_state}
 use Rattle.kernel_calls.proofs.BirthLemmas.{atlas_refused}
 use Rattle.kernel_calls.proofs.CallLemmas.{on_err}

@@ -1,10 +1,10 @@
 use Rattle.std.proofs.Common.{◌≡◌, List, Option, Some, slice_set, bit_and, sym, ap, ◌∙◌}
 use Rattle.hop_base.specs.declared.capabilities.Cap.{Cap}
 use Rattle.hop_base.specs.declared.instructions.Reply.TheVariants.{Ok, ListFull}
-use Rattle.hop_model.specs.State.{ContainerCell}
-use Rattle.hop_model.specs.Outcomes.{with_other, set_reg, given_cap}
-use Rattle.hop_model.specs.Refusals.{entity_of, rights_of, rights_with}
-use Rattle.locus_machine.specs.Loci.{locus_of, container_with}
+use Rattle.invocation.specs.hop_model.State.{ContainerCell}
+use Rattle.invocation.specs.hop_model.Outcomes.{with_other, set_reg, given_cap}
+use Rattle.invocation.specs.hop_model.Refusals.{entity_of, rights_of, rights_with}
+use Rattle.invocation.specs.locus_machine.Loci.{locus_of, container_with}
 use Rattle.kernel_calls.proofs.CallLemmas.{put_none, put_some, give_full, give_put, other_made, on_err}
 use Rattle.kernel_calls.proofs.sharing.give_to.Goals as goal
 

@@ -1,6 +1,6 @@
 use Rattle.std.proofs.Common.{◌≡◌, sym, ap, ◌∙◌}
-use Rattle.hop_model.specs.Refusals.{instr_at}
-use Rattle.locus_machine.specs.Loci.{locus_of, container_with}
+use Rattle.invocation.specs.hop_model.Refusals.{instr_at}
+use Rattle.invocation.specs.locus_machine.Loci.{locus_of, container_with}
 use Rattle.invocation.proofs.Entered.{instr_is}
 use Rattle.kernel_calls.specs.Calls.{is_take}
 use Rattle.kernel_calls.proofs.CallLemmas.{take_shape, take_made, made_as}

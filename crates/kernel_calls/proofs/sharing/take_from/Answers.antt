@@ -1,8 +1,8 @@
 use Rattle.std.proofs.Common.{Some, slice_set, ap, ◌∙◌}
 use Rattle.hop_base.specs.declared.instructions.Reply.TheVariants.{Ok, NoSlot, ListFull}
-use Rattle.hop_model.specs.Outcomes.{finish, set_reg}
-use Rattle.hop_model.specs.Refusals.{reg}
-use Rattle.locus_machine.specs.Loci.{locus_of, container_with}
+use Rattle.invocation.specs.hop_model.Outcomes.{finish, set_reg}
+use Rattle.invocation.specs.hop_model.Refusals.{reg}
+use Rattle.invocation.specs.locus_machine.Loci.{locus_of, container_with}
 use Rattle.kernel_calls.proofs.CallLemmas.{at_none, at_some, put_none, put_some, take_none, take_full, take_put, other_made, on_err}
 use Rattle.kernel_calls.proofs.sharing.take_from.Goals as goal
 

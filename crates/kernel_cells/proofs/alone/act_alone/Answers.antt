@@ -1,5 +1,5 @@
-use Rattle.locus_machine.specs.Loci.{locus_of}
-use Rattle.wanted_act.specs.Views.{act_of}
+use Rattle.kernel_calls.specs.locus_machine.Loci.{locus_of}
+use Rattle.kernel_calls.specs.wanted_act.Views.{act_of}
 use Rattle.kernel_cells.proofs.Itself.{itself_at, alone_at}
 use Rattle.kernel_cells.proofs.alone.act_alone.Goals as goal
 

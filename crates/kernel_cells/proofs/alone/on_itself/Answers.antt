@@ -1,6 +1,6 @@
 use Rattle.std.proofs.Common.{sym, ap, ◌∙◌}
-use Rattle.hop_model.specs.Outcomes.{Outcome}
-use Rattle.locus_machine.specs.Loci.{locus_of}
+use Rattle.event_clocks.specs.hop_model.Outcomes.{Outcome}
+use Rattle.kernel_calls.specs.locus_machine.Loci.{locus_of}
 use Rattle.kernel_calls.specs.Calls.{is_stop, is_go}
 use Rattle.kernel_cells.proofs.Itself.{itself_within, itself_shape, snaps_itself}
 use Rattle.kernel_cells.proofs.alone.on_itself.Goals as goal

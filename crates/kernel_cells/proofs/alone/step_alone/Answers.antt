@@ -1,7 +1,7 @@
 use Rattle.std.proofs.Common.{ap}
-use Rattle.hop_model.specs.Acts.{wanted}
-use Rattle.hop_model.specs.Steps.{seen_atlas, seen_other}
-use Rattle.locus_machine.specs.Loci.{locus_of}
+use Rattle.event_clocks.specs.hop_model.Acts.{wanted}
+use Rattle.event_clocks.specs.hop_model.Steps.{seen_atlas, seen_other}
+use Rattle.kernel_calls.specs.locus_machine.Loci.{locus_of}
 use Rattle.kernel_cells.specs.Cells.{part_of}
 use Rattle.kernel_cells.proofs.Stepping.{stepped_alone}
 use Rattle.kernel_cells.proofs.alone.step_alone.Goals as goal

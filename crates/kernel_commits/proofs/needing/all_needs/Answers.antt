@@ -1,7 +1,7 @@
 use Rattle.std.proofs.Common.{Some, sym, ap, ◌∙◌, arith, refl}
 use Rattle.std.proofs.lemmas.Option.{slice_get-get_or}
-use Rattle.snapshot_store.specs.State.{books}
-use Rattle.store_model.specs.Books.{kept_names}
+use Rattle.cell_books.specs.snapshot_store.State.{books}
+use Rattle.cell_books.specs.store_model.Books.{kept_names}
 use Rattle.kernel_commits.proofs.Needs.{formed_at, next_need}
 use Rattle.kernel_commits.proofs.needing.all_needs.Goals as goal
 

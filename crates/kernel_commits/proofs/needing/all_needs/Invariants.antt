@@ -1,7 +1,7 @@
 use Rattle.std.proofs.Common.{◌≡◌, ◌*◌, ◌≤◌, sum_by, take}
-use Rattle.cell_blobs.specs.Blobs.{need_in}
-use Rattle.snapshot_store.specs.State.{books}
-use Rattle.store_model.specs.Books.{kept_names}
+use Rattle.table_steps.specs.cell_blobs.Blobs.{need_in}
+use Rattle.cell_books.specs.snapshot_store.State.{books}
+use Rattle.cell_books.specs.store_model.Books.{kept_names}
 use Rattle.kernel_commits.proofs.needing.all_needs.Given as goal
 
 abbrev pub invariant-loop-cell : goal.invariant-loop-cell

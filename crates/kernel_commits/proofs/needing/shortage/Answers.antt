@@ -1,7 +1,7 @@
 use Rattle.std.proofs.Common.{◌≡◌, ◌↔◌, Some, ap, ◌∙◌, subst}
 use Rattle.disk_trait.specs.declared.disk.NoBlocks.{NoBlocks as TooFewBlocks}
-use Rattle.snapshot_store.specs.State.{books}
-use Rattle.store_model.specs.Books.{kept_names}
+use Rattle.cell_books.specs.snapshot_store.State.{books}
+use Rattle.cell_books.specs.store_model.Books.{kept_names}
 use Rattle.kernel_commits.specs.Parts.{Parts, parts_of}
 use Rattle.kernel_commits.specs.Stabilising.{AreTooFew, needs_in}
 use Rattle.kernel_commits.proofs.Fitting.{no_shortage, none_fits}

@@ -6,7 +6,7 @@ use Rattle.kernel_commits.specs.Snapping.{Snaps}
 use Rattle.kernel_commits.proofs.Committing.{clean_again}
 use Rattle.kernel_commits.proofs.Steadying.{steady_again}
 use Rattle.kernel_commits.proofs.Wishing.{err_over, may_record, none_made, one_answer, one_failed, one_lacks, one_made, one_part}
-use Rattle.kernel_room.proofs.Enough.{calm_whole}
+use Rattle.cell_books.proofs.kernel_room_lemmas.Enough.{calm_whole}
 use Rattle.kernel_commits.proofs.Enough.{short_lacks}
 use Rattle.kernel_commits.proofs.snapping.snap_one.Goals as goal
 

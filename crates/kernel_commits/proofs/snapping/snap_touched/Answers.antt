@@ -1,7 +1,7 @@
 use Rattle.std.specs.Prelude.{⊤}
 use Rattle.std.proofs.Common.{◌+◌, Bool, false, drop, sym, ap, subst, arith}
-use Rattle.cell_table.specs.Tables.{AreClean}
-use Rattle.record_laws.specs.Cells.{words_on}
+use Rattle.table_steps.specs.cell_table.Tables.{AreClean}
+use Rattle.cell_books.specs.record_laws.Cells.{words_on}
 use Rattle.kernel_commits.specs.Parts.{Parts}
 use Rattle.kernel_commits.specs.Steady.{IsSteady}
 use Rattle.kernel_commits.specs.declared.stopping.Stopped.TheVariants.{TooFew}

@@ -1,8 +1,8 @@
 use Rattle.std.proofs.Common.{drop}
-use Rattle.hop_model.specs.State.{Supply}
-use Rattle.cell_table.specs.Tables.{AreClean}
-use Rattle.record_laws.specs.Cells.{words_on}
-use Rattle.kernel_model.specs.Beginnings.{Beginning}
+use Rattle.table_steps.specs.hop_model.State.{Supply}
+use Rattle.table_steps.specs.cell_table.Tables.{AreClean}
+use Rattle.cell_books.specs.record_laws.Cells.{words_on}
+use Rattle.cell_books.specs.kernel_model.Beginnings.{Beginning}
 use Rattle.kernel_commits.specs.Snapping.{RunsFree}
 use Rattle.kernel_commits.specs.Steady.{IsSteady}
 use Rattle.kernel_commits.proofs.Along.{SnapsAlong}

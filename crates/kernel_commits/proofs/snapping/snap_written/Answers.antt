@@ -1,8 +1,8 @@
 use Rattle.std.proofs.Common.{List, subst}
 use Rattle.std.specs.Prelude.{OnErr}
 use Rattle.hop_base.specs.declared.histories.Touch.{Touch}
-use Rattle.serial_runs.specs.Serial.{wished_snaps, written_in}
-use Rattle.kernel_model.specs.Beginnings.{run_of}
+use Rattle.serial_turns.specs.serial_runs.Serial.{wished_snaps, written_in}
+use Rattle.cell_books.specs.kernel_model.Beginnings.{run_of}
 use Rattle.kernel_commits.specs.Lacking.{LacksIn}
 use Rattle.kernel_commits.specs.Pieces.{StopsIn}
 use Rattle.kernel_commits.proofs.snapping.snap_written.Goals as goal

@@ -1,14 +1,14 @@
 use Rattle.std.proofs.Common.{◌≡◌, true, ◌||◌, nat_lt, sym, ap, ◌∙◌, subst, slice_get, Some}
-use Rattle.store_model.specs.Books.{kept_in}
-use Rattle.snapshot_store.specs.Shelves.{records_of}
-use Rattle.snapshot_store.specs.State.{books}
-use Rattle.record_laws.specs.Cells.{words_on}
-use Rattle.kernel_model.specs.Beginnings.{run_of}
+use Rattle.cell_books.specs.store_model.Books.{kept_in}
+use Rattle.cell_books.specs.snapshot_store.Shelves.{records_of}
+use Rattle.cell_books.specs.snapshot_store.State.{books}
+use Rattle.cell_books.specs.record_laws.Cells.{words_on}
+use Rattle.cell_books.specs.kernel_model.Beginnings.{run_of}
 use Rattle.kernel_commits.specs.Parts.{Parts}
 use Rattle.kernel_commits.proofs.Committing.{some_is}
 use Rattle.kernel_commits.proofs.Steadying.{can_record}
 use Rattle.kernel_commits.proofs.Wishing.{few_is, has, noted_open, snapped_by, test_is, test_unwished, wish}
-use Rattle.cell_table.proofs.Having.{no_supply, no_words}
+use Rattle.table_steps.proofs.cell_table_lemmas.Having.{no_supply, no_words}
 use Rattle.kernel_commits.proofs.snapping.wants_snap.Goals as goal
 
 pub returns-then-not-wishes_among-clause-there : goal.returns-then-not-wishes_among-clause-there

@@ -1,9 +1,9 @@
 use Rattle.std.proofs.Common.{◌≡◌, sym, ap, ◌∙◌, subst, slice_get, length, Some, refl, arith}
 use Rattle.std.proofs.lemmas.Option.{slice_get_read}
-use Rattle.kernel_cells.specs.declared.cells.Cell.{Cell}
-use Rattle.kernel_cells.specs.Cells.{HasCell, part_of}
-use Rattle.kernel_cells.specs.Wishes.{HasWish, is_open}
-use Rattle.hop_model.specs.Histories.{has_wish}
+use Rattle.table_steps.specs.kernel_cells.declared.cells.Cell.{Cell}
+use Rattle.table_steps.specs.kernel_cells.Cells.{HasCell, part_of}
+use Rattle.table_steps.specs.kernel_cells.Wishes.{HasWish, is_open}
+use Rattle.table_steps.specs.hop_model.Histories.{has_wish}
 use Rattle.kernel_commits.proofs.Committing.{some_is}
 use Rattle.kernel_commits.proofs.snapping.wishes_among.Goals as goal
 

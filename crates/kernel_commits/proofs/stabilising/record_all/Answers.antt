@@ -1,5 +1,5 @@
 use Rattle.std.proofs.Common.{◌≡◌, ◌≢◌, ◌<◌, ◌+◌, ◌*◌, suc, sym, ap, ◌∙◌, subst, arith}
-use Rattle.snapshot_store.specs.State.{books}
+use Rattle.cell_books.specs.snapshot_store.State.{books}
 use Rattle.cell_books.specs.Matching.{newest_of, version_of}
 use Rattle.kernel_commits.specs.Parts.{Parts}
 use Rattle.kernel_commits.specs.Recording.{CanRecord, HasRecorded, HasTried, MayRecord}

@@ -1,5 +1,5 @@
 use Rattle.std.proofs.Common.{ℕ}
-use Rattle.kernel_model.specs.Beginnings.{Beginning}
+use Rattle.cell_books.specs.kernel_model.Beginnings.{Beginning}
 use Rattle.kernel_commits.specs.Stabilising.{NeedsFit, OwesStable}
 use Rattle.kernel_commits.specs.Through.{GoesThrough, RunsThrough}
 use Rattle.kernel_commits.proofs.stabilising.record_all.Given as goal

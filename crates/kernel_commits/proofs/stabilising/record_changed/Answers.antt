@@ -1,7 +1,7 @@
 use Rattle.std.proofs.Common.{◌*◌, [], ◌∷◌, OnOk, OnErr, Some, sym, ap, subst}
 use Rattle.hop_base.specs.declared.histories.Event.TheVariants.{Stable}
-use Rattle.hop_model.specs.Histories.{mark}
-use Rattle.kernel_model.specs.Live.{TooFew as TooFewStop}
+use Rattle.table_steps.specs.hop_model.Histories.{mark}
+use Rattle.cell_books.specs.kernel_model.Live.{TooFew as TooFewStop}
 use Rattle.kernel_commits.specs.Parts.{LivesAs, Parts}
 use Rattle.kernel_commits.specs.Pieces.{CountsWithin, StopsIn}
 use Rattle.kernel_commits.specs.Stabilising.{OwesStable}

@@ -1,8 +1,8 @@
 use Rattle.std.proofs.Common.{◌*◌, [], ◌∷◌, refl, sym, subst}
 use Rattle.hop_base.specs.declared.histories.Event.TheVariants.{Stable}
-use Rattle.hop_model.specs.Histories.{mark}
-use Rattle.cell_table.specs.Tables.{AreClean}
-use Rattle.record_laws.specs.Cells.{words_on}
+use Rattle.table_steps.specs.hop_model.Histories.{mark}
+use Rattle.table_steps.specs.cell_table.Tables.{AreClean}
+use Rattle.cell_books.specs.record_laws.Cells.{words_on}
 use Rattle.kernel_commits.specs.Pieces.{CountsWithin}
 use Rattle.kernel_commits.proofs.Settled.{entries_are, has_stabilised, marks_are, stable_steady}
 use Rattle.kernel_commits.proofs.Settling.{stable_calm, stable_stands}

@@ -1,6 +1,6 @@
 use Rattle.std.proofs.Common.{◌≤◌, sym, subst, length, arith}
-use Rattle.script_form.specs.Scripts.{tables_of}
-use Rattle.table_births.specs.Births.{atlas_state_in}
+use Rattle.birth_views.specs.script_form.Scripts.{tables_of}
+use Rattle.birth_views.specs.table_births.Births.{atlas_state_in}
 use Rattle.kernel_commits.specs.Parts.{Parts}
 use Rattle.kernel_commits.proofs.Steadying.{entry_room}
 use Rattle.kernel_core.specs.Bearing.{HasBorneAll, IsInBirths, RunsInBirths}

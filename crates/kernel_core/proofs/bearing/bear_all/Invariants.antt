@@ -1,7 +1,7 @@
 use Rattle.std.proofs.Common.{◌≡◌, ◌≤◌}
-use Rattle.script_form.specs.Scripts.{tables_of}
-use Rattle.table_births.specs.Births.{AreUnderWay, atlas_state_in, count_born}
-use Rattle.kernel_model.specs.Beginnings.{Beginning}
+use Rattle.birth_views.specs.script_form.Scripts.{tables_of}
+use Rattle.birth_views.specs.table_births.Births.{AreUnderWay, atlas_state_in, count_born}
+use Rattle.birth_views.specs.kernel_model.Beginnings.{Beginning}
 use Rattle.kernel_core.specs.Bearing.{HasBorneSome, IsInBirths, RunsInBirths}
 use Rattle.kernel_core.proofs.bearing.bear_all.Given as goal
 

@@ -1,6 +1,6 @@
 use Rattle.std.proofs.Common.{Some, None, if◌then◌else◌, sym, subst}
-use Rattle.serial_runs.specs.Serial.{kept_behind, written_in}
-use Rattle.kernel_model.specs.Beginnings.{run_of}
+use Rattle.birth_views.specs.serial_runs.Serial.{kept_behind, written_in}
+use Rattle.birth_views.specs.kernel_model.Beginnings.{run_of}
 use Rattle.kernel_commits.specs.Lacking.{LacksIn}
 use Rattle.kernel_core.proofs.looking.keep_behind.Goals as goal
 

@@ -3,10 +3,10 @@ use Rattle.std.specs.Prelude.{⊤}
 use Rattle.hop_base.specs.declared.histories.Answer.TheVariants.{Reply as Replied}
 use Rattle.hop_base.specs.declared.histories.Entry.{Entry}
 use Rattle.hop_base.specs.declared.instructions.Reply.TheVariants.{Ok as AnsweredOk}
-use Rattle.hop_model.specs.Histories.{locus_in, owed_by}
-use Rattle.hop_model.specs.State.{Supply}
-use Rattle.kernel_cells.specs.declared.cells.Cell.{Cell}
-use Rattle.cell_table.specs.Tables.{state_in}
+use Rattle.kernel_commits.specs.hop_model.Histories.{locus_in, owed_by}
+use Rattle.kernel_commits.specs.hop_model.State.{Supply}
+use Rattle.birth_views.specs.kernel_cells.declared.cells.Cell.{Cell}
+use Rattle.birth_views.specs.cell_table.Tables.{state_in}
 use Rattle.kernel_core.specs.Looking.{LooksInRun}
 use Rattle.kernel_core.specs.declared.looking.Looked.{Looked as Look}
 use Rattle.kernel_core.specs.declared.looking.Looked.TheVariants.{Idle, Stepped}

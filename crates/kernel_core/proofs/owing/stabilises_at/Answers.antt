@@ -2,8 +2,8 @@ use Rattle.std.proofs.Common.{◌≡◌, slice_get, get_or, Some, sym, ap, ◌�
 use Rattle.std.proofs.lemmas.Option.{slice_get-get_or}
 use Rattle.hop_base.specs.declared.histories.Answer.TheVariants.{Reply as Replied}
 use Rattle.hop_base.specs.declared.instructions.Reply.TheVariants.{Ok as OkReply}
-use Rattle.hop_model.specs.Histories.{owed_by}
-use Rattle.table_steps.proofs.Facing.{ready_at}
+use Rattle.kernel_commits.specs.hop_model.Histories.{owed_by}
+use Rattle.kernel_commits.proofs.table_steps_lemmas.Facing.{ready_at}
 use Rattle.kernel_core.proofs.StableOwed.{cell_at_is}
 use Rattle.kernel_core.proofs.owing.stabilises_at.Goals as goal
 

@@ -1,6 +1,6 @@
 use Rattle.std.proofs.Common.{sym, subst}
-use Rattle.cell_table.specs.Tables.{AreClean}
-use Rattle.record_laws.specs.Cells.{words_on}
+use Rattle.birth_views.specs.cell_table.Tables.{AreClean}
+use Rattle.birth_views.specs.record_laws.Cells.{words_on}
 use Rattle.kernel_commits.specs.Parts.{Parts}
 use Rattle.kernel_core.proofs.stepping.step_core.Goals as goal
 

@@ -5,14 +5,14 @@ use Rattle.std.proofs.lemmas.Result.{err_from_is_err_and}
 use Rattle.std.proofs.lemmas.Bool.{cases_lt}
 use Rattle.disk_trait.specs.Counts.{Rose}
 use Rattle.disk_tally.proofs.Counting.{CountsOn-then}
-use Rattle.store_model.specs.Books.{free_in, kept_names}
+use Rattle.record_laws.specs.store_model.Books.{free_in, kept_names}
 use Rattle.snapshot_store.specs.State.{State, books}
 use Rattle.snapshot_store.specs.declared.faults.StoreFault.TheVariants.{WriteFault}
-use Rattle.page_store.specs.Pages.{IsWriteFault}
-use Rattle.page_store.specs.declared.faults.PageFault.{PageFault}
-use Rattle.fault_paging.specs.Calls.{IsCausedBy}
-use Rattle.kernel_cells.specs.declared.cells.Cell.{Cell}
-use Rattle.cell_blobs.specs.Blobs.{blob_need, page_need}
+use Rattle.snapshot_store.specs.page_store.Pages.{IsWriteFault}
+use Rattle.snapshot_store.specs.page_store.declared.faults.PageFault.{PageFault}
+use Rattle.wish_laws.specs.fault_paging.Calls.{IsCausedBy}
+use Rattle.wish_laws.specs.kernel_cells.declared.cells.Cell.{Cell}
+use Rattle.record_laws.specs.cell_blobs.Blobs.{blob_need, page_need}
 use Rattle.record_laws.specs.Cells.{IsSettled, words_on}
 use Rattle.kernel_records.proofs.Joining.{failed_by, may_again, moments_pages, moments_then, small_on}
 use Rattle.kernel_records.proofs.Leaving.{failed_commit, failed_pages, made_commit}

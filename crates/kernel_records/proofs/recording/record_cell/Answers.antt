@@ -1,11 +1,11 @@
 use Rattle.std.proofs.Common.{◌≡◌, ℕ, ◌≤◌, List, length, sym, ap, subst}
 use Rattle.std.specs.Prelude.{IfSome}
-use Rattle.image_blocks.specs.Bodies.{blocks_for}
-use Rattle.image_meaning.specs.Parts.{Spells}
-use Rattle.cell_blobs.specs.Blobs.{blob_need, spelt_in}
-use Rattle.store_model.specs.Books.{free_in}
+use Rattle.snapshot_store.specs.image_blocks.Bodies.{blocks_for}
+use Rattle.record_laws.specs.image_meaning.Parts.{Spells}
+use Rattle.record_laws.specs.cell_blobs.Blobs.{blob_need, spelt_in}
+use Rattle.record_laws.specs.store_model.Books.{free_in}
 use Rattle.snapshot_store.specs.State.{books}
-use Rattle.page_shadow.specs.Ledger.{is_held}
+use Rattle.snapshot_store.specs.page_shadow.Ledger.{is_held}
 use Rattle.kernel_records.proofs.Rests.{held_pages, only_write, record_made}
 use Rattle.kernel_records.proofs.Spelling.{bytes_some}
 use Rattle.kernel_records.proofs.recording.record_cell.Goals as goal

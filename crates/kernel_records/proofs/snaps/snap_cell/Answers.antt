@@ -2,9 +2,9 @@ use Rattle.std.proofs.Common.{◌≡◌, ℕ, true, false, List, [], Ok, Err, So
 use Rattle.std.proofs.lemmas.Bool.{false≢true}
 use Rattle.std.proofs.lemmas.Result.{err_from_is_err_and}
 use Rattle.hop_base.specs.declared.histories.Entry.{Entry}
-use Rattle.hop_model.specs.State.{Supply}
+use Rattle.snapshot_store.specs.hop_model.State.{Supply}
 use Rattle.snapshot_store.specs.State.{books}
-use Rattle.cell_blobs.specs.Blobs.{is_recorded}
+use Rattle.record_laws.specs.cell_blobs.Blobs.{is_recorded}
 use Rattle.kernel_records.specs.Snapping.{is_snapped}
 use Rattle.kernel_records.proofs.Faulting.{handed_on, is_changed, is_few, is_wished, snapped}
 use Rattle.kernel_records.proofs.snaps.snap_cell.Goals as goal

@@ -1,12 +1,12 @@
 use Rattle.std.proofs.Common.{◌≡◌, [], ◌∷◌, ◌++◌, Some}
 use Rattle.disk_trait.specs.declared.disk.NoBlocks.{NoBlocks as TooFewBlocks}
-use Rattle.kernel_commits.specs.declared.stopping.Stopped.TheVariants.{TooFew}
+use Rattle.kernel_core.specs.kernel_commits.declared.stopping.Stopped.TheVariants.{TooFew}
 use Rattle.kernel_core.specs.declared.looking.Looked.{Looked}
-use Rattle.serial_turns.proofs.Whereabouts.{looked_more}
-use Rattle.serial_runs.specs.Serial.{look}
-use Rattle.kernel_model.specs.Beginnings.{run_of}
-use Rattle.kernel_commits.specs.Lacking.{LacksIn}
-use Rattle.kernel_commits.proofs.Dues.{due_looks}
+use Rattle.kernel_core.proofs.serial_turns_lemmas.Whereabouts.{looked_more}
+use Rattle.kernel_core.specs.serial_runs.Serial.{look}
+use Rattle.kernel_core.specs.kernel_model.Beginnings.{run_of}
+use Rattle.kernel_core.specs.kernel_commits.Lacking.{LacksIn}
+use Rattle.kernel_core.proofs.kernel_commits_lemmas.Dues.{due_looks}
 use Rattle.kernel_runs.proofs.Alongs.{told_stop}
 use Rattle.kernel_runs.proofs.Caused.{look_cause}
 use Rattle.kernel_runs.proofs.Course.{one_look, part_of_look}

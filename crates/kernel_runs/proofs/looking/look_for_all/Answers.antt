@@ -3,10 +3,10 @@ use Rattle.std.specs.Option.{option_map}
 use Rattle.std.specs.Prelude.{string_bytes}
 use Rattle.std.proofs.lemmas.List.{length-map}
 use Rattle.std.proofs.lemmas.Option.{slice_get-map, slice_get_read}
-use Rattle.serial_turns.specs.Turns.{before_pick}
-use Rattle.serial_turns.proofs.Course.{all_picked}
+use Rattle.kernel_core.specs.serial_turns.Turns.{before_pick}
+use Rattle.kernel_core.proofs.serial_turns_lemmas.Course.{all_picked}
 use Rattle.kernel_runs.specs.Running.{RunsAlong, look_most, opened_in}
-use Rattle.kernel_commits.proofs.Counting.{CountsWithin-fewer, CountsWithin-stay, CountsWithin-then}
+use Rattle.kernel_core.proofs.kernel_commits_lemmas.Counting.{CountsWithin-fewer, CountsWithin-stay, CountsWithin-then}
 use Rattle.kernel_runs.proofs.Caused.{cause_from}
 use Rattle.kernel_runs.proofs.looking.look_for_all.Goals as goal
 

@@ -1,9 +1,9 @@
 use Rattle.std.proofs.Common.{◌≡◌, ◌*◌, None, [], map}
 use Rattle.std.specs.Prelude.{string_bytes}
-use Rattle.kernel_commits.specs.Pieces.{CountsWithin}
+use Rattle.kernel_core.specs.kernel_commits.Pieces.{CountsWithin}
 use Rattle.kernel_core.specs.Kernels.{StaysClean}
-use Rattle.kernel_model.specs.Beginnings.{Beginning}
-use Rattle.serial_turns.specs.Turns.{before_pick}
+use Rattle.kernel_core.specs.kernel_model.Beginnings.{Beginning}
+use Rattle.kernel_core.specs.serial_turns.Turns.{before_pick}
 use Rattle.kernel_runs.specs.Running.{IsRunBy, RunsAlong, look_most, opened_in}
 use Rattle.kernel_runs.proofs.looking.look_for_all.Given as goal
 

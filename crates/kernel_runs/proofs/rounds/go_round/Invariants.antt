@@ -1,8 +1,8 @@
 use Rattle.std.proofs.Common.{◌≡◌, ◌-◌, ◌*◌, ◌^◌, None, ℕ, length}
-use Rattle.hop_model.specs.Serial.{looks_of}
-use Rattle.kernel_commits.specs.Pieces.{CountsWithin}
+use Rattle.kernel_core.specs.hop_model.Serial.{looks_of}
+use Rattle.kernel_core.specs.kernel_commits.Pieces.{CountsWithin}
 use Rattle.kernel_core.specs.Kernels.{StaysClean}
-use Rattle.kernel_model.specs.Beginnings.{Beginning}
+use Rattle.kernel_core.specs.kernel_model.Beginnings.{Beginning}
 use Rattle.kernel_runs.specs.Running.{IsRunBy, RunsAlong, look_most, opened_in}
 use Rattle.kernel_runs.proofs.rounds.go_round.Given as goal
 

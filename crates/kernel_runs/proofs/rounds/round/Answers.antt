@@ -1,12 +1,12 @@
 use Rattle.std.proofs.Common.{◌≤◌, ◌<◌, ◌+◌, ◌-◌, ◌*◌, ◌++◌, ◌∷◌, [], sym, ap, subst, ◌∙◌, arith}
 use Rattle.std.proofs.lemmas.List.{append-nil}
-use Rattle.hop_model.specs.Serial.{looks_of}
-use Rattle.serial_turns.specs.Turns.{ComeFirst, before_locus}
+use Rattle.kernel_core.specs.hop_model.Serial.{looks_of}
+use Rattle.kernel_core.specs.serial_turns.Turns.{ComeFirst, before_locus}
 use Rattle.kernel_runs.specs.Running.{RunsAlong, look_most, opened_in}
 use Rattle.kernel_runs.proofs.Caused.{cause_from}
 use Rattle.kernel_runs.proofs.Alongs.{locus_first, locus_next}
 use Rattle.kernel_runs.proofs.Born.{round_over}
-use Rattle.kernel_commits.proofs.Counting.{CountsWithin-fewer, CountsWithin-stay, CountsWithin-then}
+use Rattle.kernel_core.proofs.kernel_commits_lemmas.Counting.{CountsWithin-fewer, CountsWithin-stay, CountsWithin-then}
 use Rattle.kernel_runs.proofs.rounds.round.Goals as goal
 
 pub loop-number-init : goal.loop-number-init

@@ -1,9 +1,9 @@
 use Rattle.std.proofs.Common.{◌≡◌, ◌≤◌, ◌-◌, ◌*◌, None, ℕ}
-use Rattle.hop_model.specs.Serial.{looks_of}
-use Rattle.kernel_commits.specs.Pieces.{CountsWithin}
+use Rattle.kernel_core.specs.hop_model.Serial.{looks_of}
+use Rattle.kernel_core.specs.kernel_commits.Pieces.{CountsWithin}
 use Rattle.kernel_core.specs.Kernels.{StaysClean}
-use Rattle.kernel_model.specs.Beginnings.{Beginning}
-use Rattle.serial_turns.specs.Turns.{before_locus}
+use Rattle.kernel_core.specs.kernel_model.Beginnings.{Beginning}
+use Rattle.kernel_core.specs.serial_turns.Turns.{before_locus}
 use Rattle.kernel_runs.specs.Running.{IsRunBy, RunsAlong, look_most, opened_in}
 use Rattle.kernel_runs.proofs.rounds.round.Given as goal
 

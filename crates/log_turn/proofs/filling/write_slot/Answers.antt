@@ -1,6 +1,6 @@
 use Rattle.std.proofs.Common.{◌≡◌, ◌<◌, ◌+◌, inl, inr, length, ◌∙◌, arith}
 use Rattle.disk_trait.proofs.Phases.{IsImage-reading, Quiet-start, Quiet-write, told}
-use Rattle.image_blocks.specs.Layout.{slot_gate_at}
+use Rattle.commit_log.specs.image_blocks.Layout.{slot_gate_at}
 use Rattle.log_turn.specs.Stages.{IsOfSlot}
 use Rattle.log_turn.proofs.Slots.{wrote}
 use Rattle.log_turn.proofs.filling.write_slot.Goals as goal

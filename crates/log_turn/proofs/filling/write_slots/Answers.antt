@@ -2,7 +2,7 @@ use Rattle.std.proofs.Common.{◌<◌, ◌∙◌, arith}
 use Rattle.disk_trait.proofs.Images.{SameOutside-trans, SameOutside-weaker}
 use Rattle.disk_trait.proofs.Phases.{Quiet-then, Quiet-weaker, told}
 use Rattle.disk_tally.proofs.Counting.{CountsOn-then}
-use Rattle.image_blocks.specs.Layout.{header_at}
+use Rattle.commit_log.specs.image_blocks.Layout.{header_at}
 use Rattle.log_turn.specs.Stages.{IsBehindGate}
 use Rattle.log_turn.proofs.Slots.{first_all, first_more, header_not_slot, slot_behind}
 use Rattle.log_turn.proofs.filling.write_slots.Goals as goal

@@ -1,6 +1,6 @@
 use Rattle.std.proofs.Common.{◌<◌, length, ◌∙◌, arith}
 use Rattle.disk_trait.proofs.Phases.{IsImage-reading, Quiet-start, Quiet-sync, told}
-use Rattle.image_blocks.specs.Layout.{gate_at}
+use Rattle.commit_log.specs.image_blocks.Layout.{gate_at}
 use Rattle.commit_log.proofs.Through.{gate_closed}
 use Rattle.log_turn.specs.Stages.{IsClosing}
 use Rattle.log_turn.proofs.Slots.{wrote}

@@ -2,7 +2,7 @@ use Rattle.std.proofs.Common.{◌≡◌, ◌<◌, inl, length, ap, ◌∙◌, ar
 use Rattle.disk_trait.proofs.Images.{SameOutside-weaker}
 use Rattle.disk_trait.proofs.Phases.{IsImage-reading, Quiet-weaker, told}
 use Rattle.disk_tally.proofs.Counting.{CountsOn-then}
-use Rattle.image_blocks.specs.Layout.{gate_at, other}
+use Rattle.commit_log.specs.image_blocks.Layout.{gate_at, other}
 use Rattle.commit_log.proofs.Through.{gate_open}
 use Rattle.log_turn.specs.Stages.{IsEitherGate}
 use Rattle.log_turn.proofs.Slots.{wrote}

@@ -1,8 +1,8 @@
 use Rattle.std.proofs.Common.{sym, ap, subst}
-use Rattle.hop_model.specs.Acts.{wanted}
-use Rattle.hop_model.specs.Outcomes.{outcome}
-use Rattle.hop_model.specs.State.{no_atlas}
-use Rattle.locus_machine.specs.Loci.{locus_of}
+use Rattle.kernel_cells.specs.hop_model.Acts.{wanted}
+use Rattle.kernel_cells.specs.hop_model.Outcomes.{outcome}
+use Rattle.kernel_cells.specs.hop_model.State.{no_atlas}
+use Rattle.address_resolve.specs.locus_machine.Loci.{locus_of}
 use Rattle.kernel_cells.specs.Cells.{part_of}
 use Rattle.look_steps.specs.Looking.{part_with}
 use Rattle.look_steps.proofs.AtWord.{on_any_fault, word_step}

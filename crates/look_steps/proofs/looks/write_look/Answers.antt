@@ -1,7 +1,7 @@
 use Rattle.std.proofs.Common.{[], ◌∷◌, sym, ◌∙◌}
 use Rattle.hop_base.specs.declared.histories.Event.TheVariants.{Step}
-use Rattle.event_clocks.specs.Clocks.{writing, CarriesTwo}
-use Rattle.hop_model.specs.State.{NotBorn}
+use Rattle.kernel_cells.specs.event_clocks.Clocks.{writing, CarriesTwo}
+use Rattle.kernel_cells.specs.hop_model.State.{NotBorn}
 use Rattle.look_steps.specs.Looking.{looking}
 use Rattle.look_steps.proofs.Actors.{acts_two}
 use Rattle.look_steps.proofs.Stored.{stored_case, read_case}

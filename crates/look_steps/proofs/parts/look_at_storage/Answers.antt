@@ -1,6 +1,6 @@
 use Rattle.std.proofs.Common.{refl}
 use Rattle.std.proofs.lemmas.Result.{IfOk-weaker}
-use Rattle.locus_machine.specs.Loci.{locus_of}
+use Rattle.address_resolve.specs.locus_machine.Loci.{locus_of}
 use Rattle.look_steps.proofs.AtWord.{faults_at_word}
 use Rattle.look_steps.proofs.Somehow.{makes_somehow}
 use Rattle.look_steps.proofs.parts.look_at_storage.Goals as goal

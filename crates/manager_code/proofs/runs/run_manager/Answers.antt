@@ -1,5 +1,5 @@
 use Rattle.std.proofs.Common.{inl, inr, ◌∙◌, ap}
-use Rattle.hop_model.specs.Refusals.{reg}
+use Rattle.locus_machine.specs.hop_model.Refusals.{reg}
 use Rattle.locus_machine.specs.Loci.{locus_of}
 use Rattle.manager_code.specs.Answering.{manager_answer}
 use Rattle.manager_code.proofs.Running.{is_alone, manages_next, goes_further, at_end, not_going}

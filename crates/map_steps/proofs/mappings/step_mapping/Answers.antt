@@ -1,7 +1,7 @@
 use Rattle.std.proofs.Common.{ap}
-use Rattle.kernel_calls.specs.Calls.{atlas_state}
-use Rattle.locus_machine.specs.Loci.{locus_of}
-use Rattle.kernel_cells.specs.Cells.{part_of}
+use Rattle.beside_steps.specs.kernel_calls.Calls.{atlas_state}
+use Rattle.beside_steps.specs.locus_machine.Loci.{locus_of}
+use Rattle.beside_steps.specs.kernel_cells.Cells.{part_of}
 use Rattle.map_steps.proofs.MapSteps.{mapping_touches, stepped_three}
 use Rattle.map_steps.proofs.mappings.step_mapping.Goals as goal
 

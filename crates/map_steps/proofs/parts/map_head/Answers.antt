@@ -1,6 +1,6 @@
 use Rattle.std.proofs.Common.{ap}
-use Rattle.locus_machine.specs.Loci.{locus_of}
-use Rattle.kernel_calls.specs.Calls.{atlas_state}
+use Rattle.beside_steps.specs.locus_machine.Loci.{locus_of}
+use Rattle.beside_steps.specs.kernel_calls.Calls.{atlas_state}
 use Rattle.beside_steps.proofs.Extents.{edits, head_extent}
 use Rattle.map_steps.proofs.parts.map_head.Goals as goal
 

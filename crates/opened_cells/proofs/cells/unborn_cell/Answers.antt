@@ -1,5 +1,5 @@
 use Rattle.std.proofs.Common.{None, subst, sym}
-use Rattle.kernel_cells.specs.declared.cells.Cell.{Cell}
+use Rattle.record_laws.specs.kernel_cells.declared.cells.Cell.{Cell}
 use Rattle.opened_cells.specs.Opened.{IsChosenCell}
 use Rattle.opened_cells.proofs.OneCell.{unborn_cell}
 use Rattle.opened_cells.proofs.cells.unborn_cell.Goals as goal

@@ -1,12 +1,12 @@
 use Rattle.std.proofs.Common.{◌≡◌, Some, subst, sym}
-use Rattle.image_meaning.specs.Parts.{IsFormed, table_in}
+use Rattle.meant_states.specs.image_meaning.Parts.{IsFormed, table_in}
 use Rattle.image_parts.specs.Tables.{IsTableOf}
-use Rattle.kernel_cells.specs.declared.cells.Part.TheVariants as kernel
-use Rattle.kernel_cells.specs.declared.cells.Storage.{Storage}
-use Rattle.part_checks.specs.Chosen.{part_of}
-use Rattle.part_checks.specs.declared.chosen.ChosenPart.{ChosenPart}
-use Rattle.part_checks.specs.declared.chosen.ChosenPart.TheVariants as chosen
-use Rattle.snapshot_reading.specs.declared.containers.ContainerBlob.{ContainerBlob}
+use Rattle.record_laws.specs.kernel_cells.declared.cells.Part.TheVariants as kernel
+use Rattle.record_laws.specs.kernel_cells.declared.cells.Storage.{Storage}
+use Rattle.image_parts.specs.part_checks.Chosen.{part_of}
+use Rattle.image_parts.specs.part_checks.declared.chosen.ChosenPart.{ChosenPart}
+use Rattle.image_parts.specs.part_checks.declared.chosen.ChosenPart.TheVariants as chosen
+use Rattle.image_parts.specs.snapshot_reading.declared.containers.ContainerBlob.{ContainerBlob}
 use Rattle.opened_cells.specs.Opened.{IsChosenPart, memory_with}
 use Rattle.opened_cells.proofs.OnePart.{container_part}
 use Rattle.opened_cells.proofs.parts.chosen_part.Goals as goal

@@ -1,6 +1,6 @@
 use Rattle.std.proofs.Common.{◌∙◌, None, subst, sym}
-use Rattle.fault_paging.specs.declared.paged.PagedMemory.{PagedMemory}
-use Rattle.kernel_cells.specs.declared.cells.Part.TheVariants as kernel
+use Rattle.record_laws.specs.fault_paging.declared.paged.PagedMemory.{PagedMemory}
+use Rattle.record_laws.specs.kernel_cells.declared.cells.Part.TheVariants as kernel
 use Rattle.opened_cells.specs.Opened.{IsChosenPart}
 use Rattle.opened_cells.proofs.OnePart.{unborn_atlas, unborn_container}
 use Rattle.opened_cells.proofs.parts.unborn_part.Goals as goal

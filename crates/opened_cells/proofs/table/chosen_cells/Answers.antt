@@ -1,10 +1,10 @@
 use Rattle.std.proofs.Common.{◌≡◌, ◌+◌, ◌++◌, ◌∷◌, [], ℕ, List, Option, length, ap, sym, subst, ◌∙◌, arith}
 use Rattle.std.specs.Prelude.{slice_set}
 use Rattle.std.proofs.lemmas.List.{length-append, length-set}
-use Rattle.kernel_cells.specs.declared.cells.Cell.{Cell}
-use Rattle.part_checks.proofs.Choices.{read_at}
-use Rattle.part_checks.specs.Chosen.{entity_at}
-use Rattle.part_checks.specs.declared.chosen.ChosenEntity.{ChosenEntity}
+use Rattle.record_laws.specs.kernel_cells.declared.cells.Cell.{Cell}
+use Rattle.image_parts.proofs.part_checks_lemmas.Choices.{read_at}
+use Rattle.image_parts.specs.part_checks.Chosen.{entity_at}
+use Rattle.image_parts.specs.part_checks.declared.chosen.ChosenEntity.{ChosenEntity}
 use Rattle.opened_cells.specs.Opened.{IsChosenCell}
 use Rattle.opened_cells.proofs.AllCells.{CellsTo, SameFrom, one_more, taken_out}
 use Rattle.opened_cells.proofs.table.chosen_cells.Goals as goal

@@ -1,4 +1,4 @@
-use Rattle.kernel_calls.specs.Calls.{atlas_state}
+use Rattle.atlas_reading.specs.kernel_calls.Calls.{atlas_state}
 use Rattle.std.proofs.Common.{sym, ap, ◌∙◌, subst, Bool}
 use Rattle.std.specs.Prelude.{◌↔◌, IsTrue}
 use Rattle.std.specs.List.{list_all}

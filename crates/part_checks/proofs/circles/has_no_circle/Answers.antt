@@ -3,7 +3,7 @@ use Rattle.std.proofs.Common.{Bool, true, refl, sym, ◌∙◌, subst, arith, le
 use Rattle.std.specs.Prelude.{◌↔◌, IsTrue}
 use Rattle.atlas_dir.specs.Directory.{edges_of}
 use Rattle.atlas_dir.proofs.Paths.{unmarked_less}
-use Rattle.hop_model.specs.Soundness.{HasNoCircle}
+use Rattle.image_meaning.specs.hop_model.Soundness.{HasNoCircle}
 use Rattle.part_checks.proofs.Circling.{free_at_first, free_more, marks_tell}
 use Rattle.part_checks.proofs.circles.has_no_circle.Goals as goal
 

@@ -1,7 +1,7 @@
 use Rattle.std.proofs.Common.{◌≡◌, ◌<◌, ◌≤◌, get_or, length, sym, ap, ◌∙◌, subst, ⊎_elim, arith}
 use Rattle.std.proofs.lemmas.Bool.{cases_lt}
-use Rattle.hop_model.specs.Soundness.{is_born}
-use Rattle.kernel_calls.specs.Calls.{atlas_state}
+use Rattle.image_meaning.specs.hop_model.Soundness.{is_born}
+use Rattle.atlas_reading.specs.kernel_calls.Calls.{atlas_state}
 use Rattle.part_checks.proofs.Choices.{chosen_there}
 use Rattle.part_checks.proofs.edges.are_all_chosen.Goals as goal
 

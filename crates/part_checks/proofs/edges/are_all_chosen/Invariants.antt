@@ -1,8 +1,8 @@
 use Rattle.std.proofs.Common.{◌≡◌, ◌<◌, ℕ, Some}
 use Rattle.std.specs.Prelude.{IsTrue}
-use Rattle.hop_model.specs.Soundness.{is_born}
+use Rattle.image_meaning.specs.hop_model.Soundness.{is_born}
 use Rattle.image_meaning.specs.Parts.{Part}
-use Rattle.kernel_calls.specs.Calls.{atlas_state}
+use Rattle.atlas_reading.specs.kernel_calls.Calls.{atlas_state}
 use Rattle.part_checks.specs.Chosen.{parts_of}
 use Rattle.part_checks.proofs.edges.are_all_chosen.Given as goal
 

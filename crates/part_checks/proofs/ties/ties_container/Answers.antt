@@ -2,10 +2,10 @@ use Rattle.std.proofs.Common.{sym, ap, ◌∙◌, subst, Bool, ◌&&◌}
 use Rattle.std.specs.Prelude.{◌↔◌, IsTrue}
 use Rattle.std.specs.List.{list_all}
 use Rattle.hop_base.specs.declared.capabilities.Region.{Region}
-use Rattle.hop_model.specs.Soundness.{is_born_container}
+use Rattle.image_meaning.specs.hop_model.Soundness.{is_born_container}
 use Rattle.image_meaning.specs.Fits.{IsTiedContainer}
-use Rattle.kernel_calls.specs.Calls.{atlas_state}
-use Rattle.locus_machine.specs.Loci.{container_with}
+use Rattle.atlas_reading.specs.kernel_calls.Calls.{atlas_state}
+use Rattle.atlas_reading.specs.locus_machine.Loci.{container_with}
 use Rattle.part_checks.specs.Chosen.{no_words}
 use Rattle.part_checks.proofs.Naming.{tied_container}
 use Rattle.part_checks.proofs.ties.ties_container.Goals as goal

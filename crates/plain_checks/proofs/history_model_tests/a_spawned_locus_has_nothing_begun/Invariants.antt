@@ -1,7 +1,7 @@
-use Rattle.hop_model.specs.Soundness.{IsSound}
-use Rattle.hop_model.specs.State.{Supply}
-use Rattle.history_model.specs.Born.{AreEdges}
-use Rattle.history_model.specs.Plains.{cells_of}
+use Rattle.plain_show.specs.hop_model.Soundness.{IsSound}
+use Rattle.plain_show.specs.hop_model.State.{Supply}
+use Rattle.plain_show.specs.history_model.Born.{AreEdges}
+use Rattle.plain_show.specs.history_model.Plains.{cells_of}
 use Rattle.plain_checks.proofs.history_model_tests.a_spawned_locus_has_nothing_begun.Given as goal
 
 abbrev pub invariant-loop-name : goal.invariant-loop-name

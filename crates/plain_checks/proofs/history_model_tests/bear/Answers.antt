@@ -1,6 +1,6 @@
 use Rattle.std.proofs.Common.{◌≡◌, ◌∙◌, Bool, true, false, not, Option, Some, None, is_some, codes, map, string_bytes, length, ap, sym, arith, rules}
-use Rattle.hop_model.specs.Scripts.{place_of}
-use Rattle.history_model.proofs.PlainBirths.{few_names}
+use Rattle.plain_show.specs.hop_model.Scripts.{place_of}
+use Rattle.plain_show.proofs.history_model_lemmas.PlainBirths.{few_names}
 use Rattle.plain_checks.proofs.history_model_tests.bear.Goals as goal
 
 pub number_among-requires : goal.number_among-requires

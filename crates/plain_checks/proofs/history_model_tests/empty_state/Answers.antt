@@ -1,8 +1,8 @@
 use Rattle.std.proofs.Common.{map, string_bytes, sym, subst}
-use Rattle.hop_model.specs.Soundness.{IsSound}
-use Rattle.hop_model.specs.State.{no_atlas}
-use Rattle.history_model.specs.Plains.{cells_by, edges_of}
-use Rattle.history_model.proofs.EmptyLemmas.{sound_empty}
+use Rattle.plain_show.specs.hop_model.Soundness.{IsSound}
+use Rattle.plain_show.specs.hop_model.State.{no_atlas}
+use Rattle.plain_show.specs.history_model.Plains.{cells_by, edges_of}
+use Rattle.plain_show.proofs.history_model_lemmas.EmptyLemmas.{sound_empty}
 use Rattle.plain_checks.proofs.history_model_tests.empty_state.Goals as goal
 
 pub returns-clause-sound : goal.returns-clause-sound

@@ -1,6 +1,6 @@
-use Rattle.hop_model.specs.Soundness.{IsSound}
-use Rattle.history_model.specs.Born.{AreEdges}
-use Rattle.history_model.specs.Plains.{cells_of}
+use Rattle.plain_show.specs.hop_model.Soundness.{IsSound}
+use Rattle.plain_show.specs.history_model.Born.{AreEdges}
+use Rattle.plain_show.specs.history_model.Plains.{cells_of}
 use Rattle.plain_checks.proofs.history_model_tests.last_answer.Given as goal
 
 abbrev pub invariant-loop : goal.invariant-loop

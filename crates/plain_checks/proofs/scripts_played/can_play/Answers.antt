@@ -3,10 +3,10 @@ use Rattle.std.proofs.Common.{◌≡◌, true, List, [], ◌∷◌, map, All, Is
 use Rattle.std.specs.List.{list_all}
 use Rattle.std.proofs.lemmas.Bool.{and_parts}
 use Rattle.std.proofs.lemmas.List.Elements.{All-cons, All-nil}
-use Rattle.hop_model.specs.Scripts.{ContainerTable}
+use Rattle.plain_show.specs.hop_model.Scripts.{ContainerTable}
 use Rattle.plain_run.specs.Snaps.{has_no_snap}
-use Rattle.script_form.specs.Scripts.{container_of}
-use Rattle.script_form.specs.declared.ScriptContainer.{ScriptContainer}
+use Rattle.script_read.specs.script_form.Scripts.{container_of}
+use Rattle.script_read.specs.script_form.declared.ScriptContainer.{ScriptContainer}
 use Rattle.plain_checks.proofs.scripts_played.can_play.Goals as goal
 
 no_snaps : (cs : List ScriptContainer) → list_all (λ (c : ScriptContainer). has_no_snap c.code.items) cs ≡ true → All (λ (t : ContainerTable). IsTrue (has_no_snap t.code)) (map container_of cs)

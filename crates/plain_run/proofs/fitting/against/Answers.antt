@@ -2,8 +2,8 @@ use Rattle.std.proofs.Common.{Result, Ok, Err, IfErr, sym, subst}
 use Rattle.std.proofs.lemmas.Result.{err_from_is_err_and}
 use Rattle.history_model.proofs.ActLemmas.{ok_by}
 use Rattle.history_model.specs.Plains.{atlas_of}
-use Rattle.script_form.specs.Scripts.{tables_of}
-use Rattle.script_form.specs.declared.refusals.ScriptFault.{ScriptFault}
+use Rattle.history_model.specs.script_form.Scripts.{tables_of}
+use Rattle.history_model.specs.script_form.declared.refusals.ScriptFault.{ScriptFault}
 use Rattle.plain_run.specs.Fitting.{IsMisfit}
 use Rattle.plain_run.proofs.Misfits.{clash_is, fits_where, room_is}
 use Rattle.plain_run.proofs.fitting.against.Goals as goal

@@ -1,7 +1,7 @@
 use Rattle.std.proofs.Common.{◌≡◌, true, false, is_some, map, string_bytes, sym, ap, ◌∙◌, arith}
-use Rattle.hop_model.specs.Scripts.{locus_named, place_of}
+use Rattle.history_model.specs.hop_model.Scripts.{locus_named, place_of}
 use Rattle.history_model.specs.Plains.{atlas_of}
-use Rattle.script_form.specs.Scripts.{container_of}
+use Rattle.history_model.specs.script_form.Scripts.{container_of}
 use Rattle.plain_run.specs.Fitting.{container_clash}
 use Rattle.plain_run.proofs.Clashing.{container_here, container_passed}
 use Rattle.plain_run.proofs.NextNames.{drop_end}

@@ -1,6 +1,6 @@
 use Rattle.std.proofs.Common.{◌≡◌, drop, map}
 use Rattle.history_model.specs.Plains.{atlas_of}
-use Rattle.script_form.specs.Scripts.{container_of}
+use Rattle.history_model.specs.script_form.Scripts.{container_of}
 use Rattle.plain_run.specs.Fitting.{container_clash}
 use Rattle.plain_run.proofs.fitting.container_clash.Given as goal
 

@@ -1,7 +1,7 @@
 use Rattle.std.proofs.Common.{◌≡◌, true, false, is_some, map, string_bytes, sym, ap, ◌∙◌, arith}
-use Rattle.hop_model.specs.Scripts.{container_named}
+use Rattle.history_model.specs.hop_model.Scripts.{container_named}
 use Rattle.history_model.specs.Plains.{atlas_of}
-use Rattle.script_form.specs.Scripts.{locus_of}
+use Rattle.history_model.specs.script_form.Scripts.{locus_of}
 use Rattle.plain_run.specs.Fitting.{locus_clash}
 use Rattle.plain_run.proofs.Clashing.{locus_here, locus_passed}
 use Rattle.plain_run.proofs.NextNames.{drop_end}

@@ -1,6 +1,6 @@
 use Rattle.std.proofs.Common.{◌≡◌, drop, map}
 use Rattle.history_model.specs.Plains.{atlas_of}
-use Rattle.script_form.specs.Scripts.{locus_of}
+use Rattle.history_model.specs.script_form.Scripts.{locus_of}
 use Rattle.plain_run.specs.Fitting.{locus_clash}
 use Rattle.plain_run.proofs.fitting.locus_clash.Given as goal
 

@@ -1,6 +1,6 @@
 use Rattle.std.proofs.Common.{◌≡◌, ◌≤◌, take, map}
 use Rattle.history_model.specs.Plains.{atlas_of}
-use Rattle.script_form.specs.Scripts.{container_of}
+use Rattle.history_model.specs.script_form.Scripts.{container_of}
 use Rattle.plain_run.specs.Fitting.{new_containers}
 use Rattle.plain_run.proofs.fitting.new_containers.Given as goal
 

@@ -1,10 +1,10 @@
 use Rattle.std.proofs.Common.{◌≡◌, ◌-◌, ◌≤◌, None, true, false, slice_get, slice_index, ap, ◌∙◌, subst, refl, arith}
-use Rattle.hop_model.specs.Steps.{running}
+use Rattle.history_model.specs.hop_model.Steps.{running}
 use Rattle.history_model.specs.Plains.{atlas_of, cells_of}
 use Rattle.history_model.specs.Plains.{locus_cell}
 use Rattle.plain_run.specs.Looking.{wants_stable as stable_wanted}
 use Rattle.std.proofs.lemmas.Result.{err_from_is_err_and}
-use Rattle.script_form.specs.Scripts.{tables_of}
+use Rattle.history_model.specs.script_form.Scripts.{tables_of}
 use Rattle.plain_run.proofs.Answering.{look_stills, look_turns}
 use Rattle.plain_run.proofs.Keeping.{keeps_itself}
 use Rattle.plain_run.proofs.Stepping.{few_versions, idle_spent, idle_still}

@@ -1,5 +1,5 @@
 use Rattle.std.proofs.lemmas.Result.{err_from_is_err_and}
-use Rattle.script_form.specs.Scripts.{tables_of}
+use Rattle.history_model.specs.script_form.Scripts.{tables_of}
 use Rattle.history_model.proofs.ActLemmas.{err_by, none_by, ok_by, some_by}
 use Rattle.plain_run.proofs.Answering.{goes_after, keeps_on, standing_on}
 use Rattle.plain_run.proofs.Placing.{all_over}

@@ -1,7 +1,7 @@
 use Rattle.std.proofs.Common.{◌≡◌, false, is_some, string_bytes, sym, ◌∙◌, arith}
 use Rattle.std.proofs.lemmas.List.{length-map}
 use Rattle.std.proofs.lemmas.Result.{err_from_is_err_and}
-use Rattle.script_form.specs.Scripts.{tables_of}
+use Rattle.history_model.specs.script_form.Scripts.{tables_of}
 use Rattle.history_model.proofs.ActLemmas.{some_by}
 use Rattle.plain_run.proofs.Answering.{goes_after, keeps_on, standing_on, where_none, where_some}
 use Rattle.plain_run.proofs.Placing.{picks_over}

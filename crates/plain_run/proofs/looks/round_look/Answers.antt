@@ -1,6 +1,6 @@
 use Rattle.std.proofs.Common.{◌≡◌, false, refl, subst, arith}
-use Rattle.hop_model.specs.Serial.{can_step}
-use Rattle.script_form.specs.Scripts.{tables_of}
+use Rattle.history_model.specs.hop_model.Serial.{can_step}
+use Rattle.history_model.specs.script_form.Scripts.{tables_of}
 use Rattle.plain_run.specs.Looking.{IsTurn}
 use Rattle.plain_run.specs.Standing.{run_from}
 use Rattle.plain_run.proofs.Answering.{on_both, on_err, on_none, on_some, past_round}

@@ -1,7 +1,7 @@
 use Rattle.std.proofs.Common.{◌≡◌, true, false, not, Some, is_some, map, string_bytes, sym, ap, ◌∙◌, arith}
-use Rattle.hop_model.specs.Scripts.{next_container_name, number_of}
+use Rattle.history_model.specs.hop_model.Scripts.{next_container_name, number_of}
 use Rattle.history_model.specs.Plains.{atlas_of}
-use Rattle.script_form.specs.Scripts.{container_of}
+use Rattle.history_model.specs.script_form.Scripts.{container_of}
 use Rattle.plain_run.proofs.NextNames.{container_new, container_old, drop_end}
 use Rattle.plain_run.proofs.names.next_container.Goals as goal
 

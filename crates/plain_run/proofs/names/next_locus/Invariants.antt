@@ -1,7 +1,7 @@
 use Rattle.std.proofs.Common.{◌≡◌, drop, map}
-use Rattle.hop_model.specs.Scripts.{next_locus_name}
+use Rattle.history_model.specs.hop_model.Scripts.{next_locus_name}
 use Rattle.history_model.specs.Plains.{atlas_of}
-use Rattle.script_form.specs.Scripts.{locus_of}
+use Rattle.history_model.specs.script_form.Scripts.{locus_of}
 use Rattle.plain_run.proofs.names.next_locus.Given as goal
 
 -- the names before this table's are in the atlas

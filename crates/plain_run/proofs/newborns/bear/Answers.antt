@@ -1,8 +1,8 @@
 use Rattle.std.proofs.Common.{refl}
-use Rattle.hop_model.specs.State.{Supply}
+use Rattle.history_model.specs.hop_model.State.{Supply}
 use Rattle.history_model.proofs.PlainBirths.{sound_here}
 use Rattle.history_model.specs.Plains.{atlas_of, cells_of}
-use Rattle.script_form.specs.Scripts.{tables_of}
+use Rattle.history_model.specs.script_form.Scripts.{tables_of}
 use Rattle.plain_run.proofs.Growing.{birth_defined}
 use Rattle.plain_run.proofs.KnownNames.{next_known, next_name_is}
 use Rattle.plain_run.proofs.newborns.bear.Goals as goal

@@ -1,8 +1,8 @@
 use Rattle.std.proofs.Common.{refl, sym, subst, ◌++◌, ◌∷◌, []}
 use Rattle.std.proofs.lemmas.Result.{err_from_is_err_and}
-use Rattle.hop_model.specs.Scripts.{next_name as next_of}
+use Rattle.history_model.specs.hop_model.Scripts.{next_name as next_of}
 use Rattle.history_model.specs.Plains.{atlas_of, cells_of}
-use Rattle.script_form.specs.Scripts.{tables_of}
+use Rattle.history_model.specs.script_form.Scripts.{tables_of}
 use Rattle.plain_run.specs.Standing.{Stands}
 use Rattle.plain_run.specs.declared.serial.SerialRun.{SerialRun}
 use Rattle.plain_run.proofs.Answering.{birth_stays, few_names_of}

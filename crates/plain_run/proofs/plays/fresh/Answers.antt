@@ -1,4 +1,4 @@
-use Rattle.hop_model.specs.State.{empty_state}
+use Rattle.history_model.specs.hop_model.State.{empty_state}
 use Rattle.plain_run.proofs.Beginning.{can_begin}
 use Rattle.plain_run.proofs.plays.fresh.Goals as goal
 

@@ -1,9 +1,9 @@
 use Rattle.std.proofs.Common.{IsTrue, List, Ok, Err, OnOk, is_ok, refl, sym, subst}
 use Rattle.hop_base.specs.declared.histories.Entry.{Entry}
-use Rattle.hop_model.specs.Serial.{IsSerial}
-use Rattle.hop_model.specs.State.{KernelState, empty_state}
+use Rattle.history_model.specs.hop_model.Serial.{IsSerial}
+use Rattle.history_model.specs.hop_model.State.{KernelState, empty_state}
 use Rattle.history_model.specs.Plains.{atlas_of, cells_of}
-use Rattle.script_form.specs.Scripts.{tables_of}
+use Rattle.history_model.specs.script_form.Scripts.{tables_of}
 use Rattle.plain_run.specs.Standing.{Stands}
 use Rattle.plain_run.proofs.Beginning.{play_of}
 use Rattle.plain_run.proofs.ShortNames.{sound_short}

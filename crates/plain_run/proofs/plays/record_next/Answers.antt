@@ -1,7 +1,7 @@
 use Rattle.std.proofs.Common.{◌++◌, ◌∷◌, [], List, sym, ap, subst, ◌∙◌}
 use Rattle.hop_base.specs.declared.histories.Entry.{Entry}
-use Rattle.hop_model.specs.Serial.{IsSerial}
-use Rattle.script_form.specs.Scripts.{tables_of}
+use Rattle.history_model.specs.hop_model.Serial.{IsSerial}
+use Rattle.history_model.specs.script_form.Scripts.{tables_of}
 use Rattle.plain_run.specs.Standing.{Stands}
 use Rattle.plain_run.proofs.plays.record_next.Goals as goal
 

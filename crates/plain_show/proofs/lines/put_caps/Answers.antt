@@ -2,7 +2,7 @@
 use Rattle.std.proofs.Common.{◌≡◌, ℕ, ◌<◌, List, length, Option, get_or, refl, sym, ap, subst, arith}
 use Rattle.std.proofs.lemmas.Option.{slice_get_read}
 use Rattle.hop_base.specs.declared.capabilities.Cap.{Cap}
-use Rattle.hop_model.specs.Words.{cap_at, flat}
+use Rattle.history_model.specs.hop_model.Words.{cap_at, flat}
 use Rattle.stream_edge.specs.Streams.{AppendsPart}
 use Rattle.std.specs.Io.KnownBytes.{Appends}
 use Rattle.plain_show.specs.Show.{cap_line}

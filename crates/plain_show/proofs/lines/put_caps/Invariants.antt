@@ -3,7 +3,7 @@ use Rattle.std.proofs.Common.{◌≤◌}
 use Rattle.std.specs.Io.KnownBytes.{Appends}
 use Rattle.std.specs.List.{flat_map}
 use Rattle.hop_base.specs.Edges.{upto}
-use Rattle.hop_model.specs.Words.{cap_at}
+use Rattle.history_model.specs.hop_model.Words.{cap_at}
 use Rattle.plain_show.specs.Show.{cap_line}
 use Rattle.plain_show.proofs.lines.put_caps.Given as goal
 

@@ -1,6 +1,6 @@
 -- The lines of the entries before were put, and a front of that of this one.
 use Rattle.std.proofs.Common.{rules}
-use Rattle.hop_model.specs.Output.{line_of}
+use Rattle.kernel_calls.specs.hop_model.Output.{line_of}
 use Rattle.kernel_calls.specs.Calls.{atlas_state}
 use Rattle.stream_edge.proofs.Streams.{AppendsPart-at}
 use Rattle.printed_lines.proofs.printing.put_output.Goals as goal

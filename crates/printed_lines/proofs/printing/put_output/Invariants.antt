@@ -1,7 +1,7 @@
 -- The lines of the entries so far are put.
 use Rattle.std.proofs.Common.{◌≤◌, take}
 use Rattle.std.specs.Io.KnownBytes.{Appends}
-use Rattle.hop_model.specs.Output.{output_of}
+use Rattle.kernel_calls.specs.hop_model.Output.{output_of}
 use Rattle.kernel_calls.specs.Calls.{atlas_state}
 use Rattle.printed_lines.proofs.printing.put_output.Given as goal
 

@@ -1,6 +1,6 @@
 use Rattle.std.proofs.Common.{Err, sym, ap, subst}
 use Rattle.disk_trait.specs.Counts.{Rose}
-use Rattle.history_model.specs.Plains.{cells_of}
+use Rattle.image_tools.specs.history_model.Plains.{cells_of}
 use Rattle.command_parts.specs.Seen.{gave, seen_disk, seen_sink}
 use Rattle.command_parts.specs.Statuses.{IsComplete, ending}
 use Rattle.command_parts.proofs.Endings.{put_complete}

@@ -1,5 +1,5 @@
 use Rattle.std.proofs.Common.{ℕ, List, []}
-use Rattle.hop_model.specs.State.{Supply}
+use Rattle.kernel_records.specs.hop_model.State.{Supply}
 use Rattle.record_checks.proofs.Closing.{founded_again, never_again}
 use Rattle.std.proofs.lemmas.Bool.{false≢true}
 use Rattle.std.proofs.Common.{sym, ◌∙◌}

@@ -1,7 +1,7 @@
 use Rattle.std.proofs.Common.{◌≡◌, [], sym, ap, ◌∙◌, eqb-true, length, arith}
-use Rattle.snapshot_store.specs.Opening.{is_some_rec}
-use Rattle.snapshot_store.specs.State.{books}
-use Rattle.store_model.specs.Books.{recs_in}
+use Rattle.kernel_records.specs.snapshot_store.Opening.{is_some_rec}
+use Rattle.kernel_records.specs.snapshot_store.State.{books}
+use Rattle.kernel_records.specs.store_model.Books.{recs_in}
 use Rattle.record_checks.proofs.Fitting.{has_room, none_of}
 use Rattle.record_checks.proofs.snapped.snap_new.Goals as goal
 

@@ -1,10 +1,10 @@
 use Rattle.std.proofs.Common.{refl, sym, ap, subst, arith}
 use Rattle.hop_base.specs.Kinds.{kind_of}
-use Rattle.hop_model.specs.State.{LocusState}
-use Rattle.blob_grammar.specs.Forms.{IsNumber}
-use Rattle.blob_grammar.specs.Shapes.{IsLocusOver}
-use Rattle.image_meaning.specs.Parts.{LocusPart}
-use Rattle.locus_machine.specs.Loci.{locus_of}
+use Rattle.kernel_records.specs.hop_model.State.{LocusState}
+use Rattle.restart.specs.blob_grammar.Forms.{IsNumber}
+use Rattle.restart.specs.blob_grammar.Shapes.{IsLocusOver}
+use Rattle.restart.specs.image_meaning.Parts.{LocusPart}
+use Rattle.kernel_records.specs.locus_machine.Loci.{locus_of}
 use Rattle.record_checks.proofs.Fitting.{formed_locus}
 use Rattle.record_checks.proofs.snapped.stepped_locus.Goals as goal
 

@@ -1,14 +1,14 @@
 use Rattle.std.proofs.Common.{◌≡◌, List, Some, sym, subst}
 use Rattle.disk_trait.specs.Counts.{Rose}
 use Rattle.hop_base.specs.declared.histories.Entry.{Entry}
-use Rattle.hop_model.specs.Output.{output_of}
-use Rattle.kernel_cells.specs.declared.cells.Cell.{Cell}
-use Rattle.kernel_commits.specs.Stops.{IsCause}
-use Rattle.kernel_commits.specs.declared.stopping.Stopped.TheVariants.{Failed, TooFew}
-use Rattle.script_form.specs.Scripts.{tables_of}
-use Rattle.snapshot_store.specs.State.{books}
-use Rattle.table_births.specs.Births.{atlas_state_in}
-use Rattle.command_parts.specs.Seen.{seen_sink}
+use Rattle.run_opening.specs.kernel_cells.declared.cells.Cell.{Cell}
+use Rattle.kernel_runs.specs.kernel_commits.Stops.{IsCause}
+use Rattle.kernel_runs.specs.kernel_commits.declared.stopping.Stopped.TheVariants.{Failed, TooFew}
+use Rattle.run_opening.specs.script_form.Scripts.{tables_of}
+use Rattle.run_opening.specs.snapshot_store.State.{books}
+use Rattle.kernel_runs.specs.table_births.Births.{atlas_state_in}
+use Rattle.run_opening.specs.command_parts.Seen.{seen_sink}
+use Rattle.run_command.specs.Tellings.{lines_of}
 use Rattle.run_command.specs.Playing.{IsPutBy, StartsRun}
 use Rattle.run_command.proofs.Played.{of_err, play_leaves}
 use Rattle.run_command.proofs.playing.run_opened.Goals as goal
@@ -23,9 +23,9 @@ returns-clause-leaves g c =
     let status = c.put_run-status.result in
     let sink = seen_sink g.W.Sink.held g.W.Sink.faults c.args.sink.now c.put_run-status.new.sink in
     let caused = c.run-ended.ensures.caused c.requires.going in
-    let put = subst (λ (es : List Entry). IsPutBy ended sink (output_of (atlas_state_in new.parts.cells) es) status) c.history.ensures.entries
-    (subst (λ (cs : List Cell). IsPutBy ended sink (output_of (atlas_state_in cs) c.history.result.now) status) c.cells.ensures c.put_run-status.ensures.put) in
-    play_leaves d.tells d.clock d.faults d.reading d.may_leave d.left_since new sink (record { status = status; history = end.result.history.items; marks = end.result.marks.items }) end.result.disk
+    let put = subst (λ (es : List Entry). IsPutBy ended sink (lines_of c.args.lines (atlas_state_in new.parts.cells) es) status) c.history.ensures.entries
+    (subst (λ (cs : List Cell). IsPutBy ended sink (lines_of c.args.lines (atlas_state_in cs) c.history.result.now) status) c.cells.ensures c.put_run-status.ensures.put) in
+    play_leaves d.tells d.clock d.faults d.reading d.may_leave d.left_since (lines_of c.args.lines) new sink (record { status = status; history = end.result.history.items; marks = end.result.marks.items }) end.result.disk
     end.ensures.history end.ensures.marks end.ensures.disk
     (StartsRun d.tells d.clock d.faults d.reading d.may_leave d.left_since (g.S.Supplier.word c.args.gate.now.supply) (g.P.Policy.wish c.args.gate.now.policy) (tables_of c.args.script.now) old)
     (Rose (d.faults old.parts.store.disk) (d.faults end.result.disk)) (books old.parts.store).count c.run-ended.ensures.counts.same_count ended

@@ -1,5 +1,5 @@
-use Rattle.command_parts.proofs.Endings.{gains}
-use Rattle.command_parts.specs.Seen.{seen_sink}
+use Rattle.run_opening.proofs.command_parts_lemmas.Endings.{gains}
+use Rattle.run_opening.specs.command_parts.Seen.{seen_sink}
 use Rattle.run_command.proofs.Played.{put_stopped}
 use Rattle.run_command.proofs.putting.put_run.Goals as goal
 

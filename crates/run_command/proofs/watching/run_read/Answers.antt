@@ -1,15 +1,16 @@
 use Rattle.std.proofs.Common.{◌≡◌, ◌≤◌, List, map, sym, subst, rules}
 use Rattle.disk_trait.specs.Counts.{Rose}
-use Rattle.kernel_model.specs.Beginnings.{Beginning}
+use Rattle.run_outcomes.specs.kernel_model.Beginnings.{Beginning}
 use Rattle.manager_code.specs.Answering.{book_wish, book_word}
 use Rattle.manager_form.specs.Managing.{manager_of, managers_of}
 use Rattle.manager_form.specs.declared.ScriptManager.{ScriptManager}
-use Rattle.script_form.specs.Scripts.{tables_of}
-use Rattle.snapshot_store.specs.State.{books}
-use Rattle.command_parts.specs.Seen.{Gave, gave, seen_disk, seen_sink}
-use Rattle.command_parts.specs.Statuses.{ending}
+use Rattle.run_opening.specs.script_form.Scripts.{tables_of}
+use Rattle.run_opening.specs.snapshot_store.State.{books}
+use Rattle.run_opening.specs.command_parts.Seen.{Gave, gave, seen_disk, seen_sink}
+use Rattle.run_opening.specs.command_parts.Statuses.{ending}
 use Rattle.run_opening.specs.Ready.{IsReady, StopsOpening}
 use Rattle.run_command.specs.Booked.{over}
+use Rattle.run_command.specs.Tellings.{lines_of}
 use Rattle.run_command.specs.OfScript.{ScriptLeaves}
 use Rattle.run_command.specs.Playing.{PlayLeaves, StartsRun}
 use Rattle.run_command.proofs.Leavings.{goes_on, opening_stops, rose_later, run_leaves, script_ended_by}
@@ -21,6 +22,7 @@ run_opened-requires-clause-clean g c = c.in-Ok.ensures.clean _
 pub returns-in-Ok-clause-leaves : goal.returns-in-Ok-clause-leaves
 returns-in-Ok-clause-leaves g c =
     let d = g.D.Disk in
+    let telling = lines_of c.args.lines in
     let m = over (managers_of c.args.read.now.managers) (record { supply = g.N.Answers.word; policy = g.N.Answers.wish }) in
     let script = tables_of c.args.read.now.script in
     let sink = seen_sink g.W.Sink.held g.W.Sink.faults c.args.sink.now c.run_opened.new.sink in
@@ -33,22 +35,23 @@ returns-in-Ok-clause-leaves g c =
     let starts : List ScriptManager → List ScriptManager → Beginning → Type 0 =
     λ supply policy. StartsRun d.tells d.clock d.faults d.reading d.may_leave d.left_since (book_word (map manager_of supply) g.N.Answers.word) (book_wish (map manager_of policy) g.N.Answers.wish) script k in
     let leaves : List ScriptManager → List ScriptManager → g.row.D.Denot → Type 0 =
-    λ supply policy disk. PlayLeaves d.tells d.clock d.reading d.may_leave d.left_since (starts supply policy) (Rose (d.faults k.parts.store.disk) (d.faults disk)) (books k.parts.store).count sink made disk (ending made.status) in
+    λ supply policy disk. PlayLeaves d.tells d.clock d.reading d.may_leave d.left_since telling (starts supply policy) (Rose (d.faults k.parts.store.disk) (d.faults disk)) (books k.parts.store).count sink made disk (ending made.status) in
     let by_book = subst (λ (ms : List ScriptManager). leaves c.args.read.now.managers.supply.items ms c.run_opened.result.disk) policies
     (subst (λ (ms : List ScriptManager). leaves ms c.new-gate.result.policy.now.managers.now.policy.items c.run_opened.result.disk) suppliers c.run_opened.ensures.leaves) in
     let play = subst (leaves c.args.read.now.managers.supply.items c.args.read.now.managers.policy.items) (sym c.unwatched.ensures.disk) by_book in
     let later = subst (λ (disk : g.row.D.Denot). d.faults k.parts.store.disk ≤ d.faults disk) (sym c.unwatched.ensures.disk) c.run_opened.ensures.later in
     let ready = λ (told : d.tells). subst (λ (disk : g.row.D.Denot). IsReady d.tells d.clock d.faults d.reading d.may_leave d.left_since script disk k) c.new-watched.ensures (c.in-Ok.ensures.ready told) in
     let began = subst (λ (disk : g.row.D.Denot). d.faults disk ≤ d.faults k.parts.store.disk) c.new-watched.ensures c.in-Ok.ensures.begins.later in
-    subst (λ (o : Gave). ScriptLeaves m script sink (seen_disk d.tells d.block_count d.reading d.may_leave d.left_since d.clock d.faults old new) o (ending o.status)) (sym c.unwatched.ensures.gave)
+    subst (λ (o : Gave). ScriptLeaves telling m script sink (seen_disk d.tells d.block_count d.reading d.may_leave d.left_since d.clock d.faults old new) o (ending o.status)) (sym c.unwatched.ensures.gave)
     (run_leaves d.tells d.block_count d.reading d.may_leave d.left_since d.clock d.faults g.met.D.Disk.counts_now old new
     (goes_on d.tells d.block_count d.may_leave d.left_since d.clock d.faults g.met.D.Disk.counts_now old g.N.Handed.start new c.requires.start c.unwatched.ensures.gone_on)
-    m sink script made k ready (Rose (d.faults k.parts.store.disk) (d.faults new))
+    telling m sink script made k ready (Rose (d.faults k.parts.store.disk) (d.faults new))
     (rose_later (d.faults old) (d.faults k.parts.store.disk) (d.faults new) began later) (ending made.status) play)
 
 pub returns-in-Err-clause-leaves : goal.returns-in-Err-clause-leaves
 returns-in-Err-clause-leaves g c =
     let d = g.D.Disk in
+    let telling = lines_of c.args.lines in
     let m = over (managers_of c.args.read.now.managers) (record { supply = g.N.Answers.word; policy = g.N.Answers.wish }) in
     let script = tables_of c.args.read.now.script in
     let sink = seen_sink g.W.Sink.held g.W.Sink.faults c.args.sink.now c.end_with.new.sink in
@@ -58,8 +61,8 @@ returns-in-Err-clause-leaves g c =
     let f = c.in-Err.field-0.fault in
     let stops = subst (λ (disk : g.row.D.Denot). StopsOpening script (seen_disk d.tells d.block_count d.reading d.may_leave d.left_since d.clock d.faults old disk) f) (sym c.into_disk.ensures.same)
     (subst (λ (disk : g.row.D.Denot). StopsOpening script (seen_disk d.tells d.block_count d.reading d.may_leave d.left_since d.clock d.faults disk c.in-Err.field-0.disk) f) c.new-watched.ensures c.in-Err.ensures.stops) in
-    subst (λ (disk : g.row.D.Denot). ScriptLeaves m script sink (seen_disk d.tells d.block_count d.reading d.may_leave d.left_since d.clock d.faults old disk) made (ending made.status)) (sym c.end_with.ensures.disk)
-    (script_ended_by m script sink (seen_disk d.tells d.block_count d.reading d.may_leave d.left_since d.clock d.faults old new) made made.status f c.end_with.ensures.status
+    subst (λ (disk : g.row.D.Denot). ScriptLeaves telling m script sink (seen_disk d.tells d.block_count d.reading d.may_leave d.left_since d.clock d.faults old disk) made (ending made.status)) (sym c.end_with.ensures.disk)
+    (script_ended_by telling m script sink (seen_disk d.tells d.block_count d.reading d.may_leave d.left_since d.clock d.faults old new) made made.status f c.end_with.ensures.status
     (opening_stops d.tells d.block_count d.reading d.may_leave d.left_since d.clock d.faults g.met.D.Disk.counts_now old new
     (goes_on d.tells d.block_count d.may_leave d.left_since d.clock d.faults g.met.D.Disk.counts_now old g.N.Handed.start new c.requires.start c.into_disk.ensures.gone_on)
-    m sink script made g.met.D.Disk.only_now f stops c.end_with.ensures.unrun))
+    telling m sink script made g.met.D.Disk.only_now f stops c.end_with.ensures.unrun))

@@ -1,9 +1,9 @@
 use Rattle.std.proofs.Common.{sym, subst}
 use Rattle.std.specs.Prelude.{IfErr, OnOk}
-use Rattle.fitting_births.specs.Fitting.{Fits}
-use Rattle.hop_model.specs.State.{AtlasState}
-use Rattle.script_against.specs.Misfits.{IsMisfit}
-use Rattle.script_form.specs.Scripts.{tables_of}
+use Rattle.kernel_opening.specs.fitting_births.Fitting.{Fits}
+use Rattle.command_parts.specs.hop_model.State.{AtlasState}
+use Rattle.kernel_opening.specs.script_against.Misfits.{IsMisfit}
+use Rattle.command_parts.specs.script_form.Scripts.{tables_of}
 use Rattle.run_opening.proofs.Readied.{lent_atlas}
 use Rattle.run_opening.proofs.opening.against_kernel.Goals as goal
 

@@ -1,10 +1,10 @@
 use Rattle.std.proofs.Common.{◌≡◌, ◌⊎◌, inr, sym, subst}
 use Rattle.disk_trait.specs.Counts.{Rose}
 use Rattle.command_parts.specs.Seen.{seen_disk}
-use Rattle.fitting_births.specs.Fitting.{Fits}
+use Rattle.kernel_opening.specs.fitting_births.Fitting.{Fits}
 use Rattle.kernel_opening.specs.Kernels.{StaysClean}
-use Rattle.script_form.specs.Scripts.{tables_of}
-use Rattle.table_births.specs.Births.{atlas_state_in}
+use Rattle.command_parts.specs.script_form.Scripts.{tables_of}
+use Rattle.kernel_opening.specs.table_births.Births.{atlas_state_in}
 use Rattle.run_opening.specs.Ready.{IsFitFault, IsReady, StopsOpening}
 use Rattle.command_parts.specs.declared.faults.Fault.TheVariants as fault
 use Rattle.run_opening.proofs.Fitted.{on_fault, on_kernel}

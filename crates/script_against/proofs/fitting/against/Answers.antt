@@ -1,8 +1,8 @@
 use Rattle.std.proofs.Common.{Result, Ok, Err, IfErr, OnOk, sym, subst}
 use Rattle.std.proofs.lemmas.Result.{err_from_is_err_and}
-use Rattle.kernel_calls.specs.Calls.{atlas_state}
-use Rattle.script_form.specs.Scripts.{tables_of}
-use Rattle.script_form.specs.declared.refusals.ScriptFault.{ScriptFault}
+use Rattle.directory_laws.specs.kernel_calls.Calls.{atlas_state}
+use Rattle.fitting_births.specs.script_form.Scripts.{tables_of}
+use Rattle.fitting_births.specs.script_form.declared.refusals.ScriptFault.{ScriptFault}
 use Rattle.script_against.specs.Misfits.{IsMisfit}
 use Rattle.script_against.proofs.Reasons.{clash_is, fits_where, room_is}
 use Rattle.script_against.proofs.fitting.against.Goals as goal

@@ -1,7 +1,7 @@
 use Rattle.std.proofs.Common.{◌≡◌, true, false, is_some, map, string_bytes, sym, ap, ◌∙◌, arith}
-use Rattle.hop_model.specs.Scripts.{container_named}
-use Rattle.kernel_calls.specs.Calls.{atlas_state}
-use Rattle.script_form.specs.Scripts.{locus_of}
+use Rattle.fitting_births.specs.hop_model.Scripts.{container_named}
+use Rattle.directory_laws.specs.kernel_calls.Calls.{atlas_state}
+use Rattle.fitting_births.specs.script_form.Scripts.{locus_of}
 use Rattle.script_against.specs.Misfits.{locus_clash}
 use Rattle.script_against.proofs.Clashing.{locus_here, locus_passed}
 use Rattle.std.proofs.lemmas.List.{drop_all}

@@ -1,6 +1,6 @@
 use Rattle.std.proofs.Common.{◌≡◌, drop, map}
-use Rattle.kernel_calls.specs.Calls.{atlas_state}
-use Rattle.script_form.specs.Scripts.{locus_of}
+use Rattle.directory_laws.specs.kernel_calls.Calls.{atlas_state}
+use Rattle.fitting_births.specs.script_form.Scripts.{locus_of}
 use Rattle.script_against.specs.Misfits.{locus_clash}
 use Rattle.script_against.proofs.fitting.locus_clash.Given as goal
 

@@ -1,6 +1,6 @@
 use Rattle.std.proofs.Common.{◌≡◌, ◌≤◌, take, map}
-use Rattle.kernel_calls.specs.Calls.{atlas_state}
-use Rattle.script_form.specs.Scripts.{locus_of}
+use Rattle.directory_laws.specs.kernel_calls.Calls.{atlas_state}
+use Rattle.fitting_births.specs.script_form.Scripts.{locus_of}
 use Rattle.fitting_births.specs.Fitting.{new_loci}
 use Rattle.script_against.proofs.fitting.new_loci.Given as goal
 

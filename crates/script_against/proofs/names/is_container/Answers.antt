@@ -1,7 +1,7 @@
 use Rattle.std.proofs.Common.{◌≡◌, ◌<◌, ◌≤◌, ◌&&◌, ℕ, true, false, nat_le, nat_lt, Some, sym, ap, ◌∙◌, arith}
 use Rattle.std.proofs.lemmas.Bool.Decides.{nat_tests}
-use Rattle.hop_model.specs.Scripts.{number_of}
-use Rattle.kernel_calls.specs.Calls.{atlas_state}
+use Rattle.fitting_births.specs.hop_model.Scripts.{number_of}
+use Rattle.directory_laws.specs.kernel_calls.Calls.{atlas_state}
 use Rattle.directory_laws.proofs.NameLaws.{numbers_same}
 use Rattle.script_against.proofs.ByKind.{container_test, no_container}
 use Rattle.script_against.proofs.names.is_container.Goals as goal

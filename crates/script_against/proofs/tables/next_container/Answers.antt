@@ -1,9 +1,9 @@
 use Rattle.std.proofs.Common.{◌≡◌, ◌<◌, true, Some, is_some, length, map, slice_get, option_map, refl, sym, ap, ◌∙◌, arith}
 use Rattle.std.proofs.lemmas.Option.{slice_get_read, slice_get_within}
 use Rattle.std.proofs.lemmas.Option.{slice_get-map}
-use Rattle.hop_model.specs.Scripts.{number_of}
-use Rattle.script_form.specs.Scripts.{container_of}
-use Rattle.kernel_calls.specs.Calls.{atlas_state}
+use Rattle.fitting_births.specs.hop_model.Scripts.{number_of}
+use Rattle.fitting_births.specs.script_form.Scripts.{container_of}
+use Rattle.directory_laws.specs.kernel_calls.Calls.{atlas_state}
 use Rattle.script_against.proofs.Ahead.{container_more}
 use Rattle.script_against.proofs.tables.next_container.Goals as goal
 

@@ -1,7 +1,7 @@
 use Rattle.std.proofs.Common.{◌≡◌, None, map, take}
-use Rattle.hop_model.specs.Scripts.{next_container_name}
-use Rattle.script_form.specs.Scripts.{container_of}
-use Rattle.kernel_calls.specs.Calls.{atlas_state}
+use Rattle.fitting_births.specs.hop_model.Scripts.{next_container_name}
+use Rattle.fitting_births.specs.script_form.Scripts.{container_of}
+use Rattle.directory_laws.specs.kernel_calls.Calls.{atlas_state}
 use Rattle.script_against.proofs.tables.next_container.Given as goal
 
 -- the names before this table's are in the atlas

@@ -3,10 +3,10 @@ use Rattle.std.proofs.lemmas.Bool.{ltb-true}
 use Rattle.std.proofs.lemmas.List.{length-map}
 use Rattle.std.proofs.lemmas.Option.{slice_get_read}
 use Rattle.std.proofs.lemmas.Option.{slice_get-map}
-use Rattle.hop_model.specs.Scripts.{next_container_name, next_locus_name, number_of}
-use Rattle.hop_model.specs.Words.{or_else}
-use Rattle.script_form.specs.Scripts.{container_of, locus_of, tables_of}
-use Rattle.kernel_calls.specs.Calls.{atlas_state}
+use Rattle.fitting_births.specs.hop_model.Scripts.{next_container_name, next_locus_name, number_of}
+use Rattle.fitting_births.specs.hop_model.Words.{or_else}
+use Rattle.fitting_births.specs.script_form.Scripts.{container_of, locus_of, tables_of}
+use Rattle.directory_laws.specs.kernel_calls.Calls.{atlas_state}
 use Rattle.script_against.proofs.Ahead.{container_all, container_first, locus_first, new_is, no_container}
 use Rattle.script_against.proofs.tables.next_table.Goals as goal
 

@@ -2,7 +2,7 @@
 use Rattle.std.proofs.Common.{◌∙◌, string_bytes, rules, tests}
 use Rattle.std.proofs.lemmas.Iterator.{YieldsList-from_slice}
 use Rattle.std.proofs.lemmas.Iterator.Search.{any_from_yields_List}
-use Rattle.hop_model.specs.Scripts.{ContainerTable, text_eq}
+use Rattle.script_form.specs.hop_model.Scripts.{ContainerTable, text_eq}
 use Rattle.script_form.specs.Scripts.{container_of}
 use Rattle.script_read.proofs.Lists.{any_of_two_maps}
 use Rattle.script_read.proofs.links.has_container.Goals as goal

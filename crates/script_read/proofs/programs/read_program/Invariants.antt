@@ -1,7 +1,7 @@
 -- The lines so far are read, and the others decide.
 use Rattle.std.proofs.Common.{◌≡◌, [], Option, drop, map, string_bytes}
 use Rattle.hop_base.specs.declared.instructions.Instr.{Instr}
-use Rattle.hop_model.specs.State.{Text}
+use Rattle.script_form.specs.hop_model.State.{Text}
 use Rattle.toml.specs.View.{view}
 use Rattle.script_read.specs.Fields.{each}
 use Rattle.instr_set.specs.Reader.{IsReader}

@@ -1,7 +1,7 @@
 -- The programs so far are read, and the others decide.
 use Rattle.std.proofs.Common.{◌≡◌, Option, map}
 use Rattle.hop_base.specs.declared.instructions.Instr.{Instr}
-use Rattle.hop_model.specs.State.{Text}
+use Rattle.script_form.specs.hop_model.State.{Text}
 use Rattle.toml.specs.View.{members_view, table_view}
 use Rattle.instr_set.specs.Reader.{IsReader}
 use Rattle.script_read.specs.Meaning.{more_programs, programs_in}

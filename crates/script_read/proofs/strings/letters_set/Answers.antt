@@ -1,7 +1,7 @@
 -- Where text is left behind the last letter, there is no set.
 use Rattle.std.proofs.Common.{◌≡◌, ℕ, false, ◌==◌, [], ◌∷◌, length, None, refl, sym, ◌∙◌, codes}
 use Rattle.std.proofs.lemmas.Bool.{false≢true}
-use Rattle.hop_model.specs.State.{Text}
+use Rattle.script_form.specs.hop_model.State.{Text}
 use Rattle.instr_set.specs.Reader.{letters_set}
 use Rattle.script_read.proofs.strings.letters_set.Goals as goal
 

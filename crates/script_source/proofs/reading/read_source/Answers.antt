@@ -1,6 +1,6 @@
 -- What the bytes that were read mean is said of the source that they came from.
 use Rattle.manager_form.specs.Managing.{managers_of}
-use Rattle.script_form.specs.Scripts.{tables_of}
+use Rattle.command_parts.specs.script_form.Scripts.{tables_of}
 use Rattle.script_source.proofs.Whole.{accepted_whole, means_whole}
 use Rattle.script_source.proofs.reading.read_source.Goals as goal
 

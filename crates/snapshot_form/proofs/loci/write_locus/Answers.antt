@@ -1,8 +1,8 @@
 use Rattle.std.proofs.Common.{◌≡◌, ℕ, List, [], ◌∷◌, ◌++◌, Bool, true, false, if◌then◌else◌, sym, ap, ◌∙◌, append_assoc}
 use Rattle.byteorder.specs.Endian.{little_bytes}
-use Rattle.hop_model.specs.State.{LocusState}
+use Rattle.blob_grammar.specs.hop_model.State.{LocusState}
 use Rattle.blob_grammar.specs.Spelling.{is_short, locus_blob, locus_front, locus_rest}
-use Rattle.locus_machine.specs.Loci.{locus_of}
+use Rattle.kernel_calls.specs.locus_machine.Loci.{locus_of}
 use Rattle.snapshot_form.proofs.loci.write_locus.Goals as goal
 use Rattle.snapshot_form.proofs.loci.write_locus.Goals.{then-is_short, else-is_short}
 

@@ -3,7 +3,7 @@ use Rattle.std.proofs.lemmas.List.{get_or_past}
 use Rattle.disk_trait.proofs.Phases.{IsImage-reading}
 use Rattle.snapshot_store.proofs.BlobReads.{nothing_pushed, pushed, rest_none, rest_of_none, rest_some}
 use Rattle.snapshot_store.specs.Rests.{IsRest}
-use Rattle.image_meaning.specs.Foreign.{IsFirstRest}
+use Rattle.page_words.specs.image_meaning.Foreign.{IsFirstRest}
 use Rattle.snapshot_store.proofs.blob_reading.push_block.Goals as goal
 
 pub returns-then-blocks-at-clause-bytes : goal.returns-then-blocks-at-clause-bytes

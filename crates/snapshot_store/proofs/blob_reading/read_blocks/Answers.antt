@@ -1,6 +1,6 @@
 use Rattle.std.proofs.Common.{◌≡◌, ◌<◌, ◌++◌, length, get_or, min, take, ap, subst, ◌∙◌, arith}
 use Rattle.disk_trait.specs.Image.{Image, block_at}
-use Rattle.image_blocks.specs.Bodies.{blocks_for}
+use Rattle.log_reading.specs.image_blocks.Bodies.{blocks_for}
 use Rattle.log_reading.proofs.ReadSoFar.{ReadsOnly-trans}
 use Rattle.snapshot_store.proofs.BlobReads.{blob_more, blob_whole, rest_more, rest_whole}
 use Rattle.snapshot_store.specs.Rests.{IsRest}

@@ -1,5 +1,5 @@
 use Rattle.std.proofs.Common.{List, ap}
-use Rattle.store_model.specs.Books.{Logged, kept_in}
+use Rattle.page_words.specs.store_model.Books.{Logged, kept_in}
 use Rattle.snapshot_store.proofs.laws.same_kept_law.Goals as goal
 
 pub returns : goal.returns

@@ -1,6 +1,6 @@
 use Rattle.std.proofs.Common.{◌++◌, List, filter, map, ap, ◌∙◌}
 use Rattle.std.specs.Prelude.{slice_index}
-use Rattle.store_model.specs.Books.{Logged}
+use Rattle.page_words.specs.store_model.Books.{Logged}
 use Rattle.snapshot_store.specs.Opening.{unread}
 use Rattle.snapshot_store.specs.Shelves.{is_from}
 use Rattle.snapshot_store.proofs.Opened.{older_ascending, shelved_kept}

@@ -1,7 +1,7 @@
 use Rattle.std.proofs.Common.{sym, subst, List, arith}
 use Rattle.std.specs.Prelude.{slice_index}
 use Rattle.snapshot_store.specs.Keeping.{AreListed}
-use Rattle.store_model.specs.Books.{Logged}
+use Rattle.page_words.specs.store_model.Books.{Logged}
 use Rattle.snapshot_store.proofs.Listing.{listed_fewer, recounted_back}
 use Rattle.snapshot_store.proofs.settling.drop_below.Goals as goal
 

@@ -1,6 +1,6 @@
 use Rattle.std.proofs.Common.{sym, subst, List, arith}
 use Rattle.snapshot_store.specs.Keeping.{AreListed}
-use Rattle.store_model.specs.Books.{Logged}
+use Rattle.page_words.specs.store_model.Books.{Logged}
 use Rattle.snapshot_store.proofs.Listing.{few_uses, listed_more, recounted}
 use Rattle.snapshot_store.proofs.settling.list_record.Goals as goal
 

@@ -1,13 +1,13 @@
 use Rattle.std.proofs.Common.{ℕ, ◌<◌, List, [], ◌∷◌, ◌++◌, if◌then◌else◌, length, filter, sym, ap, subst, ◌∙◌}
 use Rattle.std.specs.Prelude.{slice_index}
 use Rattle.hop_base.specs.declared.records.Rec.{Rec}
-use Rattle.hop_model.specs.Choices.{IsClosedChoice, IsGreatest}
+use Rattle.page_store.specs.hop_model.Choices.{IsClosedChoice, IsGreatest}
 use Rattle.cut_finder.specs.Records.{IsAscending}
-use Rattle.cut_laws.specs.Agreeing.{nothing}
-use Rattle.cut_laws.specs.Records.{commits_of}
-use Rattle.image_blocks.specs.Layout.{slot_count}
+use Rattle.cut_finder.specs.cut_laws.Agreeing.{nothing}
+use Rattle.cut_finder.specs.cut_laws.Records.{commits_of}
+use Rattle.log_reading.specs.image_blocks.Layout.{slot_count}
 use Rattle.page_shadow.specs.Ledger.{Ledger}
-use Rattle.store_model.specs.Books.{Logged, logged_recs}
+use Rattle.page_words.specs.store_model.Books.{Logged, logged_recs}
 use Rattle.snapshot_store.specs.Keeping.{AreKept}
 use Rattle.snapshot_store.specs.Shelves.{is_from}
 use Rattle.snapshot_store.proofs.Choices.{closed_still, few_recs, kept_ascending, kept_settled, room_either}

@@ -1,5 +1,5 @@
 use Rattle.std.proofs.Common.{sym, subst}
-use Rattle.beside_steps.specs.Besides.{KeepsMemory}
+use Rattle.step_plans.specs.beside_steps.Besides.{KeepsMemory}
 use Rattle.step_cells.proofs.Taking.{other_rests, takes_two}
 use Rattle.step_cells.proofs.advances.advance_beside.Goals as goal
 

@@ -1,5 +1,5 @@
 use Rattle.std.proofs.Common.{sym, subst, ◌∙◌, arith}
-use Rattle.beside_steps.specs.Besides.{KeepsMemory}
+use Rattle.step_plans.specs.beside_steps.Besides.{KeepsMemory}
 use Rattle.step_cells.proofs.Taking.{AreThree, acts_first, takes_three}
 use Rattle.step_cells.proofs.bearings.advance_mapping.Goals as goal
 

@@ -1,5 +1,5 @@
 use Rattle.std.proofs.Common.{ap, ◌∙◌}
-use Rattle.kernel_calls.specs.Calls.{is_make, is_spawn}
+use Rattle.map_steps.specs.kernel_calls.Calls.{is_make, is_spawn}
 use Rattle.step_plans.proofs.Planned.{alone_by}
 use Rattle.step_plans.proofs.plans.plan_alone.Goals as goal
 

@@ -1,6 +1,6 @@
 use Rattle.std.proofs.Common.{sym, ap, ◌∙◌, ◌||◌}
 use Rattle.address_resolve.specs.Looks.{is_look}
-use Rattle.kernel_calls.specs.Calls.{is_map, is_unmap}
+use Rattle.map_steps.specs.kernel_calls.Calls.{is_map, is_unmap}
 use Rattle.step_plans.proofs.Planned.{itself_alone, call_beside}
 use Rattle.step_plans.proofs.plans.plan_beside.Goals as goal
 

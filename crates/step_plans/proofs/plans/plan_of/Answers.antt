@@ -1,8 +1,8 @@
 use Rattle.std.proofs.Common.{sym, ap, ◌∙◌}
-use Rattle.hop_model.specs.Acts.{Act}
-use Rattle.locus_machine.specs.Loci.{locus_of}
-use Rattle.locus_machine.proofs.Alone.{seen_same}
-use Rattle.wanted_act.specs.Views.{act_of}
+use Rattle.address_resolve.specs.hop_model.Acts.{Act}
+use Rattle.address_resolve.specs.locus_machine.Loci.{locus_of}
+use Rattle.address_resolve.proofs.locus_machine_lemmas.Alone.{seen_same}
+use Rattle.address_resolve.specs.wanted_act.Views.{act_of}
 use Rattle.step_plans.proofs.Planned.{refused_alone, not_refused}
 use Rattle.step_plans.proofs.plans.plan_of.Goals as goal
 

@@ -1,4 +1,4 @@
-use Rattle.std.proofs.Common.{◌≡◌, ◌+◌, ℕ, [], ◌∷◌, map, min, subst, sym, ◌∙◌, rules}
+use Rattle.std.proofs.Common.{◌≡◌, ◌+◌, ℕ, [], ◌∷◌, map, min, subst, sym, ◌∙◌, rules, false}
 use Rattle.std.specs.Prelude.{codes, string_bytes}
 use Rattle.command_words.specs.declared.Command.TheVariants.{Format, Run, Show}
 use Rattle.disk_trait.specs.MemoryDisk.{moments_of}
@@ -22,5 +22,5 @@ returns-clause-kept c done some =
     let stops : t ≡ min (moments_of formatted.outcome.disk + c.args.after) (moments_of ran.outcome.disk) = c.stop_at-stopped.ensures ∙ (λ i. min (since i + c.args.after) (now i)) in
     let new = fresh _ c.in_ok-new.new formatted (c.in_ok-formatted.ensures (Format 4096) (format_words _ formats)) done in
     subst (λ (n : ℕ). KeepsPromise c.args.script.now c.args.torn (shown_from formatted ran showed n t)) (sym since)
-    (keeps c.args.script.now c.args.torn c.args.after formatted ran showed formatted.outcome.disk c.in_ok-left.left t new (c.in_ok-ran.ensures Run runs) (c.in_ok-showed.ensures Show shows) stops some
+    (keeps c.args.script.now c.args.torn c.args.after formatted ran showed formatted.outcome.disk c.in_ok-left.left t new (c.in_ok-ran.ensures (Run false) runs) (c.in_ok-showed.ensures Show shows) stops some
     c.in_ok-left.ensures.torn c.in_ok-left.ensures.may)

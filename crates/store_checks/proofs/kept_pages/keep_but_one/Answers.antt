@@ -1,5 +1,5 @@
 use Rattle.std.proofs.Common.{◌≡◌, ◌||◌, ◌==◌, Bool, true, false, if◌then◌else◌, refl, ap, ◌∙◌}
-use Rattle.page_shadow.specs.Ledger.{is_held}
+use Rattle.snapshot_store.specs.page_shadow.Ledger.{is_held}
 use Rattle.store_checks.proofs.kept_pages.keep_but_one.Goals as goal
 
 or_true : (b : Bool) → (b || true) ≡ true

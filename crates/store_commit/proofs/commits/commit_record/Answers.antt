@@ -3,9 +3,9 @@ use Rattle.std.proofs.lemmas.Result.{on_ok_weaker}
 use Rattle.disk_trait.proofs.Images.{SameOutside-weaker}
 use Rattle.disk_trait.proofs.Phases.{LeavesOnly-then, LeavesOnly-weaker, told}
 use Rattle.disk_tally.proofs.Counting.{Begins-fewer, Begins-then}
-use Rattle.image_blocks.specs.Layout.{slot_count}
-use Rattle.log_turn.proofs.Appending.{on_ok_two}
-use Rattle.log_turn.specs.Standing.{area_of, used_of}
+use Rattle.store_model.specs.image_blocks.Layout.{slot_count}
+use Rattle.store_model.proofs.log_turn_lemmas.Appending.{on_ok_two}
+use Rattle.store_model.specs.log_turn.Standing.{area_of, used_of}
 use Rattle.store_model.specs.Books.{IsBeforePool}
 use Rattle.store_commit.specs.Storing.{IsCommitBlock, StoresOneMore, new_of, roomy_log}
 use Rattle.store_commit.proofs.Phases.{blob_stands, stands_logged}

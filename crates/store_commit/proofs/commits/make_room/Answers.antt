@@ -4,9 +4,9 @@ use Rattle.std.proofs.lemmas.Result.{on_ok_weaker}
 use Rattle.disk_trait.proofs.Images.{SameOutside-weaker}
 use Rattle.disk_trait.proofs.Phases.{LeavesOnly-start, told}
 use Rattle.hop_base.specs.declared.records.Rec.{Rec}
-use Rattle.image_blocks.specs.Logs.{IsTurned}
-use Rattle.image_meaning.specs.Stores.{Stores}
-use Rattle.log_turn.specs.Standing.{Stands, area_of, place_of, used_of}
+use Rattle.store_model.specs.image_blocks.Logs.{IsTurned}
+use Rattle.store_model.specs.image_meaning.Stores.{Stores}
+use Rattle.store_model.specs.log_turn.Standing.{Stands, area_of, place_of, used_of}
 use Rattle.store_model.specs.Books.{IsBeforePool}
 use Rattle.store_commit.specs.Storing.{HasLogged}
 use Rattle.store_commit.proofs.Stays.{turned_low}

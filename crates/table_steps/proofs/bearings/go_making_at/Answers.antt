@@ -1,5 +1,5 @@
 use Rattle.std.proofs.Common.{◌≡◌, ◌++◌, slice_get, slice_set, get_or, Some, sym, ap, ◌∙◌, arith}
-use Rattle.step_plans.specs.declared.plans.Plan.TheVariants as plan
+use Rattle.plan_laws.specs.step_plans.declared.plans.Plan.TheVariants as plan
 use Rattle.table_steps.proofs.Facing.{plan_of}
 use Rattle.table_steps.proofs.FacingAtlas.{directory_is, making_below, newborn_unborn}
 use Rattle.table_steps.proofs.Places.{read_back, read_first, read_middle, set_three, write_three}

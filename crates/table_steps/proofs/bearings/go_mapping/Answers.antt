@@ -1,6 +1,6 @@
 use Rattle.std.proofs.Common.{◌≡◌, [], ◌∷◌, ◌++◌, slice_get, slice_set, get_or, Some, sym, ap, ◌∙◌, arith}
 use Rattle.std.proofs.lemmas.Option.{slice_get-get_or}
-use Rattle.step_plans.specs.declared.plans.Plan.TheVariants as plan
+use Rattle.plan_laws.specs.step_plans.declared.plans.Plan.TheVariants as plan
 use Rattle.table_steps.proofs.Facing.{cells}
 use Rattle.table_steps.proofs.FacingAtlas.{faces_mapping, mapping_between}
 use Rattle.table_steps.proofs.Pairs.{kept_goes}

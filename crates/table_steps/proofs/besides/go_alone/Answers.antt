@@ -3,7 +3,7 @@ use Rattle.std.proofs.lemmas.Option.{slice_get-get_or}
 use Rattle.cell_table.specs.Steps.{StepsQuietly}
 use Rattle.table_steps.proofs.Facing.{plan_of}
 use Rattle.table_steps.proofs.Pairs.{alone_quiet}
-use Rattle.step_plans.specs.declared.plans.Plan.TheVariants as plan
+use Rattle.plan_laws.specs.step_plans.declared.plans.Plan.TheVariants as plan
 use Rattle.table_steps.proofs.besides.go_alone.Goals as goal
 
 pub advance_alone-requires : goal.advance_alone-requires

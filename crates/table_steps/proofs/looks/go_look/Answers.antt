@@ -1,6 +1,6 @@
 use Rattle.std.proofs.Common.{◌≡◌, ◌++◌, slice_get, slice_set, get_or, Some, sym, ap, ◌∙◌, arith}
 use Rattle.std.proofs.lemmas.Result.{on_err_weaker}
-use Rattle.step_plans.specs.declared.plans.Plan.TheVariants as plan
+use Rattle.plan_laws.specs.step_plans.declared.plans.Plan.TheVariants as plan
 use Rattle.cell_table.proofs.Blocks.{ChangesTwo}
 use Rattle.table_steps.proofs.Facing.{high_at, plan_of}
 use Rattle.table_steps.proofs.FacingLook.{faces_look, look_below, wants_word}

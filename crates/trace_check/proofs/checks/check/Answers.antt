@@ -1,7 +1,7 @@
 use Rattle.std.proofs.Common.{◌≡◌, ◌+◌, ◌<◌, ◌≤◌, [], ◌∷◌, ◌++◌, length, ap, sym, refl, arith}
 use Rattle.std.proofs.lemmas.List.{length-append}
-use Rattle.hop_model.specs.State.{Text}
-use Rattle.script_form.specs.Scripts.{tables_of}
+use Rattle.text_lines.specs.hop_model.State.{Text}
+use Rattle.actor_laws.specs.script_form.Scripts.{tables_of}
 use Rattle.trace_steps.specs.Standing.{fresh}
 use Rattle.trace_check.proofs.Alike.{fault_anyway, spells_anyway}
 use Rattle.trace_check.proofs.Lining.{few_lines, read_more, read_none, shorter, spells_all, stopped}

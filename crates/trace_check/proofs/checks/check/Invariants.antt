@@ -1,7 +1,7 @@
 -- The lines so far are those of a legal history.
 use Rattle.std.proofs.Common.{◌≡◌, List, length}
 use Rattle.hop_base.specs.declared.histories.Entry.{Entry}
-use Rattle.script_form.specs.Scripts.{tables_of}
+use Rattle.actor_laws.specs.script_form.Scripts.{tables_of}
 use Rattle.trace_steps.specs.Standing.{fresh}
 use Rattle.trace_check.specs.Reading.{HasRead}
 use Rattle.trace_check.proofs.checks.check.Given as goal

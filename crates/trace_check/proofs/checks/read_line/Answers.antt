@@ -1,8 +1,8 @@
 use Rattle.std.proofs.Common.{◌≡◌, ◌∙◌, ◌++◌, ◌∷◌, ap, subst}
-use Rattle.history_model.proofs.PlainBirths.{sound_here}
-use Rattle.history_model.specs.Plains.{atlas_of}
-use Rattle.hop_model.specs.State.{Text}
-use Rattle.script_form.specs.Scripts.{tables_of}
+use Rattle.actor_laws.proofs.history_model_lemmas.PlainBirths.{sound_here}
+use Rattle.actor_laws.specs.history_model.Plains.{atlas_of}
+use Rattle.text_lines.specs.hop_model.State.{Text}
+use Rattle.actor_laws.specs.script_form.Scripts.{tables_of}
 use Rattle.trace_steps.proofs.Single.{where_none}
 use Rattle.trace_check.specs.Reading.{NamesAlone, NamesNone, WantsFrom}
 use Rattle.trace_check.proofs.Lining.{reads_on, some_of, unwanted_stop, wrong_stop}

@@ -1,6 +1,6 @@
 -- No entity so far has the name.
 use Rattle.std.proofs.Common.{ℕ, ◌<◌}
-use Rattle.history_model.specs.Plains.{atlas_of}
+use Rattle.actor_laws.specs.history_model.Plains.{atlas_of}
 use Rattle.trace_check.specs.Words.{IsNamed}
 use Rattle.trace_check.proofs.naming.entity_named.Given as goal
 

@@ -1,8 +1,8 @@
 use Rattle.std.proofs.Common.{◌≡◌, ◌∙◌, sym, subst, refl}
 use Rattle.std.proofs.lemmas.Bool.{false≢true}
 use Rattle.hop_base.specs.declared.histories.Entry.{Entry}
-use Rattle.plain_run.proofs.Answering.{few_names_of}
-use Rattle.script_form.specs.Scripts.{tables_of}
+use Rattle.trace_steps.proofs.plain_run_lemmas.Answering.{few_names_of}
+use Rattle.actor_laws.specs.script_form.Scripts.{tables_of}
 use Rattle.text_lines.specs.Lines.{name_in}
 use Rattle.trace_steps.specs.Standing.{run_of}
 use Rattle.trace_steps.proofs.Single.{one_birth, where_none}

@@ -1,14 +1,14 @@
 use Rattle.std.proofs.Common.{◌∙◌, ap, sym, subst}
-use Rattle.entry_lines.specs.Entries.{event_word}
-use Rattle.history_model.specs.Plains.{atlas_of}
-use Rattle.plain_run.proofs.Answering.{few_names_of}
-use Rattle.script_form.specs.Scripts.{tables_of}
+use Rattle.entry_laws.specs.entry_lines.Entries.{event_word}
+use Rattle.actor_laws.specs.history_model.Plains.{atlas_of}
+use Rattle.trace_steps.proofs.plain_run_lemmas.Answering.{few_names_of}
+use Rattle.actor_laws.specs.script_form.Scripts.{tables_of}
 use Rattle.trace_steps.proofs.Single.{map_none, map_some}
 use Rattle.trace_check.specs.Reading.{NamesBirthAt, NamesNoBirth}
 use Rattle.trace_check.specs.Words.{IsNamed, first_word}
 use Rattle.trace_check.proofs.Actors.{birth_alone, birth_none, birth_wants, next_alone, next_none, next_wants, no_event, unnamed}
 use Rattle.trace_check.proofs.reading.wanted.Goals as goal
-use Rattle.hop_model.specs.State.{Text}
+use Rattle.text_lines.specs.hop_model.State.{Text}
 
 pub returns-in_default-clause-none : goal.returns-in_default-clause-none
 returns-in_default-clause-none g c = λ w es h f m front.

@@ -1,5 +1,5 @@
-use Rattle.command_parts.specs.Seen.{Call, gave, seen_disk, seen_sink, seen_source}
-use Rattle.command_parts.specs.Statuses.{ending}
+use Rattle.script_source.specs.command_parts.Seen.{Call, gave, seen_disk, seen_sink, seen_source}
+use Rattle.script_source.specs.command_parts.Statuses.{ending}
 use Rattle.trace_command.specs.Sources.{from_bytes, from_source}
 use Rattle.trace_command.proofs.Complete.{complete}
 use Rattle.trace_command.proofs.Ending.{leaves_from, of_source, refused_source, unread_leaves, untouched}

@@ -1,7 +1,8 @@
 use Rattle.std.proofs.Common.{Err, ap, sym, subst}
-use Rattle.script_form.specs.Scripts.{tables_of}
-use Rattle.command_parts.specs.Seen.{seen_disk}
-use Rattle.command_parts.specs.declared.faults.Fault.{Fault}
+use Rattle.script_source.specs.script_form.Scripts.{tables_of}
+use Rattle.script_source.specs.command_parts.Seen.{seen_disk}
+use Rattle.script_source.specs.command_parts.declared.faults.Fault.{Fault}
+use Rattle.trace_check.specs.trace_steps.Standing.{Managers}
 use Rattle.trace_command.specs.Verdicts.{StopsJudging}
 use Rattle.trace_command.proofs.Verdicts.{judged, unread}
 use Rattle.trace_command.proofs.judging.judge.Goals as goal
@@ -9,12 +10,13 @@ use Rattle.trace_command.proofs.judging.judge.Goals as goal
 pub returns-in-Ok-clause-judged : goal.returns-in-Ok-clause-judged
 returns-in-Ok-clause-judged g c =
     let d = g.D.Disk in
-    judged g.m (tables_of c.args.script.now) c.args.trace.now (seen_disk d.tells d.block_count d.reading d.may_leave d.left_since d.clock d.faults c.args.disk.now c.read_image.new.disk) c.in-Ok.field-0.state c.in-Ok.field-0.cut.0
+    judged (record { word = g.N.Answers.word; wish = g.N.Answers.wish }) (tables_of c.args.script.now) c.args.trace.now (seen_disk d.tells d.block_count d.reading d.may_leave d.left_since d.clock d.faults c.args.disk.now c.read_image.new.disk) c.in-Ok.field-0.state c.in-Ok.field-0.cut.0
     c.in-Ok.ensures.meaning c.verdict_from.result c.verdict_from.ensures
 
 pub returns-clause-judged : goal.returns-clause-judged
 returns-clause-judged g c =
     let d = g.D.Disk in
     let disk = seen_disk d.tells d.block_count d.reading d.may_leave d.left_since d.clock d.faults c.args.disk.now c.read_image.new.disk in
-    subst (λ (f : Fault). StopsJudging g.m (tables_of c.args.script.now) c.args.trace.now disk f) (sym c.from.ensures)
-    (unread g.m (tables_of c.args.script.now) c.args.trace.now disk c.in-Err.fault (λ told bad is. c.in-Err.ensures.foreign told bad (ap Err is)) (λ is. c.in-Err.ensures.cause (ap Err is)))
+    let m : Managers = record { word = g.N.Answers.word; wish = g.N.Answers.wish } in
+    subst (λ (f : Fault). StopsJudging m (tables_of c.args.script.now) c.args.trace.now disk f) (sym c.from.ensures)
+    (unread m (tables_of c.args.script.now) c.args.trace.now disk c.in-Err.fault (λ told bad is. c.in-Err.ensures.foreign told bad (ap Err is)) (λ is. c.in-Err.ensures.cause (ap Err is)))

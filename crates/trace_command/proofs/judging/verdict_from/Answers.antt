@@ -1,12 +1,12 @@
 use Rattle.std.proofs.Common.{Result, Ok, Err, IfErr, IfOk, ℕ, sym, subst}
-use Rattle.history_model.specs.Plains.{atlas_of, cells_of}
-use Rattle.hop_model.specs.State.{KernelState}
-use Rattle.plain_run.proofs.Suppliers.{sound_any}
-use Rattle.script_form.specs.Scripts.{tables_of}
-use Rattle.command_parts.specs.declared.faults.Fault.{Fault}
+use Rattle.image_tools.specs.history_model.Plains.{atlas_of, cells_of}
+use Rattle.trace_check.specs.hop_model.State.{KernelState}
+use Rattle.trace_check.proofs.plain_run_lemmas.Suppliers.{sound_any}
+use Rattle.script_source.specs.script_form.Scripts.{tables_of}
+use Rattle.script_source.specs.command_parts.declared.faults.Fault.{Fault}
 use Rattle.trace_check.specs.Reading.{IsFault}
 use Rattle.trace_check.specs.declared.faults.TraceFault.{TraceFault}
-use Rattle.trace_words.specs.Traces.{Begins, Spells}
+use Rattle.trace_check.specs.trace_words.Traces.{Begins, Spells}
 use Rattle.trace_command.specs.Verdicts.{IsFitFault, IsVerdict}
 use Rattle.trace_command.specs.declared.judging.Verdict.{Verdict}
 use Rattle.trace_command.proofs.Verdicts.{fit_fault, same_atlas, told}

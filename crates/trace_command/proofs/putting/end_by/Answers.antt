@@ -1,6 +1,6 @@
 use Rattle.std.proofs.Common.{sym, subst}
-use Rattle.command_parts.specs.Seen.{gave, seen_sink}
-use Rattle.command_parts.proofs.Endings.{gains}
+use Rattle.script_source.specs.command_parts.Seen.{gave, seen_sink}
+use Rattle.script_source.proofs.command_parts_lemmas.Endings.{gains}
 use Rattle.trace_command.specs.Verdicts.{EndsWith}
 use Rattle.trace_command.specs.declared.judging.Verdict.{Verdict}
 use Rattle.trace_command.proofs.putting.end_by.Goals as goal

@@ -1,5 +1,5 @@
 use Rattle.std.proofs.Common.{Err, ap}
-use Rattle.command_parts.specs.Seen.{seen_source}
+use Rattle.script_source.specs.command_parts.Seen.{seen_source}
 use Rattle.trace_command.proofs.Meaning.{stop_fault}
 use Rattle.trace_command.proofs.reading.read_bytes.Goals as goal
 

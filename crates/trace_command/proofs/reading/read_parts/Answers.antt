@@ -1,4 +1,4 @@
-use Rattle.script_read.specs.Views.{source_of}
+use Rattle.script_source.specs.script_read.Views.{source_of}
 use Rattle.trace_command.proofs.Meaning.{meaning_fault, meaning_ok}
 use Rattle.trace_command.proofs.reading.read_parts.Goals as goal
 

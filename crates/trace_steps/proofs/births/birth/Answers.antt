@@ -1,10 +1,10 @@
 use Rattle.std.proofs.Common.{◌∷◌, [], ◌++◌, refl, sym, subst}
-use Rattle.hop_model.specs.Scripts.{next_name as next_of}
-use Rattle.history_model.specs.Plains.{atlas_of, cells_of}
+use Rattle.plain_run.specs.hop_model.Scripts.{next_name as next_of}
+use Rattle.plain_run.specs.history_model.Plains.{atlas_of, cells_of}
 use Rattle.plain_run.proofs.Answering.{few_names_of}
 use Rattle.plain_run.proofs.KnownNames.{next_known, next_name_is}
 use Rattle.plain_run.proofs.Suppliers.{sound_any}
-use Rattle.script_form.specs.Scripts.{tables_of}
+use Rattle.plain_run.specs.script_form.Scripts.{tables_of}
 use Rattle.trace_steps.specs.Standing.{Stands}
 use Rattle.trace_steps.specs.declared.checker.Checker.{Checker}
 use Rattle.trace_steps.proofs.Bearing.{all_born_refuses, birth_may, birth_stands, is_birth, unbearable_refuses}

@@ -1,6 +1,6 @@
 use Rattle.std.proofs.Common.{◌∙◌, ap, sym}
 use Rattle.hop_base.specs.declared.histories.Entry.{Entry}
-use Rattle.script_form.specs.Scripts.{tables_of}
+use Rattle.plain_run.specs.script_form.Scripts.{tables_of}
 use Rattle.trace_steps.specs.Standing.{run_of}
 use Rattle.trace_steps.proofs.Single.{one_birth, where_none}
 use Rattle.trace_steps.proofs.following.birth_of.Goals as goal

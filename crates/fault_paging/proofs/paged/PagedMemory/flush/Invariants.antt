@@ -1,5 +1,5 @@
 use Rattle.std.proofs.Common.{◌≡◌, ℕ, ◌+◌, ◌<◌, ◌≤◌, true, false, is_some}
-use Rattle.hop_model.specs.State.{Supply}
+use Rattle.page_store.specs.hop_model.State.{Supply}
 use Rattle.frame_table.specs.FrameTable.{changed_at, page_at}
 use Rattle.fault_paging.specs.Words.{block_at, need_below, AreCleanTrue, IsSoundTable}
 use Rattle.fault_paging.specs.Calls.{IsUnchanged, Keeps, KeepsPages, Later, Stands}

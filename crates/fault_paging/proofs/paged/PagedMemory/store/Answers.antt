@@ -1,6 +1,6 @@
 use Rattle.std.proofs.Common.{ℕ, ◌/◌, true, ap, ◌∙◌}
 use Rattle.std.proofs.lemmas.Result.{err_from_is_err_and}
-use Rattle.hop_model.specs.Words.{put}
+use Rattle.page_store.specs.hop_model.Words.{put}
 use Rattle.frame_table.specs.FrameTable.{resident_changed}
 use Rattle.fault_paging.proofs.Bringing.{room_err, room_ok}
 use Rattle.fault_paging.proofs.Evictions.{keeps_from}

@@ -1,6 +1,6 @@
-use Rattle.history_model.proofs.PlainBirths.{few_names}
-use Rattle.history_model.specs.Plains.{atlas_of}
-use Rattle.script_form.specs.Scripts.{tables_of}
+use Rattle.plain_run.proofs.history_model_lemmas.PlainBirths.{few_names}
+use Rattle.plain_run.specs.history_model.Plains.{atlas_of}
+use Rattle.script_read.specs.script_form.Scripts.{tables_of}
 use Rattle.plain_run.proofs.KnownNames.{next_known, next_name_is}
 use Rattle.kernel_checks.proofs.replays.Replay.bear.Goals as goal
 

@@ -1,11 +1,11 @@
 use Rattle.std.proofs.Common.{◌*◌, sym, ap, subst, ◌∙◌}
 use Rattle.std.specs.Prelude.{OnOk}
-use Rattle.fitting_births.specs.Fitting.{Fits}
+use Rattle.birth_views.specs.fitting_births.Fitting.{Fits}
 use Rattle.disk_trait.specs.Counts.{Rose}
-use Rattle.script_form.specs.Scripts.{tables_of}
-use Rattle.cell_table.specs.Tables.{AreClean}
-use Rattle.record_laws.specs.Cells.{words_on}
-use Rattle.table_births.specs.Births.{atlas_state_in}
+use Rattle.birth_views.specs.script_form.Scripts.{tables_of}
+use Rattle.birth_views.specs.cell_table.Tables.{AreClean}
+use Rattle.birth_views.specs.record_laws.Cells.{words_on}
+use Rattle.birth_views.specs.table_births.Births.{atlas_state_in}
 use Rattle.kernel_commits.specs.Parts.{Parts}
 use Rattle.kernel_commits.specs.Pieces.{CountsWithin}
 use Rattle.kernel_core.specs.Bearing.{HasOpened, IsShortBehind}

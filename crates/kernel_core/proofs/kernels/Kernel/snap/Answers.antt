@@ -1,9 +1,9 @@
 use Rattle.std.proofs.Common.{◌≡◌, ◌↔◌, true, Ok, sym, ap, subst}
 use Rattle.std.specs.Prelude.{IsErrOf, OnErr, OnOk}
 use Rattle.disk_trait.specs.declared.disk.NoBlocks.{NoBlocks as TooFewBlocks}
-use Rattle.hop_model.specs.Histories.{Policy}
-use Rattle.kernel_model.specs.Beginnings.{run_of}
-use Rattle.serial_runs.specs.Serial.{wished_snap}
+use Rattle.kernel_commits.specs.hop_model.Histories.{Policy}
+use Rattle.birth_views.specs.kernel_model.Beginnings.{run_of}
+use Rattle.birth_views.specs.serial_runs.Serial.{wished_snap}
 use Rattle.kernel_core.specs.Kernels.{Held, Lives, StaysClean}
 use Rattle.kernel_commits.specs.Lacking.{LacksIn}
 use Rattle.kernel_commits.specs.Parts.{Parts}

@@ -2,10 +2,10 @@ use Rattle.std.proofs.Common.{◌≡◌, Some, Ok, sym, ap, subst, ◌∙◌}
 use Rattle.std.specs.Prelude.{◌↔◌, IfErr, IsErrOf, OnErr}
 use Rattle.disk_trait.specs.Counts.{Rose}
 use Rattle.disk_trait.specs.declared.disk.NoBlocks.{NoBlocks as TooFewBlocks}
-use Rattle.cell_table.specs.Tables.{AreClean}
-use Rattle.record_laws.specs.Cells.{words_on}
-use Rattle.kernel_model.specs.Beginnings.{run_of}
-use Rattle.serial_runs.specs.Serial.{look}
+use Rattle.birth_views.specs.cell_table.Tables.{AreClean}
+use Rattle.birth_views.specs.record_laws.Cells.{words_on}
+use Rattle.birth_views.specs.kernel_model.Beginnings.{run_of}
+use Rattle.birth_views.specs.serial_runs.Serial.{look}
 use Rattle.kernel_core.specs.Kernels.{Held, Lives}
 use Rattle.kernel_core.specs.Looking.{StopsLook}
 use Rattle.kernel_core.specs.Stepping.{idle_at}

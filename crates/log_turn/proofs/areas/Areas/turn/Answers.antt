@@ -3,9 +3,9 @@ use Rattle.disk_trait.specs.Image.{Image, SameOutside, block_at}
 use Rattle.disk_trait.specs.Moments.{LeavesOnly}
 use Rattle.disk_trait.proofs.Phases.{told}
 use Rattle.disk_tally.proofs.Counting.{CountsOn-then}
-use Rattle.image_blocks.specs.Layout.{closed_gate, gate_at, header_at, open_gate, other}
-use Rattle.image_blocks.specs.declared.areas.Area.{Area}
-use Rattle.image_blocks.specs.Logs.{HasLog}
+use Rattle.commit_log.specs.image_blocks.Layout.{closed_gate, gate_at, header_at, open_gate, other}
+use Rattle.commit_log.specs.image_blocks.declared.areas.Area.{Area}
+use Rattle.commit_log.specs.image_blocks.Logs.{HasLog}
 use Rattle.commit_log.proofs.Through.{gate_open}
 use Rattle.commit_log.specs.Standing.{area_of as log_area}
 use Rattle.log_turn.specs.Stages.{IsEitherGate, IsSwitching}

@@ -1,7 +1,7 @@
 use Rattle.std.proofs.Common.{ap}
 use Rattle.manager_gate.specs.Managers.{counted_word}
-use Rattle.page_store.specs.Memory.{is_held, words_at}
-use Rattle.fault_paging.specs.declared.paged.PagedMemory.{PagedMemory}
+use Rattle.address_resolve.specs.page_store.Memory.{is_held, words_at}
+use Rattle.address_resolve.specs.fault_paging.declared.paged.PagedMemory.{PagedMemory}
 use Rattle.paging_checks.proofs.Starting.{no_block, none_held}
 use Rattle.paging_checks.proofs.own.OwnPages.new.Goals as goal
 

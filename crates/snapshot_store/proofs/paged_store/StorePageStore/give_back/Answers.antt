@@ -1,6 +1,6 @@
 use Rattle.std.proofs.Common.{◌≡◌, false, set, ap, subst, sym, ◌∙◌, true, length, ◌<◌, refl, arith}
 use Rattle.page_shadow.specs.Ledger.{Ledger, is_held}
-use Rattle.store_model.specs.Books.{free_in}
+use Rattle.page_words.specs.store_model.Books.{free_in}
 use Rattle.snapshot_store.specs.State.{State, books, state_of}
 use Rattle.snapshot_store.proofs.Holding.{held_by}
 use Rattle.snapshot_store.proofs.PageCalls.{free_given, held_put}

@@ -1,6 +1,6 @@
 use Rattle.std.proofs.Common.{sym, ◌≡◌, ◌∙◌, length, arith}
 use Rattle.std.proofs.lemmas.List.{length-set}
-use Rattle.image_blocks.specs.Layout.{slot_count}
+use Rattle.log_reading.specs.image_blocks.Layout.{slot_count}
 use Rattle.snapshot_store.proofs.Shelving.{has_room, one_pushed, used_len}
 use Rattle.snapshot_store.proofs.Tallies.{tally_pushed}
 use Rattle.snapshot_store.proofs.shelf.Shelf.push.Goals as goal

@@ -1,9 +1,9 @@
 use Rattle.std.proofs.Common.{◌≡◌, ◌+◌, ◌/◌, ◌<◌, ◌≤◌, length, inl, sym, ap, ◌∙◌, arith}
 use Rattle.disk_trait.proofs.Phases.{LeavesOnly-start, told}
 use Rattle.disk_trait.specs.declared.disk.NoBlocks.{NoBlocks as TooFew}
-use Rattle.image_blocks.specs.Bodies.{blocks_for}
-use Rattle.store_model.specs.Between.{stored_each}
-use Rattle.store_model.specs.Books.{free_in, kept_of, recs_in}
+use Rattle.log_reading.specs.image_blocks.Bodies.{blocks_for}
+use Rattle.page_words.specs.store_model.Between.{stored_each}
+use Rattle.page_words.specs.store_model.Books.{free_in, kept_of, recs_in}
 use Rattle.snapshot_store.specs.Committed.{StoresKeptOrMore}
 use Rattle.snapshot_store.specs.State.{State, books, state_of}
 use Rattle.snapshot_store.proofs.CommitAnswering.{made_answers, short_answers, shut_answers}

@@ -5,9 +5,9 @@ use Rattle.std.proofs.lemmas.List.{length-take}
 use Rattle.disk_trait.specs.Moments.{LeavesOnly}
 use Rattle.disk_trait.proofs.Phases.{told}
 use Rattle.hop_base.specs.declared.records.Rec.{Rec}
-use Rattle.image_blocks.specs.Logs.{AreFitting}
+use Rattle.log_reading.specs.image_blocks.Logs.{AreFitting}
 use Rattle.page_shadow.specs.Ledger.{Ledger, is_held}
-use Rattle.store_model.specs.Books.{Logged, recs_in}
+use Rattle.page_words.specs.store_model.Books.{Logged, recs_in}
 use Rattle.snapshot_store.specs.Choosing.{IsKeeping, are_chosen, with_tables}
 use Rattle.snapshot_store.specs.Holds.{names_page}
 use Rattle.snapshot_store.specs.State.{State, books, state_of}

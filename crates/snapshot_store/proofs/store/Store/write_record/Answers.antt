@@ -4,10 +4,10 @@ use Rattle.disk_trait.proofs.Phases.{told}
 use Rattle.disk_trait.specs.Image.{SameOutside}
 use Rattle.disk_tally.proofs.Counting.{Begins-fewer}
 use Rattle.hop_base.specs.declared.records.Rec.{Rec}
-use Rattle.image_blocks.specs.Bodies.{blocks_for}
+use Rattle.log_reading.specs.image_blocks.Bodies.{blocks_for}
 use Rattle.page_shadow.specs.Ledger.{Ledger}
 use Rattle.store_commit.specs.Storing.{HasPlaces, IsCommitBlock}
-use Rattle.store_model.specs.Books.{recs_in}
+use Rattle.page_words.specs.store_model.Books.{recs_in}
 use Rattle.snapshot_store.specs.Keeping.{HasRecounted}
 use Rattle.snapshot_store.specs.State.{State, books, state_of}
 use Rattle.snapshot_store.specs.Taking.{HasReleased}

@@ -1,0 +1,33 @@
+//! The numbers that commands take.
+ghost use Rattle.std.specs.Prelude.{ℕ, ◌≤◌, IfNone, IfSome};
+ghost use Rattle.command_words.specs.Commands.{IsNumber, IsSeed, IsSize};
+
+/// Blocks of the smallest image.
+const LEAST: u32 = 2600;
+
+/// Blocks of the largest image.
+const MOST: u32 = 65_536;
+
+/// Digits of a number at most, with those zeros that lead.
+const LONGEST: usize = 20;
+
+/// The number that the text spells, where 64 bits hold it.
+pub(crate) fn read_number(text: &str) -> Option<u64>
+    ensures some { IfSome result (λ n. IsNumber text.now n × IsSeed n) }
+    ensures none { IfNone result ((n : ℕ) → IsNumber text.now n → IsSeed n → ⊥) }
+{
+    // `parse` would take a leading plus.
+    if text.len() > LONGEST || text.starts_with('+') {
+        return None;
+    }
+    text.parse::<u64>().ok()
+}
+
+/// The number of blocks that the text spells, where an image may have so many.
+pub(crate) fn read_size(text: &str) -> Option<u32>
+    ensures some { IfSome result (λ n. IsNumber text.now n × IsSize n) }
+    ensures none { IfNone result ((n : ℕ) → IsNumber text.now n → IsSize n → ⊥) }
+{
+    let blocks = u32::try_from(read_number(text)?).ok()?;
+    (LEAST..=MOST).contains(&blocks).then_some(blocks)
+}

@@ -1,0 +1,125 @@
+//! Images read, shown and reported, and read from a disk that fails.
+ghost use Rattle.std.specs.Prelude.{IfOk};
+ghost use Rattle.plain_parts.specs.history_model.Plains.{cells_of};
+ghost use Rattle.plain_parts.specs.hop_model.Soundness.{IsSound};
+
+use crate::small_image::{WRITES, alter, formatted, image};
+use disk_trait::MemoryDisk;
+use hop_base::Cut;
+use image_parts::log_reading::ReadingFault;
+use image_tools::{ImageFacts, read_image, write_report, write_show};
+use plain_show::stream_edge::{MemorySink, SinkFault};
+use report_lines::image_blocks::Area;
+use std::alloc::Global;
+use std::test::Fail;
+
+// Reads over a supplier whose words are the tags.
+fn read(alloc: Global, disk: &mut MemoryDisk) -> Result<ImageFacts, ReadingFault>
+    ensures { IfOk result (λ facts. IsSound (cells_of (λ tag page place. tag) facts.state)) }
+{
+    read_image(alloc, disk, &|tag, _, _| tag)
+}
+
+fn show(facts: &ImageFacts, sink: &mut MemorySink) -> Result<(), SinkFault>
+    requires { IsSound (cells_of (λ tag page place. tag) facts.now.state) }
+{
+    write_show(sink, facts, &|tag, _, _| tag)
+}
+
+// Puts the report and what is shown, and compares them.
+fn prints(alloc: Global, disk: &mut MemoryDisk, text: &[u8]) -> Result<bool, Fail> {
+    let mut sink = MemorySink::new(alloc, 1000, Vec::new(alloc))?;
+    match read(alloc, disk) {
+        Ok(facts) => {
+            write_report(&mut sink, &facts)?;
+            show(&facts, &mut sink)?;
+            Ok(sink.held() == text)
+        }
+        Err(_) => Ok(false),
+    }
+}
+
+fn fault_of(alloc: Global, disk: &mut MemoryDisk) -> Option<ReadingFault> {
+    match read(alloc, disk) {
+        Ok(_) => None,
+        Err(fault) => Some(fault),
+    }
+}
+
+// What is told of the small image with these bytes: a block, a place in it and a byte for each.
+pub fn altered(alloc: Global, changes: &[(u32, usize, u8)]) -> Result<Option<ReadingFault>, Fail> {
+    let mut disk = image(alloc, &[])?;
+    for change in changes {
+        alter(&mut disk, change.0, change.1, change.2)?;
+    }
+    Ok(fault_of(alloc, &mut disk))
+}
+
+#[test]
+fn an_image_is_read(rt: HostRuntime) -> Result<(), Fail> {
+    let mut disk = image(rt.alloc(), &[])?;
+    match read(rt.alloc(), &mut disk) {
+        Ok(facts) => {
+            assert!(rt; facts.log.area == Area::A && facts.log.epoch == 1);
+            assert!(rt; facts.log.blocks == 2600 && facts.log.recs.len() == 3);
+            let mut cut = [0; 64];
+            cut[0] = 1;
+            cut[1] = 1;
+            cut[41] = 1;
+            assert_eq!(rt; facts.cut, Cut(cut));
+            assert!(rt; facts.state.containers.len() == 1 && facts.state.loci.len() == 1);
+            if let [container] = facts.state.containers.as_slice() {
+                // The words that aren't the supplier's 7, of both pages.
+                assert_eq!(rt; container.words.len(), 2);
+                assert_eq!(rt; container.words.get(&3).copied(), Some(5));
+                assert_eq!(rt; container.words.get(&129).copied(), Some(9));
+            }
+        }
+        Err(fault) => assert!(rt; false, "{fault:?}"),
+    }
+    Ok(())
+}
+
+#[test]
+fn an_image_is_printed(rt: HostRuntime) -> Result<(), Fail> {
+    let mut disk = image(rt.alloc(), &[])?;
+    let text =
+        b"area A epoch 1 used 3\nrec 0 1 1 chosen\nrec 1 0 1 chosen\nrec 2 41 1 chosen\ncut 0 1\ncut 1 1\ncut 41 1\ncontainer a 2 7 0 -\nword a 3 5\nword a 129 9\nlocus l a 0 running 0 0 0 0 0 0 0 0 0\n";
+    assert!(rt; prints(rt.alloc(), &mut disk, text)?);
+    let mut disk = formatted(rt.alloc())?;
+    assert!(rt; prints(rt.alloc(), &mut disk, b"area A epoch 1 used 0\n")?);
+    Ok(())
+}
+
+// Whether the report of the small image and what it shows go into a sink of which the calls of these numbers fail.
+fn goes_into(alloc: Global, fails: &[u64]) -> Result<bool, Fail> {
+    let mut disk = image(alloc, &[])?;
+    let mut sink = MemorySink::new(alloc, 1000, fails.to_vec(alloc)?)?;
+    match read(alloc, &mut disk) {
+        Ok(facts) => {
+            let reported = write_report(&mut sink, &facts).is_ok();
+            Ok(reported && show(&facts, &mut sink).is_ok())
+        }
+        Err(_) => Ok(false),
+    }
+}
+
+#[test]
+fn each_line_is_put_at_once(rt: HostRuntime) -> Result<(), Fail> {
+    // Seven lines of the report, and four of the state.
+    assert!(rt; goes_into(rt.alloc(), &[12])?);
+    assert!(rt; !goes_into(rt.alloc(), &[11])?);
+    Ok(())
+}
+
+#[test]
+fn failed_reads_are_told(rt: HostRuntime) -> Result<(), Fail> {
+    // Thirteen reads of the log, one of each of three blobs, and one of each of two pages.
+    for read in 1..=18 {
+        let mut disk = image(rt.alloc(), &[WRITES + read])?;
+        assert_eq!(rt; fault_of(rt.alloc(), &mut disk), Some(ReadingFault::Disk));
+    }
+    let mut disk = image(rt.alloc(), &[WRITES + 19])?;
+    assert_eq!(rt; fault_of(rt.alloc(), &mut disk), None);
+    Ok(())
+}

@@ -1,0 +1,110 @@
+use atlas_dir::Atlas;
+use block_code::Blob;
+use cap_list::CapList;
+use hop_base::{Call, Cap, Condition, Entity, Instr, Kind, Private, Region, Rights, Walk};
+use kernel_calls::locus_machine::{Code, Head, Locus};
+use region_map::RegionMap;
+use snapshot_form::{write_atlas, write_container, write_locus};
+use std::test::Fail;
+
+const REGION: Region = Region {
+    at: 1,
+    count: 1,
+    target: Entity::ATLAS,
+    from: 4,
+    rights: Rights(3),
+};
+
+#[test]
+fn an_atlas_of_two_names_has_9_bytes(rt: HostRuntime) -> Result<(), Fail> {
+    let mut atlas = Atlas::new();
+    let _container = atlas.birth(Some("a"), Kind::Container)?;
+    let _locus = atlas.birth(Some("l"), Kind::Locus)?;
+    let mut blob = Blob::new(rt.alloc())?;
+    blob.push(77);
+    write_atlas(&atlas, &mut blob);
+    assert_eq!(rt; blob.as_slice(), [0, 1, 1, 97, 1, 1, 108, 0, 0].as_slice());
+    atlas.set_count(Entity::of(2), Entity::of(1), 16);
+    write_atlas(&atlas, &mut blob);
+    assert_eq!(rt;
+        blob.as_slice(),
+        [0, 1, 1, 97, 1, 1, 108, 1, 0, 2, 1, 16].as_slice()
+    );
+    Ok(())
+}
+
+#[test]
+fn a_container_is_written_with_its_blocks(rt: HostRuntime) -> Result<(), Fail> {
+    let mut head = Head {
+        pages: 2,
+        tag: 258,
+        every: 3,
+        entry: Some(0),
+        code: Code::new(&[Instr::Set(0, 5)]),
+        regions: RegionMap::new(),
+        caps: CapList::new(),
+    };
+    assert_eq!(rt; head.regions.add(REGION), Ok(()));
+    let cap = Cap {
+        entity: Entity::of(41),
+        rights: Rights(9),
+    };
+    head.caps.set(3, Some(cap));
+    let mut pages = [0; 256];
+    pages[0] = 2565;
+    let mut blob = Blob::new(rt.alloc())?;
+    write_container(&head, &pages, &mut blob);
+    let wanted = [
+        1, 2, 0, 2, 1, 0, 0, 0, 0, 0, 0, 3, 0, 0, 0, 0, 1, 0, 0, 0, 0, 0, 0, 0, 0, 5, 0, 0, 0, 0,
+        0, 0, 0, 1, 1, 1, 0, 0, 4, 3, 1, 3, 41, 9, 5, 10, 0, 0, 0, 0, 0, 0,
+    ];
+    assert_eq!(rt; blob.as_slice(), wanted.as_slice());
+    Ok(())
+}
+
+#[test]
+fn a_locus_has_the_long_form_once_it_printed(rt: HostRuntime) -> Result<(), Fail> {
+    let one = Entity::of(1);
+    let two = Entity::of(2);
+    let mut locus = Locus::new(one, 7, 2, &[Instr::Halt]);
+    locus.registers[0] = 258;
+    locus.condition = Condition::Stopped;
+    locus.chain.push(Call {
+        container: two,
+        place: 128,
+    });
+    locus.privates.push(Private {
+        made: one,
+        region: REGION,
+    });
+    let cap = Cap {
+        entity: two,
+        rights: Rights(255),
+    };
+    locus.caps.set(0, Some(cap));
+    locus.walk = Some(Walk {
+        at: two,
+        address: 300,
+        hops: 1,
+    });
+    let mut blob = Blob::new(rt.alloc())?;
+    write_locus(&locus, &mut blob);
+    let rest = [
+        1, 25, 0, 0, 0, 0, 0, 0, 0, 0, 0, 0, 0, 0, 0, 0, 0, 1, 2, 128, 1, 1, 1, 1, 0, 0, 4, 3, 1,
+        0, 2, 255, 1, 2, 44, 1, 0, 0, 0, 0, 0, 0, 1,
+    ];
+    let mut wanted = Blob::new(rt.alloc())?;
+    wanted.put_bytes(&[2, 2, 0, 0, 0, 1, 1, 7, 2, 1]);
+    wanted.put_bytes(&[0; 62]);
+    wanted.put_bytes(&rest);
+    assert_eq!(rt; blob.as_slice(), wanted.as_slice());
+    locus.printed = 513;
+    write_locus(&locus, &mut blob);
+    wanted.clear();
+    wanted.put_bytes(&[3, 2, 0, 0, 0, 1, 1, 7, 2, 1]);
+    wanted.put_bytes(&[0; 62]);
+    wanted.put_bytes(&[1, 2, 0, 0, 0, 0, 0, 0]);
+    wanted.put_bytes(&rest);
+    assert_eq!(rt; blob.as_slice(), wanted.as_slice());
+    Ok(())
+}

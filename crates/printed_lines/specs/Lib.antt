@@ -1,0 +1,1 @@
+pub use Rattle.kernel_calls.specs as kernel_calls

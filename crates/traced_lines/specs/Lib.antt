@@ -1,0 +1,1 @@
+pub use Rattle.entry_lines.specs as entry_lines
