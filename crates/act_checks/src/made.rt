@@ -1,8 +1,8 @@
 // The kernel's locus or container from the plain kernel's. Whether it is the same is seen afterwards.
 use cap_list::{CapList, SLOTS};
 use history_model::{PlainContainer, PlainLocus};
-use hop_base::{Call, Cap, Entity, Instr, Private, Region, Rights};
-use kernel_calls::locus_machine::{Chain, Code, Head, Locus, MOST_CALLS, Privates};
+use hop_base::{Call, Cap, Entity, Instr, MOST_CALLS, Private, Region, Rights};
+use kernel_calls::locus_machine::{Chain, Code, Head, Locus, Privates};
 use region_map::RegionMap;
 
 fn code_from(code: &[Instr]) -> Option<Code> {

@@ -1,13 +1,15 @@
 -- What a legal run commits is born, and so is who owes a Stable.
 use Rattle.std.proofs.Common.{◌≡◌, ℕ, ◌<◌, Bool, true, false, not, ◌&&◌, ◌||◌, ◌==◌, if◌then◌else◌, IsTrue, List, [], ◌∷◌, Option, Some, None, find, refl, sym, ap, subst, ◌∙◌, arith, eqb-true, ◌⊎◌, inl, inr}
 use Rattle.std.specs.List.{All}
+use Rattle.std.proofs.lemmas.List.Elements.{All-nil}
 use Rattle.std.proofs.lemmas.Bool.{false≢true, ltb-true}
 use Rattle.hop_base.specs.Edges.{upto}
 use Rattle.hop_base.specs.declared.histories.Answer.{Answer}
 use Rattle.hop_base.specs.declared.histories.Entry.{Entry}
 use Rattle.hop_base.specs.declared.histories.Event.TheVariants.{Birth, Step, Snap as SnapEvent, Stable, Tried}
+use Rattle.hop_base.specs.declared.histories.Touch.{Touch}
 use Rattle.history_model.specs.hop_model.Births.{next_birth}
-use Rattle.history_model.specs.hop_model.Histories.{IsLegalFrom, IsLegalRun, May, MayCommit, Policy, Run, births_owed, event_of, goes_on, has_changed, has_wish, asked_by, with_asked, writes, locus_in as locus_of, may, next_changed, owed_by, run_after, stabilises, start_run, version_of, went_on}
+use Rattle.history_model.specs.hop_model.Histories.{IsLegalFrom, IsLegalRun, May, MayCommit, Policy, Run, births_owed, event_of, goes_on, has_changed, asked_by, with_asked, writes, locus_in as locus_of, may, owed_by, run_after, stabilises, start_run, version_of, went_on}
 use Rattle.history_model.specs.hop_model.Parts.{after_entry, is_event, next_of}
 use Rattle.history_model.specs.hop_model.Scripts.{Script}
 use Rattle.history_model.specs.hop_model.Soundness.{IsSound, is_born}
@@ -22,11 +24,12 @@ use Rattle.history_model.proofs.run_laws_lemmas.Writing.{step_is, step_writes_as
 use Rattle.history_model.specs.script_form.Rules.{IsScript}
 use Rattle.history_model.proofs.sound_runs_lemmas.Births.{NotLocus}
 use Rattle.history_model.proofs.sound_runs_lemmas.Standing.{IsStanding, standing_next}
-use Rattle.history_model.proofs.sound_runs_lemmas.Tables.{born_locus}
 use Rattle.history_model.proofs.sound_steps_lemmas.Cells.{locus_in}
+use Rattle.actor_laws.proofs.Changing.{Bears, IsWidened, birth_widens, each_born, stays_born, stays_or_born, step_widens}
+use Rattle.actor_laws.proofs.Naming.{keeps_same}
 use Rattle.history_model.proofs.sound_steps_lemmas.Growth.{wider_born}
-use Rattle.actor_laws.proofs.Changing.{IsWidened, birth_widens, step_changes, wider}
-use Rattle.actor_laws.proofs.Naming.{keeps_same, step_names}
+use Rattle.sound_states.proofs.sound_steps_lemmas.Growth.{born_locus}
+use Rattle.std.proofs.lemmas.Option.{same_Some}
 
 abbrev pub atlas_of : Run → AtlasState
 atlas_of r = atlas_in (r.state 0).cell
@@ -37,9 +40,6 @@ pub record IsKnown (r : Run) : Type 0 where
   pub asked : (x : ℕ) → r.asked x ≡ true → IsTrue (is_born (atlas_of r) x)
   pub changed : (x : ℕ) → r.newest x < version_of r x → IsTrue (is_born (atlas_of r) x)
   pub owed : (x : ℕ) → r.owed ≡ Some x → IsTrue (is_born (atlas_of r) x)
-
-some_is : {A : Type 0} (x y : A) → Some x ≡ Some y → x ≡ y
-some_is x y e = cc
 
 none_some : {A B : Type 0} (x : A) → None ≡ Some x → B
 none_some {A} {B} x e = absurd (apart x e)
@@ -62,7 +62,7 @@ asked_now (Some k) f x e = elim (x == k) as (λ b. (x == k) ≡ b → (if b then
 
 owes_zero : (b : Bool) (x : ℕ) → (if b then None else Some 0) ≡ Some x → x ≡ 0
 owes_zero true x e = none_some x e
-owes_zero false x e = sym (some_is 0 x e)
+owes_zero false x e = sym (same_Some 0 x e)
 
 -- a mark that was taken away is none
 unput : (f : ℕ → Bool) (k x : ℕ) → put f k false x ≡ true → f x ≡ true
@@ -72,36 +72,34 @@ owes_self : (actor : ℕ) (answer : Answer) (o : Option LocusState) (x : ℕ) �
 owes_self actor answer None x e = none_some x e
 owes_self actor answer (Some l) x e =
     elim (stabilises answer (Rattle.history_model.specs.hop_model.Refusals.instr_at l)) as (λ b. (if b then Some actor else None) ≡ Some x → x ≡ actor) [
-      | true ↦ λ e. sym (some_is actor x e)
+      | true ↦ λ e. sym (same_Some actor x e)
       | false ↦ λ e. none_some x e
     ] e
 
 module _ (s : Supply) (policy : Policy) (script : Script) (rules : IsScript script) where
-  -- the state that a birth or a step leaves
-  birth_left : (r : Run) (e : Entry) → e.event ≡ Birth → May s policy script r e → IsWidened r.state (goes_on s script r e).state
-  birth_left r e is m =
+  -- the state that a birth leaves, and the newborn is born then
+  birth_bears : (r : Run) (e : Entry) → e.event ≡ Birth → May s policy script r e → Bears r.state (e, (goes_on s script r e).state)
+  birth_bears r e is m =
       let k = subst (may s policy script r e) is m.1 in
       let q = some_of_map (λ (q : Entry × KernelState). q.0) (next_birth s script r.state) e k.1 in
       let left : (goes_on s script r e).state ≡ q.0.1 = state_goes_on s policy script r e
       ∙ ap (λ ev. if is_event ev then next_of (event_of s script) r.state (Rattle.history_model.specs.hop_model.Histories.by_event s script ev e.actor r.state) else r.state) is ∙ ap (next_of (event_of s script) r.state) q.1 in
-      subst (IsWidened r.state) (sym left) (birth_widens s script r.state q.0 rules q.1).0
+      subst (λ (v : KernelState). Bears r.state (e, v)) (sym left) (subst (λ (f : Entry). Bears r.state (f, q.0.1)) q.2 (birth_widens s script r.state q.0 rules q.1))
 
-  -- a newborn is born then
+  pub birth_left : (r : Run) (e : Entry) → e.event ≡ Birth → May s policy script r e → IsWidened r.state e (goes_on s script r e).state
+  birth_left r e is m = (birth_bears r e is m).0
+
   pub newborn_born : (r : Run) (e : Entry) → e.event ≡ Birth → May s policy script r e → IsTrue (is_born (atlas_of (goes_on s script r e)) e.actor)
-  newborn_born r e is m =
-      let k = subst (may s policy script r e) is m.1 in
-      let q = some_of_map (λ (q : Entry × KernelState). q.0) (next_birth s script r.state) e k.1 in
-      let left : (goes_on s script r e).state ≡ q.0.1 = state_goes_on s policy script r e
-      ∙ ap (λ ev. if is_event ev then next_of (event_of s script) r.state (Rattle.history_model.specs.hop_model.Histories.by_event s script ev e.actor r.state) else r.state) is ∙ ap (next_of (event_of s script) r.state) q.1 in
-      subst (λ (v : KernelState). IsTrue (is_born (atlas_in (v 0).cell) e.actor)) (sym left) (subst (λ (f : Entry). IsTrue (is_born (atlas_in (q.0.1 0).cell) f.actor)) q.2 (birth_widens s script r.state q.0 rules q.1).1)
+  newborn_born r e is m = (birth_bears r e is m).1
 
-  step_left : (r : Run) (e : Entry) → e.event ≡ Step → May s policy script r e → IsStanding script r → IsWidened r.state (goes_on s script r e).state
+  -- the state that a step leaves
+  step_left : (r : Run) (e : Entry) → e.event ≡ Step → May s policy script r e → IsStanding script r → IsWidened r.state e (goes_on s script r e).state
   step_left r e is m h =
       let k = subst (may s policy script r e) is m.1 in
       let q = some_of_map (λ (q : Entry × KernelState). q.0) (step s e.actor r.state) e k.4 in
       let left : (goes_on s script r e).state ≡ q.0.1 = state_goes_on s policy script r e
       ∙ ap (λ ev. if is_event ev then next_of (event_of s script) r.state (Rattle.history_model.specs.hop_model.Histories.by_event s script ev e.actor r.state) else r.state) is ∙ ap (next_of (event_of s script) r.state) q.1 in
-      subst (IsWidened r.state) (sym left) (record { names = step_names s e.actor r.state q.0 h.sound q.1; changes = λ x. step_changes s e.actor r.state q.0 x h.sound q.1 })
+      subst (IsWidened r.state e) (sym left) (subst (λ (f : Entry). IsWidened r.state f q.0.1) q.2 (step_widens s e.actor r.state q.0 h.sound q.1))
 
   -- the locus of a step is born
   pub stepper_born : (r : Run) (e : Entry) → e.event ≡ Step → May s policy script r e → IsStanding script r → IsTrue (is_born (atlas_of r) e.actor)
@@ -112,27 +110,24 @@ module _ (s : Supply) (policy : Policy) (script : Script) (rules : IsScript scri
       subst (λ (a : AtlasState). IsTrue (is_born a e.actor)) (sym (ap atlas_in h.sound.1.atlas)) (born_locus h.sound.0 e.actor at.0)
 
   -- what a run that is widened keeps
-  changed_kept : (r q : Run) → IsKnown r → IsWidened r.state q.state → q.newest ≡ r.newest → (x : ℕ) → q.newest x < version_of q x → IsTrue (is_born (atlas_of q) x)
-  changed_kept r q known wide newest x less =
-      elim (wide.changes x) as (λ _. IsTrue (is_born (atlas_of q) x)) [
-        | inl same ↦ wider_born (atlas_of r) (atlas_of q) x (wider (atlas_of r) (atlas_of q) wide.names) (known.changed x (let v = ap (λ (k : EntityState). k.version) same in let n = ap (λ (f : ℕ → ℕ). f x) newest in omega (arith, v, n, less)))
+  changed_kept : (r q : Run) (e : Entry) → IsKnown r → IsWidened r.state e q.state → q.newest ≡ r.newest → (x : ℕ) → q.newest x < version_of q x → IsTrue (is_born (atlas_of q) x)
+  changed_kept r q e known wide newest x less =
+      elim (stays_or_born r.state e q.state x wide) as (λ _. IsTrue (is_born (atlas_of q) x)) [
+        | inl same ↦ stays_born (atlas_of r) (atlas_of q) x wide.names (known.changed x (let v = ap (λ (k : EntityState). k.version) same in let n = ap (λ (f : ℕ → ℕ). f x) newest in omega (arith, v, n, less)))
         | inr born ↦ born
       ]
 
   -- what is written now, and what was known
-  widened_born : (r q : Run) (e : Entry) → May s policy script r e → IsWidened r.state q.state → q.state ≡ (goes_on s script r e).state → (x : ℕ) → writes e x ≡ true → IsTrue (is_born (atlas_of q) x)
+  widened_born : (r q : Run) (e : Entry) → May s policy script r e → IsWidened r.state e q.state → q.state ≡ (goes_on s script r e).state → (x : ℕ) → writes e x ≡ true → IsTrue (is_born (atlas_of q) x)
   widened_born r q e m wide left x wrote =
       let rise = written_rises s policy script r.state e (next_legal s policy script r e m) x wrote in
       let now : version_of q x ≡ (after_entry (event_of s script) r.state e x).version = ap (λ (v : KernelState). (v x).version) (left ∙ state_goes_on s policy script r e) in
-      elim (wide.changes x) as (λ _. IsTrue (is_born (atlas_of q) x)) [
+      elim (stays_or_born r.state e q.state x wide) as (λ _. IsTrue (is_born (atlas_of q) x)) [
         | inl same ↦ (let v = ap (λ (k : EntityState). k.version) same in absurd (omega (arith, rise, now, v)))
         | inr born ↦ born
       ]
 
-  widened_known : (r q : Run) (x : ℕ) → IsWidened r.state q.state → IsTrue (is_born (atlas_of r) x) → IsTrue (is_born (atlas_of q) x)
-  widened_known r q x wide born = wider_born (atlas_of r) (atlas_of q) x (wider (atlas_of r) (atlas_of q) wide.names) born
-
-  known_next : (r : Run) (e : Entry) → May s policy script r e → IsStanding script r → IsKnown r → IsKnown (goes_on s script r e)
+  pub known_next : (r : Run) (e : Entry) → May s policy script r e → IsStanding script r → IsKnown r → IsKnown (goes_on s script r e)
   known_next r e m h known =
       elim e.event as (λ ev. e.event ≡ ev → IsKnown (goes_on s script r e)) [
         | Birth ↦ λ is.
@@ -143,9 +138,9 @@ module _ (s : Supply) (policy : Policy) (script : Script) (rules : IsScript scri
             let by_step : q.by_step ≡ (λ x. not (writes e x) && r.by_step x) = ap (λ ev. (went_on s script r e ev).by_step) is in
             let asked : q.asked ≡ r.asked = ap (λ ev. (went_on s script r e ev).asked) is in
             record {
-              by_step = λ x e. widened_known r q x wide (known.by_step x (kept_mark _ (r.by_step x) (ap (λ (f : ℕ → Bool). f x) (sym by_step) ∙ e)));
-              asked = λ x e. widened_known r q x wide (known.asked x (ap (λ (f : ℕ → Bool). f x) (sym asked) ∙ e));
-              changed = changed_kept r q known wide newest;
+              by_step = λ x e. stays_born (atlas_of r) (atlas_of q) x wide.names (known.by_step x (kept_mark _ (r.by_step x) (ap (λ (f : ℕ → Bool). f x) (sym by_step) ∙ e)));
+              asked = λ x e. stays_born (atlas_of r) (atlas_of q) x wide.names (known.asked x (ap (λ (f : ℕ → Bool). f x) (sym asked) ∙ e));
+              changed = changed_kept r q e known wide newest;
               owed = λ x e. subst (λ n. IsTrue (is_born (atlas_of q) n)) (sym (owes_zero _ x (sym owes ∙ e))) refl;
             }
         | Step ↦ λ is.
@@ -160,15 +155,15 @@ module _ (s : Supply) (policy : Policy) (script : Script) (rules : IsScript scri
             record {
               by_step = λ x f. elim (writes e x) as (λ b. writes e x ≡ b → (b || r.by_step x) ≡ true → IsTrue (is_born (atlas_of q) x)) [
                 | true ↦ λ wrote g. writer x wrote
-                | false ↦ λ none g. widened_known r q x wide (known.by_step x g)
+                | false ↦ λ none g. stays_born (atlas_of r) (atlas_of q) x wide.names (known.by_step x g)
               ] refl (ap (λ (f : ℕ → Bool). f x) (sym by_step) ∙ f);
               asked = λ x f. elim (asked_now (asked_by e.answer (locus_of (r.state e.actor).cell)) r.asked x (ap (λ (f : ℕ → Bool). f x) (sym asked) ∙ f)) as (λ _. IsTrue (is_born (atlas_of q) x)) [
                 | inl by ↦ writer x (step_writes_asked s e.actor r.state e x made by)
-                | inr was ↦ widened_known r q x wide (known.asked x was)
+                | inr was ↦ stays_born (atlas_of r) (atlas_of q) x wide.names (known.asked x was)
               ];
-              changed = changed_kept r q known wide newest;
+              changed = changed_kept r q e known wide newest;
               owed = λ x f. subst (λ n. IsTrue (is_born (atlas_of q) n)) (sym (owes_self e.actor e.answer (locus_of (r.state e.actor).cell) x (sym owes ∙ f)))
-                  (wider_born (atlas_of r) (atlas_of q) e.actor (wider (atlas_of r) (atlas_of q) wide.names) (stepper_born r e is m h));
+                  (stays_born (atlas_of r) (atlas_of q) e.actor wide.names (stepper_born r e is m h));
             }
         | SnapEvent ↦ λ is. subst IsKnown (sym (ap (went_on s script r e) is)) (record {
           by_step = λ x f. known.by_step x (unput r.by_step e.actor x f);
@@ -197,7 +192,7 @@ module _ (s : Supply) (policy : Policy) (script : Script) (rules : IsScript scri
   found_passes : (p : ℕ → Bool) (xs : List ℕ) (x : ℕ) → find p xs ≡ Some x → p x ≡ true
   found_passes p [] x e = none_some x e
   found_passes p (y ∷ xs) x e = elim (p y) as (λ b. p y ≡ b → (if b then Some y else find p xs) ≡ Some x → p x ≡ true) [
-    | true ↦ λ is e. subst (λ n. p n ≡ true) (some_is y x e) is
+    | true ↦ λ is e. subst (λ n. p n ≡ true) (same_Some y x e) is
     | false ↦ λ is e. found_passes p xs x e
   ] refl e
 
@@ -221,10 +216,10 @@ module _ (s : Supply) (policy : Policy) (script : Script) (rules : IsScript scri
     | Tried ↦ λ is k. commit_born r e.actor known k.1
   ] refl m.1
 
-  -- what may follow, a birth aside, leaves the names
-  pub names_left : (r : Run) (e : Entry) → IsStanding script r → May s policy script r e → (e.event ≡ Birth → ⊥) → KeepsNames (atlas_of r) (atlas_of (goes_on s script r e))
-  names_left r e h m other = elim e.event as (λ ev. e.event ≡ ev → KeepsNames (atlas_of r) (atlas_of (goes_on s script r e))) [
-    | Birth ↦ λ is. absurd (other is)
+  -- what may follow leaves the names
+  pub names_left : (r : Run) (e : Entry) → IsStanding script r → May s policy script r e → KeepsNames (atlas_of r) (atlas_of (goes_on s script r e))
+  names_left r e h m = elim e.event as (λ ev. e.event ≡ ev → KeepsNames (atlas_of r) (atlas_of (goes_on s script r e))) [
+    | Birth ↦ λ is. (birth_left r e is m).names
     | Step ↦ λ is. (step_left r e is m h).names
     | SnapEvent ↦ λ is. still (ap (λ ev. (went_on s script r e ev).state) is)
     | Stable ↦ λ is. still (ap (λ ev. (went_on s script r e ev).state) is)
@@ -233,3 +228,44 @@ module _ (s : Supply) (policy : Policy) (script : Script) (rules : IsScript scri
     where
       still : (goes_on s script r e).state ≡ r.state → KeepsNames (atlas_of r) (atlas_of (goes_on s script r e))
       still same = subst (λ (v : KernelState). KeepsNames (atlas_of r) (atlas_in (v 0).cell)) (sym same) (keeps_same (atlas_of r) (atlas_of r) refl refl)
+
+  -- who acts is born then, a newborn too
+  pub actor_left : (r : Run) (e : Entry) → IsStanding script r → IsKnown r → May s policy script r e → IsTrue (is_born (atlas_of (goes_on s script r e)) e.actor)
+  actor_left r e h known m = elim e.event as (λ ev. e.event ≡ ev → IsTrue (is_born (atlas_of (goes_on s script r e)) e.actor)) [
+    | Birth ↦ λ is. newborn_born r e is m
+    | Step ↦ λ is. old (λ birth. apart_step (sym is ∙ birth))
+    | SnapEvent ↦ λ is. old (λ birth. apart_snap (sym is ∙ birth))
+    | Stable ↦ λ is. old (λ birth. apart_stable (sym is ∙ birth))
+    | Tried ↦ λ is. old (λ birth. apart_tried (sym is ∙ birth))
+  ] refl
+    where
+      old : (e.event ≡ Birth → ⊥) → IsTrue (is_born (atlas_of (goes_on s script r e)) e.actor)
+      old other = stays_born (atlas_of r) (atlas_of (goes_on s script r e)) e.actor (names_left r e h m) (actor_born r e h known m other)
+
+      apart_step : Step ≡ Birth → ⊥
+      apart_step e = cc
+
+      apart_snap : SnapEvent ≡ Birth → ⊥
+      apart_snap e = cc
+
+      apart_stable : Stable ≡ Birth → ⊥
+      apart_stable e = cc
+
+      apart_tried : Tried ≡ Birth → ⊥
+      apart_tried e = cc
+
+  -- and what it touches is born then
+  pub touched_left : (r : Run) (e : Entry) → IsStanding script r → May s policy script r e → All (λ (t : Touch). IsTrue (is_born (atlas_of (goes_on s script r e)) t.entity)) e.touched
+  touched_left r e h m = elim e.event as (λ ev. e.event ≡ ev → may s policy script r e ev → All (λ (t : Touch). IsTrue (is_born (atlas_of (goes_on s script r e)) t.entity)) e.touched) [
+    | Birth ↦ λ is k. each_born (atlas_of (goes_on s script r e)) e.touched (birth_left r e is m).touched
+    | Step ↦ λ is k. each_born (atlas_of (goes_on s script r e)) e.touched (step_left r e is m h).touched
+    | SnapEvent ↦ λ is k. none k.0 none_born
+    | Stable ↦ λ is k. none k.2 none_born
+    | Tried ↦ λ is k. none k.0 none_born
+  ] refl m.1
+    where
+      none_born : All (λ (t : Touch). IsTrue (is_born (atlas_of (goes_on s script r e)) t.entity)) []
+      none_born = All-nil (λ (t : Touch). IsTrue (is_born (atlas_of (goes_on s script r e)) t.entity))
+
+      none : {f : Entry} → e ≡ f → All (λ (t : Touch). IsTrue (is_born (atlas_of (goes_on s script r e)) t.entity)) f.touched → All (λ (t : Touch). IsTrue (is_born (atlas_of (goes_on s script r e)) t.entity)) e.touched
+      none {f} same all = subst (λ (g : Entry). All (λ (t : Touch). IsTrue (is_born (atlas_of (goes_on s script r e)) t.entity)) g.touched) (sym same) all

@@ -1,7 +1,7 @@
 //! Who acts in a legal run, and what happens to names. The functions do nothing: the contract of each is a law.
 #![tactic(auto)]
 
-ghost use Rattle.std.specs.Prelude.{◌≡◌, IsTrue, ℕ, List, Some};
+ghost use Rattle.std.specs.Prelude.{◌≡◌, All, IsTrue, ℕ, List, Some};
 ghost use Rattle.hop_base.specs.declared.histories.Entry.{Entry};
 ghost use Rattle.hop_base.specs.declared.histories.Event.TheVariants.{Birth};
 ghost use Rattle.history_model.specs.hop_model.State.{Supply, KernelState};
@@ -22,8 +22,8 @@ pub fn kept_names_law()
         → IsSound (λ x. (w x).cell) → step s l w ≡ Some r → KeepsNames (atlas_in (w 0).cell) (atlas_in (r.1 0).cell) }
 {}
 
-/// In a legal run from a sound state each entry that may follow, a birth aside, is of an entity that is born, and leaves each
-/// name with its number. A newborn is born behind its birth.
+/// In a legal run from a sound state each entry that may follow, a birth aside, is of an entity that is born. A newborn is born
+/// behind its birth. Each entry, a birth too, leaves each name with its number.
 pub fn born_actor_law()
     ensures born { (s : Supply) (policy : Policy) (script : Script) (w : KernelState) (es : List Entry) (e : Entry)
         → IsScript script → NamesNoLocus script w → IsSound (λ x. (w x).cell) → IsLegalRun s policy w script es
@@ -31,10 +31,18 @@ pub fn born_actor_law()
         → IsTrue (is_born (atlas_in ((run_after s script (start_run w) es).state 0).cell) e.actor) }
     ensures names { (s : Supply) (policy : Policy) (script : Script) (w : KernelState) (es : List Entry) (e : Entry)
         → IsScript script → NamesNoLocus script w → IsSound (λ x. (w x).cell) → IsLegalRun s policy w script es
-        → May s policy script (run_after s script (start_run w) es) e → (e.event ≡ Birth → ⊥)
+        → May s policy script (run_after s script (start_run w) es) e
         → KeepsNames (atlas_in ((run_after s script (start_run w) es).state 0).cell)
         (atlas_in ((goes_on s script (run_after s script (start_run w) es) e).state 0).cell) }
     ensures newborn { (s : Supply) (policy : Policy) (script : Script) (w : KernelState) (es : List Entry) (e : Entry)
         → IsScript script → May s policy script (run_after s script (start_run w) es) e → e.event ≡ Birth
         → IsTrue (is_born (atlas_in ((goes_on s script (run_after s script (start_run w) es) e).state 0).cell) e.actor) }
+{}
+
+/// In a legal run from a sound state all that an entry touches is born behind it: what it read and wrote, and what it bore.
+pub fn touched_born_law()
+    ensures { (s : Supply) (policy : Policy) (script : Script) (w : KernelState) (es : List Entry) (e : Entry)
+        → IsScript script → NamesNoLocus script w → IsSound (λ x. (w x).cell) → IsLegalRun s policy w script es
+        → May s policy script (run_after s script (start_run w) es) e
+        → All (λ t. IsTrue (is_born (atlas_in ((goes_on s script (run_after s script (start_run w) es) e).state 0).cell) t.entity)) e.touched }
 {}

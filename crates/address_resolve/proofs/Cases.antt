@@ -1,11 +1,11 @@
 -- The cases of a look, and what each leaves.
-use Rattle.std.proofs.Common.{◌≡◌, ℕ, ◌+◌, ◌/◌, ◌<◌, ◌≤◌, nat_lt, true, false, if◌then◌else◌, List, [], ◌∷◌, Option, Some, None, find, unwrap_or, refl, sym, ap, ◌∙◌, subst, arith}
+use Rattle.std.proofs.Common.{◌≡◌, ℕ, ◌+◌, ◌/◌, ◌<◌, nat_lt, true, false, if◌then◌else◌, List, [], ◌∷◌, Option, Some, None, find, unwrap_or, refl, sym, ap, ◌∙◌, subst, arith}
 use Rattle.std.proofs.lemmas.Bool.{lt-ltb}
 use Rattle.std.proofs.lemmas.Bool.Decides.{nat_tests}
 use Rattle.hop_base.specs.declared.capabilities.Region.{Region}
 use Rattle.hop_base.specs.declared.histories.Answer.{Answer}
 use Rattle.hop_base.specs.declared.instructions.Reply.{Reply}
-use Rattle.hop_base.specs.declared.instructions.Reply.TheVariants.{NoPage, Deep}
+use Rattle.hop_base.specs.declared.instructions.Reply.TheVariants.{Deep}
 use Rattle.hop_base.specs.declared.instructions.Walk.{Walk}
 use Rattle.fault_paging.specs.hop_model.State.{ContainerState, LocusState, ContainerCell}
 use Rattle.fault_paging.specs.hop_model.Outcomes.{Outcome, hop_to, look_hops, looked, looked_by, own_reply, through}
@@ -26,17 +26,11 @@ region_shows (s ∷ rest) page r are is =
     ] refl is
 
 module _ (l : LocusState) (c : ContainerState) (address needed : ℕ) (done : Outcome) where
-  pub looked_past : c.pages ≤ address / 128 → looked l c address needed done ≡ own_reply l NoPage
-  looked_past high = let past : nat_lt (address / 128) c.pages ≡ false = grind (arith, nat_tests) in rw past refl
-
   looked_within : (o : Option Region) → address / 128 < c.pages → find (λ r. covers r (address / 128)) c.regions ≡ o → looked l c address needed done ≡ looked_by l address needed done o
   looked_within o low is = rw (lt-ltb (address / 128) c.pages low, is) refl
 
   pub looked_through : (r : Region) → address / 128 < c.pages → find (λ r. covers r (address / 128)) c.regions ≡ Some r → looked l c address needed done ≡ through l r address (denied r.rights.0 needed)
   looked_through r low is = looked_within (Some r) low is
-
-  pub looked_word : address / 128 < c.pages → find (λ r. covers r (address / 128)) c.regions ≡ None → looked l c address needed done ≡ done
-  looked_word low is = looked_within None low is
 
 -- a region leaves a locus that keeps its ranges
 pub ready_through : (l : LocusState) (r : Region) (address : ℕ) (why : Option Reply) → IsReadyLocus l → l.place < 128 → IsReadyLocus (through l r address why).locus

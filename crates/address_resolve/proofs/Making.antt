@@ -1,18 +1,18 @@
 -- The outcome of a wanted load or store is that of its look.
-use Rattle.std.proofs.Common.{◌≡◌, ℕ, ◌<◌, true, false, refl, sym, ap, ◌∙◌}
+use Rattle.std.proofs.Common.{◌≡◌, ℕ, true, false, refl, sym, ap, ◌∙◌}
 use Rattle.hop_base.specs.declared.instructions.Instr.{Instr}
 use Rattle.hop_base.specs.declared.instructions.Instr.TheVariants.{Load, Store}
 use Rattle.fault_paging.specs.hop_model.State.{Supply, AtlasState, ContainerState, LocusState, ContainerCell}
 use Rattle.fault_paging.specs.hop_model.Acts.{wanted}
 use Rattle.fault_paging.specs.hop_model.Outcomes.{load, look_address, looked, on_cell, outcome, store}
 use Rattle.fault_paging.specs.hop_model.Refusals.{instr_at, reg}
-use Rattle.invocation.specs.wanted_act.Views.{IsReadyLocus, may_name_itself}
+use Rattle.invocation.specs.wanted_act.Views.{may_name_itself}
 use Rattle.invocation.specs.Entries.{WantsBeside}
-use Rattle.invocation.proofs.Entered.{instr_is, made_by, within}
+use Rattle.invocation.proofs.Entered.{instr_is, made_by}
 use Rattle.address_resolve.specs.declared.aim.Access.TheVariants.{Load as Reads, Store as Writes}
 use Rattle.address_resolve.specs.Looks.{done_by, is_look}
 
-look_apart : (i : Instr) → is_look i ≡ true → may_name_itself i ≡ false
+pub look_apart : (i : Instr) → is_look i ≡ true → may_name_itself i ≡ false
 look_apart (Load d a) h = refl
 look_apart (Store a v) h = refl
 look_apart i h = cc
@@ -37,10 +37,6 @@ store_made l x r v address word h is at value me s a c =
     made_by is_look l x h (look_apart (instr_at l)) me s a (ContainerCell c) ∙ ap (λ i. on_cell s l a x i (ContainerCell c)) is ∙ on_store s l a x r v c
     ∙ ap (λ k. looked l c k 2 (done_by l c k (Writes (reg l v)))) (sym at)
     ∙ ap (λ w. looked l c address 2 (done_by l c address (Writes w))) (sym value)
-
--- the place of a load or a store is one of the code
-pub look_within : (l : LocusState) (x : ℕ) → IsReadyLocus l → WantsBeside is_look l x → l.place < 128
-look_within l x ready h = within is_look l x ready h refl
 
 -- no other instruction is wanted
 none_else : (i : Instr) → is_look i ≡ true → ((d a : ℕ) → i ≡ Load d a → ⊥) → ((a v : ℕ) → i ≡ Store a v → ⊥) → ⊥

@@ -1,3 +1,4 @@
 pub mod Paths
 pub mod Naming
 pub mod Digits
+pub mod Pigeons

@@ -64,7 +64,7 @@ on_false false P f = f refl
 
 -- no edges
 
-zeros : (n y : ℕ) → slice_index (replicate n 0) y ≡ 0
+pub zeros : (n y : ℕ) → slice_index (replicate n 0) y ≡ 0
 zeros zero y = refl
 zeros (suc n) zero = refl
 zeros (suc n) (suc y) = zeros n y

@@ -15,24 +15,19 @@ mod names;
 mod reached;
 
 use arrayvec::{ArrayString, ArrayVec};
-use hop_base::{Entity, Kind, Reply};
-pub use names::{is_letter, is_name, is_name_byte, made_name};
+use hop_base::{Entity, Kind, MOST_CONTAINERS, MOST_LOCI, Reply};
+pub use names::{NAME_LENGTH, is_letter, is_name, is_name_byte, made_name};
 use names::{Name, name_at, number_of};
-use reached::{SIDE, leads};
+pub use reached::SIDE;
+use reached::leads;
 use std::marker::Model;
-
-/// The most containers.
-pub const CONTAINERS: usize = 40;
-
-/// The most loci.
-pub const LOCI: usize = 23;
 
 /// The directory: names of containers and loci in the order of their numbers, and a count for each pair of
 /// containers.
 #[derive(Drop, Debug)]
 pub struct Atlas {
-    containers: ArrayVec<Name, CONTAINERS>,
-    loci: ArrayVec<Name, LOCI>,
+    containers: ArrayVec<Name, MOST_CONTAINERS>,
+    loci: ArrayVec<Name, MOST_LOCI>,
     edges: [[u8; SIDE]; SIDE],
 }
 
@@ -106,8 +101,8 @@ impl Atlas {
     /// Sets how many regions of `d` the container `c` shows, also where that closes a circle, or one of them isn't
     /// born.
     pub fn set_count(&mut self, c: Entity, d: Entity, n: u8)
-        requires c_container { (1 ≤ c) × (c ≤ CONTAINERS) }
-        requires d_container { (1 ≤ d) × (d ≤ CONTAINERS) }
+        requires c_container { (1 ≤ c) × (c ≤ MOST_CONTAINERS) }
+        requires d_container { (1 ≤ d) × (d ≤ MOST_CONTAINERS) }
         ensures count { self.new ≡ with_count self.old c d n }
         ensures edge { edges_of self.new ≡ with_edge (edges_of self.old) c d n }
         ensures inside { IsAmongContainers (edges_of self.new) }
@@ -198,8 +193,8 @@ impl Atlas {
     /// number, and no two entities share a name.
     pub fn named(&self, kind: Kind) -> u8
         ensures number { result ≡ number_born self.now kind }
-        ensures containers { length self.now.containers ≤ CONTAINERS }
-        ensures loci { length self.now.loci ≤ LOCI }
+        ensures containers { length self.now.containers ≤ MOST_CONTAINERS }
+        ensures loci { length self.now.loci ≤ MOST_LOCI }
         ensures names { IsDirectory self.now }
     {
         let containers = self.containers.len() as u8;

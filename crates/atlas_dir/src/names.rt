@@ -9,12 +9,12 @@ use arrayvec::ArrayString;
 use std::marker::Model;
 
 /// The greatest length of a name.
-pub(crate) const LENGTH: usize = 24;
+pub const NAME_LENGTH: usize = 24;
 
 /// A name.
 #[derive(Drop, Debug)]
 pub(crate) struct Name {
-    text: ArrayString<LENGTH>,
+    text: ArrayString<NAME_LENGTH>,
 }
 
 impl Model for Name {
@@ -35,7 +35,7 @@ impl Default for Name {
 
 impl Name {
     pub fn new(text: &str) -> Name
-        requires { length text.now ≤ LENGTH }
+        requires { length text.now ≤ NAME_LENGTH }
         ensures { result ≡ text.now }
     {
         let mut name = ArrayString::new();
@@ -59,7 +59,7 @@ impl Name {
         Name { text: name }
     }
 
-    pub fn text(&self) -> ArrayString<LENGTH>
+    pub fn text(&self) -> ArrayString<NAME_LENGTH>
         ensures { result.bytes ≡ self.now }
     {
         self.text
@@ -91,7 +91,7 @@ pub(crate) fn name_at(
     number: usize,
     containers: &[Name],
     loci: &[Name],
-) -> Option<ArrayString<LENGTH>>
+) -> Option<ArrayString<NAME_LENGTH>>
     requires { 0 < number }
     ensures { option_map (λ text. text.bytes) result
         ≡ (if nat_lt number 41 then slice_get containers.now (number - 1) else slice_get loci.now (number - 41)) }
@@ -108,7 +108,7 @@ pub(crate) fn name_at(
 }
 
 /// The name of an entity that a program makes: `#` and its number.
-pub fn made_name(number: u8) -> ArrayString<LENGTH>
+pub fn made_name(number: u8) -> ArrayString<NAME_LENGTH>
     requires { number < 64 }
     ensures { result.bytes ≡ made_name number }
 {
@@ -145,5 +145,5 @@ pub fn is_name(text: &str) -> bool
     let Some(first) = bytes.first() else {
         return false;
     };
-    bytes.len() <= LENGTH && is_letter(*first) && are_name_bytes(bytes) && text != "atlas"
+    bytes.len() <= NAME_LENGTH && is_letter(*first) && are_name_bytes(bytes) && text != "atlas"
 }

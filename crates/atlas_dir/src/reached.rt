@@ -5,7 +5,7 @@ ghost use Rattle.hop_base.specs.Edges.{IsPath};
 ghost use Rattle.atlas_dir.specs.Reached.{edges_in, is_marked, IsClosed};
 
 /// One more than the greatest number of a container.
-pub(crate) const SIDE: usize = 41;
+pub const SIDE: usize = 41;
 
 /// A number that isn't marked, to which the row has an edge.
 fn new_in_row(row: &[u8], marks: &[bool]) -> Option<usize>

@@ -15,7 +15,7 @@ use Rattle.snapshot_reading.proofs.Items.{items_tell}
 use Rattle.snapshot_reading.proofs.Sequences.{TellsApart, chain, joined, refused_as, refused_here, refused_later}
 use Rattle.atlas_reading.specs.Edges.{AreEdgesSpelled}
 use Rattle.atlas_reading.specs.Names.{AreNamesSpelled, NameItem, with_next}
-use Rattle.atlas_reading.proofs.AtlasNames.{both_apart, container_names, containers_apart, loci_apart, locus_names, name_from}
+use Rattle.directory_laws.proofs.AtlasNames.{both_apart, container_names, containers_apart, loci_apart, locus_names, name_from}
 use Rattle.atlas_reading.proofs.AtlasWalk.{so_far, walk_containers, walk_loci, with_loci}
 use Rattle.atlas_reading.proofs.EdgeLists.{some_edges_spelled}
 use Rattle.atlas_reading.proofs.NameFields.{name_tells}

@@ -1,6 +1,5 @@
 -- A reader of an atlas: the directory from each part on to the next.
 use Rattle.std.proofs.Common.{◌≡◌, ℕ, zero, suc, List, [], replicate, refl, sym, ap, subst, ◌∙◌}
-use Rattle.std.specs.Prelude.{slice_index}
 use Rattle.hop_base.specs.declared.entities.Kind.TheVariants.{Container, Locus}
 use Rattle.atlas_dir.specs.Directory.{Directory, edges_of}
 use Rattle.atlas_dir.specs.Reached.{edges_in}
@@ -11,16 +10,11 @@ use Rattle.atlas_reading.specs.Atlases.{IsAtlasSpelled}
 use Rattle.atlas_reading.specs.Names.{AreNamesSpelled, names_in, with_names}
 use Rattle.atlas_reading.proofs.AtlasFields.{atlas_with}
 use Rattle.atlas_reading.proofs.AtlasWalk.{so_far, with_loci}
-
--- ROWS OF ZEROS have no edge
-zero_in : (n y : ℕ) → slice_index (replicate n 0) y ≡ 0
-zero_in zero y = refl
-zero_in (suc n) zero = refl
-zero_in (suc n) (suc y) = zero_in n y
+use Rattle.atlas_dir.proofs.Paths.{zeros}
 
 zeros_in : (m n x y : ℕ) → edges_in (replicate m (replicate n 0)) x y ≡ 0
 zeros_in zero n x y = refl
-zeros_in (suc m) n zero y = zero_in n y
+zeros_in (suc m) n zero y = zeros n y
 zeros_in (suc m) n (suc x) y = zeros_in m n x y
 
 abbrev pub no_rows : List (List ℕ)

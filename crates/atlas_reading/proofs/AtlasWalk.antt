@@ -9,9 +9,10 @@ use Rattle.snapshot_reading.specs.hop_model.Soundness.{is_name_of}
 use Rattle.atlas_dir.specs.Directory.{Directory, IsDirectory, IsNameOf, entity_named, name_of}
 use Rattle.atlas_dir.proofs.Naming.{born_container, born_locus, container_name, led, locus_name}
 use Rattle.snapshot_reading.specs.blob_grammar.Spelling.{text_bytes}
-use Rattle.atlas_reading.proofs.AtlasNames.{directory_name, is_none, some_of}
+use Rattle.directory_laws.proofs.AtlasNames.{directory_name, is_none}
 use Rattle.hop_base.specs.declared.entities.Kind.TheVariants.{Container, Locus}
 use Rattle.atlas_reading.specs.Names.{AreNamesSpelled}
+use Rattle.atlas_dir.proofs.Pigeons.{some_of}
 
 get_here : (xs ys : List (List ℕ)) (t : List ℕ) → slice_get (xs ++ t ∷ ys) (length xs) ≡ Some t
 get_here [] ys t = refl

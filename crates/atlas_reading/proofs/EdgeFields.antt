@@ -32,13 +32,6 @@ module _ (least most : ℕ) (some : least ≤ most) (size : most < 1600) where
   high_split : most / 40 * 40 + most % 40 ≡ most
   high_split = (split most).0
 
-  pub rows : row_of least ≤ row_of most
-  rows =
-      let a = low_split in
-      let b = high_split in
-      let c = (split most).1 in
-      omega (arith, a, b, c, some)
-
   pub columns : (from : ℕ) → row_of least ≤ from → from ≤ row_of most → least_column least from ≤ most_column most from
   columns from low high = by (column_cases least from 1) (column_cases most from 40)
     where

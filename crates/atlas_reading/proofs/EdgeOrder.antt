@@ -2,7 +2,6 @@
 use Rattle.std.proofs.Common.{◌≡◌, ◌<◌, ◌≤◌, ◌⊎◌, inl, inr, ℕ, zero, suc, ◌+◌, ◌-◌, ◌*◌, ◌==◌, ◌&&◌, Bool, true, false, if◌then◌else◌, List, [], ◌∷◌, ◌++◌, refl, sym, ap, subst, ◌∙◌, arith, append_assoc}
 use Rattle.std.proofs.lemmas.Bool.{cases_lt, false≢true, ne_eqb}
 use Rattle.std.proofs.lemmas.Bool.Decides.{eqb_tells}
-use Rattle.std.proofs.lemmas.Grind.{flat_map-append}
 use Rattle.std.proofs.lemmas.List.{append-nil}
 use Rattle.std.specs.List.{flat_map}
 use Rattle.hop_base.specs.Edges.{Edges, upto}
@@ -10,10 +9,7 @@ use Rattle.atlas_dir.specs.Reached.{with_edge}
 use Rattle.snapshot_reading.specs.blob_grammar.Forms.{AreCounts}
 use Rattle.snapshot_reading.specs.blob_grammar.Spelling.{Counted, counted, counted_edges}
 use Rattle.atlas_reading.specs.Edges.{pair_of}
-
--- RANGES
-next_number : (f : ℕ → List Counted) (n : ℕ) → flat_map f (upto (suc n)) ≡ flat_map f (upto n) ++ f n
-next_number f n = flat_map-append f (upto n) (n ∷ []) ∙ ap (λ (es : List Counted). flat_map f (upto n) ++ es) (append-nil (f n))
+use Rattle.snapshot_reading.proofs.blob_grammar_lemmas.Edges.{next_number}
 
 -- where two functions give the same, so they do over a range
 same_over : (f g : ℕ → List Counted) → ((j : ℕ) → f j ≡ g j) → (n : ℕ) → flat_map f (upto n) ≡ flat_map g (upto n)

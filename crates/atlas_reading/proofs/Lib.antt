@@ -2,15 +2,12 @@ pub mod EdgeFields
 pub mod EdgeOrder
 pub mod EdgeLists
 pub mod EdgesRead
-pub mod Pigeons
-pub mod Texts
 pub mod NameFronts
 pub mod TextsRead
 pub mod NameTests
 pub mod ShortNames
 pub mod NameFields
 pub mod NamesRead
-pub mod AtlasNames
 pub mod AtlasWalk
 pub mod AtlasFields
 pub mod AtlasRead

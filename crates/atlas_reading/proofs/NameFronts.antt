@@ -1,6 +1,6 @@
 -- Which fronts go on to a name of so many bytes that is no one's.
 use Rattle.std.proofs.Common.{◌≡◌, ◌<◌, ◌≤◌, ◌⊎◌, inl, inr, ℕ, zero, suc, ◌+◌, ◌-◌, ◌/◌, ◌%◌, ◌&&◌, ◌||◌, ◌==◌, nat_lt, Bool, true, false, List, [], ◌∷◌, ◌++◌, length, replicate, Option, Some, None, refl, sym, ap, subst, ◌∙◌, arith, append_assoc}
-use Rattle.std.proofs.lemmas.Bool.{cases_lt, false≢true}
+use Rattle.std.proofs.lemmas.Bool.{and_parts, cases_lt, false≢true}
 use Rattle.std.proofs.lemmas.Bool.Decides.{nat_tests}
 use borrow.Author.Tests.{lt-ltb, ltb-true}
 use Rattle.std.proofs.lemmas.List.{append-nil, length-append, length-replicate}
@@ -11,28 +11,24 @@ use Rattle.atlas_dir.proofs.Digits.{one_digit, two_digits}
 use Rattle.atlas_dir.proofs.Naming.{made_is_new}
 use Rattle.snapshot_reading.specs.blob_grammar.Places.{Begins}
 use Rattle.atlas_reading.specs.Names.{GoesOn, HasShortName, IsGivenFront, IsTextIn}
-use Rattle.atlas_reading.proofs.Pigeons.{no_ones}
+use Rattle.atlas_dir.proofs.Pigeons.{no_ones}
 
 -- LISTS
 first_of : (p q : List ℕ) → 1 ≤ length p → slice_index (p ++ q) 0 ≡ slice_index p 0
 first_of [] q some = absurd (omega (arith, some))
 first_of (c ∷ p) q some = refl
 
-and_both : (a b : Bool) → (a && b) ≡ true → (a ≡ true) × (b ≡ true)
-and_both true b h = (refl, h)
-and_both false b h = absurd (false≢true h)
-
 module _ (test : ℕ → Bool) where
   pub all_join : (p q : List ℕ) → list_all test p ≡ true → list_all test q ≡ true → list_all test (p ++ q) ≡ true
   all_join [] q a b = b
   all_join (c ∷ p) q a b =
-      let h = and_both (test c) (list_all test p) a in
+      let h = and_parts (test c) (list_all test p) a in
       (λ i. h.0 i && list_all test (p ++ q)) ∙ all_join p q h.1 b
 
   pub all_front : (p q : List ℕ) → list_all test (p ++ q) ≡ true → (list_all test p ≡ true) × (list_all test q ≡ true)
   all_front [] q a = (refl, a)
   all_front (c ∷ p) q a =
-      let h = and_both (test c) (list_all test (p ++ q)) a in
+      let h = and_parts (test c) (list_all test (p ++ q)) a in
       let more = all_front p q h.1 in
       ((λ i. h.0 i && list_all test p) ∙ more.0, more.1)
 
@@ -154,6 +150,6 @@ pub ascii : (a : Directory) (number size : ℕ) → number < 64 → (front : Lis
 ascii a number size few front byte (inl made) =
     let all = all_front is_small (front ++ byte ∷ []) made.rest (sym (ap (list_all is_small) made.is) ∙ made_small number few) in
     let last = all_front is_small front (byte ∷ []) all.0 in
-    ltb-true byte 128 (and_both (is_small byte) true last.1).0
+    ltb-true byte 128 (and_parts (is_small byte) true last.1).0
 ascii a number size few front byte (inr given) =
-    small_letter byte (and_both (is_name_byte byte) true (all_front is_name_byte front (byte ∷ []) given.given.all).1).0
+    small_letter byte (and_parts (is_name_byte byte) true (all_front is_name_byte front (byte ∷ []) given.given.all).1).0

@@ -28,8 +28,5 @@ given_front front first rest r is letter test = (
   λ (g : IsGivenFront front). test ∙ g.all,
 )
 
-pub no_front : (front : List ℕ) (first : ℕ) (rest : List ℕ) → front ≡ first ∷ rest → is_letter first ≡ false → IsGivenFront front → ⊥
-no_front front first rest is letter g = false≢true (sym letter ∙ sym (ap (λ (l : List ℕ). is_letter (slice_index l 0)) is) ∙ g.letter)
-
 pub no_ascii : (byte : ℕ) → is_ascii byte ≡ false → byte < 128 → ⊥
 no_ascii byte none small = false≢true (sym none ∙ lt-ltb byte 128 small)

@@ -1,10 +1,9 @@
 -- The names of one kind, each of the next entity in the directory so far; and a reader of them, at each name.
-use Rattle.std.proofs.Common.{◌≡◌, ◌<◌, ◌≤◌, inr, ℕ, zero, suc, ◌+◌, ◌-◌, if◌then◌else◌, List, [], ◌∷◌, ◌++◌, length, Some, None, refl, sym, ap, subst, ◌∙◌, arith}
+use Rattle.std.proofs.Common.{◌≡◌, ◌<◌, ◌≤◌, inr, ℕ, zero, suc, ◌+◌, ◌-◌, List, [], ◌∷◌, ◌++◌, length, None, refl, sym, ap, subst, ◌∙◌, arith}
 use Rattle.std.proofs.lemmas.List.{length-append}
-use borrow.Author.Tests.{lt-ltb}
 use Rattle.hop_base.specs.declared.entities.Kind.{Kind}
 use Rattle.hop_base.specs.declared.entities.Kind.TheVariants.{Atlas, Container, Locus}
-use Rattle.atlas_dir.specs.Directory.{Directory, IsDirectory, IsNameOf, entity_named, free_number, made_name, name_of, with_entity}
+use Rattle.atlas_dir.specs.Directory.{Directory, IsDirectory, IsNameOf, entity_named, made_name, name_of, with_entity}
 use Rattle.atlas_dir.proofs.Naming.{born_container, born_locus, free_container_none, free_locus_none, made_is_new}
 use Rattle.snapshot_reading.specs.blob_grammar.Spelling.{text_bytes}
 use Rattle.snapshot_reading.specs.Fields.{IsFound, IsRefused, Spells}
@@ -22,11 +21,6 @@ pub next_free : (kind : Kind) → (kind ≡ Atlas → ⊥) → (a : Directory) �
 next_free Atlas other a room = absurd (other refl)
 next_free Container other a room = free_container_none a room
 next_free Locus other a room = free_locus_none a
-
-pub free_is : (kind : Kind) → (kind ≡ Atlas → ⊥) → (a : Directory) → length (names_in kind a) < most_names kind → free_number a kind ≡ Some (next_number kind a)
-free_is Atlas other a room = absurd (other refl)
-free_is Container other a room = ap (λ b. if b then Some (length a.containers + 1) else None) (lt-ltb (length a.containers) 40 room)
-free_is Locus other a room = ap (λ b. if b then Some (length a.loci + 41) else None) (lt-ltb (length a.loci) 23 room)
 
 pub still_directory : (kind : Kind) → (kind ≡ Atlas → ⊥) → (a : Directory) (name : List ℕ) → IsDirectory a → length (names_in kind a) < most_names kind → IsNameOf (next_number kind a) name → entity_named a name ≡ None
     → IsDirectory (with_entity a kind name)

@@ -7,7 +7,7 @@ use Rattle.snapshot_reading.specs.Fields.{IsFound, IsRefused, Spells}
 use Rattle.snapshot_reading.proofs.Sequences.{refused_as}
 use Rattle.atlas_reading.specs.Names.{GoesOn, IsTextIn, IsTextSpelled}
 use Rattle.atlas_reading.proofs.NameFronts.{goes_on, went_on}
-use Rattle.atlas_reading.proofs.Texts.{text_cut_off, text_refused}
+use Rattle.snapshot_reading.proofs.Texts.{text_cut_off, text_refused}
 
 module _ (a : Directory) (number size : ℕ) (bytes : List ℕ) where
   -- the text so far begins a name, and stands before the rest

@@ -8,24 +8,22 @@ ghost use Rattle.snapshot_reading.specs.Places.{IsBadBlob};
 
 use crate::edges::read_edges;
 use crate::names::read_names;
-use atlas_dir::{Atlas, CONTAINERS, LOCI};
-use hop_base::Kind;
+use atlas_dir::Atlas;
+use hop_base::{Kind, MOST_CONTAINERS, MOST_LOCI};
+use snapshot_reading::blob_grammar::ATLAS_BLOB;
 use snapshot_reading::fields::{Parsed, read_byte};
 use snapshot_reading::{BadBlob, place_of};
-
-/// The first byte of an atlas's blob.
-const ATLAS: u8 = 0;
 
 /// An atlas.
 fn read_fields<'a>(bytes: &'a [u8]) -> Parsed<'a, Atlas>
     ensures read { IfOk result (λ r. IsFound IsAtlasSpelled bytes.now r.0 r.1.now) }
     ensures refused { IfErr result (λ stuck. IsRefused (IsSpelling AtlasKind) bytes.now stuck.rest.now) }
 {
-    let (kind, rest) = read_byte(bytes, ATLAS, ATLAS)?;
+    let (kind, rest) = read_byte(bytes, ATLAS_BLOB, ATLAS_BLOB)?;
     let mut atlas = Atlas::new();
-    let (containers, rest) = read_byte(rest, 0, CONTAINERS as u8)?;
+    let (containers, rest) = read_byte(rest, 0, MOST_CONTAINERS as u8)?;
     let (all_containers, rest) = read_names(rest, containers, Kind::Container, &mut atlas)?;
-    let (loci, rest) = read_byte(rest, 0, LOCI as u8)?;
+    let (loci, rest) = read_byte(rest, 0, MOST_LOCI as u8)?;
     let (all_loci, rest) = read_names(rest, loci, Kind::Locus, &mut atlas)?;
     let (all_edges, rest) = match read_edges(rest, &mut atlas) {
         Ok(read) => read,

@@ -4,15 +4,15 @@ ghost use Rattle.atlas_dir.specs.Directory.{edges_of};
 ghost use Rattle.atlas_reading.specs.Edges.{AreEdgesSpelled, IsEdgeIn, counted_as, least_column as least_column_of, most_column as most_column_of, pair_of, row_of};
 ghost use Rattle.snapshot_reading.specs.Fields.{IsFound, IsRefused, Spells};
 
-use atlas_dir::{Atlas, CONTAINERS};
-use hop_base::{Entity, MOST_REGIONS};
+use atlas_dir::Atlas;
+use hop_base::{Entity, MOST_CONTAINERS, MOST_REGIONS};
 use snapshot_reading::fields::{Parsed, read_byte, read_number};
 
 /// The containers.
-const SIDE: u16 = CONTAINERS as u16;
+const ROWS: u16 = MOST_CONTAINERS as u16;
 
 /// The pairs of containers.
-const PAIRS: u16 = SIDE * SIDE;
+const PAIRS: u16 = ROWS * ROWS;
 
 /// The last pair of containers.
 const LAST_PAIR: u16 = PAIRS - 1;
@@ -30,7 +30,7 @@ fn row(pair: u16) -> u8
     requires { pair < PAIRS }
     ensures { result ≡ row_of pair }
 {
-    (pair / SIDE + 1) as u8
+    (pair / ROWS + 1) as u8
 }
 
 /// The least second container of an edge from this one, where the pair is not before that one.
@@ -39,7 +39,7 @@ fn least_column(pair: u16, from: u8) -> u8
     ensures { result ≡ least_column_of pair from }
 {
     if from == row(pair) {
-        (pair % SIDE + 1) as u8
+        (pair % ROWS + 1) as u8
     } else {
         1
     }
@@ -51,19 +51,19 @@ fn most_column(pair: u16, from: u8) -> u8
     ensures { result ≡ most_column_of pair from }
 {
     if from == row(pair) {
-        (pair % SIDE + 1) as u8
+        (pair % ROWS + 1) as u8
     } else {
-        CONTAINERS as u8
+        MOST_CONTAINERS as u8
     }
 }
 
 /// The place of a pair among all pairs.
 fn pair(edge: &Edge) -> u16
-    requires from { (1 ≤ edge.now.from) × (edge.now.from ≤ CONTAINERS) }
-    requires to { (1 ≤ edge.now.to) × (edge.now.to ≤ CONTAINERS) }
+    requires from { (1 ≤ edge.now.from) × (edge.now.from ≤ MOST_CONTAINERS) }
+    requires to { (1 ≤ edge.now.to) × (edge.now.to ≤ MOST_CONTAINERS) }
     ensures { result ≡ pair_of edge.now.from edge.now.to }
 {
-    SIDE * (edge.from as u16 - 1) + (edge.to as u16 - 1)
+    ROWS * (edge.from as u16 - 1) + (edge.to as u16 - 1)
 }
 
 /// An edge of a pair that is neither before the one nor behind the other.

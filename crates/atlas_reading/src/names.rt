@@ -8,12 +8,12 @@ ghost use Rattle.snapshot_reading.specs.blob_grammar.Places.{Begins};
 ghost use Rattle.snapshot_reading.specs.Fields.{IsFound, IsRefused, Spells};
 
 use arrayvec::ArrayString;
-use atlas_dir::{Atlas, is_letter, is_name_byte, made_name};
+use atlas_dir::{Atlas, NAME_LENGTH, is_letter, is_name_byte, made_name};
 use hop_base::{FIRST_CONTAINER, FIRST_LOCUS, Kind, MOST_ENTITIES};
 use snapshot_reading::fields::{Parsed, Stuck};
 
 /// The bytes of a name at most.
-const LONGEST: u8 = 24;
+const LONGEST_NAME: u8 = NAME_LENGTH as u8;
 
 /// The first byte behind the letters.
 const PAST_LETTERS: u8 = b'z' + 1;
@@ -111,7 +111,7 @@ fn read_text<'a>(bytes: &'a [u8], atlas: &Atlas, number: u8, size: u8) -> Parsed
     requires directory { IsDirectory atlas.now }
     requires number { number < MOST_ENTITIES }
     requires free { name_of atlas.now number ≡ None }
-    requires size { size ≤ LONGEST }
+    requires size { size ≤ LONGEST_NAME }
     requires some { Begins (IsTextIn atlas.now number size) [] }
     ensures read { IfOk result (λ r. IsFound (IsTextSpelled atlas.now number size) bytes.now r.0.bytes r.1.now) }
     ensures refused { IfErr result (λ stuck. IsRefused (Spells (IsTextSpelled atlas.now number size)) bytes.now stuck.rest.now) }
@@ -136,7 +136,7 @@ fn is_size(atlas: &Atlas, size: u8) -> bool
     ensures yes { OnTrue result (IsSize atlas.now size) }
     ensures no { OnFalse result (IsSize atlas.now size → ⊥) }
 {
-    size >= 1 && size <= LONGEST && (size > 1 || has_short_name(atlas))
+    size >= 1 && size <= LONGEST_NAME && (size > 1 || has_short_name(atlas))
 }
 
 /// How many bytes the next name has.

@@ -1,14 +1,10 @@
 -- Lists of touches and of entities.
-use Rattle.std.proofs.Common.{◌≡◌, ℕ, Bool, true, false, ◌&&◌, ◌||◌, ◌==◌, ◌⊎◌, inl, inr, List, [], ◌∷◌, ◌++◌, refl, ap, ◌∙◌, eq-eqb, eqb-true}
+use Rattle.std.proofs.Common.{◌≡◌, ℕ, Bool, true, false, ◌&&◌, ◌||◌, ◌==◌, inl, inr, List, [], ◌∷◌, ◌++◌, refl, ap, ◌∙◌, eq-eqb, eqb-true}
 use Rattle.std.specs.List.{list_any}
-use Rattle.std.proofs.lemmas.Bool.{false≢true}
+use Rattle.std.proofs.lemmas.Bool.{false≢true, or_cases}
 use Rattle.hop_base.specs.declared.histories.Touch.{Touch}
 use Rattle.hop_model.specs.Pasts.{entities, has}
 use Rattle.hop_model.proofs.Basics.{and_left, and_right, both, or_left, or_right}
-
-pub or_cases : (a b : Bool) → (a || b) ≡ true → (a ≡ true) ⊎ (b ≡ true)
-or_cases true b h = inl refl
-or_cases false b h = inr h
 
 pub has_append : (ys zs : List ℕ) (x : ℕ) → has (ys ++ zs) x ≡ (has ys x || has zs x)
 has_append [] zs x = refl

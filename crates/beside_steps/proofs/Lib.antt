@@ -2,6 +2,7 @@ pub mod Wants
 pub mod Pairs
 pub mod BesideSteps
 pub mod Extents
+pub mod Touching
 pub use Rattle.kernel_cells.proofs.event_clocks_lemmas
 pub use Rattle.kernel_cells.proofs as kernel_cells_lemmas
 pub use Rattle.kernel_cells.proofs.locus_machine_lemmas

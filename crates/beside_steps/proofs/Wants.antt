@@ -15,9 +15,7 @@ use Rattle.kernel_cells.specs.kernel_calls.Calls.{CallMade}
 use Rattle.kernel_cells.specs.declared.cells.Part.{Part}
 use Rattle.kernel_cells.specs.declared.cells.Part.TheVariants as part
 use Rattle.beside_steps.specs.Besides.{FitsBeside, WantsOther, calls_container, is_snap}
-
-yes_no : true ≡ false → ⊥
-yes_no e = cc
+use Rattle.std.proofs.lemmas.Bool.{true≢false}
 
 -- THE SAME ACT FOR EACH OTHER NUMBER
 
@@ -42,7 +40,7 @@ unfolding allowed
 allowed_apart me x l (Stop c) names is apart = self_apart me x (entity_of l c) (Stop c) is apart
 allowed_apart me x l (Go c) names is apart = self_apart me x (entity_of l c) (Go c) is apart
 allowed_apart me x l (Snap c) names is apart = self_apart me x (entity_of l c) (Snap c) is apart
-allowed_apart me x l i names is apart = absurd (yes_no (sym names))
+allowed_apart me x l i names is apart = absurd (true≢false (sym names))
 
 -- a locus that isn't the other entity wants the same act
 pub wanted_apart : (me x : ℕ) (l : LocusState) → (wanted 64 l).other ≡ Some x → me ≢ x → wanted me l ≡ wanted 64 l
@@ -65,7 +63,7 @@ other_makes s me x l a cell i h apart = ap (λ w. outcome s l w a cell) (wanted_
 
 -- an instruction that doesn't halt has its place in the code
 pub snap_within : (l : LocusState) (i : Instr) (x : ℕ) → IsReadyLocus l → WantsOther l i x → is_snap i ≡ true → l.place < 128
-snap_within l i x ready h snaps = place_within l ready (λ halts. yes_no (sym snaps ∙ ap is_snap (sym h.instr ∙ (wanted_says 64 l).instr ∙ halts)))
+snap_within l i x ready h snaps = place_within l ready (λ halts. true≢false (sym snaps ∙ ap is_snap (sym h.instr ∙ (wanted_says 64 l).instr ∙ halts)))
 
 on_snap : (s : Supply) (l : LocusState) (a : AtlasState) (x : ℕ) (i : Instr) (cell : Cell) → is_snap i ≡ true → on_cell s l a x i cell ≡ with_other l Ok cell
 unfolding on_cell
@@ -86,7 +84,7 @@ pub record Touches (act : Act) (x : ℕ) : Type 0 where
   pub atlas : act.atlas ≡ false
   pub other : act.other ≡ Some x
 
-self_leaves : (me e : ℕ) (i : Instr) → (beside_or_self me i e).atlas ≡ false
+pub self_leaves : (me e : ℕ) (i : Instr) → (beside_or_self me i e).atlas ≡ false
 self_leaves me e i = elim (e == me) as (λ b. (if b then alone i None else beside i e).atlas ≡ false) [ true ↦ refl | false ↦ refl ]
 
 call_leaves : (me : ℕ) (l : LocusState) (i : Instr) → calls_container i ≡ true → (allowed me l i).atlas ≡ false

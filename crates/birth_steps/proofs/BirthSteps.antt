@@ -47,7 +47,7 @@ make_touches me l h = subst Touches (sym (wanted_allowed me l (birth_allowed is_
 pub spawn_touches : (me : ℕ) (l : LocusState) → WantsBirth is_spawn l → Touches (wanted me l)
 spawn_touches me l h = subst Touches (sym (wanted_allowed me l (birth_allowed is_spawn l h))) (allowed_spawn me l (instr_at l) (birth_instr is_spawn l h))
 
-accesses_bearing : (me x : ℕ) (act : Act) (o : Outcome) (k : ModelCell) → Touches act → o.newborn ≡ Some (x, k)
+pub accesses_bearing : (me x : ℕ) (act : Act) (o : Outcome) (k : ModelCell) → Touches act → o.newborn ≡ Some (x, k)
     → ordered (accesses_of me act o) ≡ insert_access (writing 0 (AtlasCell o.atlas)) (insert_access (writing x k) (writing me (LocusCell o.locus) ∷ []))
 accesses_bearing me x act o k h born =
     (λ i. ordered (with_atlas_access (h.atlas i) o.atlas (with_other_access (h.other i) o.other (with_newborn_access (born i) (writing me (LocusCell o.locus) ∷ [])))))
@@ -55,7 +55,7 @@ accesses_bearing me x act o k h born =
 low_accesses : (me x : ℕ) (i k j : ModelCell) → 0 < x → x < me → insert_access (writing 0 i) (insert_access (writing x k) (writing me j ∷ [])) ≡ writing 0 i ∷ writing x k ∷ writing me j ∷ []
 low_accesses me x i k j some lt = rw (lt-ltb x me lt) (rw (lt-ltb 0 x some) refl)
 
-high_accesses : (me x : ℕ) (i k j : ModelCell) → 0 < me → me < x → insert_access (writing 0 i) (insert_access (writing x k) (writing me j ∷ [])) ≡ writing 0 i ∷ writing me j ∷ writing x k ∷ []
+pub high_accesses : (me x : ℕ) (i k j : ModelCell) → 0 < me → me < x → insert_access (writing 0 i) (insert_access (writing x k) (writing me j ∷ [])) ≡ writing 0 i ∷ writing me j ∷ writing x k ∷ []
 high_accesses me x i k j some lt =
     let no : nat_lt x me ≡ false = grind (arith, nat_tests) in
     let far : (x == me) ≡ false = grind (arith, nat_tests) in

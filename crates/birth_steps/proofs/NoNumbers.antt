@@ -1,7 +1,7 @@
 -- Births where no number is free.
 use Rattle.std.proofs.Common.{◌≡◌, ◌⊎◌, inl, inr, ℕ, ◌+◌, ◌<◌, ◌≤◌, Bool, true, false, nat_lt, if◌then◌else◌, List, [], ◌∷◌, length, Option, Some, None, refl, sym, ap, subst, ◌∙◌, arith}
 use Rattle.std.proofs.lemmas.Bool.Decides.{nat_tests}
-use Rattle.std.proofs.lemmas.Bool.{lt-ltb}
+use Rattle.std.proofs.lemmas.Bool.{lt-ltb, true≢false}
 use Rattle.hop_base.specs.declared.histories.Answer.{Answer}
 use Rattle.hop_base.specs.declared.histories.Entry.{Entry}
 use Rattle.hop_base.specs.declared.histories.Answer.TheVariants.{Reply as Replied}
@@ -29,9 +29,6 @@ use Rattle.kernel_cells.specs.Steps.{Steps}
 use Rattle.kernel_cells.proofs.Stepping.{step_by, stepped_entry, written_cell}
 use Rattle.birth_steps.specs.Bearing.{MakesNone, NoNumberFree}
 use Rattle.birth_steps.proofs.BirthSteps.{Touches, in_state, make_touches, spawn_touches}
-
-yes_no : true ≡ false → ⊥
-yes_no e = cc
 
 no_container : (s : Supply) (l : LocusState) (a : AtlasState) (d pages tag : ℕ) (entry : Option ℕ) → 40 ≤ length a.containers → make s l a d pages tag entry ≡ with_atlas l NoNumber a None
 unfolding make
@@ -78,8 +75,8 @@ pub none_within : (l : LocusState) (d : Directory) → IsReadyLocus l → NoNumb
 none_within l d ready h = place_within l ready (λ halts. by halts h.is)
   where
     by : instr_at l ≡ Halt → (WantsBirth is_make l × (40 ≤ length d.containers)) ⊎ (WantsBirth is_spawn l × (23 ≤ length d.loci)) → ⊥
-    by halts (inl m) = yes_no (sym (birth_instr is_make l m.0) ∙ ap is_make halts)
-    by halts (inr m) = yes_no (sym (birth_instr is_spawn l m.0) ∙ ap is_spawn halts)
+    by halts (inl m) = true≢false (sym (birth_instr is_make l m.0) ∙ ap is_make halts)
+    by halts (inr m) = true≢false (sym (birth_instr is_spawn l m.0) ∙ ap is_spawn halts)
 
 pub none_touches : (me : ℕ) (l : LocusState) (d : Directory) → NoNumberFree l d → Touches (wanted me l)
 none_touches me l d h = by h.is

@@ -1,17 +1,10 @@
 -- A table without blocks.
-use Rattle.std.proofs.Common.{◌≡◌, ℕ, ◌/◌, ◌%◌, Bool, List, replicate, slice_index, ap, ◌∙◌, inl, inr, arith}
-use Rattle.std.proofs.lemmas.Bool.{cases_lt}
-use Rattle.std.proofs.lemmas.List.{get_or_past, get_or-replicate, length-replicate}
+use Rattle.std.proofs.Common.{◌≡◌, ℕ, ◌/◌, ◌%◌, Bool, List, replicate, slice_index, ap, ◌∙◌}
 use Rattle.kernel_cells.specs.hop_model.Outcomes.{supplied}
 use Rattle.kernel_cells.specs.hop_model.State.{Supply}
 use Rattle.kernel_cells.specs.fault_paging.declared.paged.PagedMemory.{PagedMemory}
 use Rattle.kernel_cells.specs.fault_paging.Words.{AreHeldBlocks, stored_word, words_of}
-
-zeros : (n k : ℕ) → slice_index (replicate n 0) k ≡ 0
-zeros n k = elim (cases_lt k n) [
-  | inl within ↦ get_or-replicate n k 0 0 within
-  | inr past ↦ get_or_past (replicate {A = ℕ} n 0) k 0 (omega (arith, length-replicate {A = ℕ} n 0))
-]
+use Rattle.atlas_dir.proofs.Paths.{zeros}
 
 -- it has no block for any page
 pub zero_at : (table : List ℕ) → table ≡ replicate 256 0 → (page : ℕ) → slice_index table page ≡ 0

@@ -20,17 +20,17 @@ use Rattle.blob_grammar.proofs.Sizes.{same_items}
 
 -- NAMES
 
-same_len : (s t : Text) → text_eq s t ≡ true → length s ≡ length t
+pub same_len : (s t : Text) → text_eq s t ≡ true → length s ≡ length t
 same_len [] [] h = refl
 same_len [] (y ∷ ys) h = absurd (false≢true h)
 same_len (x ∷ xs) [] h = absurd (false≢true h)
 same_len (x ∷ xs) (y ∷ ys) h = let rest = same_len xs ys (and_right (x == y) (text_eq xs ys) h) in omega (arith, rest)
 
-given_short : (name : Text) → is_given_name name ≡ true → length name ≤ 24
+pub given_short : (name : Text) → is_given_name name ≡ true → length name ≤ 24
 given_short name h =
     leb-true (length name) 24 (and_right (begins_with_letter name && list_all is_name_byte name) (nat_le (length name) 24) (and_left (begins_with_letter name && list_all is_name_byte name && nat_le (length name) 24) _ h))
 
-name_by : (n : ℕ) (name : Text) (b : Bool) → is_given_name name ≡ b → n < 100 → (b || text_eq name (made_name n)) ≡ true → length name ≤ 24
+pub name_by : (n : ℕ) (name : Text) (b : Bool) → is_given_name name ≡ b → n < 100 → (b || text_eq name (made_name n)) ≡ true → length name ≤ 24
 name_by n name true e small h = given_short name e
 name_by n name false e small h =
     let same : length name ≡ length (made_name n) = same_len name (made_name n) h in

@@ -41,7 +41,7 @@ one edges x y from to = one_by edges x y from to (edges from to == 0) refl
 
 -- SUMS OVER RANGES
 
-next_number : (f : ℕ → List Counted) (n : ℕ) → flat_map f (upto (suc n)) ≡ flat_map f (upto n) ++ f n
+pub next_number : (f : ℕ → List Counted) (n : ℕ) → flat_map f (upto (suc n)) ≡ flat_map f (upto n) ++ f n
 next_number f n = flat_map-append f (upto n) (n ∷ []) ∙ ap (λ (es : List Counted). flat_map f (upto n) ++ es) (append-nil (f n))
 
 count_next : (f : ℕ → List Counted) (x y n : ℕ) → count_in x y (flat_map f (upto (suc n))) ≡ count_in x y (flat_map f (upto n)) + count_in x y (f n)
@@ -84,9 +84,6 @@ same_both : (x y : ℕ) (b c : Bool) (n : ℕ) → (x == x) ≡ b → (y == y) �
 same_both x y true true n p q = refl
 same_both x y false c n p q = absurd (false≢true (sym p ∙ eq-eqb x x refl))
 same_both x y true false n p q = absurd (false≢true (sym q ∙ eq-eqb y y refl))
-
-abbrev row : Edges → ℕ → List Counted
-row edges from = flat_map (counted edges from) (upto 41)
 
 row_other : (edges : Edges) (x y from n : ℕ) → (from ≡ x → ⊥) → count_in x y (flat_map (counted edges from) (upto n)) ≡ 0
 row_other edges x y from zero other = refl

@@ -1,7 +1,7 @@
 pub mod Telling
 pub mod Instructions
 pub mod Fields
-mod Edges
+pub mod Edges
 pub mod Values
 pub mod Sizes
 mod AtlasSizes
@@ -10,3 +10,4 @@ pub mod Placing
 pub mod KindSizes
 pub mod Smallest
 mod Worked
+pub mod Lengths

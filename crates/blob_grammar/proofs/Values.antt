@@ -29,7 +29,7 @@ atlas a b f g =
     (λ t. λ i. record { containers = t.1.0 i; loci = t.1.1.0 i; edges = t.1.1.1 i })
 
 -- A CONTAINER
-abbrev IsShort : Region → Type 0
+abbrev pub IsShort : Region → Type 0
 IsShort r = r.count < 256 ^ 2
 
 regions_short : (rs : List Region) → All (IsRegionOver IsNumber) rs → AllByRecursion IsShort rs

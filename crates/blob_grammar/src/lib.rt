@@ -15,6 +15,12 @@ ghost use Rattle.blob_grammar.specs.Laws.{IsPrefixFree, bytes_of_blocks, most_by
 ghost use Rattle.blob_grammar.specs.Places.{GoesPast, IsBadPlace};
 ghost use Rattle.blob_grammar.specs.Shapes.{Born, BornContainer, IsContainerOver, IsLocusOver};
 
+mod kinds;
+
+pub use kinds::{
+    ATLAS_BLOB, CONTAINER_BLOB, LONG_LOCUS, NO_ENTRY, SHORT_CALLS, SHORT_LOCUS, SHORT_PRIVATES,
+};
+
 /// A spelling stands for one value; that of a container for one value up to its words, and for one table of blocks.
 pub fn one_value_law()
     ensures atlas { (a b : AtlasState) (bytes : List ℕ) → SpellsAtlas a bytes → SpellsAtlas b bytes → a ≡ b }

@@ -4,15 +4,16 @@ ghost use Rattle.part_checks.specs.image_meaning.Foreign.{IsFirstRest, blob_bad,
 ghost use Rattle.blob_loading.specs.Loading.{bad_for, place_in};
 
 use block_code::MOST_BLOB_BYTES;
+use disk_trait::BLOCK_BYTES;
 use hop_base::Rec;
 use log_reading::image_blocks::Bad;
 use part_checks::snapshot_reading::BadBlob;
 
 /// The bytes of a block.
-const BLOCK: u32 = 1024;
+const BLOCK: u32 = BLOCK_BYTES as u32;
 
 /// The place of the length in a body.
-const LENGTH: u16 = 4;
+const LENGTH_PLACE: u16 = 4;
 
 // The first byte from a place on that isn't 0.
 pub(crate) fn first_rest(room: &[u8], from: usize) -> Option<usize>
@@ -70,7 +71,7 @@ pub(crate) fn bad_of(rec: &Rec, body: u32, bad: BadBlob) -> Bad
         BadBlob::Malformed(place) => place_of(rec, place),
         BadBlob::TooLong(_) => Bad {
             block: body,
-            place: LENGTH,
+            place: LENGTH_PLACE,
         },
     }
 }

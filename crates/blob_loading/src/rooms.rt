@@ -7,14 +7,14 @@ ghost use Rattle.disk_trait.specs.Image.{block_at};
 ghost use Rattle.log_reading.specs.Reads.{ReadsOnly};
 
 use block_code::Blob;
-use disk_trait::{Disk, DiskFault};
+use disk_trait::{BLOCK_BYTES, Disk, DiskFault};
 
 // Adds the bytes of a block.
 fn add_block<D: Disk>(disk: &mut D, at: u32, room: &mut Blob) -> Result<(), DiskFault>
     requires there { at < D.block_count disk.old }
-    requires space { HasRoom room.old 1024 }
+    requires space { HasRoom room.old BLOCK_BYTES }
     ensures bytes { D.tells → OnOk result (room.new ≡ room.old ++ block_at (D.reading disk.old) at) }
-    ensures long { OnOk result (length room.new ≡ length room.old + 1024) }
+    ensures long { OnOk result (length room.new ≡ length room.old + BLOCK_BYTES) }
     ensures cause { HasCause (D.faults disk.old) (D.faults disk.new) result }
     ensures same { ReadsOnly D.tells D.block_count D.reading D.may_leave D.left_since D.clock D.faults disk.old disk.new }
 {
@@ -33,7 +33,7 @@ pub(crate) fn read_room<D: Disk>(
     requires there { All (λ b. b < D.block_count disk.old) blocks.now }
     requires few { length blocks.now ≤ 8 }
     ensures bytes { D.tells → OnOk result (room.new ≡ concat (map (block_at (D.reading disk.old)) blocks.now)) }
-    ensures long { OnOk result (length room.new ≡ 1024 * length blocks.now) }
+    ensures long { OnOk result (length room.new ≡ BLOCK_BYTES * length blocks.now) }
     ensures cause { HasCause (D.faults disk.old) (D.faults disk.new) result }
     ensures same { ReadsOnly D.tells D.block_count D.reading D.may_leave D.left_since D.clock D.faults disk.old disk.new }
 {

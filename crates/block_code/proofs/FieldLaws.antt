@@ -6,7 +6,7 @@ use Rattle.std.specs.Int.{byte_at, bytes_low_first}
 use borrow.Rule.Slice.PartMut.{put_mid, post_of}
 use Rattle.byteorder.specs.Endian.{little_bytes, little_number}
 use Rattle.byteorder.specs.Numbers.{length-bytes_low_first, little_from-cons, little_from-take, little_number-reads_back}
-use Rattle.block_code.specs.Fields.{bytes_at, number_at, with_number, HasNumber}
+use Rattle.block_code.specs.Fields.{bytes_at, number_at, with_number}
 
 -- a byte of a number, by its place
 byte_at-pow : (k x : ℕ) → byte_at k x ≡ x / 256 ^ k % 256
@@ -96,11 +96,6 @@ pub little_number-little_bytes : (width value : ℕ) → value < 256 ^ width →
 little_number-little_bytes width value fits =
     ap (little_number width) (sym (append-nil (little_bytes width value))) ∙ little_number-reads_back width value [] fits
 
--- no two numbers that fit have one spelling
-pub little_bytes-injective : (width x y : ℕ) → x < 256 ^ width → y < 256 ^ width → little_bytes width x ≡ little_bytes width y → x ≡ y
-little_bytes-injective width x y x_fits y_fits same =
-    sym (little_number-little_bytes width x x_fits) ∙ ap (little_number width) same ∙ little_number-little_bytes width y y_fits
-
 -- the number that was put is read back
 pub number_at-with_number_same : (at width value : ℕ) (bytes : List ℕ) → at + width ≤ length bytes → value < 256 ^ width
     → number_at at width (with_number at width value bytes) ≡ value
@@ -116,15 +111,6 @@ number_at-with_number_apart at width value from n bytes within apart =
     number_at-bytes_at from n (with_number at width value bytes)
     ∙ ap (little_number n) (bytes_at-with_number_apart at width value from n bytes within apart)
     ∙ sym (number_at-bytes_at from n bytes)
-
--- a field that was put has its number
-pub HasNumber-with_number : (at width value : ℕ) (bytes : List ℕ) → at + width ≤ length bytes → value < 256 ^ width
-    → HasNumber at width (with_number at width value bytes) value
-HasNumber-with_number at width value bytes within fits = record {
-  within = omega (arith, length-with_number at width value bytes within);
-  number = sym (number_at-with_number_same at width value bytes within fits);
-  spelled = bytes_at-with_number_same at width value bytes within;
-}
 
 -- what is left of a number above a byte, spelled from that byte on
 spelled_from : (j n x : ℕ) (bytes : List ℕ) → ((i : ℕ) → get_or bytes i 0 < 256) → n ≤ length bytes → x / 256 ^ j ≡ little_number n bytes

@@ -11,7 +11,7 @@ use std::marker::{Model, PhantomData};
 use std::sync::Wait;
 
 /// No number and no count of items passes 2^62.
-pub const MOST: u64 = 1 << 62;
+pub const MOST_COUNT: u64 = 1 << 62;
 
 /// The first number that is a pass's. Those before it are the seats' that write commits and items.
 const FIRST_PASS: u64 = 2;
@@ -96,7 +96,7 @@ impl<C: Line, T: Placed, B: Bench> Fresh<C, T, B> {
         let mut fresh = self;
         let mut number = FIRST_PASS;
         for _ in rt.forever() {
-            if number >= MOST {
+            if number >= MOST_COUNT {
                 continue;
             }
             match fresh.draw(alloc, slate, number) {

@@ -6,7 +6,7 @@ ghost use Rattle.chronicle.specs.Rules.{AllDiffer};
 
 use crate::lines::{Line, Placed};
 use crate::notices::StopNote;
-use crate::passes::{Fresh, MOST, Pass};
+use crate::passes::{Fresh, MOST_COUNT, Pass};
 use crate::seats::{add_item, cut_note};
 use crate::sides::{show_items, take_pass, tell_items};
 use crate::slates::{Bench, Slate};
@@ -77,7 +77,7 @@ impl<C: Line, T: Placed, B: Bench> Slip<C, T, B> {
         ensures others { (self.new.commits ≡ self.old.commits) × (self.new.back ≡ self.old.back) }
         ensures full { result ≡ false → 2 ^ 62 ≤ length self.old.items }
     {
-        if show_items(&slate.table, &mut self.seat, &mut pass.seat) >= MOST {
+        if show_items(&slate.table, &mut self.seat, &mut pass.seat) >= MOST_COUNT {
             return false;
         }
         let line = PassItem {

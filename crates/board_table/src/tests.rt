@@ -5,7 +5,7 @@ ghost use Rattle.board_table.specs.Items.{AreApart, IsRising};
 use crate::joint::{Desk, Recorded, Shelf};
 use crate::lines::{Line, Placed};
 use crate::opened::Opened;
-use crate::passes::{Fresh, MOST, Pass};
+use crate::passes::{Fresh, MOST_COUNT, Pass};
 use crate::passes_law;
 use crate::slates::{Bench, Slate};
 use crate::slips::Slip;
@@ -195,7 +195,7 @@ fn commit_both<B: Recorded<Mark, Mark>>(
 ) -> bool
     requires each { (es : List MarkSeen) → B.commits es ≡ es }
 {
-    if shelf.is_stopped() || shelf.count(slate) >= MOST || desk.room() == 0 {
+    if shelf.is_stopped() || shelf.count(slate) >= MOST_COUNT || desk.room() == 0 {
         return false;
     }
     let mark = Mark {
@@ -211,7 +211,7 @@ fn stop_both<B: Recorded<Mark, Mark>>(
     shelf: &mut Shelf<Mark, Spot, Mark, B>,
     desk: &mut Desk<Mark, Spot, Mark, B>,
 ) {
-    if !shelf.is_stopped() && shelf.count(slate) < MOST {
+    if !shelf.is_stopped() && shelf.count(slate) < MOST_COUNT {
         let mark = Mark {
             stops: true,
             entity: 0,

@@ -1,1 +1,1 @@
-pub mod Slots
+pub use Rattle.hop_base.specs.Slots

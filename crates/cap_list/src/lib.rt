@@ -3,7 +3,7 @@
 
 ghost use Rattle.std.specs.Prelude.{◌≡◌, ◌<◌, length, replicate, slice_set, Some, None, Ok, Err, IfSome, IfOk, MatchOption, OnOk, OnErr};
 ghost use Rattle.std.specs.Option.{ok_or};
-ghost use Rattle.cap_list.specs.Slots.{cap_at, free_slot};
+ghost use Rattle.hop_base.specs.Slots.{cap_at, free_slot};
 
 use hop_base::{Cap, Reply};
 use std::marker::Model;

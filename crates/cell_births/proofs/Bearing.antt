@@ -1,7 +1,7 @@
 -- Births in a state that has the touched cells.
 use Rattle.std.proofs.Common.{◌≡◌, ℕ, ◌+◌, ◌<◌, Bool, true, false, ◌&&◌, ◌||◌, ◌==◌, if◌then◌else◌, List, [], ◌∷◌, Some, None, is_none, length, option_map, refl, sym, ap, subst, ◌∙◌, arith, eq-eqb}
 use Rattle.std.specs.List.{list_any}
-use Rattle.std.proofs.lemmas.Bool.{lt-ltb}
+use Rattle.std.proofs.lemmas.Bool.{lt-ltb, or_parts}
 use Rattle.std.proofs.lemmas.Bool.Decides.{nat_tests}
 use Rattle.hop_base.specs.declared.histories.Answer.TheVariants.{Quiet}
 use Rattle.hop_base.specs.declared.histories.Entry.{Entry}
@@ -23,6 +23,7 @@ use Rattle.wish_laws.proofs.kernel_cells_lemmas.Stepping.{written_cell}
 use Rattle.atlas_dir.specs.Directory.{Directory}
 use Rattle.wish_laws.specs.kernel_calls.Calls.{atlas_state}
 use Rattle.cell_births.specs.Bearing.{Bears, IsBirthEntry, MayBearContainer, MayBearLocus}
+use Rattle.std.proofs.Math.Bool.{or-true}
 
 -- WHAT IS WRITTEN
 
@@ -30,22 +31,14 @@ and_true : (b : Bool) → (b && true) ≡ b
 and_true true = refl
 and_true false = refl
 
-or_true : (b : Bool) → (b || true) ≡ true
-or_true true = refl
-or_true false = refl
-
 pub last_two : (n : ℕ) → list_any (λ y. y == n) (0 ∷ n ∷ []) ≡ true
-last_two n = ap (λ b. (0 == n) || (b || false)) (eq-eqb n n refl) ∙ or_true (0 == n)
+last_two n = ap (λ b. (0 == n) || (b || false)) (eq-eqb n n refl) ∙ or-true (0 == n)
 
 pub middle_three : (h n : ℕ) → list_any (λ y. y == h) (0 ∷ h ∷ n ∷ []) ≡ true
-middle_three h n = ap (λ b. (0 == h) || (b || ((n == h) || false))) (eq-eqb h h refl) ∙ or_true (0 == h)
+middle_three h n = ap (λ b. (0 == h) || (b || ((n == h) || false))) (eq-eqb h h refl) ∙ or-true (0 == h)
 
 pub last_three : (h n : ℕ) → list_any (λ y. y == n) (0 ∷ h ∷ n ∷ []) ≡ true
-last_three h n = ap (λ b. (0 == n) || ((h == n) || (b || false))) (eq-eqb n n refl) ∙ ap (λ b. (0 == n) || b) (or_true (h == n)) ∙ or_true (0 == n)
-
-first_off : (a b : Bool) → (a || b) ≡ false → (a ≡ false) × (b ≡ false)
-first_off false b e = (refl, e)
-first_off true b e = cc
+last_three h n = ap (λ b. (0 == n) || ((h == n) || (b || false))) (eq-eqb n n refl) ∙ ap (λ b. (0 == n) || b) (or-true (h == n)) ∙ or-true (0 == n)
 
 abbrev pub two : ModelCell → ℕ → ModelCell → List Access
 two i n k = writing 0 i ∷ writing n k ∷ []
@@ -65,15 +58,15 @@ stays w accesses x none = ap (accessed (w x) (joined w (touches_of w accesses)))
 
 stays_two : (w : KernelState) (i : ModelCell) (n : ℕ) (k : ModelCell) (x : ℕ) → list_any (λ y. y == x) (0 ∷ n ∷ []) ≡ false → changed w (two i n k) x ≡ w x
 stays_two w i n k x none =
-    let h = first_off (0 == x) ((n == x) || false) none in
-    let g = first_off (n == x) false h.1 in
+    let h = or_parts (0 == x) ((n == x) || false) none in
+    let g = or_parts (n == x) false h.1 in
     stays w (two i n k) x ((λ p. if h.0 p then Some (writing 0 i) else if n == x then Some (writing n k) else None) ∙ (λ p. if g.0 p then Some (writing n k) else None))
 
 stays_three : (w : KernelState) (i : ModelCell) (h : ℕ) (j : ModelCell) (n : ℕ) (k : ModelCell) (x : ℕ) → list_any (λ y. y == x) (0 ∷ h ∷ n ∷ []) ≡ false → changed w (three i h j n k) x ≡ w x
 stays_three w i h j n k x none =
-    let a = first_off (0 == x) ((h == x) || ((n == x) || false)) none in
-    let b = first_off (h == x) ((n == x) || false) a.1 in
-    let c = first_off (n == x) false b.1 in
+    let a = or_parts (0 == x) ((h == x) || ((n == x) || false)) none in
+    let b = or_parts (h == x) ((n == x) || false) a.1 in
+    let c = or_parts (n == x) false b.1 in
     stays w (three i h j n k) x
     ((λ p. if a.0 p then Some (writing 0 i) else if h == x then Some (writing h j) else if n == x then Some (writing n k) else None)
     ∙ (λ p. if b.0 p then Some (writing h j) else if n == x then Some (writing n k) else None)

@@ -13,7 +13,7 @@ use Rattle.wish_laws.specs.hop_model.State.{Text}
 use Rattle.wish_laws.specs.hop_model.Words.{overlaps}
 use Rattle.script_against.specs.script_form.Rules.{AreAllApart, AreApart, IsRegionTable}
 use Rattle.script_against.proofs.sound_runs_lemmas.Tables.{all_regions, length_regions}
-use Rattle.region_map.specs.Regions.{IsRegion, add_answer, insert_region as region_put}
+use Rattle.region_map.specs.Regions.{IsRegion, add_answer, insert_region}
 use Rattle.wish_laws.proofs.kernel_calls_lemmas.MapLemmas.{added}
 
 -- a mapped list from a place on, one item more
@@ -60,7 +60,7 @@ none_met number t ts all =
 pub regions_more : {X : Type 0} (number : Text → Option ℕ) (known : List Text) (pages : ℕ) (f : X → RegionTable) (xs : List X) (i j : ℕ) (x : X) (result : Result (Unit {0}) Reply) (new : List Region)
     → j + 1 ≡ i → i ≤ length xs → x ≡ get_or xs j x → AreRegionTables known pages (map f xs)
     → result ≡ add_answer 16 (region_from number (f x)) (regions_from number (drop i (map f xs)))
-    → OnOk result (new ≡ region_put (region_from number (f x)) (regions_from number (drop i (map f xs))))
+    → OnOk result (new ≡ insert_region (region_from number (f x)) (regions_from number (drop i (map f xs))))
     → new ≡ regions_from number (drop j (map f xs))
 regions_more number known pages f xs i j x result new e le is tables answer done =
     let rest = drop i (map f xs) in

@@ -4,7 +4,7 @@ use Rattle.std.specs.List.{All}
 use Rattle.std.specs.Option.{ForSome}
 use Rattle.std.proofs.lemmas.List.Elements.{All-take}
 use Rattle.std.proofs.lemmas.List.{length-take-le}
-use Rattle.std.proofs.lemmas.Option.{slice_get-get_or, slice_get_within}
+use Rattle.std.proofs.lemmas.Option.{same_Some, slice_get-get_or, slice_get_within}
 use Rattle.hop_base.specs.declared.capabilities.Cap.{Cap}
 use Rattle.hop_base.specs.declared.instructions.Walk.{Walk}
 use Rattle.address_resolve.specs.locus_machine.declared.loci.Head.{Head}
@@ -14,13 +14,10 @@ use Rattle.snapshot_form.specs.blob_grammar.Forms.{HaveByteRights, IsContainerFo
 use Rattle.snapshot_form.specs.blob_grammar.Shapes.{IsContainerOver, IsLocusOver}
 use Rattle.cell_blobs.specs.Ranges.{HasByteRights}
 
-pub some_same : {X : Type 0} (x y : X) → Some x ≡ Some y → x ≡ y
-some_same x y e = cc
-
 byte_rights : (caps : List (Option Cap)) → All HasByteRights caps → HaveByteRights caps
 byte_rights caps each slot held at =
     let within : slot < length caps = slice_get_within caps slot (Some held) at in
-    each slot None within held (some_same _ _ (sym (slice_get-get_or caps slot None within) ∙ at))
+    each slot None within held (same_Some _ _ (sym (slice_get-get_or caps slot None within) ∙ at))
 
 -- a container with the blocks of its pages
 pub container_form : (h : Head) (table : List ℕ) → IsContainerOver IsNumber IsNumber (container_with (λ _. 0) h) → h.tag < 2 ^ 64 → h.every < 2 ^ 32

@@ -12,7 +12,7 @@ use Rattle.touch_laws.specs.kernel_cells.declared.cells.Part.TheVariants as part
 use Rattle.touch_laws.specs.beside_steps.Besides.{memory_of}
 use Rattle.cell_laws.specs.Memories.{HasOwnMemory}
 use Rattle.cell_table.specs.Tables.{AreNumbered, HasKind, HasNews, IsOrderly, blocks_by, memory_at, tables_in}
-use Rattle.cell_table.proofs.Having.{some_cell}
+use Rattle.std.proofs.lemmas.Option.{same_Some}
 
 -- the part is the container that it was, whose blocks may be others
 pub record LooksAt (held held' : ℕ → Bool) (b b' : Cell) : Type 0 where
@@ -123,18 +123,18 @@ module _ (held held' : ℕ → Bool) (cs cs' : List Cell) (me y : ℕ) (a b a' b
     where
       each : (x : ℕ) (d : Cell) → slice_get cs' x ≡ Some d → d.clock.entity ≡ x
       each x d is = elim (same_or x me) as (λ _. d.clock.entity ≡ x) [
-        | inl here ↦ ap (λ (c : Cell). c.clock.entity) (some_cell d a' (sym is ∙ ap (slice_get cs') here ∙ two.is_a)) ∙ two.same_a ∙ orderly.numbers.each me a two.was_a ∙ sym here
+        | inl here ↦ ap (λ (c : Cell). c.clock.entity) (same_Some d a' (sym is ∙ ap (slice_get cs') here ∙ two.is_a)) ∙ two.same_a ∙ orderly.numbers.each me a two.was_a ∙ sym here
         | inr other ↦ elim (same_or x y) as (λ _. d.clock.entity ≡ x) [
-          | inl here ↦ ap (λ (c : Cell). c.clock.entity) (some_cell d b' (sym is ∙ ap (slice_get cs') here ∙ two.is_b)) ∙ two.same_b ∙ orderly.numbers.each y b two.was_b ∙ sym here
+          | inl here ↦ ap (λ (c : Cell). c.clock.entity) (same_Some d b' (sym is ∙ ap (slice_get cs') here ∙ two.is_b)) ∙ two.same_b ∙ orderly.numbers.each y b two.was_b ∙ sym here
           | inr apart ↦ orderly.numbers.each x d (sym (two.others x other apart) ∙ is)
         ]
       ]
 
   kinds_after : (x : ℕ) (d : Cell) → slice_get cs' x ≡ Some d → HasKind x d.part
   kinds_after x d is = elim (same_or x me) as (λ _. HasKind x d.part) [
-    | inl here ↦ subst (λ (c : Cell). HasKind x c.part) (some_cell a' d (sym (ap (slice_get cs') here ∙ two.is_a) ∙ is)) (subst (λ n. HasKind n a'.part) (sym here) kind)
+    | inl here ↦ subst (λ (c : Cell). HasKind x c.part) (same_Some a' d (sym (ap (slice_get cs') here ∙ two.is_a) ∙ is)) (subst (λ n. HasKind n a'.part) (sym here) kind)
     | inr other ↦ elim (same_or x y) as (λ _. HasKind x d.part) [
-      | inl here ↦ subst (λ (c : Cell). HasKind x c.part) (some_cell b' d (sym (ap (slice_get cs') here ∙ two.is_b) ∙ is))
+      | inl here ↦ subst (λ (c : Cell). HasKind x c.part) (same_Some b' d (sym (ap (slice_get cs') here ∙ two.is_b) ∙ is))
           (subst (λ n. HasKind n b'.part) (sym here) (subst (HasKind y) (sym looks.is) (container_kind (subst (HasKind y) looks.was (orderly.kinds y b two.was_b)))))
       | inr apart ↦ orderly.kinds x d (sym (two.others x other apart) ∙ is)
     ]
@@ -160,9 +160,9 @@ module _ (held held' : ℕ → Bool) (cs cs' : List Cell) (me y : ℕ) (a b a' b
 
   own_after : (x : ℕ) (d : Cell) → slice_get cs' x ≡ Some d → HasOwnMemory held' d.part
   own_after x d is = elim (same_or x y) as (λ _. HasOwnMemory held' d.part) [
-    | inl here ↦ subst (λ (c : Cell). HasOwnMemory held' c.part) (some_cell b' d (sym (ap (slice_get cs') here ∙ two.is_b) ∙ is)) (subst (HasOwnMemory held') (sym looks.is) (looks.of, looks.table))
+    | inl here ↦ subst (λ (c : Cell). HasOwnMemory held' c.part) (same_Some b' d (sym (ap (slice_get cs') here ∙ two.is_b) ∙ is)) (subst (HasOwnMemory held') (sym looks.is) (looks.of, looks.table))
     | inr apart ↦ elim (same_or x me) as (λ _. HasOwnMemory held' d.part) [
-      | inl here ↦ subst (λ (c : Cell). HasOwnMemory held' c.part) (some_cell a' d (sym (ap (slice_get cs') here ∙ two.is_a) ∙ is)) (none_own a'.part kind)
+      | inl here ↦ subst (λ (c : Cell). HasOwnMemory held' c.part) (same_Some a' d (sym (ap (slice_get cs') here ∙ two.is_a) ∙ is)) (none_own a'.part kind)
       | inr other ↦ own_apart x d.part apart (λ q. ap (λ o. slice_index (blocks_by (memory_at o)) q) (sym is) ∙ ap (λ t. slice_index t q) (table_same x apart)) (orderly.own x d (sym (two.others x other apart) ∙ is))
     ]
   ]

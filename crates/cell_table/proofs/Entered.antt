@@ -9,13 +9,11 @@ use Rattle.touch_laws.specs.Touching.{IsNoted}
 use Rattle.touch_laws.proofs.Noted.{names}
 use Rattle.cell_table.specs.Steps.{ChangesThree, EntersStep}
 use Rattle.cell_table.proofs.PartKinds.{version_rises}
+use Rattle.std.proofs.lemmas.Bool.{false≢true}
 
 -- a cell stays, of an entity that isn't written, or takes in the step
 abbrev pub StaysOrNotes : Entry → Option LocusState → ℕ → Cell → Cell → Type 0
 StaysOrNotes e l x c d = ((d ≡ c) × (writes e x ≡ false)) ⊎ ((c.clock.entity ≡ x) × IsNoted e l c d)
-
-no_yes : false ≡ true → ⊥
-no_yes e = cc
 
 pub entered_by : (s : Supply) (me : ℕ) (w v : KernelState) (cs cs' : List Cell) (e : Entry) (l : Option LocusState) → step s me w ≡ Some (e, v)
     → ((x : ℕ) (c : Cell) → slice_get cs x ≡ Some c → (w x).version ≡ c.clock.version) → ((x : ℕ) (d : Cell) → slice_get cs' x ≡ Some d → (v x).version ≡ d.clock.version)
@@ -39,10 +37,10 @@ entered_by s me w v cs cs' e l is before after notes three = record {
 
     left : (x : ℕ) (c d : Cell) → StaysOrNotes e l x c d → d.left + (if x == me then 1 else 0) ≡ c.left
     left x c d (inl stays) = elim (x == me) as (λ b. (x == me) ≡ b → d.left + (if b then 1 else 0) ≡ c.left) [
-      | true ↦ λ here. absurd (no_yes (sym stays.1 ∙ ap (writes e) (eqb-true x me here) ∙ (names s me w v e is).2))
+      | true ↦ λ here. absurd (false≢true (sym stays.1 ∙ ap (writes e) (eqb-true x me here) ∙ (names s me w v e is).2))
       | false ↦ λ _. (let same : d.left ≡ c.left = ap (λ (k : Cell). k.left) stays.0 in omega arith)
     ] refl
     left x c d (inr note) = elim (x == me) as (λ b. (x == me) ≡ b → d.left + (if b then 1 else 0) ≡ c.left) [
       | true ↦ λ here. note.1.spends (note.0 ∙ eqb-true x me here ∙ sym (names s me w v e is).0)
-      | false ↦ λ other. (let same = note.1.stays (λ at. absurd (no_yes (sym other ∙ eq-eqb x me (sym note.0 ∙ at ∙ (names s me w v e is).0)))) in omega (arith, same))
+      | false ↦ λ other. (let same = note.1.stays (λ at. absurd (false≢true (sym other ∙ eq-eqb x me (sym note.0 ∙ at ∙ (names s me w v e is).0)))) in omega (arith, same))
     ] refl

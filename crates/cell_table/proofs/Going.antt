@@ -16,9 +16,7 @@ use Rattle.cell_table.specs.Lending.{ForPairs, IsApart, Lends}
 use Rattle.cell_table.proofs.Having.{each_has, each_wishes, is_entity, raised_cells, state_has_all, wishes_all}
 use Rattle.cell_table.proofs.Lent.{spot}
 use Rattle.cell_table.proofs.Untouched.{raised, untouched, untouched_stays, untouched_unwritten}
-
-some_same : {A : Type 0} (x y : A) → Some x ≡ Some y → x ≡ y
-some_same x y e = cc
+use Rattle.std.proofs.lemmas.Option.{same_Some}
 
 module _ (s : Supply) (words words' : ℕ → List ℕ) (me : ℕ) (cs cs' old new : List Cell) (e : Entry)
     (steps : StepsCells s words words' me old new e) (lends : Lends cs cs' old new) (numbers : AreNumbered cs)
@@ -60,7 +58,7 @@ module _ (s : Supply) (words words' : ℕ → List ℕ) (me : ℕ) (cs cs' old n
     pub table_wishes : HasTableWishes count (goes_on s script r e) cs'
     table_wishes x d is =
         elim (spot (λ c d. HasWish count (after_step r e (locus_in (r.state me).cell) (state_in s words' cs')) d) cs cs' x old new lends lent_wishes) as (λ _. HasWish count (goes_on s script r e) d) [
-          | inl k ↦ subst (HasWish count (goes_on s script r e)) (some_same k.after d (sym k.is ∙ is)) (wish_left s script r me e (state_in s words' cs') made count k.after k.holds)
+          | inl k ↦ subst (HasWish count (goes_on s script r e)) (same_Some k.after d (sym k.is ∙ is)) (wish_left s script r me e (state_in s words' cs') made count k.after k.holds)
           | inr k ↦ (
               let here = sym k.same ∙ is in
               unwritten_wish s script r me e (state_in s words' cs') made d

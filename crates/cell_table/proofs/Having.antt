@@ -9,15 +9,7 @@ use Rattle.step_cells.specs.Advances.{HasCells, HasWishes}
 use Rattle.cell_table.specs.Tables.{HasTableWishes, entity_by, entity_in, state_in}
 use Rattle.cell_table.specs.Lending.{ForPairs, IsApart, IsSameNumber, StandIn}
 use Rattle.cell_table.proofs.Untouched.{raised, raised_apart}
-
-pub some_cell : (c d : Cell) → Some c ≡ Some d → c ≡ d
-some_cell c d e = cc
-
-pub no_supply : Supply
-no_supply page at word = 0
-
-pub no_words : ℕ → List ℕ
-no_words n = []
+pub use Rattle.step_cells.proofs.Taking.{no_supply, no_words}
 
 -- a state has a cell where its entity is the cell's
 pub has_cell : (s : Supply) (words : ℕ → List ℕ) (w : KernelState) (c : Cell) → w c.clock.entity ≡ entity_by s words c → HasCell s words w c

@@ -15,11 +15,8 @@ use Rattle.sound_states.specs.States.{IsSoundState}
 use Rattle.cell_table.specs.Lending.{ForPairs, IsSameNumber, Lends}
 use Rattle.cell_table.specs.Quiet.{GoesQuietly}
 use Rattle.cell_table.specs.Tables.{AreClean, AreNumbered, HasKind, IsOrderly, blocks_by, memory_at, state_in, tables_in}
-use Rattle.cell_table.proofs.Having.{some_cell}
 use Rattle.cell_table.proofs.Lent.{spot}
-
-some_memory : (m k : PagedMemory) → Some m ≡ Some k → m ≡ k
-some_memory m k e = cc
+use Rattle.std.proofs.lemmas.Option.{same_Some}
 
 tags : Option Head → Option ℕ
 tags o = option_map (λ (h : Head). h.tag) o
@@ -27,14 +24,11 @@ tags o = option_map (λ (h : Head). h.tag) o
 counts : Option Head → Option ℕ
 counts o = option_map (λ (h : Head). h.pages) o
 
-some_number : (n k : ℕ) → Some n ≡ Some k → n ≡ k
-some_number n k e = cc
-
 -- a memory that is kept is the part's own as before
 own_by : (held : ℕ → Bool) (m k : PagedMemory) (g h : Option Head) → k ≡ m → tags h ≡ tags g → counts h ≡ counts g → IsOwn m g × IsSoundTable held m → IsOwn k h × IsSoundTable held k
 unfolding tags counts
 own_by held m k (Some g) (Some h) same tag pages own = (
-  record { tag = ap (λ (m : PagedMemory). m.tag) same ∙ own.0.tag ∙ sym (some_number h.tag g.tag tag); pages = ap (λ (m : PagedMemory). m.pages) same ∙ own.0.pages ∙ sym (some_number h.pages g.pages pages) },
+  record { tag = ap (λ (m : PagedMemory). m.tag) same ∙ own.0.tag ∙ sym (same_Some h.tag g.tag tag); pages = ap (λ (m : PagedMemory). m.pages) same ∙ own.0.pages ∙ sym (same_Some h.pages g.pages pages) },
   subst (IsSoundTable held) (sym same) own.1,
 )
 own_by held m k None None same tag pages own = (ap (λ (m : PagedMemory). m.pages) same ∙ own.0, subst (IsSoundTable held) (sym same) own.1)
@@ -43,7 +37,7 @@ own_by held m k None (Some h) same tag pages own = cc
 
 pub keeps_own : (held : ℕ → Bool) (p q : Part) → KeepsMemory p q → HasOwnMemory held p → HasOwnMemory held q
 unfolding tags counts
-keeps_own held (part.Container b) (part.Container d) keeps own = own_by held b.memory d.memory b.head d.head (some_memory d.memory b.memory keeps.memory) keeps.tag keeps.pages own
+keeps_own held (part.Container b) (part.Container d) keeps own = own_by held b.memory d.memory b.head d.head (same_Some d.memory b.memory keeps.memory) keeps.tag keeps.pages own
 keeps_own held (part.Atlas a) (part.Container d) keeps own = (let e = keeps.memory in cc)
 keeps_own held (part.Locus l) (part.Container d) keeps own = (let e = keeps.memory in cc)
 keeps_own held p (part.Atlas a) keeps own = tt
@@ -95,7 +89,7 @@ goes_clean s words c d m goes clean is = elim goes.memory as (λ _. AreCleanTrue
   | inl keeps ↦ clean m (sym keeps.memory ∙ is)
   | inr born ↦ (
       let new = born.1 in
-      subst (AreCleanTrue s words) (some_memory new.memory m (sym (ap memory_of new.is) ∙ is)) (new.clean s words))
+      subst (AreCleanTrue s words) (same_Some new.memory m (sym (ap memory_of new.is) ∙ is)) (new.clean s words))
 ]
 
 -- THE TABLE BEHIND AN EVENT over lent cells
@@ -104,7 +98,7 @@ module _ (cs cs' old new : List Cell) (lends : Lends cs cs' old new) where
   numbered_after numbers = record {
     len = lends.len ∙ numbers.len;
     each = λ x d is. elim (spot IsSameNumber cs cs' x old new lends lends.numbers) as (λ _. d.clock.entity ≡ x) [
-      | inl k ↦ ap (λ (c : Cell). c.clock.entity) (some_cell d k.after (sym is ∙ k.is)) ∙ k.at_after
+      | inl k ↦ ap (λ (c : Cell). c.clock.entity) (same_Some d k.after (sym is ∙ k.is)) ∙ k.at_after
       | inr k ↦ numbers.each x d (sym k.same ∙ is)
     ];
   }
@@ -125,13 +119,13 @@ module _ (cs cs' old new : List Cell) (lends : Lends cs cs' old new) where
 
       own_after : (x : ℕ) (d : Cell) → slice_get cs' x ≡ Some d → HasOwnMemory held d.part
       own_after x d is = elim (spot GoesQuietly cs cs' x old new lends pairs) as (λ _. HasOwnMemory held d.part) [
-        | inl k ↦ subst (λ (c : Cell). HasOwnMemory held c.part) (some_cell k.after d (sym k.is ∙ is)) (goes_own held k.before k.after (orderly.own x k.before k.was) k.holds)
+        | inl k ↦ subst (λ (c : Cell). HasOwnMemory held c.part) (same_Some k.after d (sym k.is ∙ is)) (goes_own held k.before k.after (orderly.own x k.before k.was) k.holds)
         | inr k ↦ orderly.own x d (sym k.same ∙ is)
       ]
 
       kinds_after : (x : ℕ) (d : Cell) → slice_get cs' x ≡ Some d → HasKind x d.part
       kinds_after x d is = elim (spot GoesQuietly cs cs' x old new lends pairs) as (λ _. HasKind x d.part) [
-        | inl k ↦ subst (λ (c : Cell). HasKind x c.part) (some_cell k.after d (sym k.is ∙ is)) (subst (λ y. HasKind y k.after.part) k.at_after k.holds.kind)
+        | inl k ↦ subst (λ (c : Cell). HasKind x c.part) (same_Some k.after d (sym k.is ∙ is)) (subst (λ y. HasKind y k.after.part) k.at_after k.holds.kind)
         | inr k ↦ orderly.kinds x d (sym k.same ∙ is)
       ]
 

@@ -1,9 +1,10 @@
 -- Tables some of whose cells are lent.
-use Rattle.std.proofs.Common.{◌≡◌, ◌⊎◌, inl, inr, ℕ, ◌≤◌, Bool, true, false, ◌==◌, ◌||◌, List, [], ◌∷◌, length, slice_get, Some, refl, sym, ap, ◌∙◌, eqb-true, eq-eqb, arith}
+use Rattle.std.proofs.Common.{◌≡◌, ◌⊎◌, inl, inr, ℕ, ◌≤◌, true, false, ◌==◌, List, [], ◌∷◌, length, slice_get, Some, refl, sym, ap, ◌∙◌, eqb-true, eq-eqb, arith}
 use Rattle.std.specs.List.{list_any}
 use Rattle.touch_laws.specs.kernel_cells.declared.cells.Cell.{Cell}
 use Rattle.cell_table.specs.Lending.{ForPairs, IsApart, IsSameNumber, Lends, StandIn}
 use Rattle.cell_table.specs.Steps.{ChangesThree}
+use Rattle.std.proofs.lemmas.Bool.{false≢true, or_parts}
 
 -- the cell at this number is one of those lent
 pub record IsLent (R : Cell → Cell → Type 0) (cs cs' : List Cell) (x : ℕ) : Type 0 where
@@ -19,9 +20,6 @@ pub record IsLent (R : Cell → Cell → Type 0) (cs cs' : List Cell) (x : ℕ) 
 pub record IsLeft (cs cs' old : List Cell) (x : ℕ) : Type 0 where
   pub same : slice_get cs' x ≡ slice_get cs x
   pub apart : IsApart x old
-
-differs : false ≡ true → ⊥
-differs e = cc
 
 module _ (R : Cell → Cell → Type 0) (cs cs' : List Cell) (x : ℕ) where
   by_cells : (old new : List Cell) → ForPairs R old new → ForPairs IsSameNumber old new → StandIn cs old → StandIn cs' new → IsLent R cs cs' x ⊎ IsApart x old
@@ -39,7 +37,7 @@ module _ (R : Cell → Cell → Type 0) (cs cs' : List Cell) (x : ℕ) where
         }))
         | false ↦ λ is. elim (by_cells old new holds.1 numbers.1 stood.1 stand.1) as (λ _. IsLent R cs cs' x ⊎ IsApart x (c ∷ old)) [
           | inl lent ↦ inl lent
-          | inr apart ↦ inr ((λ e. absurd (differs (sym is ∙ eq-eqb x c.clock.entity e))), apart)
+          | inr apart ↦ inr ((λ e. absurd (false≢true (sym is ∙ eq-eqb x c.clock.entity e))), apart)
         ]
       ] refl
   by_cells [] (d ∷ new) holds numbers stood stand = absurd holds
@@ -61,16 +59,12 @@ unfolding numbers_of
 as_many [] = refl
 as_many (c ∷ old) = let rest = as_many old in omega (arith, rest)
 
-neither : (a b : Bool) → (a || b) ≡ false → (a ≡ false) × (b ≡ false)
-neither true b is = absurd (cc is)
-neither false b is = (refl, is)
-
 apart_by : (x : ℕ) (old : List Cell) → list_any (λ y. y == x) (numbers_of old) ≡ false → IsApart x old
 unfolding numbers_of
 apart_by x [] none = tt
 apart_by x (c ∷ old) none =
-    let both = neither (c.clock.entity == x) (list_any (λ y. y == x) (numbers_of old)) none in
-    ((λ e. absurd (differs (sym both.0 ∙ eq-eqb c.clock.entity x (sym e)))), apart_by x old both.1)
+    let both = or_parts (c.clock.entity == x) (list_any (λ y. y == x) (numbers_of old)) none in
+    ((λ e. absurd (false≢true (sym both.0 ∙ eq-eqb c.clock.entity x (sym e)))), apart_by x old both.1)
 
 pub lent_three : (cs cs' old new : List Cell) → Lends cs cs' old new → length old ≤ 3 → ChangesThree cs cs'
 lent_three cs cs' old new lends few = record {

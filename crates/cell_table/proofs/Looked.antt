@@ -29,12 +29,13 @@ use Rattle.cell_table.specs.Steps.{ChangesThree, EntersStep}
 use Rattle.cell_table.specs.Tables.{HasKind, IsOrderly, entity_by, entity_in, state_in}
 use Rattle.cell_table.proofs.Blocks.{ChangesTwo, KeepsOrder, LooksAt, keeps_order, same_or}
 use Rattle.cell_table.proofs.Entered.{StaysOrNotes, entered_by}
-use Rattle.cell_table.proofs.Having.{no_supply, no_words, some_cell}
 use Rattle.cell_table.proofs.Founding.{founded_after, most_left, noted_after, run_here, run_wishes}
 use Rattle.cell_table.proofs.Having.{has_cell, is_entity}
 use Rattle.cell_table.proofs.PartKinds.{born_kind, stays_born}
 use Rattle.cell_table.proofs.Untouched.{raised, raised_apart, untouched, untouched_stays, untouched_unwritten}
-use Rattle.cell_table.proofs.WordsApart.{blank, sound_by_blank}
+use Rattle.cell_table.proofs.WordsApart.{blank, same_container, sound_by_blank}
+use Rattle.std.proofs.lemmas.Option.{same_Some}
+use Rattle.step_cells.proofs.Taking.{no_supply, no_words}
 
 clash : (l : Locus) → LocusCell (locus_of l) ≡ NotBorn → ⊥
 clash l e = cc
@@ -47,9 +48,6 @@ not_second : (a b : Bool) → (a || (b || false)) ≡ false → b ≡ true → �
 not_second true b none is = cc
 not_second false true none is = cc
 not_second false false none is = cc
-
-same_container : (c d : ContainerState) → ContainerCell c ≡ ContainerCell d → c ≡ d
-same_container c d e = cc
 
 -- a container's own memory has the supplier's words past its pages
 pub own_supplied : (held : ℕ → Bool) (s : Supply) (words : ℕ → List ℕ) (p : Part) (c : ContainerState) → HasOwnMemory held p → part_of s words p ≡ ContainerCell c → IsSupplied s c
@@ -268,16 +266,16 @@ module _ (held held' : ℕ → Bool) (cs cs' : List Cell) (me y : ℕ) (a b a' b
     notes x c d was is = elim (same_or x me) as (λ _. StaysOrNotes e (locus_in (w me).cell) x c d) [
       | inl here ↦ inr (
         orderly.numbers.each x c was,
-        subst (λ m. IsNoted e (locus_in (w me).cell) m d) (some_cell a c (sym (ap (slice_get cs) here ∙ two.was_a) ∙ was)) (subst (IsNoted e (locus_in (w me).cell) a) (some_cell a' d (sym (ap (slice_get cs') here ∙ two.is_a) ∙ is))
+        subst (λ m. IsNoted e (locus_in (w me).cell) m d) (same_Some a c (sym (ap (slice_get cs) here ∙ two.was_a) ∙ was)) (subst (IsNoted e (locus_in (w me).cell) a) (same_Some a' d (sym (ap (slice_get cs') here ∙ two.is_a) ∙ is))
             (noted_after w cs me u e me a a' two.was_a at_a two.same_a wishes.0)),
       )
       | inr far ↦ elim (same_or x y) as (λ _. StaysOrNotes e (locus_in (w me).cell) x c d) [
         | inl here ↦ inr (
           orderly.numbers.each x c was,
-          subst (λ m. IsNoted e (locus_in (w me).cell) m d) (some_cell b c (sym (ap (slice_get cs) here ∙ two.was_b) ∙ was)) (subst (IsNoted e (locus_in (w me).cell) b) (some_cell b' d (sym (ap (slice_get cs') here ∙ two.is_b) ∙ is))
+          subst (λ m. IsNoted e (locus_in (w me).cell) m d) (same_Some b c (sym (ap (slice_get cs) here ∙ two.was_b) ∙ was)) (subst (IsNoted e (locus_in (w me).cell) b) (same_Some b' d (sym (ap (slice_get cs') here ∙ two.is_b) ∙ is))
               (noted_after w cs me u e y b b' two.was_b at_b two.same_b wishes.1)),
         )
-        | inr apart ↦ inl (some_cell d c (sym is ∙ two.others x far apart ∙ was), untouched_unwritten e x (rest_untouched e advances no_supply no_words x far apart))
+        | inr apart ↦ inl (same_Some d c (sym is ∙ two.others x far apart ∙ was), untouched_unwritten e x (rest_untouched e advances no_supply no_words x far apart))
       ]
     ]
 
@@ -300,7 +298,7 @@ module _ (held held' : ℕ → Bool) (cs cs' : List Cell) (me y : ℕ) (a b a' b
 
         before_at : (x : ℕ) (c : Cell) → slice_get cs x ≡ Some c → (w x).version ≡ c.clock.version
         before_at x c was = elim (same_or x y) as (λ _. (w x).version ≡ c.clock.version) [
-          | inl here ↦ ap (λ z. (w z).version) here ∙ ap (λ (k : EntityState). k.version) (looked_here e advances no_supply no_words) ∙ ap (λ (k : Cell). k.clock.version) (some_cell b c (sym (ap (slice_get cs) here ∙ two.was_b) ∙ was))
+          | inl here ↦ ap (λ z. (w z).version) here ∙ ap (λ (k : EntityState). k.version) (looked_here e advances no_supply no_words) ∙ ap (λ (k : Cell). k.clock.version) (same_Some b c (sym (ap (slice_get cs) here ∙ two.was_b) ∙ was))
           | inr apart ↦ ap (λ (k : EntityState). k.version) (looked_apart e advances no_supply no_words x apart) ∙ ap (λ o. (entity_in no_supply no_words x o).version) was
         ]
 
@@ -308,7 +306,7 @@ module _ (held held' : ℕ → Bool) (cs cs' : List Cell) (me y : ℕ) (a b a' b
         after_at x d is = elim (same_or x me) as (λ _. (u x).version ≡ d.clock.version) [
           | inl here ↦ ap (λ z. (u z).version) here ∙ ap (λ (k : EntityState). k.version) (me_stays e advances no_supply no_words) ∙ ap (λ o. (entity_in no_supply no_words me o).version) (ap (slice_get cs') (sym here) ∙ is)
           | inr far ↦ elim (same_or x y) as (λ _. (u x).version ≡ d.clock.version) [
-            | inl here ↦ ap (λ z. (u z).version) here ∙ y_version e advances no_supply no_words ∙ ap (λ (k : Cell). k.clock.version) (some_cell b' d (sym (ap (slice_get cs') here ∙ two.is_b) ∙ is))
+            | inl here ↦ ap (λ z. (u z).version) here ∙ y_version e advances no_supply no_words ∙ ap (λ (k : Cell). k.clock.version) (same_Some b' d (sym (ap (slice_get cs') here ∙ two.is_b) ∙ is))
             | inr apart ↦ ap (λ (k : EntityState). k.version) (rest_stays e advances no_supply no_words x far apart) ∙ ap (λ o. (entity_in no_supply no_words x o).version) is
           ]
         ]
@@ -316,10 +314,10 @@ module _ (held held' : ℕ → Bool) (cs cs' : List Cell) (me y : ℕ) (a b a' b
     founded_look : (x : ℕ) (d : Cell) → slice_get cs' x ≡ Some d → IsFoundedCell d
     unfolding run w u
     founded_look x d is = elim (same_or x me) as (λ _. IsFoundedCell d) [
-      | inl here ↦ subst IsFoundedCell (some_cell a' d (sym (ap (slice_get cs') here ∙ two.is_a) ∙ is))
+      | inl here ↦ subst IsFoundedCell (same_Some a' d (sym (ap (slice_get cs') here ∙ two.is_a) ∙ is))
           (founded_after w cs no_supply me u e me a a' (stepped e advances no_supply no_words) two.was_a at_a two.same_a (has_a e advances no_supply no_words).clock (left_a e advances no_supply no_words).clock wishes.0 (orderly.founded me a two.was_a))
       | inr far ↦ elim (same_or x y) as (λ _. IsFoundedCell d) [
-        | inl here ↦ subst IsFoundedCell (some_cell b' d (sym (ap (slice_get cs') here ∙ two.is_b) ∙ is))
+        | inl here ↦ subst IsFoundedCell (same_Some b' d (sym (ap (slice_get cs') here ∙ two.is_b) ∙ is))
             (founded_after w cs no_supply me u e y b b' (stepped e advances no_supply no_words) two.was_b at_b two.same_b clock_b (left_b e advances no_supply no_words).clock wishes.1 (orderly.founded y b two.was_b))
         | inr apart ↦ orderly.founded x d (sym (two.others x far apart) ∙ is)
       ]
@@ -344,11 +342,11 @@ module _ (held held' : ℕ → Bool) (cs cs' : List Cell) (me y : ℕ) (a b a' b
     stays_at : (x : ℕ) (P : Cell → Cell → Type 0) (c d : Cell) → slice_get cs x ≡ Some c → slice_get cs' x ≡ Some d → ((k : Cell) → P k k) → P b b' → P c d
     stays_at x P c d was is equal other = elim (same_or x me) as (λ _. P c d) [
       | inl here ↦ (
-          let to : a ≡ d = sym same ∙ some_cell a' d (sym (ap (slice_get cs') here ∙ two.is_a) ∙ is) in
-          subst (P c) (some_cell c a (sym was ∙ ap (slice_get cs) here ∙ two.was_a) ∙ to) (equal c))
+          let to : a ≡ d = sym same ∙ same_Some a' d (sym (ap (slice_get cs') here ∙ two.is_a) ∙ is) in
+          subst (P c) (same_Some c a (sym was ∙ ap (slice_get cs) here ∙ two.was_a) ∙ to) (equal c))
       | inr far ↦ elim (same_or x y) as (λ _. P c d) [
-        | inl here ↦ subst (λ k. P k d) (some_cell b c (sym (ap (slice_get cs) here ∙ two.was_b) ∙ was)) (subst (P b) (some_cell b' d (sym (ap (slice_get cs') here ∙ two.is_b) ∙ is)) other)
-        | inr apart ↦ subst (P c) (some_cell c d (sym was ∙ sym (two.others x far apart) ∙ is)) (equal c)
+        | inl here ↦ subst (λ k. P k d) (same_Some b c (sym (ap (slice_get cs) here ∙ two.was_b) ∙ was)) (subst (P b) (same_Some b' d (sym (ap (slice_get cs') here ∙ two.is_b) ∙ is)) other)
+        | inr apart ↦ subst (P c) (same_Some c d (sym was ∙ sym (two.others x far apart) ∙ is)) (equal c)
       ]
     ]
 
@@ -367,9 +365,9 @@ module _ (held held' : ℕ → Bool) (cs cs' : List Cell) (me y : ℕ) (a b a' b
 
     founded_fault : (x : ℕ) (d : Cell) → slice_get cs' x ≡ Some d → IsFoundedCell d
     founded_fault x d is = elim (same_or x me) as (λ _. IsFoundedCell d) [
-      | inl here ↦ subst IsFoundedCell (sym same ∙ some_cell a' d (sym (ap (slice_get cs') here ∙ two.is_a) ∙ is)) (orderly.founded me a two.was_a)
+      | inl here ↦ subst IsFoundedCell (sym same ∙ same_Some a' d (sym (ap (slice_get cs') here ∙ two.is_a) ∙ is)) (orderly.founded me a two.was_a)
       | inr far ↦ elim (same_or x y) as (λ _. IsFoundedCell d) [
-        | inl here ↦ subst IsFoundedCell (some_cell b' d (sym (ap (slice_get cs') here ∙ two.is_b) ∙ is)) (founded_b (orderly.founded y b two.was_b))
+        | inl here ↦ subst IsFoundedCell (same_Some b' d (sym (ap (slice_get cs') here ∙ two.is_b) ∙ is)) (founded_b (orderly.founded y b two.was_b))
         | inr apart ↦ orderly.founded x d (sym (two.others x far apart) ∙ is)
       ]
     ]

@@ -19,9 +19,11 @@ use Rattle.cell_table.proofs.Entered.{StaysOrNotes, entered_by}
 use Rattle.cell_table.proofs.Untouched.{untouched_unwritten}
 use Rattle.touch_laws.specs.Touching.{IsNoted}
 use Rattle.cell_table.proofs.Going.{apart_untouched, table_steps, table_wishes}
-use Rattle.cell_table.proofs.Having.{each_wishes, no_supply, no_words, some_cell, state_has, state_has_all, wishes_all}
+use Rattle.cell_table.proofs.Having.{each_wishes, state_has, state_has_all, wishes_all}
 use Rattle.cell_table.proofs.Kept.{clean_after, orderly_with, tables_same}
 use Rattle.cell_table.proofs.Lent.{lent_three, spot}
+use Rattle.std.proofs.lemmas.Option.{same_Some}
+use Rattle.step_cells.proofs.Taking.{no_supply, no_words}
 
 -- THE TABLE AFTER IT
 module _ (me : ℕ) (cs cs' old new : List Cell) (e : Entry) (steps : (s : Supply) (words : ℕ → List ℕ) → StepsCells s words words me old new e) (lends : Lends cs cs' old new) (numbers : AreNumbered cs) where
@@ -51,11 +53,11 @@ module _ (me : ℕ) (cs cs' old new : List Cell) (e : Entry) (steps : (s : Suppl
       (λ x c d was is. elim (spot (λ c d. HasWish (most_left cs) (after_step (run_here w cs) e (locus_in (w me).cell) v) d) cs cs' x old new lends wishes_after) as (λ _. StaysOrNotes e (locus_in (w me).cell) x c d) [
         | inl k ↦ inr (
           numbers.each x c was,
-          subst (λ m. IsNoted e (locus_in (w me).cell) m d) (some_cell k.before c (sym k.was ∙ was)) (subst (IsNoted e (locus_in (w me).cell) k.before) (some_cell k.after d (sym k.is ∙ is))
+          subst (λ m. IsNoted e (locus_in (w me).cell) m d) (same_Some k.before c (sym k.was ∙ was)) (subst (IsNoted e (locus_in (w me).cell) k.before) (same_Some k.after d (sym k.is ∙ is))
               (noted_after w cs me v e x k.before k.after k.was k.at_before (k.at_after ∙ sym k.at_before) k.holds)),
         )
         | inr k ↦ inl (
-          some_cell d c (sym is ∙ k.same ∙ was),
+          same_Some d c (sym is ∙ k.same ∙ was),
           untouched_unwritten e x (apart_untouched no_supply no_words no_words me cs cs' old new e (steps no_supply no_words) lends numbers (λ x c is apart. refl) x k.apart),
         )
       ])
@@ -66,7 +68,7 @@ module _ (me : ℕ) (cs cs' old new : List Cell) (e : Entry) (steps : (s : Suppl
       founded_after_step : (x : ℕ) (d : Cell) → slice_get cs' x ≡ Some d → IsFoundedCell d
       unfolding w v
       founded_after_step x d is = elim (spot (λ c d. HasWish (most_left cs) (after_step (run_here w cs) e (locus_in (w me).cell) v) d) cs cs' x old new lends wishes_after) as (λ _. IsFoundedCell d) [
-        | inl k ↦ subst IsFoundedCell (some_cell k.after d (sym k.is ∙ is))
+        | inl k ↦ subst IsFoundedCell (same_Some k.after d (sym k.is ∙ is))
             (founded_after w cs no_supply me v e x k.before k.after (goes_on no_supply no_words) k.was k.at_before (k.at_after ∙ sym k.at_before)
             (state_has no_supply no_words cs k.before (ap (slice_get cs) k.at_before ∙ k.was)).clock (state_has no_supply no_words cs' k.after (ap (slice_get cs') k.at_after ∙ k.is)).clock k.holds (orderly.founded x k.before k.was))
         | inr k ↦ orderly.founded x d (sym k.same ∙ is)

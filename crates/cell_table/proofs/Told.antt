@@ -19,12 +19,7 @@ use Rattle.cell_table.specs.Steps.{GoesOn}
 use Rattle.cell_table.specs.Tables.{AreClean, HasKind, IsOrderly, blocks_by, entity_by, entity_in, memory_at, state_in, tables_in}
 use Rattle.cell_table.proofs.Blocks.{ChangesTwo, LooksAt, held_at, kind_none, outside, same_or}
 use Rattle.cell_table.proofs.Going.{table_steps, table_wishes}
-
-some_memory : (m k : PagedMemory) → Some m ≡ Some k → m ≡ k
-some_memory m k e = cc
-
-some_cell : (c d : Cell) → Some c ≡ Some d → c ≡ d
-some_cell c d e = cc
+use Rattle.std.proofs.lemmas.Option.{same_Some}
 
 -- a memory whose blocks keep their words means what it did
 module _ (s : Supply) (words words' : ℕ → List ℕ) (m : PagedMemory) (same : (p : ℕ) → block_at m p ≢ 0 → words' (block_at m p) ≡ words (block_at m p)) where
@@ -72,7 +67,7 @@ module _ (held held' : ℕ → Bool) (cs cs' : List Cell) (me y : ℕ) (a b a' b
 
   pub clean_told : AreCleanTrue s words' looks.after → AreClean s words cs → AreClean s words' cs'
   clean_told after clean x m is = elim (same_or x y) as (λ _. AreCleanTrue s words' m) [
-    | inl here ↦ subst (AreCleanTrue s words') (some_memory looks.after m (sym (ap (λ z. memory_at (slice_get cs' z)) here ∙ ap memory_at two.is_b ∙ ap memory_of looks.is) ∙ is)) after
+    | inl here ↦ subst (AreCleanTrue s words') (same_Some looks.after m (sym (ap (λ z. memory_at (slice_get cs' z)) here ∙ ap memory_at two.is_b ∙ ap memory_of looks.is) ∙ is)) after
     | inr apart ↦ elim (same_or x me) as (λ _. AreCleanTrue s words' m) [
       | inl here ↦ absurd (clash (sym is ∙ ap (λ z. memory_at (slice_get cs' z)) here ∙ ap memory_at two.is_a ∙ kind_none me a'.part two.high kind))
       | inr far ↦ (

@@ -11,6 +11,9 @@ blank (AtlasCell a) = AtlasCell a
 blank (ContainerCell c) = ContainerCell (record c { words = λ _. 0 })
 blank (LocusCell l) = LocusCell l
 
+pub same_container : (c d : ContainerState) → ContainerCell c ≡ ContainerCell d → c ≡ d
+same_container c d e = cc
+
 same_regions : (k : Cell) (y : ℕ) → regions_onto (blank k) y ≡ regions_onto k y
 same_regions NotBorn y = refl
 same_regions (AtlasCell a) y = refl
@@ -29,9 +32,6 @@ to_blank a cells h = record {
   others = λ x none. ap blank (h.others x none);
   edges = λ x y. h.edges x y ∙ sym (same_regions (cells x) y);
 }
-
-same_container : (c d : ContainerState) → ContainerCell c ≡ ContainerCell d → c ≡ d
-same_container c d e = cc
 
 of_blank : (a : AtlasState) (cells : ℕ → Cell) → AreSound a (λ x. blank (cells x)) → AreSound a cells
 of_blank a cells h = record {

@@ -14,6 +14,9 @@ ghost use Rattle.cell_table.specs.Steps.{StepsQuietly};
 ghost use Rattle.cell_table.specs.Tables.{AreNumbered};
 
 pub use cell_laws::cell_blobs;
+pub use plan_laws::{
+    fault_paging, kernel_cells, locus_machine, page_store, step_plans, wanted_act,
+};
 pub use step_cells;
 pub use touch_laws::script_form;
 

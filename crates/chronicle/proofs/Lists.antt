@@ -79,13 +79,6 @@ module _ {A : Type 0} where
       by_test true is = refl
       by_test false is = absurd (grind (arith, nat_tests))
 
-  pub longer_second : (xs ys : List A) → length xs < length ys → longer xs ys ≡ ys
-  longer_second xs ys lt = by_test (nat_le (length ys) (length xs)) refl
-    where
-      by_test : (b : Bool) → nat_le (length ys) (length xs) ≡ b → cond b xs ys ≡ ys
-      by_test true is = absurd (grind (arith, nat_tests))
-      by_test false is = refl
-
   -- two beginnings of one list begin the longer of them
   pub longer_over : (xs ys zs : List A) → IsPrefix xs zs → IsPrefix ys zs → IsPrefix xs (longer xs ys)
   longer_over xs ys zs p q = by_test (nat_le (length ys) (length xs)) refl

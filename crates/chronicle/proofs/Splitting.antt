@@ -8,17 +8,9 @@ use Rattle.chronicle.specs.declared.views.Role.{Role}
 use Rattle.chronicle.specs.declared.views.Role.TheVariants.{Chronicler, Share, Note, NoteOf, Spent}
 use Rattle.atomic_table.specs.Table.{step, keeps, opening, Allows, Splits}
 use Rattle.atomic_table.proofs.Lists.{set_again}
-use Rattle.chronicle.specs.Rules.{Story, Knows, Fits, AllFit, IsTold, IsKept, IsChroniclers, IsTaken, opening_view, Looked, Shows, concerning, note_left, note_right, note_role, note_list, AllDiffer}
+use Rattle.chronicle.specs.Rules.{Story, Knows, Fits, AllFit, IsTold, IsKept, IsChroniclers, opening_view, Looked, Shows, concerning, note_left, note_right, note_role, note_list, AllDiffer}
 use Rattle.chronicle.proofs.Lists.{prefix_self, prefix_nil, prefix_trans, set_same, concerning_prefix}
 use Rattle.chronicle.proofs.Fitting.{off, all_fit_set, known, chronicle_set, chronicle_more}
-
--- a note is no chronicle's
-pub note_taken : (r : Role) → IsTaken (note_role r)
-note_taken Chronicler = tt
-note_taken (Share x) = tt
-note_taken Note = tt
-note_taken (NoteOf x) = tt
-note_taken Spent = tt
 
 module _ {A : Type 0} (concerns : A → ℕ → Bool) where
   -- MAKING

@@ -16,7 +16,7 @@ use std::snapshot::Snapshot;
 const ENTITIES: u64 = 64;
 
 /// Kept items and room are fewer than this each, so that no count of items comes near the end of its word.
-const MOST: usize = 1 << 61;
+const MOST_ITEMS: usize = 1 << 61;
 
 /// There was no memory, or the kept items or the room are 2^61 or more. The kept items come back.
 #[derive(Drop)]
@@ -53,7 +53,7 @@ impl<T: Item> Opened<T> {
         ensures ok { IfOk result (λ o. (o.kept ≡ kept.items) × (o.room ≡ room)) }
         ensures err { IfErr result (λ f. f.kept.items ≡ kept.items) }
     {
-        if kept.len() >= MOST || room >= MOST || kept.reserve(room).is_err() {
+        if kept.len() >= MOST_ITEMS || room >= MOST_ITEMS || kept.reserve(room).is_err() {
             return Err(ChronicleFault { kept });
         }
         let words = [kept.len() as u64, 0, 0];

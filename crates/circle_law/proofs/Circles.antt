@@ -3,7 +3,7 @@
 use Rattle.std.proofs.Common.{◌≡◌, ℕ, zero, suc, ◌+◌, ◌<◌, ◌≤◌, Bool, true, false, cond, ◌&&◌, ◌||◌, ◌==◌, List, [], ◌∷◌, ◌++◌, length, refl, sym, ap, ◌∙◌, subst, ◌⊎◌, inl, inr, ⊎_elim, arith}
 use Rattle.std.specs.Prelude.{nat_lt, ◌↔◌, IsTrue}
 use Rattle.std.specs.List.{list_any}
-use Rattle.std.proofs.lemmas.Bool.{false≢true, cases_eq}
+use Rattle.std.proofs.lemmas.Bool.{and_parts, cases_eq, false≢true, or_cases}
 use borrow.Author.Tests.{eq-eqb, ne_eqb, eqb-true, lt-ltb, ltb-true}
 use Rattle.hop_base.specs.Edges.{Edges, IsPath, ClosesCircle, upto, leads}
 use Rattle.circle_law.specs.Containers.{IsAmongContainers}
@@ -141,24 +141,16 @@ any_below p (suc n) x l e = ⊎_elim
     (λ (other : x ≡ n → ⊥). any_in_front p (upto n) (n ∷ []) (any_below p n x (omega arith) e))
     (cases_eq x n)
 
-both : (a b : Bool) → (a && b) ≡ true → (a ≡ true) × (b ≡ true)
-both true b e = (refl, e)
-both false b e = absurd (false≢true e)
-
-either : (a b : Bool) → (a || b) ≡ true → (a ≡ true) ⊎ (b ≡ true)
-either true b e = inl refl
-either false b e = inr e
-
 path_found : (n : ℕ) (edges : Edges) (c d : ℕ) → leads n edges c d ≡ true → (path : List ℕ) × IsPath edges c path d
 path_found zero edges c d e = ([], eqb-true c d e)
 path_found (suc n) edges c d e = ⊎_elim
     (λ (same : (c == d) ≡ true). ([], eqb-true c d same))
     (λ (more : list_any (λ x. nat_lt 0 (edges c x) && leads n edges x d) (upto 41) ≡ true).
     let x = some_of (λ x. nat_lt 0 (edges c x) && leads n edges x d) (upto 41) more in
-    let parts = both (nat_lt 0 (edges c x.0)) (leads n edges x.0 d) x.1 in
+    let parts = and_parts (nat_lt 0 (edges c x.0)) (leads n edges x.0 d) x.1 in
     let rest = path_found n edges x.0 d parts.1 in
     (x.0 ∷ rest.0, (ltb-true 0 (edges c x.0) parts.0, rest.1)))
-    (either (c == d) (list_any (λ x. nat_lt 0 (edges c x) && leads n edges x d) (upto 41)) e)
+    (or_cases (c == d) (list_any (λ x. nat_lt 0 (edges c x) && leads n edges x d) (upto 41)) e)
 
 found_path : (n : ℕ) (edges : Edges) → IsAmongContainers edges → (c d : ℕ) (path : List ℕ) → length path ≤ n → IsPath edges c path d → leads n edges c d ≡ true
 found_path zero edges among c d [] l p = eq-eqb c d p

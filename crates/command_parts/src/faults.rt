@@ -16,7 +16,7 @@ use stream_edge::{Sink, SinkFault};
 const HEAD: usize = 16;
 
 /// A length that no line with two numbers exceeds.
-const NUMBERS: usize = 48;
+const FAULT_LINE: usize = 48;
 
 /// Why a call came to no good end, as its last line tells it.
 #[derive(Debug, Drop)]
@@ -100,7 +100,7 @@ fn refusal_head(why: Why) -> ArrayString<HEAD>
 }
 
 /// The line of a fault of the image.
-fn foreign_line(block: u32, place: u16) -> ArrayString<NUMBERS>
+fn foreign_line(block: u32, place: u16) -> ArrayString<FAULT_LINE>
     ensures { result.bytes ≡ numbers_line (codes "fault 4 ") block place }
 {
     let mut digits = Buffer::new();
@@ -114,7 +114,7 @@ fn foreign_line(block: u32, place: u16) -> ArrayString<NUMBERS>
 }
 
 /// The line of a want of blocks.
-fn blocks_line(blocks: NoBlocks) -> ArrayString<NUMBERS>
+fn blocks_line(blocks: NoBlocks) -> ArrayString<FAULT_LINE>
     ensures { result.bytes ≡ numbers_line (codes "fault 9 ") blocks.need blocks.free }
 {
     let mut digits = Buffer::new();

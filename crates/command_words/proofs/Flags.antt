@@ -3,7 +3,7 @@ use Rattle.std.proofs.Common.{◌≡◌, ◌∙◌, ℕ, Bool, true, false, refl
 use Rattle.std.specs.Prelude.{◌==◌, ◌||◌, Decides, option_and_then}
 use Rattle.std.specs.List.{before_first, list_any, position_or_len}
 use Rattle.std.specs.Str.{bytes_eq}
-use Rattle.std.proofs.lemmas.Bool.{false≢true}
+use Rattle.std.proofs.lemmas.Bool.{false≢true, or_parts}
 use Rattle.std.proofs.lemmas.Bool.Decides.{Decides-eqb}
 use Rattle.std.proofs.lemmas.Option.{option_and_then_some}
 use Rattle.std.proofs.lemmas.Slice.Eq.{bytes_eq-Decides}
@@ -43,14 +43,10 @@ also_simple = refl
 
 -- ---- a word that is another flag names no argument
 
-or_false : (a b : Bool) → (a || b) ≡ false → (a ≡ false) × (b ≡ false)
-or_false true b e = absurd (true≢false e)
-or_false false b e = (refl, e)
-
 whole_name : (xs : Text) → list_any (λ b. b == 61) xs ≡ false → before_first (λ b. b == 61) xs ≡ xs
 whole_name [] none = refl
 whole_name (x ∷ xs) none =
-    let parts = or_false (x == 61) (list_any (λ b. b == 61) xs) none in
+    let parts = or_parts (x == 61) (list_any (λ b. b == 61) xs) none in
     ap (λ b. take (cond (not b) (1 + position_or_len (λ y. y == 61) xs) 0) (x ∷ xs)) parts.0 ∙ ap (λ n. take n (x ∷ xs)) (one-add _) ∙ ap (λ ys. x ∷ ys) (whole_name xs parts.1)
 
 stripped : (k : ℕ) (word rest : Text) → strip_byte k word ≡ Some rest → word ≡ k ∷ rest
@@ -74,7 +70,7 @@ long_named word p none is = option_and_then_some long_of_rest (option_and_then (
     all ∙ ap (λ r. 45 ∷ 45 ∷ r) (named_rest rest p lacks named)))
 
 no_equals : (word : Text) → form.is_refused word ≡ false → list_any (λ b. b == 61) word ≡ false
-no_equals word fine = (or_false (length word == 0 || bytes_eq word (codes "--")) (list_any (λ b. b == 61) word) fine).1
+no_equals word fine = (or_parts (length word == 0 || bytes_eq word (codes "--")) (list_any (λ b. b == 61) word) fine).1
 
 other_names : (word : Text) → form.is_refused word ≡ false → (word ≡ codes "--trace" → ⊥) → NamesNone here.rules word
 other_names word fine other p is = go (bytes_eq (codes "trace") p.0) (λ e. other (long_named word p (no_equals word fine) is ∙ ap (λ r. 45 ∷ 45 ∷ r) (sym ((bytes_eq-Decides (codes "trace") p.0).0 e))))
@@ -103,7 +99,7 @@ second_refused u rest fine e fault = stray_here u rest traced.held.rows fine e (
 
 first_refused : (first v : Text) (rest : List Text) → list_any form.is_refused (first ∷ v ∷ rest) ≡ false → (v ≡ codes "--trace" → ⊥) → fault_of flagged (first ∷ v ∷ rest) ≡ [] → ⊥
 first_refused first v rest fine other fault =
-    stray_here v rest [] (or_false (form.is_refused v) (list_any form.is_refused rest) (rest_stays first (v ∷ rest) fine)).0 (second_stays first v rest fine) other
+    stray_here v rest [] (or_parts (form.is_refused v) (list_any form.is_refused rest) (rest_stays first (v ∷ rest) fine)).0 (second_stays first v rest fine) other
     (no_first (walk_fault here [] (walk_from nothing_held) (v ∷ rest)) _ fault)
 
 more_refused : (first v u : Text) (rest : List Text) → list_any form.is_refused (first ∷ v ∷ u ∷ rest) ≡ false → v ≡ codes "--trace" → fault_of flagged (first ∷ v ∷ u ∷ rest) ≡ [] → ⊥
@@ -112,7 +108,7 @@ more_refused first v u rest fine is fault =
     let stays = rest_stays first (v ∷ u ∷ rest) fine in
     let all : walk_fault here [] (walk_from nothing_held) (v ∷ u ∷ rest) ≡ [] = no_first (walk_fault here [] (walk_from nothing_held) (v ∷ u ∷ rest)) _ fault in
     let behind : walk_fault here [] (walked here.rules [] (walk_from nothing_held) v) (u ∷ rest) ≡ [] = no_next (turn_fault here [] (walk_from nothing_held) v) _ all in
-    second_refused u rest (or_false (form.is_refused u) (list_any form.is_refused rest) (rest_stays v (u ∷ rest) stays)).0 (second_stays v u rest stays)
+    second_refused u rest (or_parts (form.is_refused u) (list_any form.is_refused rest) (rest_stays v (u ∷ rest) stays)).0 (second_stays v u rest stays)
     (subst (λ w. walk_fault here [] (walked here.rules [] (walk_from nothing_held) w) (u ∷ rest) ≡ []) is behind)
 
 -- the words that a parse takes

@@ -6,7 +6,7 @@ ghost use Rattle.command_words.specs.Commands.{IsNumber, IsSeed, IsSize};
 const LEAST: u32 = 2600;
 
 /// Blocks of the largest image.
-const MOST: u32 = 65_536;
+const LARGEST_IMAGE: u32 = 65_536;
 
 /// Digits of a number at most, with those zeros that lead.
 const LONGEST: usize = 20;
@@ -29,5 +29,5 @@ pub(crate) fn read_size(text: &str) -> Option<u32>
     ensures none { IfNone result ((n : ℕ) → IsNumber text.now n → IsSize n → ⊥) }
 {
     let blocks = u32::try_from(read_number(text)?).ok()?;
-    (LEAST..=MOST).contains(&blocks).then_some(blocks)
+    (LEAST..=LARGEST_IMAGE).contains(&blocks).then_some(blocks)
 }

@@ -1,9 +1,8 @@
 -- Logs through writes into the next slot.
-use Rattle.std.proofs.Common.{◌≡◌, ◌<◌, ◌+◌, ◌-◌, ℕ, Bool, true, false, ◌==◌, ◌⊎◌, inl, inr, List, [], ◌∷◌, ◌++◌, length, set, get_or, Some, refl, sym, ap, subst, ◌∙◌, arith}
-use Rattle.std.specs.Prelude.{slice_get}
-use Rattle.std.proofs.lemmas.Bool.{cases_lt, cases_eq}
-use Rattle.std.proofs.lemmas.List.{get_or-set_same, get_or_append_left, get_or-append_right, length-append}
-use Rattle.std.proofs.lemmas.Option.{slice_get_within, slice_get-get_or, get_or_from_slice_get}
+use Rattle.std.proofs.Common.{◌≡◌, ◌<◌, ◌+◌, ℕ, Bool, true, false, ◌==◌, inl, inr, List, [], ◌∷◌, ◌++◌, length, set, refl, sym, ap, subst, ◌∙◌, arith}
+use Rattle.std.proofs.lemmas.Bool.{cases_eq}
+use Rattle.std.proofs.lemmas.List.{get_or-set_same, length-append}
+use Rattle.std.proofs.lemmas.Option.{slice_get_within}
 use Rattle.disk_trait.specs.Image.{Image, SameOutside, block_at}
 use Rattle.disk_trait.specs.Moments.{LeavesOnly, Quiet}
 use Rattle.disk_trait.proofs.Images.{SameOutside-set, SameOutside-trans, SameOutside-weaker}
@@ -16,6 +15,7 @@ use Rattle.image_blocks.specs.declared.areas.Area.{Area}
 use Rattle.image_blocks.specs.declared.areas.Area.TheVariants.{A, B}
 use Rattle.commit_log.specs.Bodies.{IsBodyBlock, IsOpening}
 use Rattle.commit_log.specs.Standing.{HasGates}
+use Rattle.image_blocks.proofs.Ranges.{last_or_before}
 
 -- GATES
 
@@ -33,7 +33,7 @@ gate_closed image n is = ap (λ b. first_number b == 1) is ∙ closed_reads
 pub gate_open : (image : Image) (n : ℕ) → block_at image n ≡ open_gate → is_open image n ≡ true
 gate_open image n is = ap (λ b. first_number b == 1) is ∙ open_reads
 
-same_gate : (d c : Image) (n : ℕ) → block_at c n ≡ block_at d n → is_open c n ≡ is_open d n
+pub same_gate : (d c : Image) (n : ℕ) → block_at c n ≡ block_at d n → is_open c n ≡ is_open d n
 same_gate d c n same = ap (λ b. first_number b == 1) same
 
 -- PLACES
@@ -76,23 +76,6 @@ stays area recs d c same closed has = record {
 length_more : (recs : List Rec) (rec : Rec) → length (recs ++ rec ∷ []) ≡ length recs + 1
 length_more recs rec = length-append recs (rec ∷ [])
 
-get_last : (recs : List Rec) (rec d : Rec) → get_or (recs ++ rec ∷ []) (length recs) d ≡ rec
-get_last recs rec d = get_or-append_right recs (rec ∷ []) (length recs) (length recs) d refl (omega arith) ∙ ap (λ k. get_or (rec ∷ []) k d) (let e : length recs - length recs ≡ 0 = omega arith in e)
-
--- an item of a list with one more
-last_or_before : (recs : List Rec) (rec : Rec) (i : ℕ) (r : Rec) → slice_get (recs ++ rec ∷ []) i ≡ Some r → (slice_get recs i ≡ Some r) ⊎ ((i ≡ length recs) × (rec ≡ r))
-last_or_before recs rec i r here = elim (cases_lt i (length recs)) as (λ _. (slice_get recs i ≡ Some r) ⊎ ((i ≡ length recs) × (rec ≡ r))) [
-  | inl lt ↦
-      (let e : get_or (recs ++ rec ∷ []) i r ≡ r = get_or_from_slice_get (recs ++ rec ∷ []) i r r here in
-      let f : get_or recs i r ≡ r = sym (get_or_append_left recs (rec ∷ []) r i lt) ∙ e in
-      inl (slice_get-get_or recs i r lt ∙ ap Some f))
-  | inr ge ↦
-      (let within : i < length (recs ++ rec ∷ []) = slice_get_within (recs ++ rec ∷ []) i r here in
-      let is : i ≡ length recs = omega (arith, ge, within, length_more recs rec) in
-      let e : get_or (recs ++ rec ∷ []) (length recs) r ≡ r = subst (λ k. get_or (recs ++ rec ∷ []) k r ≡ r) is (get_or_from_slice_get (recs ++ rec ∷ []) i r r here) in
-      inr (is, sym (get_last recs rec r) ∙ e))
-]
-
 -- THE NEW LOG stands, where the body is there and its gate is open
 added : (area : Area) (recs : List Rec) (rec : Rec) (d c : Image) → SameOutside (IsNextSlot area (length recs)) d c → length recs < slot_count
     → block_at c (body_at area (length recs)) ≡ body_block rec → is_open c (slot_gate_at area (length recs)) ≡ true
@@ -101,7 +84,7 @@ added : (area : Area) (recs : List Rec) (rec : Rec) (d c : Image) → SameOutsid
 added area recs rec d c same room body gate next has = record {
   few = (let e = length_more recs rec in omega (arith, e, room));
   bodies = λ i r here. elim (last_or_before recs rec i r here) as (λ _. block_at c (body_at area i) ≡ body_block r) [
-    | inl old ↦ (same.same (body_at area i) (body_not_next area (length recs) i (slice_get_within recs i r old)) ∙ has.bodies i r old)
+    | inl old ↦ (same.same (body_at area i) (body_not_next area (length recs) i old.0) ∙ has.bodies i r old.1)
     | inr last ↦ (ap (λ k. block_at c (body_at area k)) last.0 ∙ (body ∙ ap body_block last.1))
   ];
   gates = λ i lt. elim (cases_eq i (length recs)) as (λ _. is_open c (slot_gate_at area i) ≡ true) [

@@ -7,9 +7,7 @@ use Rattle.hop_model.proofs.Among.{among_more}
 use Rattle.hop_model.specs.Choices.{Commit, Among, IsBelow, IsClosedChoice, IsGreatest}
 use Rattle.cut_laws.specs.Agreeing.{is_from, from_cut, HoldsStart, nothing}
 use Rattle.cut_laws.proofs.Filters.{more, kept}
-
-max_cases : (a b : ℕ) → (max a b ≡ a) ⊎ (max a b ≡ b)
-max_cases a b = elim (cases_lt a b) as (λ _. (max a b ≡ a) ⊎ (max a b ≡ b)) [ inl h ↦ inr (omega arith) | inr h ↦ inl (omega arith) ]
+use Rattle.hop_model.proofs.Lowering.{max_cases}
 
 -- AMONG
 
@@ -40,11 +38,6 @@ unfilter_one P c cs ds false f h = inr (f h)
 pub Among-unfilter : (P : Commit → Type 0) (test : Commit → Bool) (cs : List Commit) → Among (filter test cs) P → Among cs P
 Among-unfilter P test [] h = h
 Among-unfilter P test (c ∷ cs) h = unfilter_one P c cs (filter test cs) (test c) (Among-unfilter P test cs) h
-
-Among-both : (P Q : Commit → Type 0) (cs : List Commit) → Among cs P → ((c : Commit) → Among cs P → P c → Q c) → Among cs Q
-Among-both P Q [] h f = elim h [ ]
-Among-both P Q (c ∷ cs) (inl h) f = inl (f c (inl h) h)
-Among-both P Q (c ∷ cs) (inr h) f = inr (Among-both P Q cs h (λ d k p. f d (inr k) p))
 
 -- what a choice takes
 abbrev pub Takes : (ℕ → ℕ) → ℕ → Commit → Type 0

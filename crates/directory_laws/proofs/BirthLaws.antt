@@ -1,20 +1,15 @@
 -- Who is born in the directory and in the model.
-use Rattle.std.proofs.Common.{◌≡◌, ℕ, zero, suc, ◌+◌, ◌-◌, ◌<◌, ◌≤◌, Bool, true, false, ◌&&◌, ◌||◌, List, [], ◌∷◌, length, Option, Some, None, is_some, refl, sym, ap, ◌∙◌, subst, ◌⊎◌, inl, inr, ⊎_elim, arith}
-use Rattle.std.specs.Prelude.{◌==◌, ◌↔◌, if◌then◌else◌, nat_lt, nat_le, IsTrue, slice_get, codes, count_by}
-use Rattle.std.proofs.lemmas.Bool.{false≢true}
+use Rattle.std.proofs.Common.{◌≡◌, ℕ, zero, suc, ◌+◌, ◌-◌, ◌<◌, ◌≤◌, Bool, true, false, ◌&&◌, ◌||◌, List, [], ◌∷◌, length, Some, is_some, refl, sym, ap, ◌∙◌, subst, ◌⊎◌, inl, inr, ⊎_elim, arith}
+use Rattle.std.specs.Prelude.{◌==◌, ◌↔◌, if◌then◌else◌, nat_lt, nat_le, IsTrue, slice_get, codes}
+use Rattle.std.proofs.lemmas.Bool.{and_parts, false≢true}
 use Rattle.std.proofs.lemmas.Bool.Decides.{nat_tests}
 use borrow.Author.Tests.{eqb-true, ne_eqb, lt-ltb}
-use Rattle.hop_base.specs.declared.capabilities.Cap.{Cap}
-use Rattle.kernel_calls.specs.hop_model.State.{AtlasState, ContainerState, LocusState, Cell, NotBorn, AtlasCell, ContainerCell, LocusCell}
+use Rattle.kernel_calls.specs.hop_model.State.{ContainerState, LocusState, Cell, NotBorn, AtlasCell, ContainerCell, LocusCell}
 use Rattle.kernel_calls.specs.hop_model.Words.{is_container}
 use Rattle.kernel_calls.specs.hop_model.Soundness.{is_born, is_born_container, is_born_locus, AreSound, regions_onto}
 use Rattle.atlas_dir.specs.Directory.{Directory, name_of, IsBornContainer}
 use Rattle.kernel_calls.specs.Calls.{atlas_state, NamesBorn}
 use Rattle.directory_laws.specs.Mapping.{MeetsMapping}
-
-both : (a b : Bool) → (a && b) ≡ true → (a ≡ true) × (b ≡ true)
-both true b e = (refl, e)
-both false b e = absurd (false≢true e)
 
 some_within : (xs : List (List ℕ)) (i : ℕ) → IsTrue (is_some (slice_get xs i)) → i < length xs
 some_within [] i e = absurd (false≢true e)
@@ -35,7 +30,7 @@ tested : (n len : ℕ) → 0 < n → n ≤ len → (nat_lt 0 n && nat_le n len) 
 tested n len some l = grind (arith, nat_tests)
 
 told : (n len : ℕ) → (nat_lt 0 n && nat_le n len) ≡ true → (0 < n) × (n ≤ len)
-told n len e = let p = both (nat_lt 0 n) (nat_le n len) e in (first p.0, second p.1)
+told n len e = let p = and_parts (nat_lt 0 n) (nat_le n len) e in (first p.0, second p.1)
   where
     first : nat_lt 0 n ≡ true → 0 < n
     first f = grind (arith, nat_tests)
@@ -122,7 +117,7 @@ module _ (a : Directory) (cells : ℕ → Cell) (s : AreSound (atlas_state a) ce
   named n born is = by (is_born_container (atlas_state a) n) refl
     where
       range : (0 < n) × (n < 41)
-      range = let p = both (nat_lt 0 n) (nat_lt n 41) is in (first p.0, second p.1)
+      range = let p = and_parts (nat_lt 0 n) (nat_lt n 41) is in (first p.0, second p.1)
         where
           first : nat_lt 0 n ≡ true → 0 < n
           first f = grind (arith, nat_tests)

@@ -1,2 +1,4 @@
 pub mod NameLaws
 pub mod BirthLaws
+pub mod AtlasNames
+pub mod ByKind

@@ -1,10 +1,10 @@
 -- Names in the directory and in the model.
-use Rattle.std.proofs.Common.{◌≡◌, ◌≢◌, ℕ, zero, suc, ◌+◌, ◌<◌, ◌≤◌, Bool, true, false, ◌&&◌, ◌||◌, List, [], ◌∷◌, length, Option, Some, None, refl, sym, ap, ◌∙◌, arith}
+use Rattle.std.proofs.Common.{◌≡◌, ℕ, ◌+◌, ◌≤◌, Bool, true, false, ◌&&◌, ◌||◌, List, [], ◌∷◌, length, Option, Some, None, refl, sym, ap, ◌∙◌, arith}
 use Rattle.std.specs.Prelude.{◌==◌, ◌↔◌, if◌then◌else◌, nat_lt, nat_le, IsTrue, slice_index, codes}
 use Rattle.std.specs.List.{list_all}
 use Rattle.std.specs.Bool.{Decides, one_answer}
 use Rattle.std.specs.Str.{bytes_eq}
-use Rattle.std.proofs.lemmas.Bool.{false≢true}
+use Rattle.std.proofs.lemmas.Bool.{and_from, and_parts, false≢true}
 use Rattle.std.proofs.lemmas.Bool.Decides.{nat_tests}
 use Rattle.std.proofs.lemmas.Slice.Eq.{bytes_eq-Decides, compares_Decides}
 use Rattle.kernel_calls.specs.hop_model.Scripts.{text_eq, place_of, atlas_name, number_of}
@@ -61,13 +61,6 @@ all_same : (p q : ℕ → Bool) → ((c : ℕ) → p c ≡ q c) → (cs : List �
 all_same p q same [] = refl
 all_same p q same (c ∷ cs) = ap (λ b. b && list_all p cs) (same c) ∙ ap (λ b. q c && b) (all_same p q same cs)
 
-both : (a b : Bool) → (a && b) ≡ true → (a ≡ true) × (b ≡ true)
-both true b e = (refl, e)
-both false b e = absurd (false≢true e)
-
-and_true : (a b : Bool) → a ≡ true → b ≡ true → (a && b) ≡ true
-and_true a b e f = ap (λ x. x && b) e ∙ f
-
 begins : (name : List ℕ) → begins_with_letter name ≡ true → (1 ≤ length name) × IsTrue (is_letter (slice_index name 0))
 begins [] e = absurd (false≢true e)
 begins (c ∷ cs) e = (omega arith, letter_same c ∙ e)
@@ -85,8 +78,8 @@ given name h = by (text_eq name atlas_name) refl
 
     parts : text_eq name atlas_name ≡ false → (begins_with_letter name && list_all model_name_byte name && nat_le (length name) 24) ≡ true → IsName name
     parts other p =
-        let one = both (begins_with_letter name && list_all model_name_byte name) (nat_le (length name) 24) p in
-        let two = both (begins_with_letter name) (list_all model_name_byte name) one.0 in
+        let one = and_parts (begins_with_letter name && list_all model_name_byte name) (nat_le (length name) 24) p in
+        let two = and_parts (begins_with_letter name) (list_all model_name_byte name) one.0 in
         let first = begins name two.0 in
         (first.0, few (length name) one.1, first.1, all_same is_name_byte model_name_byte byte_same name ∙ two.1, λ e. false≢true (sym other ∙ (text_decides name atlas_name).1 e))
       where
@@ -95,7 +88,7 @@ given name h = by (text_eq name atlas_name) refl
 
     by : (b : Bool) → text_eq name atlas_name ≡ b → IsName name
     by true e = absurd (never (begins_with_letter name && list_all model_name_byte name && nat_le (length name) 24) (rw e at h))
-    by false e = parts e (both (begins_with_letter name && list_all model_name_byte name && nat_le (length name) 24) true (rw e at h)).0
+    by false e = parts e (and_parts (begins_with_letter name && list_all model_name_byte name && nat_le (length name) 24) true (rw e at h)).0
 
 may_be_given : (name : List ℕ) → IsName name → IsTrue (is_given_name name)
 may_be_given name h = by (text_eq name atlas_name) refl
@@ -105,13 +98,13 @@ may_be_given name h = by (text_eq name atlas_name) refl
 
     front : (begins_with_letter name && list_all model_name_byte name && nat_le (length name) 24) ≡ true
     front =
-        and_true (begins_with_letter name && list_all model_name_byte name) (nat_le (length name) 24)
-        (and_true (begins_with_letter name) (list_all model_name_byte name) (begun name h.0 h.2) (sym (all_same is_name_byte model_name_byte byte_same name) ∙ h.3))
+        and_from (begins_with_letter name && list_all model_name_byte name) (nat_le (length name) 24)
+        (and_from (begins_with_letter name) (list_all model_name_byte name) (begun name h.0 h.2) (sym (all_same is_name_byte model_name_byte byte_same name) ∙ h.3))
         (few (length name) h.1)
 
     by : (b : Bool) → text_eq name atlas_name ≡ b → IsTrue (is_given_name name)
     by true e = absurd (h.4 ((text_decides name atlas_name).0 e))
-    by false e = rw e (and_true (begins_with_letter name && list_all model_name_byte name && nat_le (length name) 24) true front refl)
+    by false e = rw e (and_from (begins_with_letter name && list_all model_name_byte name && nat_le (length name) 24) true front refl)
 
 pub given_names_same : (name : List ℕ) → IsName name ↔ IsTrue (is_given_name name)
 given_names_same name = (may_be_given name, given name)

@@ -1,22 +1,6 @@
 -- Counts that go on together.
-use Rattle.std.proofs.Common.{◌≡◌, ◌≤◌, ◌<◌, ◌-◌, ◌+◌, ◌^◌, ℕ, refl, ◌∙◌, arith}
-use Rattle.disk_trait.specs.Disk.{Ticks}
-use Rattle.disk_trait.proofs.Ticks.{Ticks-later}
+use Rattle.std.proofs.Common.{◌≤◌, ◌+◌, ℕ, refl, ◌∙◌, arith}
 use Rattle.disk_tally.specs.Counts.{Begins, CountsOn, Shown}
-
--- both go up by one
-pub CountsOn-ticks : (a b m n : ℕ) → Ticks a b → Ticks m n → CountsOn a b m n
-CountsOn-ticks a b m n clock begun = record {
-  clock_later = Ticks-later a b clock;
-  begun_later = Ticks-later m n begun;
-  same = λ since at low.
-      let later : a ≤ b = Ticks-later a b clock in
-      let inside : a < 2 ^ 64 - 1 = omega (arith, later, low) in
-      let below : m < 2 ^ 64 - 1 = omega (arith, inside, at) in
-      let one : b ≡ a + 1 = clock.one_more inside in
-      let two : n ≡ m + 1 = begun.one_more below in
-      omega (arith, at, one, two);
-}
 
 pub CountsOn-stay : (a m : ℕ) → CountsOn a a m m
 CountsOn-stay a m = record { clock_later = omega arith; begun_later = omega arith; same = λ since at low. at }

@@ -1,7 +1,7 @@
 -- How a stretch of calls goes on: lemmas on `LeavesOnly` and `Quiet`, one line for each call of a disk.
-use Rattle.std.proofs.Common.{◌≡◌, ◌≤◌, inl, inr, ⊎_elim, ℕ, subst, arith}
+use Rattle.std.proofs.Common.{◌≡◌, ◌≤◌, inl, inr, ⊎_elim, ℕ, arith}
 use Rattle.disk_trait.specs.Image.{Image, IsImage, SameOutside}
-use Rattle.disk_trait.specs.Disk.{Elapses, LeavesNoMore, Only, Tears}
+use Rattle.disk_trait.specs.Disk.{Elapses, LeavesNoMore, Tears}
 use Rattle.disk_trait.specs.Moments.{LeavesOnly, Quiet, WasLeft}
 use Rattle.disk_trait.proofs.Images.{SameOutside-refl, SameOutside-trans, SameOutside-one, SameOutside-weaker}
 
@@ -59,13 +59,6 @@ module _ {D : Type 0} {clock : D → ℕ} {may_leave : D → Image → Type 0} {
       → Elapses clock may_leave left_since mid new → ((d c : Image) → may_leave mid d → SameOutside (λ n. n ≡ at) d c → P c)
       → LeavesOnly clock left_since old new P
   LeavesOnly-write so_far stop time here = LeavesOnly-call so_far time (λ c now. let from = stop c now in here from.0 c from.1 from.2)
-
-  -- one write more where all is stable, as that of a gate
-  pub LeavesOnly-write_stable : {old mid new : D} {P : Image → Type 0} {at : ℕ} {image : Image} → LeavesOnly clock left_since old mid P
-      → Only image (may_leave mid) → Tears may_leave at mid new → Elapses clock may_leave left_since mid new
-      → ((c : Image) → SameOutside (λ n. n ≡ at) image c → P c) → LeavesOnly clock left_since old new P
-  LeavesOnly-write_stable {at = at} so_far stable stop time here =
-      LeavesOnly-write so_far stop time (λ d c could same. here c (subst (λ (e : Image). SameOutside (λ n. n ≡ at) e c) (stable d could) same))
 
   -- a second stretch after a first
   pub LeavesOnly-then : {old mid new : D} {P : Image → Type 0} → LeavesOnly clock left_since old mid P → LeavesOnly clock left_since mid new P

@@ -1,5 +1,5 @@
 -- Counts that go up by one.
-use Rattle.std.proofs.Common.{◌≡◌, ◌≤◌, ◌<◌, ◌-◌, ◌+◌, ◌^◌, ℕ, inl, inr, arith}
+use Rattle.std.proofs.Common.{◌≤◌, ◌<◌, ◌-◌, ◌+◌, ◌^◌, ℕ, inl, inr, arith}
 use Rattle.std.proofs.lemmas.Bool.{cases_lt}
 use Rattle.disk_trait.specs.Disk.{Began, Ticks}
 
@@ -17,10 +17,6 @@ Ticks-one before now ticks = elim (cases_lt before (2 ^ 64 - 1)) [
   | inr end ↦ omega (arith, ticks.at_end end)
 ]
 
--- no call was begun
-pub Began-none : (before now : ℕ) → now ≡ before → Began 0 before now
-Began-none before now same = record { later = omega (arith, same); at_most = omega (arith, same); all = λ below. omega (arith, same) }
-
 -- one call more
 pub Began-tick : (calls before mid now : ℕ) → Began calls before mid → Ticks mid now → Began (calls + 1) before now
 Began-tick calls before mid now began ticks =
@@ -32,13 +28,3 @@ Began-tick calls before mid now began ticks =
           let inside : mid < 2 ^ 64 - 1 = omega (arith, below, later) in
           omega (arith, began.all inside, ticks.one_more inside);
     }
-
--- more calls after the first
-pub Began-then : (first second before mid now : ℕ) → Began first before mid → Began second mid now → Began (first + second) before now
-Began-then first second before mid now a b = record {
-  later = omega (arith, a.later, b.later);
-  at_most = omega (arith, a.at_most, b.at_most);
-  all = λ below.
-      let inside : mid < 2 ^ 64 - 1 = omega (arith, below, b.later) in
-      omega (arith, a.all inside, b.all below);
-}

@@ -3,6 +3,9 @@ ghost use Rattle.std.specs.Prelude.{◌≡◌, ◌<◌, ◌≤◌, ◌^◌, ℕ,
 ghost use Rattle.disk_trait.specs.Disk.{Ticks, HasCause, Only, LeavesNoMore, Tears, Elapses};
 ghost use Rattle.disk_trait.specs.Image.{Image, IsImage, SameOutside, block_at};
 
+/// The bytes of a block.
+pub const BLOCK_BYTES: usize = 1024;
+
 /// A read, a write or a sync failed.
 #[derive(Clone, Copy, Debug, PartialEq, Eq)]
 pub struct DiskFault;

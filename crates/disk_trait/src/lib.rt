@@ -8,6 +8,6 @@ mod stretches;
 mod tape;
 
 pub use calls::Torn;
-pub use disk::{Disk, DiskFault, NoBlocks};
+pub use disk::{BLOCK_BYTES, Disk, DiskFault, NoBlocks};
 pub use memory::MemoryDisk;
 pub use stretches::{write_and_sync, write_run};

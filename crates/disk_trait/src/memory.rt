@@ -7,7 +7,7 @@ ghost use Rattle.disk_trait.specs.KeptLaws.{IsImage-from_kept, MayLeave-since_no
 
 use crate::calls::{Call, Torn, count_up};
 use crate::tape::Tape;
-use crate::{Disk, DiskFault};
+use crate::{BLOCK_BYTES, Disk, DiskFault};
 use std::alloc::{AllocError, Global};
 
 /// A disk in memory.
@@ -35,7 +35,7 @@ impl MemoryDisk {
         room: u32,
         fails: Vec<u64>,
     ) -> Result<MemoryDisk, AllocError>
-        ensures { IfOk result (StartsWith (replicate blocks (replicate 1024 0)) room fails.items) }
+        ensures { IfOk result (StartsWith (replicate blocks (replicate BLOCK_BYTES 0)) room fails.items) }
     {
         MemoryDisk::with_blocks(alloc, zero_blocks(alloc, blocks)?, room, fails)
     }
@@ -87,7 +87,7 @@ impl MemoryDisk {
 }
 
 fn zero_blocks(alloc: Global, count: u32) -> Result<Vec<[u8; 1024]>, AllocError>
-    ensures { IfOk result (λ blocks. blocks.items ≡ replicate count (replicate 1024 0)) }
+    ensures { IfOk result (λ blocks. blocks.items ≡ replicate count (replicate BLOCK_BYTES 0)) }
 {
     let mut blocks = Vec::with_capacity(alloc, count as usize)?;
     for _made in 0..count {

@@ -17,6 +17,7 @@ use Rattle.script_form.specs.hop_model.Soundness.{is_given_name, IsSoundCode}
 use Rattle.script_form.specs.Rules.{is_among, AreDifferent, IsRegionTable, AreAllApart, IsCapTable, IsContainerTable, IsLocusTable, container_names, locus_names, AreContainerTables, AreLocusTables, IsScript}
 use Rattle.drill_gen.specs.Draws.{Words, Drawn, rest, each}
 use Rattle.drill_gen.specs.Drill.{container_name, locus_name, of_kind, instruction, program, region_onto, regions, container, cap_on, locus, drill_of}
+use Rattle.std.proofs.Math.Bool.{or-false, or-true}
 
 -- THINGS THAT ARE DRAWN ONE AFTER ANOTHER
 
@@ -50,14 +51,6 @@ same_text : (t : Text) → text_eq t t ≡ true
 same_text [] = refl
 same_text (x ∷ xs) = (let e : (x == x) ≡ true = eq-eqb x x refl in rw e (same_text xs))
 
-or_false : (b : Bool) → (b || false) ≡ b
-or_false true = refl
-or_false false = refl
-
-or_true : (b : Bool) → (b || true) ≡ true
-or_true true = refl
-or_true false = refl
-
 or_moved : (a b c : Bool) → (a || (b || c)) ≡ (b || a || c)
 or_moved true true c = refl
 or_moved true false c = refl
@@ -81,7 +74,7 @@ among_below name (suc n) k lt =
     ap (λ (ns : List Text). is_among ns (name k)) (map_push name (upto n) n)
     ∙ list_any-append (text_eq (name k)) (map name (upto n)) (name n ∷ [])
     ∙ ⊎_elim
-    (λ (same : k ≡ n). ap (λ (b : Bool). is_among (map name (upto n)) (name k) || (b || false)) (ap (λ (j : ℕ). text_eq (name k) (name j)) (sym same) ∙ same_text (name k)) ∙ or_true (is_among (map name (upto n)) (name k)))
+    (λ (same : k ≡ n). ap (λ (b : Bool). is_among (map name (upto n)) (name k) || (b || false)) (ap (λ (j : ℕ). text_eq (name k) (name j)) (sym same) ∙ same_text (name k)) ∙ or-true (is_among (map name (upto n)) (name k)))
     (λ (other : k ≡ n → ⊥). ap (λ (b : Bool). b || (text_eq (name k) (name n) || false)) (among_below name n k (omega arith)))
     (cases_eq k n)
 
@@ -204,7 +197,7 @@ names_of_containers n ws = each_shows (λ (t : ContainerTable). t.name) containe
 containers_more : (earlier : List Text) (ts : List ContainerTable) (t : ContainerTable) → AreContainerTables earlier ts
     → ((known : List Text) → ((name : Text) → is_among known name ≡ (is_among earlier name || is_among (container_names ts) name)) → IsContainerTable known t)
     → AreContainerTables earlier (ts ++ t ∷ [])
-containers_more earlier [] t h good = (good earlier (λ name. sym (or_false (is_among earlier name))), tt)
+containers_more earlier [] t h good = (good earlier (λ name. sym (or-false (is_among earlier name))), tt)
 containers_more earlier (u ∷ ts) t h good =
     (h.0, containers_more (u.name ∷ earlier) ts t h.1 (λ known same. good known (λ name. same name ∙ sym (or_moved (is_among earlier name) (text_eq name u.name) (is_among (container_names ts) name)))))
 

@@ -39,7 +39,7 @@ event_of second third =
     else if third == 101 then Step
     else Stable
 
-event_same : (v w : Event) → event_word v ≡ event_word w → v ≡ w
+pub event_same : (v w : Event) → event_word v ≡ event_word w → v ≡ w
 unfolding event_of
 event_same v w e = sym (back v) ∙ ap (λ (t : Text). event_of (get_or t 1 0) (get_or t 2 0)) e ∙ back w
   where

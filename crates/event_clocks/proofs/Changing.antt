@@ -66,9 +66,6 @@ write_touch c = record { version = c.version + 1; entity = c.entity; wrote = tru
 abbrev pub read_touch : Clock → Touch
 read_touch c = record { version = c.version; entity = c.entity; wrote = false }
 
-abbrev pub met : Clock → ℕ → ℕ → ℕ
-met c version y = max (component c.stamp y) (if c.entity == y then version else 0)
-
 joins_one : (a ra : ℕ) → max a ra ≡ max (max a ra) 0
 joins_one a ra = omega arith
 

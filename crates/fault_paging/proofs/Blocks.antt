@@ -1,6 +1,6 @@
 -- A page is saved: its words go to its own block, or to a new one, or the write fails. No word changes.
 use Rattle.std.proofs.Common.{◌≡◌, ◌≢◌, ℕ, ◌<◌, ◌≤◌, Bool, true, false, ◌||◌, List, length, set, is_some, Option, Some, None, IsSome, IsTrue, refl, sym, ap, ◌∙◌, inl, inr, subst, arith}
-use Rattle.std.proofs.lemmas.Bool.{cases_eq}
+use Rattle.std.proofs.lemmas.Bool.{cases_eq, or_left, or_right}
 use Rattle.std.proofs.lemmas.List.{get_or-set_same, get_or-set_other, length-set}
 use Rattle.page_store.specs.hop_model.State.{Supply}
 use Rattle.frame_table.specs.FrameTable.{FrameTable, Resident, changed_at, page_at, resident_count, resident_words, unmarked, used_at, words_at}
@@ -9,14 +9,6 @@ use Rattle.fault_paging.specs.declared.paged.PagedMemory.{PagedMemory}
 use Rattle.fault_paging.specs.Words.{block_at, AreCleanTrue, IsSoundTable}
 use Rattle.fault_paging.specs.Calls.{IsOfTable, Keeps, Moves, Stands}
 use Rattle.fault_paging.proofs.Pages.{Same, at_other, at_page, changed_resident, fits_same, resident_within, saved, stands, untouched}
-
-or_left : (x y : Bool) → x ≡ true → (x || y) ≡ true
-or_left true y e = refl
-or_left false y e = absurd (cc e)
-
-or_right : (x y : Bool) → y ≡ true → (x || y) ≡ true
-or_right true y e = refl
-or_right false y e = e
 
 pub resident_is : (o : Option Resident) → IsSome o → (r : Resident) × (o ≡ Some r)
 resident_is None e = let clash : IsSome {T = Resident} None = e in absurd (cc clash)

@@ -1,6 +1,6 @@
 -- A page comes into a frame with its words, which are its block's or the supplier's. No word changes.
-use Rattle.std.proofs.Common.{◌≡◌, ◌≢◌, ◌↔◌, ℕ, ◌+◌, ◌-◌, ◌^◌, ◌<◌, ◌≤◌, Bool, true, false, ◌||◌, List, length, set, slice_index, is_some, count_by, Option, Some, None, Ok, Err, IsErrOf, IsOk, refl, sym, ap, ◌∙◌, inl, inr, subst, arith}
-use Rattle.std.proofs.lemmas.Bool.{cases_eq, cases_lt}
+use Rattle.std.proofs.Common.{◌≡◌, ◌≢◌, ◌↔◌, ℕ, ◌+◌, ◌-◌, ◌^◌, ◌<◌, ◌≤◌, Bool, true, false, List, length, set, slice_index, is_some, count_by, Option, Some, None, Ok, Err, IsErrOf, IsOk, refl, sym, ap, ◌∙◌, inl, inr, subst, arith}
+use Rattle.std.proofs.lemmas.Bool.{cases_eq, cases_lt, or_left, or_right}
 use Rattle.page_store.specs.hop_model.State.{Supply}
 use Rattle.disk_trait.specs.Disk.{Ticks}
 use Rattle.disk_trait.specs.declared.disk.NoBlocks.{NoBlocks as Shortage}
@@ -14,20 +14,12 @@ use Rattle.fault_paging.specs.Words.{block_at, stored_word, AreCleanTrue, IsSoun
 use Rattle.fault_paging.specs.Calls.{AllStay, Chooses, Evicts, IsCausedBy, IsRead, Keeps, KeepsPages, MakesRoom, Reads, Stands}
 use Rattle.fault_paging.proofs.Pages.{Same, at_other, at_page, placed, stands, untouched}
 
-left_true : (x y : Bool) → x ≡ true → (x || y) ≡ true
-left_true true y e = refl
-left_true false y e = absurd (cc e)
-
-right_true : (x y : Bool) → y ≡ true → (x || y) ≡ true
-right_true true y e = refl
-right_true false y e = e
-
 -- READS
 
 module _ {B : Type 0} (held kept : B → ℕ → Bool) (words : B → ℕ → List ℕ) (b b' : B) (same : SameWords held kept words (λ n. ⊥) b b') where
   -- the blocks of a sound table keep their words
   pub blocks_same : (m : PagedMemory) → IsSoundTable (held b) m → (p : ℕ) → block_at m p ≢ 0 → words b' (block_at m p) ≡ words b (block_at m p)
-  blocks_same m table p some = same (block_at m p) (left_true _ _ (table.held_blocks p some)) (λ x. x)
+  blocks_same m table p some = same (block_at m p) (or_left _ _ (table.held_blocks p some)) (λ x. x)
 
   pub read_stands : (m : PagedMemory) → IsSoundTable (held b) m → (s : Supply) → AreCleanTrue s (words b) m → Stands s (words b) (words b') m m
   read_stands m table s = stands s (words b) (words b') m m (λ p. untouched s (words b) (words b') m m p refl refl refl (λ some _. blocks_same m table p some))
@@ -38,8 +30,8 @@ keeps_read tells held kept words m m' t b b' b'' k same_held same_kept same = re
   same_kept = same_kept ∙ k.same_kept;
   held_stay = λ n h out. let before = k.held_stay n h out in (ap (λ f. f n) same_held ∙ before.0, before.1);
   no_others = λ n h out. k.no_others n (sym (ap (λ f. f n) same_held) ∙ h) out;
-  held_words = λ t n h out. let before = k.held_stay n h out in same t n (left_true _ _ before.0) (λ x. x) ∙ k.held_words t n h out;
-  kept_words = λ t n names. same t n (right_true _ _ (ap (λ f. f n) k.same_kept ∙ names)) (λ x. x) ∙ k.kept_words t n names;
+  held_words = λ t n h out. let before = k.held_stay n h out in same t n (or_left _ _ before.0) (λ x. x) ∙ k.held_words t n h out;
+  kept_words = λ t n names. same t n (or_right _ _ (ap (λ f. f n) k.same_kept ∙ names)) (λ x. x) ∙ k.kept_words t n names;
   news = k.news;
 }
 

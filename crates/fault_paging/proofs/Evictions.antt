@@ -11,16 +11,14 @@ use Rattle.fault_paging.specs.Words.{block_at, needs_block, AreCleanTrue, IsSoun
 use Rattle.fault_paging.specs.Calls.{AllStay, Chooses, IsWritten, Keeps, KeepsPages, Saves, Stands}
 use Rattle.fault_paging.proofs.Pages.{Same, at_other, at_page, fits_same, removed, resident_within, stands, stands_trans, untouched}
 use Rattle.fault_paging.proofs.Blocks.{resident_is}
-
-some_same : {X : Type 0} (x y : X) → Some x ≡ Some y → x ≡ y
-some_same x y e = cc
+use Rattle.std.proofs.lemmas.Option.{same_Some}
 
 -- a page seen alike but for its mark of use is changed alike, and resident alike
 pub marked_changed : (o o' : Option Resident) → unmarked o' ≡ unmarked o → resident_changed o' ≡ resident_changed o
 marked_changed None None e = refl
 marked_changed None (Some r') e = absurd (cc e)
 marked_changed (Some r) None e = absurd (cc e)
-marked_changed (Some r) (Some r') e = ap (λ x. x.1) (some_same _ _ e)
+marked_changed (Some r) (Some r') e = ap (λ x. x.1) (same_Some _ _ e)
 
 marked_resident : (o o' : Option Resident) → unmarked o' ≡ unmarked o → is_some o' ≡ is_some o
 marked_resident None None e = refl

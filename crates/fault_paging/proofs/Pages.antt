@@ -9,9 +9,7 @@ use Rattle.frame_table.proofs.Pages.{count-same}
 use Rattle.fault_paging.specs.declared.paged.PagedMemory.{PagedMemory}
 use Rattle.fault_paging.specs.Words.{block_at, stored_word, word_by, word_in, words_of, AreCleanTrue}
 use Rattle.fault_paging.specs.Calls.{Stands}
-
-some_same : {X : Type 0} (x y : X) → Some x ≡ Some y → x ≡ y
-some_same x y e = cc
+use Rattle.std.proofs.lemmas.Option.{same_Some}
 
 -- FRAMES
 
@@ -64,7 +62,7 @@ module _ (s : Supply) (tag : ℕ) (words words' : ℕ → List ℕ) (block page 
   same_word None None e w place = stored_same (λ some. w some refl) place
   same_word None (Some r') e w place = absurd (cc e)
   same_word (Some r) None e w place = absurd (cc e)
-  same_word (Some r) (Some r') e w place = ap (λ x. slice_index x.0 place) (some_same _ _ e)
+  same_word (Some r) (Some r') e w place = ap (λ x. slice_index x.0 place) (same_Some _ _ e)
 
   same_clean :
       (o o' : Option Resident) → unmarked o' ≡ unmarked o → (block ≢ 0 → resident_changed o ≡ false → words' block ≡ words block) → (place : ℕ)
@@ -73,7 +71,7 @@ module _ (s : Supply) (tag : ℕ) (words words' : ℕ → List ℕ) (block page 
   same_clean o None e w place was there clean = let clash : IsSome {T = Resident} None = there in absurd (cc clash)
   same_clean None (Some r') e w place was there clean = absurd (cc e)
   same_clean (Some r) (Some r') e w place was there clean =
-      let unchanged : r.changed ≡ false = sym (ap (λ x. x.1) (some_same _ _ e)) ∙ clean in
+      let unchanged : r.changed ≡ false = sym (ap (λ x. x.1) (same_Some _ _ e)) ∙ clean in
       same_word (Some r) (Some r') e w place ∙ was refl unchanged ∙ sym (stored_same (λ some. w some unchanged) place)
 
 -- what is claimed of a page that isn't changed

@@ -9,7 +9,7 @@ use Rattle.page_store.specs.declared.faults.PageFault.{PageFault}
 use Rattle.frame_table.specs.FrameTable.{FrameTable, Resident, IsResident, changed_at, page_at, resident_changed, resident_words, unmarked, with_resident, words_at}
 use Rattle.fault_paging.specs.declared.paged.PagedMemory.{PagedMemory}
 use Rattle.fault_paging.specs.Words.{block_at, word_by, word_in, words_of, AreCleanTrue, IsSoundTable}
-use Rattle.fault_paging.specs.Calls.{AllStay, KeepsBlocks, KeepsPages, MarksOne, Reads}
+use Rattle.fault_paging.specs.Calls.{KeepsBlocks, KeepsPages, MarksOne, Reads}
 use Rattle.fault_paging.proofs.Pages.{at_other, at_page, fits_same, resident_within, untouched}
 
 unmarked_is : (o : Option Resident) → IsSome o → unmarked o ≡ Some (resident_words o, resident_changed o)
@@ -47,9 +47,6 @@ module _ (m : PagedMemory) (page : ℕ) (there : IsResident m.frames page) (t : 
     | inl same ↦ ap (λ q. is_some (page_at t q)) same ∙ ap is_some here ∙ sym there ∙ sym (ap (λ q. is_some (page_at m.frames q)) same)
     | inr differs ↦ ap is_some (other p differs)
   ]
-
-  pub same_stay : (from : PagedMemory) → AllStay from m → AllStay from (record m { frames = t })
-  same_stay from stay p was = same_residents p ∙ stay p was
 
   pub same_table : (held : ℕ → Bool) → IsSoundTable held m → IsSoundTable held (record m { frames = t })
   same_table held table = record {

@@ -9,7 +9,7 @@ use crate::paged::PagedMemory;
 use page_store::{PageFault, PageStore};
 
 /// How many pages the table has room for.
-const PAGES: u16 = 256;
+const TABLE_PAGES: u16 = 256;
 
 impl PagedMemory {
     // Whether a page is changed and needs a new block.
@@ -27,7 +27,7 @@ impl PagedMemory {
         ensures { result ≡ need_of (B.kept_names store.now) self.now }
     {
         let mut need = 0;
-        for page in 0..PAGES {
+        for page in 0..TABLE_PAGES {
             if self.needs(store, page as u8) {
                 need += 1;
             }
@@ -57,7 +57,7 @@ impl PagedMemory {
         ensures same_shut { OnOk result (B.is_shut store.new ≡ B.is_shut store.old) }
         ensures between { B.Pages store.old store.new }
     {
-        for page in 0..PAGES {
+        for page in 0..TABLE_PAGES {
             self.save(store, page as u8)?;
         }
         Ok(())

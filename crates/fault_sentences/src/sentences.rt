@@ -13,7 +13,7 @@ use itoa::Buffer;
 use stream_edge::{Sink, SinkFault};
 
 /// A length that no text of two numbers exceeds.
-const NUMBERS: usize = 64;
+const NUMBERS_TEXT: usize = 64;
 
 /// What a refusal speaks of: its key, or the script as a whole.
 fn subject(refusal: &Refusal) -> &str
@@ -64,7 +64,7 @@ fn reason(refusal: &Refusal) -> &'static str
 }
 
 /// A place of the image.
-fn place_text(block: u32, place: u16) -> ArrayString<NUMBERS>
+fn place_text(block: u32, place: u16) -> ArrayString<NUMBERS_TEXT>
     ensures { result.bytes ≡ place_text block place }
 {
     let mut digits = Buffer::new();
@@ -77,7 +77,7 @@ fn place_text(block: u32, place: u16) -> ArrayString<NUMBERS>
 }
 
 /// How many blocks are needed, and how many there are.
-fn blocks_text(blocks: NoBlocks) -> ArrayString<NUMBERS>
+fn blocks_text(blocks: NoBlocks) -> ArrayString<NUMBERS_TEXT>
     ensures { result.bytes ≡ blocks_text blocks }
 {
     let mut digits = Buffer::new();
@@ -90,7 +90,7 @@ fn blocks_text(blocks: NoBlocks) -> ArrayString<NUMBERS>
 }
 
 /// A line of a trace.
-fn trace_text(number: u64) -> ArrayString<NUMBERS>
+fn trace_text(number: u64) -> ArrayString<NUMBERS_TEXT>
     ensures { result.bytes ≡ trace_text number }
 {
     let mut digits = Buffer::new();

@@ -18,11 +18,11 @@ use Rattle.sound_runs.specs.hop_model.Steps.{atlas_in}
 use Rattle.sound_runs.proofs.hop_model_lemmas.Basics.{some_of_map}
 use Rattle.sound_runs.proofs.hop_model_lemmas.LegalRuns.{state_goes_on}
 use Rattle.sound_runs.specs.script_form.Rules.{IsScript}
-use Rattle.sound_runs.proofs.run_laws_lemmas.Wishes.{run_append}
 use Rattle.sound_runs.proofs.Births.{birth_leaves, names_in}
 use Rattle.fitting_births.specs.Fitting.{Fits, new_containers, new_loci}
 use Rattle.fitting_births.proofs.Growing.{born_atlas, fits_after, named_defined}
 use Rattle.fitting_births.proofs.KnownNames.{more_containers, more_loci, next_name_is, next_new}
+use Rattle.sound_runs.proofs.hop_model_lemmas.StableCuts.{run_append}
 
 pub some_is : {A : Type 0} (o : Option A) → is_some o ≡ true → (x : A) × (o ≡ Some x)
 some_is None e = absurd (false≢true e)

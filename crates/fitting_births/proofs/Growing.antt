@@ -1,6 +1,6 @@
 -- The births of a script that fits: each is defined, and the rest still fits.
 use Rattle.std.proofs.Common.{◌≡◌, ℕ, ◌+◌, ◌<◌, ◌≤◌, Bool, true, false, ◌&&◌, ◌||◌, if◌then◌else◌, ◌==◌, nat_le, nat_lt, IsTrue, List, [], ◌∷◌, ◌++◌, length, Option, Some, None, is_some, is_none, unwrap_or, refl, sym, ap, subst, ◌∙◌, arith}
-use Rattle.std.specs.List.{All, list_all}
+use Rattle.std.specs.List.{All}
 use Rattle.std.proofs.lemmas.Bool.Decides.{nat_tests}
 use Rattle.std.proofs.lemmas.List.{length-append}
 use Rattle.std.proofs.lemmas.List.Elements.{All-cons, All-head, All-nil, All-tail}
@@ -8,31 +8,24 @@ use Rattle.sound_runs.specs.hop_model.Births.{birth_named, container_birth, cont
 use Rattle.sound_runs.specs.hop_model.Changes.{Change, changed, ordered}
 use Rattle.sound_runs.specs.hop_model.Outcomes.{free_container, free_locus}
 use Rattle.sound_runs.specs.hop_model.Scripts.{ContainerTable, LocusTable, Script, atlas_name, container_named, container_table, locus_named, locus_table, number_in, number_of, place_of, text_eq}
-use Rattle.sound_runs.specs.hop_model.Soundness.{begins_with_letter, is_given_name, is_name_byte}
-use Rattle.sound_runs.specs.hop_model.State.{Supply, Text, AtlasState, Cell, AtlasCell, KernelState}
+use Rattle.sound_runs.specs.hop_model.Soundness.{is_given_name}
+use Rattle.sound_runs.specs.hop_model.State.{Supply, Text, AtlasState, AtlasCell, KernelState}
 use Rattle.sound_runs.specs.hop_model.Words.{or_else}
 use Rattle.sound_runs.proofs.hop_model_lemmas.Faithful.{free_container_is, free_locus_is}
 use Rattle.sound_runs.proofs.hop_model_lemmas.Writes.{cell_with, changed_cell}
-use Rattle.sound_runs.specs.script_form.Rules.{AreContainerTables, AreLocusTables, IsScript, container_names, is_among, locus_names}
+use Rattle.sound_runs.specs.script_form.Rules.{AreContainerTables, IsScript, container_names, is_among, locus_names}
 use Rattle.sound_runs.proofs.Tables.{container_named_born}
 use Rattle.sound_runs.proofs.TableEdges.{model_containers, model_loci}
-use Rattle.sound_runs.proofs.Found.{text_same}
+use Rattle.sound_runs.specs.Kinds.{AreOfOneKind}
 use Rattle.fitting_births.specs.Fitting.{Fits, new_containers, new_loci}
-use Rattle.fitting_births.proofs.KnownNames.{IsNextContainer, IsNextLocus, NextName, OfContainer, OfLocus, different_apart, more_containers, more_loci, none_some, or_cases, same_text, some_none, true_false}
+use Rattle.fitting_births.proofs.KnownNames.{IsNextContainer, IsNextLocus, NextName, OfContainer, OfLocus, different_apart, more_containers, more_loci, none_some, or_cases, some_none, true_false}
+use Rattle.sound_runs.proofs.hop_model_lemmas.Locality.{some_if}
+use Rattle.sound_runs.proofs.sound_steps_lemmas.MadeNames.{same_text, text_same}
+use Rattle.sound_runs.proofs.Births.{place_other, other_way}
+use Rattle.sound_runs.proofs.Found.{not_atlas}
+use Rattle.sound_runs.proofs.Naming.{above_0}
 
 -- THE HOST
-
--- a given name is not the atlas's
-pub not_atlas : (x : Text) → IsTrue (is_given_name x) → text_eq x atlas_name ≡ false
-not_atlas x h = by_test (text_eq x atlas_name) refl
-  where
-    by_test : (b : Bool) → text_eq x atlas_name ≡ b → text_eq x atlas_name ≡ false
-    by_test false e = e
-    by_test true e = absurd (no (begins_with_letter x && list_all is_name_byte x && nat_le (length x) 24) (rw e at h))
-      where
-        no : (p : Bool) → (p && false) ≡ true → ⊥
-        no true e = cc
-        no false e = cc
 
 -- a container's name of the script is a given one, and no locus's
 given_container : (a : AtlasState) (earlier : List Text) (ts : List ContainerTable) (x : Text) → AreContainerTables earlier ts → All (λ (t : ContainerTable). locus_named a t.name ≡ None) ts → IsTrue (is_among (container_names ts) x)
@@ -91,16 +84,6 @@ named_defined s script name w a rules fits (OfLocus next none known) =
 pub data Grew (a b : AtlasState) (script : Script) (name : Text) : Type 0 where
   ByContainer : (next : IsNextContainer a script.containers name) → b.containers ≡ a.containers ++ name ∷ [] → b.loci ≡ a.loci → Grew a b script name
   ByLocus : (next : IsNextLocus a (container_names script.containers) script.loci name) → b.containers ≡ a.containers → b.loci ≡ a.loci ++ name ∷ [] → Grew a b script name
-
-above_0 : (n : ℕ) → 0 < n → (n == 0) ≡ false
-above_0 n h = grind (arith, nat_tests)
-
-some_if : {A : Type 0} (b : Bool) (x y : A) → (if b then Some x else None) ≡ Some y → x ≡ y
-some_if true x y e = one x y e
-  where
-    one : {A : Type 0} (x y : A) → Some x ≡ Some y → x ≡ y
-    one x y e = cc
-some_if false x y e = some_none y (sym e)
 
 pub container_change : (s : Supply) (a : AtlasState) (t : ContainerTable) (o : Option ℕ) (c : ℕ × Change) → container_birth s a t o ≡ Some c → (n : ℕ) × (o ≡ Some n) × ((n, container_born s a t n) ≡ c)
 container_change s a t None c e = some_none c (sym e)
@@ -161,14 +144,6 @@ place_last x (t ∷ ts) k =
       | true ↦ refl
       | false ↦ place_last x ts (k + 1)
     ]
-
-place_other : (x y : Text) (ts : List Text) (k : ℕ) → text_eq x y ≡ false → place_of x ts k ≡ None → place_of x (ts ++ y ∷ []) k ≡ None
-place_other x y [] k other none = ap (λ (b : Bool). if b then Some k else None) other
-place_other x y (t ∷ ts) k other none =
-    elim (text_eq x t) as (λ b. (if b then Some k else place_of x ts (k + 1)) ≡ None → (if b then Some k else place_of x (ts ++ y ∷ []) (k + 1)) ≡ None) [
-      | true ↦ λ e. some_none k e
-      | false ↦ λ e. place_other x y ts (k + 1) other e
-    ] none
 
 place_grown : (x y : Text) (ts : List Text) (k : ℕ) → is_some (place_of x ts k) ≡ true → is_some (place_of x (ts ++ y ∷ []) k) ≡ true
 place_grown x y ts k h = by_place (place_of x ts k) refl h
@@ -317,38 +292,38 @@ apart_texts xs ys x y different front back = by_test (text_eq x y) refl
     by_test false e = e
     by_test true e = true_false (is_among ys y) back (ap (is_among ys) (sym (text_same x y e)) ∙ different_apart xs ys x different front)
 
-other_way : (x y : Text) → text_eq x y ≡ false → text_eq y x ≡ false
-other_way x y other = by_test (text_eq y x) refl
-  where
-    by_test : (b : Bool) → text_eq y x ≡ b → text_eq y x ≡ false
-    by_test false e = e
-    by_test true e = true_false (text_eq x y) (ap (text_eq x) (text_same y x e) ∙ same_text x) other
+-- a name that is born leaves the others their kinds
+pub kinds_after : (a b : AtlasState) (script : Script) (name : Text) → IsScript script → AreOfOneKind a script → Grew a b script name → AreOfOneKind b script
+kinds_after a b script name rules kinds (ByContainer next containers loci) = record {
+  containers = all_containers_by (λ (t : ContainerTable). locus_named a t.name ≡ None) (λ (t : ContainerTable). locus_named b t.name ≡ None) script.containers (λ t among h. ap (λ (ts : List Text). place_of t.name ts 41) loci ∙ h) kinds.containers;
+  loci = all_loci_by (λ (t : LocusTable). container_named a t.name ≡ None) (λ (t : LocusTable). container_named b t.name ≡ None) script.loci
+      (λ t among h.
+      ap (λ (ts : List Text). place_of t.name ts 1) containers
+      ∙ place_other t.name name a.containers 1 (other_way name t.name (apart_texts (container_names script.containers) (locus_names script.loci) name t.name rules.different next.among among)) h) kinds.loci;
+}
+kinds_after a b script name rules kinds (ByLocus next containers loci) = record {
+  containers = all_containers_by (λ (t : ContainerTable). locus_named a t.name ≡ None) (λ (t : ContainerTable). locus_named b t.name ≡ None) script.containers
+      (λ t among h.
+      ap (λ (ts : List Text). place_of t.name ts 41) loci ∙ place_other t.name name a.loci 41 (apart_texts (container_names script.containers) (locus_names script.loci) t.name name rules.different among next.among) h) kinds.containers;
+  loci = all_loci_by (λ (t : LocusTable). container_named a t.name ≡ None) (λ (t : LocusTable). container_named b t.name ≡ None) script.loci (λ t among h. ap (λ (ts : List Text). place_of t.name ts 1) containers ∙ h) kinds.loci;
+}
 
 pub fits_after : (a b : AtlasState) (script : Script) (name : Text) → IsScript script → Fits a script → number_of a name ≡ None → Grew a b script name → Fits b script
 fits_after a b script name rules fits none (ByContainer next containers loci) =
-    let known = λ (x : Text). still_known a b script name x (ByContainer next containers loci) in
-    let now = now_known a b script name (ByContainer next containers loci) in
+    let grew : Grew a b script name = ByContainer next containers loci in
+    let known = λ (x : Text). still_known a b script name x grew in
+    let now = now_known a b script name grew in
     record {
-      kinds = record {
-        containers = all_containers_by (λ (t : ContainerTable). locus_named a t.name ≡ None) (λ (t : ContainerTable). locus_named b t.name ≡ None) script.containers (λ t among h. ap (λ (ts : List Text). place_of t.name ts 41) loci ∙ h) fits.kinds.containers;
-        loci = all_loci_by (λ (t : LocusTable). container_named a t.name ≡ None) (λ (t : LocusTable). container_named b t.name ≡ None) script.loci
-            (λ t among h.
-            ap (λ (ts : List Text). place_of t.name ts 1) containers
-            ∙ place_other t.name name a.containers 1 (other_way name t.name (apart_texts (container_names script.containers) (locus_names script.loci) name t.name rules.different next.among among)) h) fits.kinds.loci;
-      };
+      kinds = kinds_after a b script name rules fits.kinds grew;
       containers = (let f = fits.containers in let l = ap length containers in let m = length-append a.containers (name ∷ []) in let k = one_container_fewer a b script.containers name known none now next.among in omega (arith, f, l, m, k));
       loci = (let f = fits.loci in let l = ap length loci in let k = fewer_loci a b script.loci known in omega (arith, f, l, k));
     }
 fits_after a b script name rules fits none (ByLocus next containers loci) =
-    let known = λ (x : Text). still_known a b script name x (ByLocus next containers loci) in
-    let now = now_known a b script name (ByLocus next containers loci) in
+    let grew : Grew a b script name = ByLocus next containers loci in
+    let known = λ (x : Text). still_known a b script name x grew in
+    let now = now_known a b script name grew in
     record {
-      kinds = record {
-        containers = all_containers_by (λ (t : ContainerTable). locus_named a t.name ≡ None) (λ (t : ContainerTable). locus_named b t.name ≡ None) script.containers
-            (λ t among h.
-            ap (λ (ts : List Text). place_of t.name ts 41) loci ∙ place_other t.name name a.loci 41 (apart_texts (container_names script.containers) (locus_names script.loci) t.name name rules.different among next.among) h) fits.kinds.containers;
-        loci = all_loci_by (λ (t : LocusTable). container_named a t.name ≡ None) (λ (t : LocusTable). container_named b t.name ≡ None) script.loci (λ t among h. ap (λ (ts : List Text). place_of t.name ts 1) containers ∙ h) fits.kinds.loci;
-      };
+      kinds = kinds_after a b script name rules fits.kinds grew;
       containers = (let f = fits.containers in let l = ap length containers in let k = fewer_containers a b script.containers known in omega (arith, f, l, k));
       loci = (let f = fits.loci in let l = ap length loci in let m = length-append a.loci (name ∷ []) in let k = one_locus_fewer a b script.loci name known none now next.among in omega (arith, f, l, m, k));
     }

@@ -1,5 +1,5 @@
 -- Names of a script that are born, and the next one that isn't.
-use Rattle.std.proofs.Common.{◌≡◌, ℕ, ◌+◌, ◌<◌, ◌≤◌, Bool, true, false, not, ◌&&◌, ◌||◌, if◌then◌else◌, ◌==◌, nat_lt, IsTrue, List, [], ◌∷◌, ◌++◌, length, map, Option, Some, None, is_some, is_none, count_by, refl, sym, ap, subst, ◌∙◌, arith}
+use Rattle.std.proofs.Common.{◌≡◌, ℕ, ◌+◌, ◌≤◌, Bool, true, false, not, ◌&&◌, ◌||◌, if◌then◌else◌, IsTrue, List, [], ◌∷◌, ◌++◌, Option, Some, None, is_some, is_none, refl, sym, ap, ◌∙◌, arith}
 use Rattle.std.specs.List.{All}
 use Rattle.std.proofs.lemmas.List.Elements.{All-head, All-tail}
 use Rattle.std.proofs.lemmas.List.Sums.{sum_by-cons}
@@ -8,14 +8,11 @@ use Rattle.sound_runs.specs.hop_model.Scripts.{CapTable, ContainerTable, LocusTa
 use Rattle.sound_runs.specs.hop_model.State.{Text, AtlasState}
 use Rattle.sound_runs.specs.hop_model.Words.{or_else}
 use Rattle.sound_runs.specs.script_form.Rules.{AreContainerTables, AreDifferent, AreLocusTables, IsCapTable, IsRegionTable, IsScript, container_names, is_among, locus_names}
-use Rattle.sound_runs.proofs.Found.{text_same}
 use Rattle.fitting_births.specs.Fitting.{new_containers, new_loci}
+use Rattle.sound_runs.proofs.sound_steps_lemmas.MadeNames.{same_text, text_same}
+use Rattle.std.proofs.lemmas.Bool.{and_from, or_parts, or_right}
 
 -- TEXTS AND TESTS
-
-pub same_text : (t : Text) → text_eq t t ≡ true
-same_text [] = refl
-same_text (x ∷ xs) = (let e : (x == x) ≡ true = Rattle.std.proofs.Common.eq-eqb x x refl in rw e (same_text xs))
 
 pub true_false : {A : Type 0} (b : Bool) → b ≡ true → b ≡ false → A
 true_false true e f = absurd (no f)
@@ -50,24 +47,12 @@ not_named (Some x) e = absurd (no e)
 pub none_some : {X A : Type 0} (o : Option X) → o ≡ None → is_some o ≡ true → A
 none_some o none known = true_false (is_some o) known (ap is_some none)
 
-and_true : (p q : Bool) → p ≡ true → q ≡ true → (p && q) ≡ true
-and_true true q e f = f
-and_true false q e f = e
-
 pub or_cases : {A : Type 0} (p q : Bool) → (p || q) ≡ true → (p ≡ true → A) → (q ≡ true → A) → A
 or_cases true q e f g = f refl
 or_cases false q e f g = g e
 
-or_right : (p q : Bool) → q ≡ true → (p || q) ≡ true
-or_right true q e = refl
-or_right false q e = e
-
-or_parts : (p q : Bool) → (p || q) ≡ false → (p ≡ false) × (q ≡ false)
-or_parts false q e = (refl, e)
-or_parts true q e = true_false true refl e
-
 -- a known name is not one that is new
-other_text : (a : AtlasState) (x y : Text) → number_of a x ≡ None → is_some (number_of a y) ≡ true → text_eq x y ≡ false
+pub other_text : (a : AtlasState) (x y : Text) → number_of a x ≡ None → is_some (number_of a y) ≡ true → text_eq x y ≡ false
 other_text a x y none known = by_test (text_eq x y) refl
   where
     by_test : (b : Bool) → text_eq x y ≡ b → text_eq x y ≡ false
@@ -115,7 +100,7 @@ known_in a own n name h = by_test (text_eq name own) refl
 caps_known : (a : AtlasState) (own : Text) (n : ℕ) (names : List Text) (cs : List CapTable) → AllKnown a names → All (IsCapTable (atlas_name ∷ own ∷ names)) cs → IsTrue (knows_caps (number_in a own n) cs)
 caps_known a own n names [] known all = refl
 caps_known a own n names (c ∷ cs) known all =
-    and_true (is_some (number_in a own n c.entity)) (knows_caps (number_in a own n) cs) (known_in a own n c.entity here)
+    and_from (is_some (number_in a own n c.entity)) (knows_caps (number_in a own n) cs) (known_in a own n c.entity here)
     (caps_known a own n names cs known (All-tail (IsCapTable (atlas_name ∷ own ∷ names)) c cs all))
   where
     here : text_eq c.entity own ≡ false → is_some (number_of a c.entity) ≡ true
@@ -127,7 +112,7 @@ caps_known a own n names (c ∷ cs) known all =
 regions_known : (a : AtlasState) (own : Text) (n : ℕ) (names : List Text) (pages : ℕ) (rs : List RegionTable) → AllKnown a names → All (IsRegionTable names pages) rs → IsTrue (knows_regions (number_in a own n) rs)
 regions_known a own n names pages [] known all = refl
 regions_known a own n names pages (r ∷ rs) known all =
-    and_true (is_some (number_in a own n r.target)) (knows_regions (number_in a own n) rs) (known_in a own n r.target (λ _. known r.target (All-head (IsRegionTable names pages) r rs all).target))
+    and_from (is_some (number_in a own n r.target)) (knows_regions (number_in a own n) rs) (known_in a own n r.target (λ _. known r.target (All-head (IsRegionTable names pages) r rs all).target))
     (regions_known a own n names pages rs known (All-tail (IsRegionTable names pages) r rs all))
 
 -- THE NEXT NAME
@@ -164,7 +149,7 @@ next_container a earlier (t ∷ ts) name h known is =
             found = ap (λ (b : Bool). if b then Some t else container_table ts name) here;
             named = sym same;
             none = ap (number_of a) (sym same) ∙ not_named (number_of a t.name) new;
-            knows = λ n. and_true (knows_regions (number_in a t.name n) t.regions) (knows_caps (number_in a t.name n) t.caps) (regions_known a t.name n earlier t.pages t.regions known h.0.regions) (caps_known a t.name n earlier t.caps known h.0.caps);
+            knows = λ n. and_from (knows_regions (number_in a t.name n) t.regions) (knows_caps (number_in a t.name n) t.caps) (regions_known a t.name n earlier t.pages t.regions known h.0.regions) (caps_known a t.name n earlier t.caps known h.0.caps);
             new = (let m = more_containers a t ts in let one = new_one (is_none (number_of a t.name)) new in omega (arith, m, one));
             among = ap (λ b. b || is_among (container_names ts) name) here;
           }

@@ -1,12 +1,8 @@
 -- Whether the new names of a script can be born into an atlas.
-use Rattle.std.specs.Prelude.{◌≡◌, ℕ, ◌+◌, ◌≤◌, List, length, count_by, None, is_none, All}
-use Rattle.sound_runs.specs.hop_model.Scripts.{ContainerTable, LocusTable, Script, container_named, locus_named, number_of}
+use Rattle.std.specs.Prelude.{ℕ, ◌+◌, ◌≤◌, List, length, count_by, is_none}
+use Rattle.sound_runs.specs.hop_model.Scripts.{ContainerTable, LocusTable, Script, number_of}
 use Rattle.sound_runs.specs.hop_model.State.{AtlasState}
-
--- no name of the script stands in the atlas with the other kind
-pub record AreOfOneKind (a : AtlasState) (script : Script) : Type 0 where
-  pub containers : All (λ (t : ContainerTable). locus_named a t.name ≡ None) script.containers
-  pub loci : All (λ (t : LocusTable). container_named a t.name ≡ None) script.loci
+use Rattle.sound_runs.specs.Kinds.{AreOfOneKind}
 
 -- the names of a kind that are not born yet
 abbrev pub new_containers : AtlasState → List ContainerTable → ℕ

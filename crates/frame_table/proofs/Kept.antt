@@ -1,5 +1,5 @@
 -- The page table and the frames stay sound, and the pages are seen as they should be.
-use Rattle.std.proofs.Common.{◌≡◌, ◌≢◌, ℕ, ◌+◌, ◌<◌, ◌≤◌, Bool, true, false, List, [], length, get_or, set, map, Option, Some, None, is_some, count_by, replicate, refl, sym, ap, ◌∙◌, inl, inr, subst, IsSome, IfSome, rules, arith}
+use Rattle.std.proofs.Common.{◌≡◌, ◌≢◌, ℕ, ◌+◌, ◌<◌, ◌≤◌, true, false, List, [], length, get_or, set, map, Option, Some, None, is_some, count_by, replicate, refl, sym, ap, ◌∙◌, inl, inr, subst, IsSome, IfSome, rules, arith}
 use Rattle.std.proofs.lemmas.Bool.{cases_eq, cases_lt}
 use Rattle.std.proofs.lemmas.List.{get_or-map, get_or_past, get_or-set_same, get_or-set_other, get_or-replicate, length-set, length-map}
 use Rattle.slab.specs.Slab.{Slab, get, slab_len, with_value, Updates}
@@ -8,27 +8,12 @@ use Rattle.frame_table.specs.declared.clock.Frame.{Frame}
 use Rattle.frame_table.specs.FrameTable.{Resident, page_at, resident_words, resident_changed, resident_used, words_at, changed_at, used_at, with_resident, page_in, IsResident, IsBounded, HasEmptyFrame, Fills, Places, Removes}
 use Rattle.frame_table.specs.Held.{seen, seen_in, page_of, order_of, table_of, key_of, IsSound, spared, SameButUsed}
 use Rattle.frame_table.proofs.Pages.{list_ext, pages_changed, count-set_new, count-set_gone, count-set_kept, count-map, count-none}
-
-some_same : {X : Type 0} (x y : X) → Some x ≡ Some y → x ≡ y
-some_same x y e = cc
+use Rattle.std.proofs.lemmas.Option.{same_Some}
 
 -- a write through a `&mut` to a frame leaves as many frames
 pub slab_len-with_value : (held : Slab Frame) (key : ℕ) (old new : Frame) → get held key ≡ Some old → slab_len (with_value held key new) ≡ slab_len held
 slab_len-with_value held key old new there =
     count-set_kept held.slots key (ContainsKey-within held key (subst IsSome (sym there) (search rules))) old new there
-
--- only the mark of use of a frame is written
-pub same_marked : (held : Slab Frame) (key : ℕ) (f : Frame) (used : Bool) → get held key ≡ Some f → SameButUsed held (with_value held key (record f { used = used }))
-same_marked held key f used there =
-    let updates = Updates-with_value held key (record f { used = used }) (subst IsSome (sym there) (search rules)) in
-    record {
-      same = λ k. elim (cases_eq k key) [
-        | inl same ↦ ap (λ j. spared (get (with_value held key (record f { used = used })) j)) same ∙ ap spared updates.changed ∙ ap spared (sym there) ∙ ap (λ j. spared (get held j)) (sym same)
-        | inr differs ↦ ap spared (updates.others k differs)
-      ];
-      len = slab_len-with_value held key f (record f { used = used }) there;
-      capacity = refl;
-    }
 
 -- the page in a frame
 pub page_under : (n : ℕ) (table : List (Option ℕ)) (held : Slab Frame) (hand key : ℕ) → page_in (table_of n table held hand) key ≡ page_of (get held key)
@@ -73,7 +58,7 @@ module _ (n : ℕ) (table : List (Option ℕ)) (held : Slab Frame) (sound : IsSo
   one_page p q key at_p at_q =
       let first = sound.named p key at_p in
       let second = sound.named q key at_q in
-      sym first.2 ∙ ap (λ f. f.page) (some_same first.0 second.0 (sym first.1 ∙ second.1)) ∙ second.2
+      sym first.2 ∙ ap (λ f. f.page) (same_Some first.0 second.0 (sym first.1 ∙ second.1)) ∙ second.2
 
   -- a change of the frame of one page is not seen at another page
   others_kept : (new : Slab Frame) (page key : ℕ) (slot : Option Frame) → ((other : ℕ) → key_of table other ≡ Some key → other ≡ page) → Updates held new key slot → (other : ℕ) → other ≢ page → seen_in new (key_of table other) ≡ seen_in held (key_of table other)
@@ -96,13 +81,13 @@ module _ (n : ℕ) (table : List (Option ℕ)) (held : Slab Frame) (sound : IsSo
       ];
       listed = λ k g e. elim (cases_eq k key) [
         | inl same ↦
-            let is : f ≡ g = some_same f g (sym updates.changed ∙ ap (get new) (sym same) ∙ e) in
+            let is : f ≡ g = same_Some f g (sym updates.changed ∙ ap (get new) (sym same) ∙ e) in
             ap (key_of table) (sym (ap (λ x. x.page) is) ∙ mine) ∙ at ∙ ap Some (sym same)
         | inr differs ↦ sound.listed k g (sym (updates.others k differs) ∙ e)
       ];
       whole = λ k g e. elim (cases_eq k key) [
         | inl same ↦
-            let is : f ≡ g = some_same f g (sym updates.changed ∙ ap (get new) (sym same) ∙ e) in
+            let is : f ≡ g = same_Some f g (sym updates.changed ∙ ap (get new) (sym same) ∙ e) in
             sym (ap (λ x. length x.words) is) ∙ whole
         | inr differs ↦ sound.whole k g (sym (updates.others k differs) ∙ e)
       ];
@@ -171,10 +156,6 @@ module _ (n : ℕ) (table : List (Option ℕ)) (held : Slab Frame) (sound : IsSo
           let clash : None ≡ seen (Some old.0) = sym absent ∙ seen_at page within ∙ ap (seen_in held) at ∙ ap seen old.1 in
           absurd (cc clash)
 
-  -- a page without an entry in the page table isn't resident
-  pub absent_page : (page : ℕ) → page < 256 → key_of table page ≡ None → page_at (table_of n table held 0) page ≡ None
-  absent_page page within at = seen_at page within ∙ ap (seen_in held) at
-
   -- the frames hold what is promised of every table
   pub bounded : (hand : ℕ) → IsBounded (table_of n table held hand)
   bounded hand = record {
@@ -232,7 +213,7 @@ module _ (n : ℕ) (table : List (Option ℕ)) (held : Slab Frame) (sound : IsSo
         by_old : (o : Option Frame) → get held key ≡ o → (f : Frame) × (get held key ≡ Some f) × (f.page ≡ g.page) × (f.words ≡ g.words)
         by_old None at = let k = sym (ap spared at) ∙ sym (same.same key) ∙ ap spared e in absurd (cc k)
         by_old (Some f) at =
-            let k = some_same _ _ (sym (ap spared at) ∙ sym (same.same key) ∙ ap spared e) in
+            let k = same_Some _ _ (sym (ap spared at) ∙ sym (same.same key) ∙ ap spared e) in
             (f, at, ap (λ x. x.page) k, ap (λ x. x.words) k)
 
     now : (key : ℕ) (f : Frame) → get held key ≡ Some f → (g : Frame) × (get new key ≡ Some g) × (g.page ≡ f.page)
@@ -241,7 +222,7 @@ module _ (n : ℕ) (table : List (Option ℕ)) (held : Slab Frame) (sound : IsSo
         by_new : (o : Option Frame) → get new key ≡ o → (g : Frame) × (get new key ≡ Some g) × (g.page ≡ f.page)
         by_new None at = let k = sym (ap spared at) ∙ same.same key ∙ ap spared e in absurd (cc k)
         by_new (Some g) at =
-            let k = some_same _ _ (sym (ap spared at) ∙ same.same key ∙ ap spared e) in
+            let k = same_Some _ _ (sym (ap spared at) ∙ same.same key ∙ ap spared e) in
             (g, at, ap (λ x. x.page) k)
 
     pub sound_same : IsSound n table new
@@ -278,7 +259,7 @@ module _ (n : ℕ) (table : List (Option ℕ)) (held : Slab Frame) (sound : IsSo
       all_pages = length-set table page (Some key) ∙ sound.all_pages;
       named = λ p k e. elim (cases_eq p page) [
         | inl same ↦
-            let is : key ≡ k = some_same key k (sym (get_or-set_same table page (Some key) None in_table) ∙ sym (ap (key_of (set table page (Some key))) same) ∙ e) in
+            let is : key ≡ k = same_Some key k (sym (get_or-set_same table page (Some key) None in_table) ∙ sym (ap (key_of (set table page (Some key))) same) ∙ e) in
             (f, ap (get new) (sym is) ∙ updates.changed, mine ∙ sym same)
         | inr differs ↦
             let at = sym (get_or-set_other table page p (Some key) None differs) ∙ e in
@@ -286,7 +267,7 @@ module _ (n : ℕ) (table : List (Option ℕ)) (held : Slab Frame) (sound : IsSo
       ];
       listed = λ k g e. elim (cases_eq k key) [
         | inl same ↦
-            let is : f ≡ g = some_same f g (sym updates.changed ∙ ap (get new) (sym same) ∙ e) in
+            let is : f ≡ g = same_Some f g (sym updates.changed ∙ ap (get new) (sym same) ∙ e) in
             ap (key_of (set table page (Some key))) (sym (ap (λ x. x.page) is) ∙ mine) ∙ get_or-set_same table page (Some key) None in_table ∙ ap Some (sym same)
         | inr differs ↦
             let old = sound.listed k g (sym (updates.others k differs) ∙ e) in
@@ -294,7 +275,7 @@ module _ (n : ℕ) (table : List (Option ℕ)) (held : Slab Frame) (sound : IsSo
       ];
       whole = λ k g e. elim (cases_eq k key) [
         | inl same ↦
-            let is : f ≡ g = some_same f g (sym updates.changed ∙ ap (get new) (sym same) ∙ e) in
+            let is : f ≡ g = same_Some f g (sym updates.changed ∙ ap (get new) (sym same) ∙ e) in
             sym (ap (λ x. length x.words) is) ∙ whole
         | inr differs ↦ sound.whole k g (sym (updates.others k differs) ∙ e)
       ];
@@ -342,7 +323,7 @@ module _ (n : ℕ) (table : List (Option ℕ)) (held : Slab Frame) (sound : IsSo
         | inl same ↦ let clash = sym updates.changed ∙ ap (get new) (sym same) ∙ e in absurd (cc clash)
         | inr differs ↦
             let old = sound.listed k g (sym (updates.others k differs) ∙ e) in
-            get_or-set_other table page g.page None None (λ same. differs (some_same k key (sym old ∙ ap (key_of table) same ∙ at))) ∙ old
+            get_or-set_other table page g.page None None (λ same. differs (same_Some k key (sym old ∙ ap (key_of table) same ∙ at))) ∙ old
       ];
       whole = λ k g e. elim (cases_eq k key) [
         | inl same ↦ let clash = sym updates.changed ∙ ap (get new) (sym same) ∙ e in absurd (cc clash)

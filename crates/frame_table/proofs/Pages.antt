@@ -39,16 +39,6 @@ pages_changed old new table table' page slot len within at others =
               left ∙ others i differs ∙ sym (get_or-map (seen_in old) table i None None (omega arith)) ∙ sym (get_or-set_other (map (seen_in old) table) page i slot None differs)
         ]
 
--- every page is seen as before
-pub pages_kept :
-    (old new : Slab Frame) (table : List (Option ℕ))
-    → ((page : ℕ) → seen_in new (key_of table page) ≡ seen_in old (key_of table page))
-    → map (seen_in new) table ≡ map (seen_in old) table
-pages_kept old new table kept =
-    list_ext _ _ None (length-map table (seen_in new) ∙ sym (length-map table (seen_in old)))
-    (λ i inside. let inside' : i < length table = omega (arith, length-map table (seen_in new)) in
-    get_or-map (seen_in new) table i None None inside' ∙ kept i ∙ sym (get_or-map (seen_in old) table i None None inside'))
-
 module _ {X : Type 0} (xs : List (Option X)) (i : ℕ) (within : i < length xs) where
   counted : Option X → ℕ
   counted o = cond (is_some o) 1 0

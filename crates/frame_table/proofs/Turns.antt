@@ -8,27 +8,6 @@ use Rattle.frame_table.specs.declared.clock.Frame.{Frame}
 use Rattle.frame_table.specs.FrameTable.{comes_before}
 use Rattle.frame_table.specs.Held.{used_of, is_unused, Spares, IsBehind, HavePassed, NoneBehind, PassesTo, AllCleared, IsFirstKey}
 
--- one of the keys so far, or the next
-behind_next : (start keys steps key k : ℕ) → start ≤ keys → steps < keys → key < keys → (key ≡ start + steps) ⊎ (key + keys ≡ start + steps)
-    → IsBehind start keys (steps + 1) k → IsBehind start keys steps k ⊎ (k ≡ key)
-behind_next start keys steps key k le more inside at behind = elim (cases_eq k key) [
-  | inl same ↦ inr same
-  | inr apart ↦ inl (record { within = behind.within; is = by_side behind.is at apart })
-]
-  where
-    by_side : ((start ≤ k) × (k < start + (steps + 1))) ⊎ (k + keys < start + (steps + 1)) → (key ≡ start + steps) ⊎ (key + keys ≡ start + steps) → k ≢ key
-        → ((start ≤ k) × (k < start + steps)) ⊎ (k + keys < start + steps)
-    by_side (inl (low, high)) (inl e) apart = inl (low, omega arith)
-    by_side (inl (low, high)) (inr e) apart = elim (cases_lt k (start + steps)) [
-      | inl below ↦ inl (low, below)
-      | inr above ↦ absurd (let w = behind.within in omega arith)
-    ]
-    by_side (inr low) (inl e) apart = elim (cases_lt (k + keys) (start + steps)) [
-      | inl below ↦ inr below
-      | inr above ↦ absurd (let w = behind.within in omega arith)
-    ]
-    by_side (inr low) (inr e) apart = inr (omega arith)
-
 -- the next is not one of those so far
 next_ahead : (start keys steps key : ℕ) → start ≤ keys → steps < keys → key < keys → (key ≡ start + steps) ⊎ (key + keys ≡ start + steps) → IsBehind start keys steps key → ⊥
 next_ahead start keys steps key le more inside at behind = by_side behind.is at
@@ -38,29 +17,6 @@ next_ahead start keys steps key le more inside at behind = by_side behind.is at
     by_side (inl (low, high)) (inr e) = omega arith
     by_side (inr low) (inl e) = omega arith
     by_side (inr low) (inr e) = omega arith
-
--- one of those so far is one of those after a step
-behind_more : (start keys steps k : ℕ) → IsBehind start keys steps k → IsBehind start keys (steps + 1) k
-behind_more start keys steps k behind = record { within = behind.within; is = by_side behind.is }
-  where
-    by_side : ((start ≤ k) × (k < start + steps)) ⊎ (k + keys < start + steps) → ((start ≤ k) × (k < start + (steps + 1))) ⊎ (k + keys < start + (steps + 1))
-    by_side (inl (low, high)) = inl (low, omega arith)
-    by_side (inr low) = inr (omega arith)
-
-next_behind : (start keys steps key : ℕ) → start ≤ keys → key < keys → (key ≡ start + steps) ⊎ (key + keys ≡ start + steps) → IsBehind start keys (steps + 1) key
-next_behind start keys steps key le inside at = record { within = inside; is = by_side at }
-  where
-    by_side : (key ≡ start + steps) ⊎ (key + keys ≡ start + steps) → ((start ≤ key) × (key < start + (steps + 1))) ⊎ (key + keys < start + (steps + 1))
-    by_side (inl e) = inl (omega arith, omega arith)
-    by_side (inr e) = inr (omega arith)
-
--- before the first step there is none
-none_before : (start keys k : ℕ) → start ≤ keys → IsBehind start keys 0 k → ⊥
-none_before start keys k le behind = by_side behind.is
-  where
-    by_side : ((start ≤ k) × (k < start + 0)) ⊎ (k + keys < start + 0) → ⊥
-    by_side (inl (low, high)) = omega arith
-    by_side (inr low) = omega arith
 
 -- after a whole round it is all
 all_behind : (start keys steps k : ℕ) → keys ≤ steps → k < keys → IsBehind start keys steps k

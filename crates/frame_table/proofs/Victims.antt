@@ -7,9 +7,7 @@ use Rattle.frame_table.specs.declared.clock.Frame.{Frame}
 use Rattle.frame_table.specs.FrameTable.{page_at, page_in, used_at, unmarked, Passes, GoesRound, IsVictim}
 use Rattle.frame_table.specs.Held.{seen, seen_in, page_of, used_of, table_of, key_of, IsSound, spared, SameButUsed, PassesTo, AllCleared, IsFirstKey, IsChosen}
 use Rattle.frame_table.proofs.Kept.{page_under, used_seen, seen_at, sound_same}
-
-some_page : (p q : ℕ) → Some p ≡ Some q → p ≡ q
-some_page p q e = cc
+use Rattle.std.proofs.lemmas.Option.{same_Some}
 
 page_spared : (o : Option Frame) → page_of (spared o) ≡ page_of o
 page_spared None = refl
@@ -31,7 +29,7 @@ marked_under n table held sound f p at = by_frame (get held f) refl
     by_frame : (o : Option Frame) → get held f ≡ o → Marked n table held f p
     by_frame None e = let clash = sym (ap page_of e) ∙ at in absurd (cc clash)
     by_frame (Some g) e =
-        let mine : g.page ≡ p = some_page g.page p (sym (ap page_of e) ∙ at) in
+        let mine : g.page ≡ p = same_Some g.page p (sym (ap page_of e) ∙ at) in
         let listed : key_of table p ≡ Some f = ap (key_of table) (sym mine) ∙ sound.listed f g e in
         elim (cases_lt p 256) [
           | inl within ↦ record { frame = g; there = e; mark = used_seen n table held sound p f g within listed e ∙ sym (ap used_of e) }

@@ -4,7 +4,7 @@ use Rattle.std.specs.List.{All, insert, remove, position_or_len}
 use Rattle.std.proofs.lemmas.Bool.Decides.{nat_tests}
 use Rattle.std.proofs.lemmas.List.Elements.{All-cons, All-head, All-nil, All-tail, All-weaker}
 use Rattle.hop_model.specs.Words.{put}
-use Rattle.history_model.specs.AtlasActs.{edge_less, edge_more, is_edge, is_reached}
+use Rattle.history_model.specs.EdgeLists.{edge_less, edge_more, is_edge, is_reached}
 use Rattle.history_model.specs.Born.{AreAscending, AreEdges, is_before}
 use Rattle.history_model.specs.Plains.{edges_of}
 use Rattle.history_model.specs.declared.plain.Edge.{Edge}

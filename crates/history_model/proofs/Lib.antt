@@ -1,4 +1,3 @@
-pub mod LookLemmas
 pub mod ActLemmas
 pub mod CellLemmas
 pub mod SoundLemmas
@@ -10,19 +9,12 @@ pub mod BornLemmas
 pub mod PlainBirths
 pub mod ScriptLemmas
 pub mod EmptyLemmas
-pub mod PrivateLemmas
 pub mod ReadLemmas
 pub mod LocalLemmas
-pub mod BesideLemmas
-pub mod StepLemmas
 pub mod WantLemmas
-pub mod PlainSteps
 pub mod MarkLemmas
 pub mod CountLemmas
-pub mod MapLemmas
-pub mod MadeLemmas
 pub mod ReadyLemmas
-pub mod AtlasSteps
 pub use Rattle.hop_model.proofs as hop_model_lemmas
 pub use Rattle.sound_runs.proofs.run_laws_lemmas
 pub use Rattle.sound_runs.proofs as sound_runs_lemmas

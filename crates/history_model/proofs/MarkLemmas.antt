@@ -6,7 +6,7 @@ use Rattle.std.proofs.lemmas.Bool.Decides.{nat_tests}
 use Rattle.std.proofs.lemmas.List.Elements.{All-cons, All-head, All-nil, All-tail, All-weaker}
 use Rattle.hop_base.specs.Edges.{ClosesCircle, Edges, IsPath, leads}
 use Rattle.circle_law.proofs.Circles.{circle_found}
-use Rattle.history_model.specs.AtlasActs.{AreReadyEdges, is_marked, leads_out}
+use Rattle.history_model.specs.EdgeLists.{AreReadyEdges, is_marked, leads_out}
 use Rattle.history_model.specs.Plains.{edges_of}
 use Rattle.history_model.specs.declared.plain.Edge.{Edge}
 use Rattle.history_model.proofs.SoundLemmas.{find_all}

@@ -23,13 +23,14 @@ use Rattle.history_model.specs.declared.plain.PlainContainer.{PlainContainer}
 use Rattle.history_model.specs.declared.plain.PlainLocus.{PlainLocus}
 use Rattle.history_model.proofs.BirthLemmas.{container_grown, locus_grown, makes_three, makes_two, three_risen, two_risen}
 use Rattle.history_model.proofs.BornLemmas.{all_before}
-use Rattle.sound_runs.proofs.Tables.{all_regions, born_container, born_locus, container_named_born, wider_container}
+use Rattle.sound_runs.proofs.Tables.{all_regions, container_named_born}
 use Rattle.history_model.proofs.CellLemmas.{cell_at_container, high_cell, low_container}
 use Rattle.history_model.proofs.EdgeLemmas.{AllBefore, grown, plain_edges}
 use Rattle.sound_runs.proofs.TableEdges.{model_containers, model_edges, model_loci, not_shown}
 use Rattle.history_model.proofs.ScriptLemmas.{found_of}
 use Rattle.sound_runs.proofs.Grown.{joins_by_host, newborn_container, newborn_locus, not_yet_container, not_yet_locus, sound_table_container, sound_table_locus, sound_with_container, sound_with_locus, with_container, with_locus}
 use Rattle.history_model.proofs.SoundLemmas.{sound_container}
+use Rattle.sound_runs.proofs.sound_steps_lemmas.Growth.{born_container, born_locus, wider_container}
 
 -- THE LISTS OF A SOUND STATE
 

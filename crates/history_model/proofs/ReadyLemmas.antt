@@ -5,7 +5,7 @@ use Rattle.hop_base.specs.declared.capabilities.Region.{Region}
 use Rattle.hop_model.specs.Soundness.{AreSound, regions_onto}
 use Rattle.hop_model.specs.State.{AtlasState, Cell, NotBorn, AtlasCell, ContainerCell, LocusCell}
 use Rattle.sound_runs.proofs.sound_steps_lemmas.Cells.{Fits, edges_among, fits_in}
-use Rattle.history_model.specs.AtlasActs.{AreReadyEdges}
+use Rattle.history_model.specs.EdgeLists.{AreReadyEdges}
 use Rattle.history_model.specs.Born.{AreEdges}
 use Rattle.history_model.specs.Plains.{atlas_of, edges_of}
 use Rattle.history_model.specs.declared.plain.PlainAtlas.{PlainAtlas}

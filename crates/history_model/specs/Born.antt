@@ -8,13 +8,14 @@ use Rattle.hop_base.specs.declared.histories.Touch.{Touch}
 use Rattle.hop_model.specs.Births.{birth, container_birth, knows_caps, knows_regions, locus_birth, number_or_0}
 use Rattle.hop_model.specs.Changes.{acts}
 use Rattle.hop_model.specs.Outcomes.{free_container, free_locus}
-use Rattle.hop_model.specs.Scripts.{ContainerTable, LocusTable, RegionTable, Script, container_named, container_table, locus_named, locus_table, number_in, number_of}
+use Rattle.hop_model.specs.Scripts.{ContainerTable, LocusTable, RegionTable, Script, container_named, container_table, locus_table, number_in, number_of}
 use Rattle.hop_model.specs.Soundness.{is_born_container}
 use Rattle.hop_model.specs.State.{Supply, Text, AtlasState, Cell}
 use Rattle.sound_runs.specs.script_form.Rules.{IsContainerTable, IsLocusTable}
 use Rattle.history_model.specs.Events.{Makes, state_with}
 use Rattle.history_model.specs.declared.plain.Edge.{Edge}
 use Rattle.history_model.specs.declared.plain.PlainAtlas.{PlainAtlas}
+pub use Rattle.sound_runs.specs.Kinds.{AreOfOneKind}
 
 -- no more names than numbers
 pub record HasFewNames (a : PlainAtlas) : Type 0 where
@@ -37,11 +38,6 @@ KnowsLocus a (Some t) = (n : ℕ) → IsTrue (knows_caps (number_in a t.name n) 
 pub record KnowsNames (a : AtlasState) (script : Script) (name : Text) : Type 0 where
   pub container : KnowsContainer a (container_table script.containers name)
   pub locus : KnowsLocus a (locus_table script.loci name)
-
--- no name of the script stands in the atlas with the other kind
-pub record AreOfOneKind (a : AtlasState) (script : Script) : Type 0 where
-  pub containers : All (λ (t : ContainerTable). locus_named a t.name ≡ None) script.containers
-  pub loci : All (λ (t : LocusTable). container_named a t.name ≡ None) script.loci
 
 -- EDGES
 

@@ -4,7 +4,7 @@ pub mod Lists
 pub mod Entries
 pub mod Born
 pub mod Readiness
-pub mod AtlasActs
+pub mod EdgeLists
 pub use Rattle.hop_model.specs as hop_model
 pub use Rattle.sound_runs.specs.script_form
 pub use Rattle.sound_runs.specs as sound_runs

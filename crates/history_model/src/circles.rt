@@ -1,7 +1,7 @@
 //! Whether edges lead from a container to another: marks that spread until nothing new is marked.
 ghost use Rattle.std.specs.Prelude.{◌≡◌, ◌<◌, find};
 ghost use Rattle.hop_base.specs.Edges.{leads as leads_within};
-ghost use Rattle.history_model.specs.AtlasActs.{AreReadyEdges, leads_out as is_way_out};
+ghost use Rattle.history_model.specs.EdgeLists.{AreReadyEdges, leads_out as is_way_out};
 ghost use Rattle.history_model.specs.Plains.{edges_of};
 
 use crate::plain::Edge;

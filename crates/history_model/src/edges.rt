@@ -1,7 +1,7 @@
 //! The counted edges of an atlas, one more and one less.
 ghost use Rattle.std.specs.Prelude.{◌≡◌, ◌<◌, ◌≤◌, length, vec_len, vec_capacity};
 ghost use Rattle.std.specs.List.{insert, position_or_len};
-ghost use Rattle.history_model.specs.AtlasActs.{edge_less, edge_more, is_edge as is_this, is_reached as is_at_or_behind};
+ghost use Rattle.history_model.specs.EdgeLists.{edge_less, edge_more, is_edge as is_this, is_reached as is_at_or_behind};
 ghost use Rattle.history_model.specs.Born.{AreEdges};
 ghost use Rattle.history_model.specs.Plains.{edges_of};
 

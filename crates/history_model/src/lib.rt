@@ -1,31 +1,23 @@
-//! The plain kernel: its states as ordinary lists and maps, births and steps on them, each of which is the abstract
-//! kernel's.
+//! The plain kernel's states as ordinary lists and maps: what is read of them, their edges and entries, and births on them,
+//! each of which is the abstract kernel's.
 #![tactic(auto)]
 
-mod acts;
-mod atlas_acts;
-mod atlas_steps;
-mod beside_acts;
 mod births;
-mod carry;
-mod circles;
-mod edges;
-mod entries;
-mod local_acts;
-mod looks;
+pub mod circles;
+pub mod edges;
+pub mod entries;
+pub mod looks;
 mod names;
 mod plain;
-mod program_births;
-mod reads;
-mod steps;
+pub mod reads;
 mod tables;
 
-pub use births::plain_birth;
+pub use births::{plain_birth, push_within};
 pub use hop_model::{
     cut_law, greatest_choice_law, locality_law, printed_law, replay_law, stable_law, vector_law,
 };
-pub use names::{container_named, number_among, number_of};
+pub use names::{container_named, free_container, free_locus, number_among, number_of};
 pub use plain::{Edge, Plain, PlainAtlas, PlainContainer, PlainLocus};
 pub use sound_runs::script_form;
-pub use steps::plain_step;
+pub use tables::insert_region;
 pub use wanted_act;

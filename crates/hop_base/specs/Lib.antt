@@ -5,3 +5,5 @@ pub mod Instructions
 pub mod Touches
 pub mod ThreeTouches
 pub mod Edges
+pub mod Slots
+pub mod Regions

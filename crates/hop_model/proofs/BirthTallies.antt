@@ -19,7 +19,7 @@ edges_keep_loci number n [] a = refl
 edges_keep_loci number n (r ∷ rs) a = edges_keep_loci number n rs a
 
 -- places are counted from n
-place_low : (name : Text) (names : List Text) (n k : ℕ) → place_of name names n ≡ Some k → n ≤ k
+pub place_low : (name : Text) (names : List Text) (n k : ℕ) → place_of name names n ≡ Some k → n ≤ k
 place_low name [] n k e = cc
 place_low name (t ∷ ts) n k e =
     elim (text_eq name t) as (λ b. (if b then Some n else place_of name ts (n + 1)) ≡ Some k → n ≤ k) [

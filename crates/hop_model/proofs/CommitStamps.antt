@@ -22,20 +22,20 @@ abbrev pub AllCommits : (Commit → Type 0) → List Commit → Type 0
 AllCommits P [] = Unit {0}
 AllCommits P (c ∷ cs) = P c × AllCommits P cs
 
-all_append : (P : Commit → Type 0) (cs ds : List Commit) → AllCommits P cs → AllCommits P ds → AllCommits P (cs ++ ds)
+pub all_append : (P : Commit → Type 0) (cs ds : List Commit) → AllCommits P cs → AllCommits P ds → AllCommits P (cs ++ ds)
 all_append P [] ds a b = b
 all_append P (c ∷ cs) ds a b = (a.0, all_append P cs ds a.1 b)
 
-all_map : (P Q : Commit → Type 0) → ((c : Commit) → P c → Q c) → (cs : List Commit) → AllCommits P cs → AllCommits Q cs
+pub all_map : (P Q : Commit → Type 0) → ((c : Commit) → P c → Q c) → (cs : List Commit) → AllCommits P cs → AllCommits Q cs
 all_map P Q f [] a = tt
 all_map P Q f (c ∷ cs) a = (f c a.0, all_map P Q f cs a.1)
 
-all_front : (P : Commit → Type 0) (cs ds : List Commit) → AllCommits P (cs ++ ds) → AllCommits P cs
+pub all_front : (P : Commit → Type 0) (cs ds : List Commit) → AllCommits P (cs ++ ds) → AllCommits P cs
 all_front P [] ds a = tt
 all_front P (c ∷ cs) ds a = (a.0, all_front P cs ds a.1)
 
 -- what holds of all holds of those that pass
-among_both : (P Q : Commit → Type 0) (cs : List Commit) → AllCommits P cs → Among cs Q → Among cs (λ c. P c × Q c)
+pub among_both : (P Q : Commit → Type 0) (cs : List Commit) → AllCommits P cs → Among cs Q → Among cs (λ c. P c × Q c)
 among_both P Q [] a h = h
 among_both P Q (c ∷ cs) a h = elim h as (λ _. Among (c ∷ cs) (λ c. P c × Q c)) [ inl k ↦ inl (a.0, k) | inr k ↦ inr (among_both P Q cs a.1 k) ]
 
@@ -65,7 +65,7 @@ module _ (act : Entry → KernelState → Option (Entry × KernelState)) (local 
   front_played (d ∷ front) rest w played = (played.0, front_played front rest (after_entry act w d) played.1)
 
   -- what has the same version is the same
-  same_between : (es : List Entry) (w : KernelState) (x : ℕ) → IsPlayed act w es → (w x).version ≡ (after act w es x).version → after act w es x ≡ w x
+  pub same_between : (es : List Entry) (w : KernelState) (x : ℕ) → IsPlayed act w es → (w x).version ≡ (after act w es x).version → after act w es x ≡ w x
   unfolding Moves
   same_between [] w x played e = refl
   same_between (d ∷ es) w x played e =
@@ -87,7 +87,7 @@ module _ (act : Entry → KernelState → Option (Entry × KernelState)) (local 
         | false ↦ λ is. vector_at_front front rest (after_entry act w d) x played.1
       ] refl
 
-  vector_of_made : (w : KernelState) (es : List Entry) (c : Commit) → IsPlayed act w es → IsMadeIn act w es c → vector_at act w es c.entity c.version ≡ c.stamp
+  pub vector_of_made : (w : KernelState) (es : List Entry) (c : Commit) → IsPlayed act w es → IsMadeIn act w es c → vector_at act w es c.entity c.version ≡ c.stamp
   vector_of_made w es c played m =
       subst (λ gs. vector_at act w gs c.entity c.version ≡ c.stamp) (sym m.split)
       (ap (vector_at act w (m.front ++ m.rest) c.entity) m.version ∙ vector_at_front m.front m.rest w c.entity (subst (IsPlayed act w) m.split played) ∙ sym m.stamp)

@@ -8,7 +8,7 @@ use Rattle.hop_model.specs.Choices.{Commit, IsBelow, Among, IsClosedChoice, IsGr
 use Rattle.hop_model.proofs.Among.{among_map, among_some, among_more}
 use Rattle.hop_model.proofs.Basics.{and_left, and_right, both, lt_of_ne}
 
-max_cases : (a b : ℕ) → (max a b ≡ a) ⊎ (max a b ≡ b)
+pub max_cases : (a b : ℕ) → (max a b ≡ a) ⊎ (max a b ≡ b)
 max_cases a b = elim (cases_lt a b) as (λ _. (max a b ≡ a) ⊎ (max a b ≡ b)) [ inl h ↦ inr (omega arith) | inr h ↦ inl (omega arith) ]
 
 not_le : (a b : ℕ) → b < a → nat_le a b ≡ false

@@ -116,7 +116,7 @@ abbrev pub IsKept : Run → Type 0
 IsKept r = KeptBy r.start r.newest r.commits r.state
 
 -- the versions are a closed choice where each is on record
-closed_now : (start : ℕ → ℕ) (cs : List Commit) (w : KernelState) → StampsBelow w
+pub closed_now : (start : ℕ → ℕ) (cs : List Commit) (w : KernelState) → StampsBelow w
     → ((x : ℕ) → ((w x).version ≡ start x) ⊎ Among cs (λ c. (c.entity ≡ x) × (c.version ≡ (w x).version) × (c.stamp ≡ (w x).stamp)))
     → IsClosedChoice start cs (λ x. (w x).version)
 closed_now start cs w below h x =
@@ -125,7 +125,7 @@ closed_now start cs w below h x =
       | inr a ↦ inr (among_map cs _ _ (λ c k. (k.0, k.1, λ y. let f = ap (λ (s : ℕ → ℕ). s y) k.2 in let g = below x y in omega arith)) a)
     ]
 
-commits_append : (r : Run) (f : ℕ → Bool) (xs ys : List ℕ) → commits_of r (filter f (xs ++ ys)) ≡ commits_of r (filter f xs) ++ commits_of r (filter f ys)
+pub commits_append : (r : Run) (f : ℕ → Bool) (xs ys : List ℕ) → commits_of r (filter f (xs ++ ys)) ≡ commits_of r (filter f xs) ++ commits_of r (filter f ys)
 commits_append r f [] ys = refl
 commits_append r f (x ∷ xs) ys =
     elim (f x) as (λ b. commits_of r (cond b (x ∷ filter f (xs ++ ys)) (filter f (xs ++ ys))) ≡ commits_of r (cond b (x ∷ filter f xs) (filter f xs)) ++ commits_of r (filter f ys)) [
@@ -137,7 +137,7 @@ commits_append r f (x ∷ xs) ys =
 abbrev pub Stands : Run → ℕ → Commit → Type 0
 Stands r x c = (c.entity ≡ x) × (c.version ≡ (r.state x).version) × (c.stamp ≡ (r.state x).stamp)
 
-in_upto : (x n : ℕ) → x < n → (f : ℕ → Bool) → f x ≡ true → (r : Run) → Among (commits_of r (filter f (upto n))) (Stands r x)
+pub in_upto : (x n : ℕ) → x < n → (f : ℕ → Bool) → f x ≡ true → (r : Run) → Among (commits_of r (filter f (upto n))) (Stands r x)
 in_upto x zero lt f h r = absurd (omega arith)
 in_upto x (suc n) lt f h r =
     subst (λ (cs : List Commit). Among cs (Stands r x)) (sym (commits_append r f (upto n) (n ∷ [])))
@@ -247,7 +247,7 @@ module _ (s : Supply) (policy : Policy) (script : Script) where
   kept_after r [] k legal low = k
   kept_after r (e ∷ es) k legal low = kept_after (goes_on s script r e) es (kept_goes_on r e k legal.0 low.0) legal.1 low.1
 
-  start_kept : (w : KernelState) → StampsBelow w → IsKept (start_run w)
+  pub start_kept : (w : KernelState) → StampsBelow w → IsKept (start_run w)
   start_kept w below = record { stamps = below; newest_low = λ x. omega arith; record_of = λ x. inr (inl refl); beyond = λ x h. refl }
 
   start_stays : (r : Run) (es : List Entry) → (run_after s script r es).start ≡ r.start
@@ -259,7 +259,7 @@ module _ (s : Supply) (policy : Policy) (script : Script) where
   run_append r [] fs = refl
   run_append r (e ∷ es) fs = run_append (goes_on s script r e) es fs
 
-  legal_front : (r : Run) (es fs : List Entry) → IsLegalFrom s policy script r (es ++ fs) → IsLegalFrom s policy script r es
+  pub legal_front : (r : Run) (es fs : List Entry) → IsLegalFrom s policy script r (es ++ fs) → IsLegalFrom s policy script r es
   legal_front r [] fs legal = tt
   legal_front r (e ∷ es) fs legal = (legal.0, legal_front (goes_on s script r e) es fs legal.1)
 

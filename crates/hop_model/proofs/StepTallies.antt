@@ -29,7 +29,7 @@ abbrev pub put_newborn : Option (ℕ × Cell) → ℕ → Cell → Cell
 put_newborn None x c = c
 put_newborn (Some b) x c = if b.0 == x then b.1 else c
 
-step_cell : (me : ℕ) (m : LocusState) (b : Bool) (a : AtlasState) (other : Option ℕ) (new : Option Cell) (newborn : Option (ℕ × Cell)) (x : ℕ) (c : Cell)
+pub step_cell : (me : ℕ) (m : LocusState) (b : Bool) (a : AtlasState) (other : Option ℕ) (new : Option Cell) (newborn : Option (ℕ × Cell)) (x : ℕ) (c : Cell)
     → cell_with (with_atlas_access b a (with_other_access other new (with_newborn_access newborn (record { entity = me; new = Some (LocusCell m) } ∷ [])))) x c
     ≡ (if me == x then LocusCell m else put_newborn newborn x (put_other other new x (put_atlas b a x c)))
 step_cell me m true a (Some y) new (Some b) x c = refl
@@ -56,7 +56,7 @@ other_tally w (Some y) (Some d) x c f h = elim (y == x) as (λ b. (y == x) ≡ b
 ] refl
 
 -- the atlas's cell holds an atlas, the one that the step makes or the one before
-other_atlas : (w : KernelState) (other : Option ℕ) (new : Option Cell) (c : Cell) (a b : AtlasState) → IfSome new (λ d. (tally d ≡ tally (seen_other w other)) × (atlas_of d ≡ atlas_of (seen_other w other))) → (w 0).cell ≡ AtlasCell a → c ≡ AtlasCell b
+pub other_atlas : (w : KernelState) (other : Option ℕ) (new : Option Cell) (c : Cell) (a b : AtlasState) → IfSome new (λ d. (tally d ≡ tally (seen_other w other)) × (atlas_of d ≡ atlas_of (seen_other w other))) → (w 0).cell ≡ AtlasCell a → c ≡ AtlasCell b
     → (put_other other new 0 c ≡ AtlasCell b) ⊎ (put_other other new 0 c ≡ AtlasCell a)
 other_atlas w None new c a b f at h = inl h
 other_atlas w (Some y) None c a b f at h = elim (y == 0) as (λ t. ((if t then c else c) ≡ AtlasCell b) ⊎ ((if t then c else c) ≡ AtlasCell a)) [ true ↦ inl h | false ↦ inl h ]
@@ -65,7 +65,7 @@ other_atlas w (Some y) (Some d) c a b f at h = elim (y == 0) as (λ t. (y == 0) 
   | false ↦ λ is. inl h
 ] refl
 
-put_atlas_0 : (b : Bool) (a a' : AtlasState) (c : Cell) → c ≡ AtlasCell a → put_atlas b a' 0 c ≡ AtlasCell (if◌then◌else◌ {A = AtlasState} b a' a)
+pub put_atlas_0 : (b : Bool) (a a' : AtlasState) (c : Cell) → c ≡ AtlasCell a → put_atlas b a' 0 c ≡ AtlasCell (if◌then◌else◌ {A = AtlasState} b a' a)
 put_atlas_0 true a a' c h = refl
 put_atlas_0 false a a' c h = h
 
@@ -209,7 +209,7 @@ module _ (w : KernelState) (names : NamesLoci w) (me : ℕ) (l : LocusState) (at
       by_newborn (Some b) some h = with_birth b h some
 
 -- the locus of a running cell
-running_is : (c : Cell) (l : LocusState) → running c ≡ Some l → c ≡ LocusCell l
+pub running_is : (c : Cell) (l : LocusState) → running c ≡ Some l → c ≡ LocusCell l
 running_is NotBorn l e = cc
 running_is (AtlasCell a) l e = cc
 running_is (ContainerCell c) l e = cc

@@ -80,9 +80,6 @@ one_more_small : (m n : ℕ) → n ≤ m → (if nat_lt n m then n + 1 else n) �
 one_more_small m n h = grind (arith, nat_tests)
 
 module _ (w : KernelState) (names : NamesLoci w) (me : ℕ) (answer : Answer) (accesses : List Access) (c : Counts w names.atlas me answer accesses) where
-  after_event : KernelState
-  after_event = changed w (ordered accesses)
-
   -- the count after the event
   printed_after : (x : ℕ) → printed_in (cell_with accesses x (w x).cell) ≡ (if me == x && is_print answer then one_more (printed_in (w x).cell) else printed_in (w x).cell)
   unfolding count_in

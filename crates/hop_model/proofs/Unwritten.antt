@@ -15,7 +15,7 @@ use Rattle.hop_model.proofs.Covering.{Is_next, is_next}
 use Rattle.hop_model.proofs.LegalRuns.{event_of_local, event_of_stamped, legal_played}
 
 module _ (act : Entry → KernelState → Option (Entry × KernelState)) (local : (e : Entry) → IsLocal (λ (b : EntityState). b.version) (act e)) (stamped : (e : Entry) → IsStamped (act e)) where
-  stays_by : (e : Entry) (w : KernelState) (r : Entry × KernelState) → act e w ≡ Some r → (x : ℕ) → writes r.0 x ≡ false → r.1 x ≡ w x
+  pub stays_by : (e : Entry) (w : KernelState) (r : Entry × KernelState) → act e w ≡ Some r → (x : ℕ) → writes r.0 x ≡ false → r.1 x ≡ w x
   stays_by e w r is x none =
       elim (touch_at r.0.touched x) as (λ o. touch_at r.0.touched x ≡ o → r.1 x ≡ w x) [
         | None ↦ λ f. (local e).stays w r is x f
@@ -27,7 +27,7 @@ module _ (act : Entry → KernelState → Option (Entry × KernelState)) (local 
         ] refl
       ] refl
 
-  stays : (w : KernelState) (e : Entry) → IsNext act w e → (x : ℕ) → writes e x ≡ false → after_entry act w e x ≡ w x
+  pub stays : (w : KernelState) (e : Entry) → IsNext act w e → (x : ℕ) → writes e x ≡ false → after_entry act w e x ≡ w x
   unfolding Is_next
   stays w e next x none =
       elim (is_next (λ _. 0) act local stamped w e next) as (λ _. after_entry act w e x ≡ w x) [

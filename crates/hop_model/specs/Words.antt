@@ -1,11 +1,11 @@
 -- Small words on options, kinds, slots, regions and functions of numbers.
-use Rattle.std.specs.Prelude.{ℕ, ◌+◌, Bool, ◌&&◌, ◌==◌, nat_lt, nat_le, if◌then◌else◌, List, [], ◌∷◌, Option, Some, None, option_map, slice_get}
+use Rattle.std.specs.Prelude.{ℕ, Bool, ◌&&◌, ◌==◌, nat_lt, if◌then◌else◌, List, [], ◌∷◌, Option, Some, None, option_map}
 use Rattle.hop_base.specs.Rights.{missing_right}
-use Rattle.hop_base.specs.declared.capabilities.Cap.{Cap}
-use Rattle.hop_base.specs.declared.capabilities.Region.{Region}
 use Rattle.hop_base.specs.declared.instructions.Call.{Call}
 use Rattle.hop_base.specs.declared.instructions.Reply.{Reply}
 use Rattle.hop_base.specs.declared.instructions.Reply.TheVariants.{Denied}
+pub use Rattle.hop_base.specs.Regions.{covers, insert_region, overlaps}
+pub use Rattle.hop_base.specs.Slots.{cap_at, flat, free_slot, free_slot_from}
 
 -- this refusal where the test fails
 abbrev pub unless : Bool → Reply → Option Reply
@@ -16,10 +16,6 @@ abbrev pub first : {A : Type 0} → List (Option A) → Option A
 first [] = None
 first (Some x ∷ rest) = Some x
 first (None ∷ rest) = first rest
-
-abbrev pub flat : {A : Type 0} → Option (Option A) → Option A
-flat None = None
-flat (Some x) = x
 
 -- this one, or else the other
 abbrev pub or_else : {A : Type 0} → Option A → Option A → Option A
@@ -35,34 +31,6 @@ is_locus n = nat_lt 40 n
 -- a denial of the lowest right that is needed and not held
 abbrev pub denied : ℕ → ℕ → Option Reply
 denied held needed = option_map Denied (missing_right held needed)
-
--- SLOTS
-
--- the capability in a slot
-abbrev pub cap_at : List (Option Cap) → ℕ → Option Cap
-cap_at caps slot = flat (slice_get caps slot)
-
-abbrev pub free_slot_from : ℕ → List (Option Cap) → Option ℕ
-free_slot_from n [] = None
-free_slot_from n (None ∷ caps) = Some n
-free_slot_from n (Some c ∷ caps) = free_slot_from (n + 1) caps
-
--- the lowest empty slot
-abbrev pub free_slot : List (Option Cap) → Option ℕ
-free_slot caps = free_slot_from 0 caps
-
--- REGIONS
-
-abbrev pub covers : Region → ℕ → Bool
-covers region page = nat_le region.at page && nat_lt page (region.at + region.count)
-
-abbrev pub overlaps : Region → Region → Bool
-overlaps r s = nat_lt r.at (s.at + s.count) && nat_lt s.at (r.at + r.count)
-
--- regions stand in ascending order
-abbrev pub insert_region : Region → List Region → List Region
-insert_region r [] = r ∷ []
-insert_region r (s ∷ rest) = if nat_lt r.at s.at then r ∷ s ∷ rest else s ∷ insert_region r rest
 
 -- CALLS
 

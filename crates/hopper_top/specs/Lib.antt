@@ -15,4 +15,6 @@ pub use Rattle.reading_commands.specs as reading_commands
 pub use Rattle.run_command.specs.run_outcomes
 pub use Rattle.run_command.specs.script_source
 pub use Rattle.run_command.specs.serial_runs
+pub use Rattle.run_command.specs.entry_lines
 pub use Rattle.run_command.specs.stream_edge
+pub use Rattle.trace_command.specs as trace_command

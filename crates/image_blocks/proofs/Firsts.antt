@@ -1,7 +1,7 @@
 -- The first of several that is there, and tests that hold.
-use Rattle.std.proofs.Common.{◌≡◌, ℕ, zero, suc, ◌+◌, ◌<◌, Bool, true, false, ◌==◌, if◌then◌else◌, inl, inr, List, [], ◌∷◌, ◌++◌, length, map, drop, get_or, Option, Some, None, refl, sym, ap, subst, ◌∙◌, arith}
+use Rattle.std.proofs.Common.{◌≡◌, ℕ, zero, suc, ◌+◌, ◌<◌, Bool, true, false, ◌==◌, if◌then◌else◌, inl, inr, List, [], ◌∷◌, ◌++◌, map, Option, Some, None, refl, sym, ap, subst, ◌∙◌, arith}
 use Rattle.std.proofs.lemmas.Bool.{cases_lt, eq-eqb}
-use Rattle.std.proofs.lemmas.List.{drop_more, map-append}
+use Rattle.std.proofs.lemmas.List.{map-append}
 use Rattle.std.proofs.lemmas.Bool.Decides.{nat_tests}
 use Rattle.hop_base.specs.Edges.{upto}
 use Rattle.hop_model.specs.Words.{first}
@@ -65,14 +65,6 @@ module _ {A : Type 0} (f : ℕ → Option A) where
         | inl low ↦ first_each n parts.0 i low
         | inr high ↦ (let is : n ≡ i = omega (arith, lt, high) in subst (λ (k : ℕ). f k ≡ None) is (first_head (f n) [] parts.1).0)
       ]
-
--- IN A LIST from a place on
-
-pub first_drop : {A : Type 0} (xs : List (Option A)) (i : ℕ) → i < length xs → get_or xs i None ≡ None → first (drop i xs) ≡ first (drop (i + 1) xs)
-first_drop xs i lt none = ap first (drop_more xs i None lt) ∙ ap (λ o. first (o ∷ drop (i + 1) xs)) none
-
-pub first_drop_hit : {A : Type 0} (xs : List (Option A)) (i : ℕ) (x : A) → i < length xs → get_or xs i None ≡ Some x → first (drop i xs) ≡ Some x
-first_drop_hit xs i x lt hit = ap first (drop_more xs i None lt) ∙ ap (λ o. first (o ∷ drop (i + 1) xs)) hit
 
 -- TESTS
 

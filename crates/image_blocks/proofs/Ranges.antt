@@ -1,12 +1,12 @@
 -- Each record of an image is in range behind those before it.
-use Rattle.std.proofs.Common.{◌≡◌, ◌≢◌, ℕ, zero, suc, ◌+◌, ◌*◌, ◌≤◌, ◌<◌, Bool, true, false, not, ◌&&◌, ◌==◌, nat_le, nat_lt, if◌then◌else◌, inl, inr, List, [], ◌∷◌, ◌++◌, length, map, take, get_or, Option, Some, None, refl, ◌⊎◌, sym, ap, subst, ◌∙◌, arith, eqb-true}
+use Rattle.std.proofs.Common.{Bool, List, None, Option, Some, [], ap, arith, eqb-true, false, get_or, if◌then◌else◌, inl, inr, length, map, nat_le, nat_lt, not, refl, subst, suc, sym, take, true, zero, ℕ, ◌&&◌, ◌*◌, ◌++◌, ◌+◌, ◌-◌, ◌<◌, ◌==◌, ◌∙◌, ◌∷◌, ◌≡◌, ◌≢◌, ◌≤◌, ◌⊎◌}
 use Rattle.std.specs.Prelude.{slice_get, slice_index}
 use Rattle.std.specs.List.{list_any}
-use Rattle.std.proofs.lemmas.Bool.{and_parts, cases_eq, cases_lt, eq-eqb, false≢true, leb-true, lt-ltb, ltb-true}
+use Rattle.std.proofs.lemmas.Bool.{and_parts, cases_eq, cases_lt, eq-eqb, false≢true, leb-true, lt-ltb, ltb-true, not-true}
 use Rattle.std.proofs.lemmas.Bool.Decides.{nat_tests}
-use Rattle.std.proofs.lemmas.List.{get_or-map, get_or-take, get_or_past, length-map, length-take}
+use Rattle.std.proofs.lemmas.List.{get_or-append_right, get_or-map, get_or-take, get_or_append_left, get_or_past, length-append, length-map, length-take}
 use Rattle.std.proofs.lemmas.List.Folds.{list_any_at}
-use Rattle.std.proofs.lemmas.Option.{slice_get-get_or, slice_get_within}
+use Rattle.std.proofs.lemmas.Option.{get_or_from_slice_get, slice_get-get_or, slice_get_within}
 use Rattle.hop_base.specs.Edges.{upto}
 use Rattle.hop_base.specs.declared.records.Rec.{Rec}
 use Rattle.hop_model.specs.Words.{first}
@@ -25,10 +25,6 @@ row_at f n i lt = let len = upto_len n in get_or-map f (upto n) i 0 0 (omega (ar
 
 row_len : (f : ℕ → ℕ) (n : ℕ) → length (map f (upto n)) ≡ n
 row_len f n = length-map (upto n) f ∙ upto_len n
-
-not_true : (b : Bool) → not b ≡ true → b ≡ false
-not_true true e = absurd (false≢true e)
-not_true false e = refl
 
 -- no number of the list is this one
 none_is : (xs : List ℕ) (n k : ℕ) → list_any (λ b. b == n) xs ≡ false → k < length xs → get_or xs k 0 ≢ n
@@ -92,7 +88,7 @@ module _ (count : ℕ) (before : List Rec) (body : List ℕ) (t : Tests count be
   is_needed : (i : ℕ) → i < need → in_pool i ≡ true
   is_needed i lt = sym (ap (λ c. if c then in_pool i else slice_index (record_in body).blocks i == 0) (lt-ltb i need lt)) ∙ numbered i (let most = few in omega (arith, lt, most))
 
-  in_range : IsInRange count before (record_in body)
+  pub in_range : IsInRange count before (record_in body)
   unfolding record_in
   in_range = record {
     entity = ltb-true x 64 t.entity;
@@ -105,7 +101,7 @@ module _ (count : ℕ) (before : List Rec) (body : List ℕ) (t : Tests count be
     numbers = row_len number 8;
     needed = λ i lt. (let two = and_parts _ _ (and_parts _ _ (is_needed i lt)).0 in (leb-true _ _ two.0, ltb-true _ _ two.1));
     different = λ i k lt earlier.
-        (let others = not_true _ (and_parts _ _ (is_needed i lt)).1 in
+        (let others = not-true _ (and_parts _ _ (is_needed i lt)).1 in
         let len = row_len number 8 in
         let most = few in
         let cut = length-take i (record_in body).blocks in
@@ -137,7 +133,7 @@ take_more (q ∷ recs) zero r here = ap (λ o. or_else q o ∷ []) here
     or_else d (Some x) = x
 take_more (q ∷ recs) (suc i) r here = ap (λ l. q ∷ l) (take_more recs i r here)
 
-abbrev rec_or : Rec → Option Rec → Rec
+abbrev pub rec_or : Rec → Option Rec → Rec
 rec_or d None = d
 rec_or d (Some r) = r
 
@@ -175,3 +171,19 @@ ascending_law recs image h i k r q lt earlier here same =
     let most = last_most recs newer i k q lt (let w = slice_get_within recs i r here in omega (arith, w)) earlier r.entity same in
     let less = newer i r here in
     omega (arith, most, less)
+
+-- an item of a list with one more
+pub last_or_before : (recs : List Rec) (rec : Rec) (i : ℕ) (r : Rec) → slice_get (recs ++ rec ∷ []) i ≡ Some r → ((i < length recs) × (slice_get recs i ≡ Some r)) ⊎ ((i ≡ length recs) × (rec ≡ r))
+last_or_before recs rec i r here = elim (cases_lt i (length recs)) as (λ _. ((i < length recs) × (slice_get recs i ≡ Some r)) ⊎ ((i ≡ length recs) × (rec ≡ r))) [
+  | inl lt ↦
+      (let e : get_or (recs ++ rec ∷ []) i r ≡ r = get_or_from_slice_get (recs ++ rec ∷ []) i r r here in
+      let f : get_or recs i r ≡ r = sym (get_or_append_left recs (rec ∷ []) r i lt) ∙ e in
+      inl (lt, slice_get-get_or recs i r lt ∙ ap Some f))
+  | inr ge ↦
+      (let within : i < length (recs ++ rec ∷ []) = slice_get_within (recs ++ rec ∷ []) i r here in
+      let more : length (recs ++ rec ∷ []) ≡ length recs + 1 = length-append recs (rec ∷ []) in
+      let is : i ≡ length recs = omega (arith, ge, within, more) in
+      let e : get_or (recs ++ rec ∷ []) i r ≡ r = get_or_from_slice_get (recs ++ rec ∷ []) i r r here in
+      let last : get_or (recs ++ rec ∷ []) i r ≡ rec = ap (λ k. get_or (recs ++ rec ∷ []) k r) is ∙ get_or-append_right recs (rec ∷ []) (length recs) (length recs) r refl (omega arith) ∙ ap (λ k. get_or (rec ∷ []) k r) (let z : length recs - length recs ≡ 0 = omega arith in z) in
+      inr (is, sym last ∙ e))
+]

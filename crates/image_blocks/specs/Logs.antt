@@ -59,11 +59,6 @@ pub record IsAdded (area : Area) (recs : List Rec) (rec : Rec) (reading : Image)
   pub same : SameOutside (IsNextSlot area (length recs)) reading c
   pub slots : HasSlots area (recs ++ rec ∷ []) c
 
--- The old log stands, and all that was written before the call is there too.
-pub record IsKept (area : Area) (recs : List Rec) (reading : Image) (c : Image) : Type 0 where
-  pub same : SameOutside (IsNextSlot area (length recs)) reading c
-  pub slots : HasSlots area recs c
-
 -- THE STAGES OF AN APPEND
 abbrev pub IsAppending : {D : Type 0} → (D → Image → Type 0) → (D → Image) → Area → List Rec → Rec → D → Image → Type 0
 IsAppending may_leave reading area recs rec old c = IsNotYet may_leave area recs old c ⊎ IsAdded area recs rec (reading old) c

@@ -7,10 +7,11 @@ ghost use Rattle.image_blocks.specs.Layout.{first_number, closed_gate as closed_
 use crate::LAST_NUMBER;
 use crate::faults::{first_place, nonzero_from, unless_at};
 use block_code::{get_u32, get_u64, put_u64};
+use disk_trait::BLOCK_BYTES;
 
 // The number of 32 bits at a place.
 pub(crate) fn u32_at(block: &[u8; 1024], at: usize) -> u32
-    requires { at + 4 ≤ 1024 }
+    requires { at + 4 ≤ BLOCK_BYTES }
     ensures { result ≡ number_at at 4 block.now }
 {
     get_u32(block, at).unwrap()
@@ -18,7 +19,7 @@ pub(crate) fn u32_at(block: &[u8; 1024], at: usize) -> u32
 
 // The number of 64 bits at a place.
 pub(crate) fn u64_at(block: &[u8; 1024], at: usize) -> u64
-    requires { at + 8 ≤ 1024 }
+    requires { at + 8 ≤ BLOCK_BYTES }
     ensures { result ≡ number_at at 8 block.now }
 {
     get_u64(block, at).unwrap()

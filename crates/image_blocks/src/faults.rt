@@ -3,6 +3,8 @@ ghost use Rattle.std.specs.Prelude.{◌≡◌, ◌≤◌};
 ghost use Rattle.hop_model.specs.Words.{first};
 ghost use Rattle.image_blocks.specs.Checks.{unless_at as place_unless, zeros_from};
 
+use disk_trait::BLOCK_BYTES;
+
 /// A bad place of an image: a block, and a byte of it from 0 to 1,023.
 #[derive(Clone, Copy, Debug, PartialEq, Eq)]
 pub struct Bad {
@@ -31,7 +33,7 @@ pub(crate) fn first_place(places: &[Option<u16>]) -> Option<u16>
 
 // The first byte from a place on that isn't 0.
 pub(crate) fn nonzero_from(block: &[u8; 1024], place: u16) -> Option<u16>
-    requires { place ≤ 1024 }
+    requires { place ≤ BLOCK_BYTES }
     ensures { result ≡ zeros_from place block.now }
 {
     for i in place..1024 {

@@ -10,6 +10,7 @@ use Rattle.cut_laws.specs.Records.{commit_of, commits_of, is_rec_from, recs_from
 use Rattle.image_meaning.specs.Parts.{chosen_by}
 use Rattle.image_meaning.specs.Stores.{IsHeld, Kept, kept_by, recs_of}
 use Rattle.disk_trait.specs.Image.{Image}
+use Rattle.image_meaning.proofs.Finding.{test}
 
 -- FROM A CUT ON
 
@@ -23,9 +24,6 @@ from_commits cut [] = refl
 from_commits cut (r ∷ rs) = from_one cut r rs (is_rec_from cut r) (from_commits cut rs)
 
 -- CHOSEN
-
-abbrev test : (ℕ → ℕ) → ℕ → Rec → Bool
-test cut x r = r.entity == x && r.version == cut x
 
 -- what is chosen stands at the cut
 at_cut_by : (cut : ℕ → ℕ) (x : ℕ) (r : Rec) (b : Bool) → (r.entity == x) ≡ b → nat_le (cut r.entity) r.version ≡ false → (b && r.version == cut x) ≡ false

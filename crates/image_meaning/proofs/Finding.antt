@@ -24,15 +24,12 @@ use Rattle.image_meaning.specs.Meaning.{Accepted}
 use Rattle.image_meaning.specs.Parts.{AreSpelt, AtlasPart, ContainerPart, IsSpelt, LocusPart, Part, Spells, chosen, chosen_by, cut_of, kind_in}
 use Rattle.image_meaning.proofs.Firsts.{clash}
 use Rattle.image_meaning.proofs.Ones.{SpeltAs}
+use Rattle.image_blocks.proofs.Ranges.{rec_or}
 
 -- CHOSEN RECORDS
 
-abbrev test : (ℕ → ℕ) → ℕ → Rec → Bool
+abbrev pub test : (ℕ → ℕ) → ℕ → Rec → Bool
 test cut x r = r.entity == x && r.version == cut x
-
-abbrev rec_or : Rec → Option Rec → Rec
-rec_or d None = d
-rec_or d (Some r) = r
 
 -- what is chosen passes the test
 passes_by : (cut : ℕ → ℕ) (x : ℕ) (q r : Rec) (o : Option Rec) (b : Bool) → test cut x q ≡ b → (o ≡ Some r → test cut x r ≡ true) → (if b then Some q else o) ≡ Some r → test cut x r ≡ true

@@ -1,5 +1,5 @@
 -- An image has at most one first bad place, and none where it is accepted.
-use Rattle.std.proofs.Common.{◌≡◌, ℕ, ◌+◌, ◌-◌, ◌/◌, ◌%◌, ◌<◌, ◌⊎◌, inl, inr, Bool, true, false, List, drop, get_or, Option, Some, None, refl, sym, ap, subst, ◌∙◌, arith}
+use Rattle.std.proofs.Common.{◌≡◌, ℕ, ◌+◌, ◌-◌, ◌/◌, ◌%◌, ◌<◌, ◌⊎◌, inl, inr, List, drop, get_or, Option, Some, None, refl, sym, ap, subst, ◌∙◌, arith}
 use Rattle.std.proofs.lemmas.Bool.{cases_lt, false≢true}
 use Rattle.std.proofs.lemmas.List.{get_or-drop, length-drop}
 use Rattle.std.specs.Prelude.{All, slice_get, slice_index}
@@ -19,20 +19,14 @@ use Rattle.image_meaning.specs.Meaning.{Accepted}
 use Rattle.image_meaning.specs.Parts.{AreSpelt, AtlasPart, ContainerPart, IsSpelt, LocusPart, Part, Spells, chosen, kind_in}
 use Rattle.image_meaning.proofs.Ones.{SpeltAs, one_area, one_log}
 use Rattle.image_meaning.proofs.Plain.{fit_same}
+use Rattle.image_blocks.proofs.Ranges.{rec_or}
+use Rattle.blob_grammar.proofs.Smallest.{is_there}
 
 -- OPTIONS
-
-abbrev rec_or : Rec → Option Rec → Rec
-rec_or d None = d
-rec_or d (Some r) = r
 
 abbrev bad_or : Bad → Option Bad → Bad
 bad_or d None = d
 bad_or d (Some b) = b
-
-abbrev is_there : {A : Type 0} → Option A → Bool
-is_there None = false
-is_there (Some x) = true
 
 pub clash : {A X : Type 0} (o : Option A) (x : A) → o ≡ None → o ≡ Some x → X
 clash o x none some = absurd (false≢true (sym (ap is_there none) ∙ ap is_there some))

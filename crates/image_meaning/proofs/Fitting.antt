@@ -17,6 +17,7 @@ use Rattle.image_meaning.specs.Describing.{Describes, DescribesEntity, bytes_of}
 use Rattle.image_meaning.specs.Fits.{AreNamedOnce, IsFit, IsTied, IsTiedAtlas, shown_by}
 use Rattle.image_meaning.specs.Parts.{AtlasPart, ContainerPart, IsOf, LocusPart, Part, cell_of, chosen, table_in}
 use Rattle.image_meaning.specs.Stores.{Kept, chosen_kept, recs_of}
+use Rattle.std.proofs.lemmas.Option.{same_Some}
 
 -- CELLS AGAINST PARTS
 
@@ -40,12 +41,9 @@ known_by : (s : Supply) (v : KernelState) (parts : ℕ → Option Part) (x : ℕ
 known_by s v parts x None said = inl said
 known_by s v parts x (Some k) (part, is, d) = inr (part, is, d.spells.kind, cell_is s (bytes_of k.pages) part (v x).cell d.cell)
 
-abbrev part_or : Part → Option Part → Part
+abbrev pub part_or : Part → Option Part → Part
 part_or d None = d
 part_or d (Some p) = p
-
-pub same_part : (p q : Part) → Some p ≡ Some q → p ≡ q
-same_part p q e = ap (part_or p) e
 
 pub none_some : {A : Type 0} (p : Part) → None ≡ Some p → A
 none_some p e = absurd (false≢true (ap is_there e))
@@ -58,7 +56,7 @@ none_some p e = absurd (false≢true (ap is_there e))
 known_part : (v : KernelState) (parts : ℕ → Option Part) (x : ℕ) (part : Part) → parts x ≡ Some part → Known v parts x → IsOf x part × CellIs part (v x).cell
 known_part v parts x part is (inl (none, same)) = none_some part (sym none ∙ is)
 known_part v parts x part is (inr (p, at, kind, cell)) =
-    let e : p ≡ part = same_part p part (sym at ∙ is) in
+    let e : p ≡ part = same_Some p part (sym at ∙ is) in
     subst (λ (q : Part). IsOf x q × CellIs q (v x).cell) e (kind, cell)
 
 -- CONSTRUCTORS OF CELLS
@@ -142,14 +140,6 @@ none_born x h = elim (or_three (x == 0) (is_born_container no_atlas x) (is_born_
 
     not_locus : (x : ℕ) → (nat_lt 40 x && nat_le x 40) ≡ true → ⊥
     not_locus x h = grind (arith, nat_tests)
-
--- THE EMPTY STATE
-empty_not_born : (x : ℕ) → x ≢ 0 → (empty_state x).cell ≡ NotBorn
-empty_not_born x other = go (x == 0) refl
-  where
-    go : (b : Bool) → (x == 0) ≡ b → (if b then AtlasCell no_atlas else NotBorn) ≡ NotBorn
-    go true e = absurd (other (eqb-true x 0 e))
-    go false e = refl
 
 empty_regions : (x y : ℕ) → regions_onto (empty_state x).cell y ≡ 0
 empty_regions x y = go (x == 0)

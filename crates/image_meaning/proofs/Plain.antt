@@ -7,15 +7,16 @@ use Rattle.hop_base.specs.declared.records.Rec.{Rec}
 use Rattle.image_blocks.specs.hop_model.State.{AtlasState}
 use Rattle.image_meaning.specs.Fits.{AreNamedOnce, IsFit, IsTied, shown_by}
 use Rattle.image_meaning.specs.Parts.{AreSpelt, AtlasPart, ContainerPart, LocusPart, Part, chosen, table_in}
-use Rattle.image_meaning.proofs.Fitting.{none_some, same_part}
+use Rattle.image_meaning.proofs.Fitting.{none_some}
 use Rattle.image_meaning.proofs.Ones.{SpeltAs, plain, spelt_one}
+use Rattle.std.proofs.lemmas.Option.{same_Some}
 
 abbrev pub plains : (ℕ → Option Part) → ℕ → Option Part
 plains parts x = option_map plain (parts x)
 
 unplain : (o : Option Part) (q : Part) → option_map plain o ≡ Some q → (p : Part) × (o ≡ Some p) × (plain p ≡ q)
 unplain None q e = none_some q e
-unplain (Some p) q e = (p, refl, same_part (plain p) q e)
+unplain (Some p) q e = (p, refl, same_Some (plain p) q e)
 
 atlas_of : (p : Part) (a : AtlasState) → plain p ≡ AtlasPart a → p ≡ AtlasPart a
 atlas_of (AtlasPart b) a e = e
@@ -118,7 +119,7 @@ pub fit_same : (image : Image) (count : ℕ) (recs : List Rec) (parts others : �
     → (x : ℕ) (p q : Part) → parts x ≡ Some p → others x ≡ Some q → IsFit count recs parts x p → IsFit count recs others x q
 fit_same image count recs parts others one other x p q is at f =
     let all : plains parts ≡ plains others = same_plains image recs parts others one other in
-    let here : plain p ≡ plain q = same_part (plain p) (plain q) (sym (ap (option_map plain) is) ∙ (ap (λ (g : ℕ → Option Part). g x) all ∙ ap (option_map plain) at)) in
+    let here : plain p ≡ plain q = same_Some (plain p) (plain q) (sym (ap (option_map plain) is) ∙ (ap (λ (g : ℕ → Option Part). g x) all ∙ ap (option_map plain) at)) in
     plain_fit others count recs x q
     (subst (λ (g : ℕ → Option Part). IsFit count recs g x (plain q)) all
     (subst (λ (part : Part). IsFit count recs (plains parts) x part) here (fit_plain parts count recs x p f)))

@@ -17,8 +17,8 @@ use Rattle.image_meaning.specs.Fits.{IsFit, IsTied, IsTiedAtlas, IsTiedContainer
 use Rattle.image_meaning.specs.Meaning.{Accepted, Means, entity_of, state_of}
 use Rattle.image_meaning.specs.Parts.{AreFormed, AreSpelt, AreTaken, AtlasPart, ContainerPart, IsFormed, LocusPart, Part, cell_of, chosen, kind_in, words_in}
 use Rattle.image_meaning.proofs.Firsts.{clash}
-use Rattle.image_meaning.proofs.Fitting.{same_part}
 use Rattle.image_meaning.proofs.Ones.{SpeltAs}
+use Rattle.std.proofs.lemmas.Option.{same_Some}
 
 -- VALUES in form that name those who are born are sound
 
@@ -75,7 +75,7 @@ kind_container x low high = go (x == 0) (nat_lt x 41) refl refl
     go false true e f = refl
     go false false e f = absurd (let far : 41 ≤ x = ltb-false x 41 f in omega (arith, far, high))
 
-kind_locus : (x : ℕ) → 41 ≤ x → kind_of x ≡ kinds.Locus
+pub kind_locus : (x : ℕ) → 41 ≤ x → kind_of x ≡ kinds.Locus
 kind_locus x low = go (x == 0) (nat_lt x 41) refl refl
   where
     go : (b c : Bool) → (x == 0) ≡ b → nat_lt x 41 ≡ c → (if b then kinds.Atlas else if c then kinds.Container else kinds.Locus) ≡ kinds.Locus
@@ -298,7 +298,7 @@ spelt_formed image recs parts spelt x p is = formed_by (chosen recs x) (spelt x)
   where
     formed_by : (o : Option Rec) → SpeltAs image x o (parts x) → IsFormed x p
     formed_by None none = clash (parts x) p none is
-    formed_by (Some r) (q, at, told) = subst (IsFormed x) (same_part q p (sym at ∙ is)) (record { kind = told.kind; blob = blob_in image r; spells = told.spells })
+    formed_by (Some r) (q, at, told) = subst (IsFormed x) (same_Some q p (sym at ∙ is)) (record { kind = told.kind; blob = blob_in image r; spells = told.spells })
 
 pub sound_meaning : (s : Supply) (image : Image) (v : KernelState) → Means s image v → IsSound (λ x. (v x).cell)
 sound_meaning s image v m =

@@ -1,6 +1,6 @@
 -- The clauses of an image that is opened.
 use Rattle.std.proofs.Common.{◌≡◌, ◌⊎◌, inl, inr, ℕ, ◌+◌, ◌-◌, ◌^◌, ◌<◌, ◌≤◌, List, length, Option, Some, None, refl, sym, ap, subst, ◌∙◌, ⊎_elim, arith}
-use Rattle.std.specs.Prelude.{AllPairs, Err, IfErr, IsErrOf, MatchResult, Ok, Result, slice_index}
+use Rattle.std.specs.Prelude.{AllPairs, Err, IsErrOf, MatchResult, Ok, Result, slice_index}
 use Rattle.std.proofs.lemmas.Bool.{cases_lt}
 use Rattle.disk_trait.specs.Counts.{Rose}
 use Rattle.disk_trait.specs.Disk.{Only, Ticks}
@@ -40,7 +40,7 @@ use Rattle.kernel_views.proofs.snapshot_store_lemmas.Keep.{rows_recs}
 use Rattle.kernel_views.specs.store_model.Books.{AreTrue, IsBeforePool, logged_recs, recs_in}
 use Rattle.image_opening.specs.Images.{AreReadOf, HasImageCause, HasKeepCause, HasPartsCause, HasTurnLeft, HoldsImage, IsOpened, MeansSame, MeansSince}
 use Rattle.image_opening.specs.Opened.{IsRead}
-use Rattle.image_opening.proofs.Choices.{row_of}
+use Rattle.kernel_views.proofs.snapshot_store_lemmas.ChosenAlone.{row_of}
 use Rattle.image_opening.proofs.Moments.{keeping_law}
 use Rattle.image_opening.proofs.Owned.{held_page, page_held, rows_owned}
 use Rattle.image_opening.proofs.Stored.{all_kept, row_is, rows_are, rows_chosen, same_lists}
@@ -163,10 +163,6 @@ module _ {D : Type 0} {clock : D → ℕ} {may_leave : D → Image → Type 0} {
       LeavesOnly-then laws (LeavesOnly-weaker laws (λ c. P c ⊎ Q c) (λ c p. inl p) first) (LeavesOnly-weaker laws (λ c. P c ⊎ Q c) (λ c q. inr q) second)
 
 -- WHAT CAME of a call
-
-pub err_weaker : {T E : Type 0} (r : Result T E) (P Q : E → Type 0) → ((e : E) → P e → Q e) → IfErr r P → IfErr r Q
-err_weaker (Ok x) P Q more has = tt
-err_weaker (Err e) P Q more has = more e has
 
 pub match_weaker : {T E : Type 0} (r : Result T E) (P P' : T → Type 0) (Q Q' : E → Type 0) → ((x : T) → P x → P' x) → ((e : E) → Q e → Q' e) → MatchResult r P Q → MatchResult r P' Q'
 match_weaker (Ok x) P P' Q Q' one two has = one x has

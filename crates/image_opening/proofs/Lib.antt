@@ -1,7 +1,4 @@
-pub mod Choices
 pub mod Moments
-pub mod Rows
-pub mod Naming
 pub mod Stored
 pub mod Owned
 pub mod Clauses

@@ -23,10 +23,11 @@ use Rattle.kernel_views.proofs.snapshot_store_lemmas.Chosen.{chosen_is, chosen_m
 use Rattle.kernel_views.specs.store_model.Books.{Logged, kept_in}
 use Rattle.kernel_views.specs.store_model.Owning.{AreOwned}
 use Rattle.image_opening.specs.Opened.{HaveBlocks, IsRead}
-use Rattle.image_opening.proofs.Choices.{row_of}
-use Rattle.image_opening.proofs.Naming.{block_of, block_pool, no_blob, one_page}
-use Rattle.image_opening.proofs.Rows.{IsRow, are_rows}
+use Rattle.kernel_views.proofs.snapshot_store_lemmas.ChosenAlone.{row_of}
+use Rattle.opened_cells.proofs.image_parts_lemmas.Naming.{block_of, block_pool, no_blob, one_page}
+use Rattle.kernel_views.proofs.snapshot_store_lemmas.ChosenRows.{IsRow, are_rows}
 use Rattle.image_opening.proofs.Stored.{is_row, row_blocks, rows_are, table_blocks}
+use Rattle.std.proofs.Math.Bool.{or-true}
 
 -- TABLES AND BLOCKS
 
@@ -58,10 +59,6 @@ one_named l n named =
     let same : m ≡ n = eqb-true m n both.1 in
     (a.0, subst (λ (k : ℕ). k ≢ 0) same (some_use m both.0), get_or_default l.table a.0 0 m a.2 ∙ (a.3 ∙ same))
 
-or_true : (b : Bool) → (b || true) ≡ true
-or_true true = refl
-or_true false = refl
-
 -- a chosen record is one of the rows
 module _ (cut : ℕ → ℕ) (recs : List Rec) (tables : List ShadowTable) (test : Logged → Bool) (x : ℕ) (r : Rec) (here : chosen_by cut recs x ≡ Some r) (passes : test (record { rec = r; table = table_of tables r.entity }) ≡ true) where
   last_row : list_any test (with_tables tables (listed (chosen_by cut recs x))) ≡ true
@@ -80,7 +77,7 @@ module _ (cut : ℕ → ℕ) (recs : List Rec) (tables : List ShadowTable) (test
       (λ (high : n ≤ x).
       let same : x ≡ n = omega (arith, lt, high) in
       let last : list_any test (with_tables tables back) ≡ true = subst (λ (k : ℕ). list_any test (with_tables tables (listed (chosen_by cut recs k))) ≡ true) same last_row in
-      ap (λ (b : Bool). list_any test (with_tables tables front) || b) last ∙ or_true (list_any test (with_tables tables front)))
+      ap (λ (b : Bool). list_any test (with_tables tables front) || b) last ∙ or-true (list_any test (with_tables tables front)))
       (cases_lt x n)))
 
 module _ {D : Type 0} (log : ImageLog) (parts : ImageParts) (tables : List ShadowTable) (st new : State D) (working : ℕ → List ℕ) (is : IsRead log parts tables st) (kept : HasKept tables st new)

@@ -14,7 +14,7 @@ use Rattle.opened_cells.specs.image_parts.declared.parts.ImageParts.{ImageParts}
 use Rattle.kernel_views.specs.log_reading.declared.log.ImageLog.{ImageLog}
 use Rattle.opened_cells.specs.part_checks.Chosen.{parts_of}
 use Rattle.kernel_views.specs.snapshot_store.State.{State, books}
-use Rattle.kernel_views.proofs.snapshot_store_lemmas.Paged.{kept_all}
+use Rattle.kernel_views.proofs.store_commit_lemmas.Paged.{kept_all}
 use Rattle.kernel_views.specs.store_model.Books.{AreSmall, IsBeforePool, kept_in, kept_of, words_of_bytes}
 use Rattle.kernel_views.specs.kernel_cells.declared.cells.Cell.{Cell}
 use Rattle.kernel_views.specs.kernel_cells.declared.cells.Part.{Part}
@@ -34,7 +34,7 @@ use Rattle.kernel_views.specs.Views.{FollowsRun, view_of}
 use Rattle.kernel_views.proofs.Following.{follows}
 use Rattle.image_opening.specs.Images.{HasLowEpoch, HasTurnLeft, HoldsImage, IsOpened, MeansSince, StartsFrom}
 use Rattle.image_opening.specs.Opened.{HaveBlocks}
-use Rattle.image_opening.proofs.Naming.{block_pool}
+use Rattle.opened_cells.proofs.image_parts_lemmas.Naming.{block_pool}
 
 -- CELLS over another image, whose pool is the same
 

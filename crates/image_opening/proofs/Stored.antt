@@ -30,8 +30,8 @@ use Rattle.kernel_views.proofs.snapshot_store_lemmas.Keep.{chosen_row, rows_recs
 use Rattle.kernel_views.proofs.store_commit_lemmas.Unused.{pages_all}
 use Rattle.kernel_views.specs.store_model.Books.{Books, Logged, kept_for, kept_in, kept_of, logged_recs}
 use Rattle.image_opening.specs.Opened.{IsRead}
-use Rattle.image_opening.proofs.Choices.{row_of}
-use Rattle.image_opening.proofs.Rows.{IsRow, are_rows, row_all, rows_all, rows_stay}
+use Rattle.kernel_views.proofs.snapshot_store_lemmas.ChosenAlone.{row_of}
+use Rattle.kernel_views.proofs.snapshot_store_lemmas.ChosenRows.{IsRow, are_rows, row_all, rows_all, rows_stay}
 
 pub same_lists : (recs : List Rec) → row_of recs ≡ chosen_recs recs
 same_lists recs = ap (λ (f : ℕ → List Rec). flat_map f (upto 64)) (λ i x. same (chosen recs x) i)

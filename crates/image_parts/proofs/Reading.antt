@@ -23,9 +23,7 @@ use Rattle.blob_loading.specs.part_checks.declared.chosen.ChosenEntity.{ChosenEn
 use Rattle.blob_loading.proofs.part_checks_lemmas.Choices.{none_past}
 use Rattle.image_parts.specs.Choosing.{IsBadEntity, IsBadSlot, IsChosenSlot}
 use Rattle.image_parts.proofs.Slots.{chosen_entity}
-
-some_is : (q r : Rec) → Some q ≡ Some r → q ≡ r
-some_is q r is = cc
+use Rattle.std.proofs.lemmas.Option.{same_Some}
 
 -- ONE RECORD
 
@@ -48,7 +46,7 @@ module _ (recs : List Rec) (p : ℕ → ℕ) (is : p ≡ cut_of recs) (x slot : 
   slot_taken = ap (λ (f : ℕ → ℕ). chosen_by f recs x) (sym is) ∙ s.is_chosen
 
   slot_record : (r : Rec) → slice_get recs slot ≡ Some r → s.rec ≡ r
-  slot_record r there = some_is s.rec r (sym s.there ∙ there)
+  slot_record r there = same_Some s.rec r (sym s.there ∙ there)
 
   pub slot_chosen : (r : Rec) → slice_get recs slot ≡ Some r → chosen recs x ≡ Some r
   slot_chosen r there = slot_taken ∙ ap Some (slot_record r there)
@@ -152,7 +150,7 @@ all_formed es long to x p is = formed_one x (entity_at es x) p is
 -- the part of a chosen record that is read
 part_read : (image : Image) (x : ℕ) (r : Rec) (o : Option ChosenEntity) → Some r ≡ record_in o → IsSpeltEntity image x o → (part : Part) × IsSpelt image x r part
 part_read image x r None is spelt = clash None r refl (sym is)
-part_read image x r (Some e) is spelt = (part_of e.part, subst (λ (q : Rec). IsSpelt image x q (part_of e.part)) (sym (some_is r e.rec is)) spelt)
+part_read image x r (Some e) is spelt = (part_of e.part, subst (λ (q : Rec). IsSpelt image x q (part_of e.part)) (sym (same_Some r e.rec is)) spelt)
 
 -- the first bad one
 pub first_bad_blob : (image : Image) (recs : List Rec) (area : Area) (es : List (Option ChosenEntity)) (n x : ℕ) (bad : Bad) → x ≡ n → ChosenTo recs es n → SpeltTo image es n → IsBadEntity image recs area x bad

@@ -1,10 +1,9 @@
 -- Which record of a log a choice takes of an entity, and in which slot.
 use Rattle.std.proofs.Common.{◌≡◌, ℕ, zero, suc, ◌+◌, ◌<◌, ◌≤◌, Bool, true, false, ◌&&◌, ◌==◌, if◌then◌else◌, List, [], ◌∷◌, length, Some, None, refl, sym, ap, subst, ◌∙◌, ⊎_elim, arith, eqb-true}
-use Rattle.std.specs.Prelude.{AllPairs, slice_get}
+use Rattle.std.specs.Prelude.{slice_get}
 use Rattle.std.proofs.lemmas.Bool.{and_parts, cases_lt, false≢true}
 use Rattle.std.proofs.lemmas.List.{get_or_past}
-use Rattle.std.proofs.lemmas.Option.{slice_get_within}
-use Rattle.cut_finder.specs.Records.{IsAscending}
+use Rattle.std.proofs.lemmas.Option.{same_Some, slice_get_within}
 use Rattle.cut_finder.specs.cut_laws.Agreeing.{nothing}
 use Rattle.cut_finder.specs.cut_laws.Records.{commits_of}
 use Rattle.hop_base.specs.declared.records.Rec.{Rec}
@@ -13,16 +12,13 @@ use Rattle.cut_finder.proofs.hop_model_lemmas.Lowering.{greatest_is, greatest_on
 use Rattle.blob_loading.specs.image_meaning.Parts.{chosen_by, cut_of}
 use Rattle.blob_loading.proofs.image_meaning_lemmas.Finding.{passes}
 use Rattle.blob_loading.proofs.image_meaning_lemmas.Firsts.{clash}
-use Rattle.blob_loading.specs.log_reading.Logs.{AreInRange, IsOlder}
+use Rattle.blob_loading.specs.log_reading.Logs.{AreInRange}
 use Rattle.image_parts.specs.Choosing.{IsChosenSlot}
 
 -- THE CUT
 
-pub older_ascending : (recs : List Rec) → AllPairs IsOlder recs → IsAscending recs
-older_ascending recs pairs i j d lt within = λ same. (let less = pairs i j d lt within same in omega (arith, less))
-
 -- stamps of 64 components are narrow
-narrow_all : (recs : List Rec) → ((i : ℕ) (r : Rec) → slice_get recs i ≡ Some r → length r.stamp ≡ 64) → IsNarrow (commits_of recs)
+pub narrow_all : (recs : List Rec) → ((i : ℕ) (r : Rec) → slice_get recs i ≡ Some r → length r.stamp ≡ 64) → IsNarrow (commits_of recs)
 narrow_all [] each = tt
 narrow_all (r ∷ recs) each = ((λ y far. get_or_past r.stamp y 0 (let len = each zero r refl in omega (arith, len, far))), narrow_all recs (λ i s here. each (suc i) s here))
 
@@ -41,16 +37,13 @@ is_taken cut x r = r.entity == x && r.version == cut x
 abbrev pub NotYet : (ℕ → ℕ) → ℕ → List Rec → ℕ → Type 0
 NotYet cut x recs n = (k : ℕ) (q : Rec) → k < n → slice_get recs k ≡ Some q → is_taken cut x q ≡ false
 
-some_is : (q r : Rec) → Some q ≡ Some r → q ≡ r
-some_is q r is = cc
-
 -- one that is none, and those before it are none
 pub not_more : (cut : ℕ → ℕ) (x : ℕ) (recs : List Rec) (n : ℕ) (r : Rec) → NotYet cut x recs n → slice_get recs n ≡ Some r → is_taken cut x r ≡ false → NotYet cut x recs (n + 1)
 not_more cut x recs n r before here none k q lt at = ⊎_elim
     (λ (less : k < n). before k q less at)
     (λ (high : n ≤ k).
     let same : k ≡ n = omega arith in
-    let is : r ≡ q = some_is r q (sym here ∙ (ap (slice_get recs) (sym same) ∙ at)) in
+    let is : r ≡ q = same_Some r q (sym here ∙ (ap (slice_get recs) (sym same) ∙ at)) in
     subst (λ (s : Rec). is_taken cut x s ≡ false) is none)
     (cases_lt k n)
 
@@ -64,7 +57,7 @@ none_taken cut x (q ∷ recs) (suc n) le none =
 first_taken : (cut : ℕ → ℕ) (x : ℕ) (recs : List Rec) (n : ℕ) (r : Rec) → NotYet cut x recs n → slice_get recs n ≡ Some r → is_taken cut x r ≡ true → chosen_by cut recs x ≡ Some r
 first_taken cut x [] n r none here good = clash (slice_get [] n) r refl here
 first_taken cut x (q ∷ recs) zero r none here good =
-    let is : q ≡ r = some_is q r here in
+    let is : q ≡ r = same_Some q r here in
     ap (λ (b : Bool). if b then Some q else chosen_by cut recs x) (subst (λ (s : Rec). is_taken cut x s ≡ true) (sym is) good) ∙ ap Some is
 first_taken cut x (q ∷ recs) (suc n) r none here good =
     ap (λ (b : Bool). if b then Some q else chosen_by cut recs x) (none zero q (omega arith) refl)

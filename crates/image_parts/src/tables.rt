@@ -8,18 +8,16 @@ ghost use Rattle.image_parts.specs.Tables.{ArePlaced, AreTablesOf, IsTableOf, bl
 
 use crate::parts::ImageParts;
 use blob_loading::part_checks::{ChosenEntity, ChosenPart};
+use hop_base::MOST_PAGES;
 use page_shadow::ShadowTable;
 use std::alloc::{AllocError, Global};
-
-/// The most pages of a container.
-const MOST_PAGES: usize = 256;
 
 // A table of these blocks.
 fn filled(blocks: &[u32]) -> ShadowTable
     ensures { IsTableOf blocks.now result.0 }
 {
     let mut table = ShadowTable::new();
-    for page in 0..blocks.len().min(MOST_PAGES) {
+    for page in 0..blocks.len().min(MOST_PAGES as usize) {
         table.0[page] = blocks[page];
     }
     table
@@ -31,7 +29,7 @@ fn table_of(part: &ChosenPart) -> ShadowTable
 {
     match part {
         ChosenPart::Container(container) => {
-            let pages = (container.head.pages as usize).min(MOST_PAGES);
+            let pages = (container.head.pages as usize).min(MOST_PAGES as usize);
             filled(&container.blocks[..pages])
         }
         _ => ShadowTable::new(),

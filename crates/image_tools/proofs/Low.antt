@@ -1,21 +1,16 @@
 -- The versions of the cut are low, since those of records are.
-use Rattle.std.proofs.Common.{◌≡◌, ℕ, zero, suc, ◌≤◌, ◌<◌, ◌^◌, inl, inr, List, [], ◌∷◌, length, get_or, Some, refl, sym, ap, ◌∙◌, arith}
+use Rattle.std.proofs.Common.{◌≡◌, ℕ, zero, suc, ◌≤◌, ◌^◌, inl, inr, List, [], ◌∷◌, get_or, Some, refl, ap, arith}
 use Rattle.std.specs.Prelude.{All, slice_get, slice_index}
-use Rattle.std.proofs.lemmas.List.{get_or_past}
 use Rattle.std.proofs.lemmas.List.Elements.{All-from_get_or}
 use Rattle.image_parts.specs.cut_laws.Agreeing.{nothing}
 use Rattle.image_parts.specs.cut_laws.Records.{commits_of}
 use Rattle.hop_base.specs.declared.records.Rec.{Rec}
-use Rattle.plain_parts.specs.hop_model.Choices.{Among, Commit, IsNarrow}
+use Rattle.plain_parts.specs.hop_model.Choices.{Among, Commit}
 use Rattle.plain_parts.proofs.hop_model_lemmas.Lowering.{greatest_is}
 use Rattle.report_lines.specs.image_blocks.Layout.{last_number}
 use Rattle.meant_states.specs.image_meaning.Parts.{cut_of}
 use Rattle.image_parts.specs.log_reading.Logs.{AreInRange}
-
--- stamps of 64 components are narrow
-narrow_all : (recs : List Rec) → ((i : ℕ) (r : Rec) → slice_get recs i ≡ Some r → length r.stamp ≡ 64) → IsNarrow (commits_of recs)
-narrow_all [] each = tt
-narrow_all (r ∷ recs) each = ((λ y far. get_or_past r.stamp y 0 (let len = each zero r refl in omega (arith, len, far))), narrow_all recs (λ i s here. each (suc i) s here))
+use Rattle.image_parts.proofs.Slots.{narrow_all}
 
 -- a version that some commit has is one of a record
 low_among : (x n : ℕ) (P : Commit → Type 0) (recs : List Rec) → ((i : ℕ) (r : Rec) → slice_get recs i ≡ Some r → r.version ≤ last_number)

@@ -20,6 +20,7 @@ use Rattle.meant_states.specs.image_meaning.Parts.{AreFormed, AtlasPart, Contain
 use Rattle.image_parts.specs.Tables.{blocks_in}
 use Rattle.image_parts.specs.part_checks.Fits.{AreFit}
 use Rattle.image_tools.specs.States.{AreOnDisk, IsCellOf, IsContainerPart, IsLocusPart, atlas_by, cell_in, cell_with}
+use Rattle.meant_states.proofs.image_meaning_lemmas.Sounding.{kind_locus}
 
 -- KINDS
 
@@ -30,14 +31,6 @@ kind_container x low high = go (x == 0) (nat_lt x 41) refl refl
     go true c e f = absurd (let is : x ≡ 0 = eqb-true x 0 e in omega (arith, is, low))
     go false true e f = refl
     go false false e f = absurd (let far : 41 ≤ x = ltb-false x 41 f in omega (arith, far, high))
-
-kind_locus : (x : ℕ) → 41 ≤ x → kind_of x ≡ kinds.Locus
-kind_locus x low = go (x == 0) (nat_lt x 41) refl refl
-  where
-    go : (b c : Bool) → (x == 0) ≡ b → nat_lt x 41 ≡ c → (if b then kinds.Atlas else if c then kinds.Container else kinds.Locus) ≡ kinds.Locus
-    go true c e f = absurd (let is : x ≡ 0 = eqb-true x 0 e in omega (arith, is, low))
-    go false true e f = absurd (let near : x < 41 = ltb-true x 41 f in omega (arith, near, low))
-    go false false e f = refl
 
 is_container : (p : Part) → kind_in p ≡ kinds.Container → IsContainerPart (Some p)
 is_container (AtlasPart a) e = absurd (let is : kinds.Atlas ≡ kinds.Container = e in cc)

@@ -14,13 +14,11 @@ ghost use Rattle.image_tools.specs.Words.{IsSparse};
 use crate::faults::PagesFault;
 use crate::words::keep_page;
 use disk_trait::{Disk, DiskFault};
+use hop_base::MOST_PAGES;
 use page_words::words_in;
 use plain_parts::locus_machine::Head;
 use std::alloc::Global;
 use std::collections::BTreeMap;
-
-/// The most pages of a container.
-const MOST_PAGES: usize = 256;
 
 // The words in a block.
 fn read_words<D: Disk>(disk: &mut D, block: u32) -> Result<[u64; 128], DiskFault>
@@ -83,7 +81,7 @@ pub(crate) fn words_of<D: Disk, S: Fn(u64, u32, u16) -> u64>(
     ensures same { ReadsOnly D.tells D.block_count D.reading D.may_leave D.left_since D.clock D.faults disk.old disk.new }
 {
     let mut words = BTreeMap::new(alloc);
-    for page in 0..(head.pages as usize).min(MOST_PAGES) {
+    for page in 0..(head.pages as usize).min(MOST_PAGES as usize) {
         take_page(
             disk,
             &mut words,

@@ -76,14 +76,14 @@ width Access = 8
 width Rights = 8
 width Entry = 4
 
-letters_len : (letters : List ℕ) (s : ℕ) → length (letters_of letters s) ≤ length letters
+pub letters_len : (letters : List ℕ) (s : ℕ) → length (letters_of letters s) ≤ length letters
 letters_len [] s = omega arith
 letters_len (letter ∷ letters) s = ⊎_elim
     (λ (odd : s % 2 ≡ 1). omega (arith, ap length (letters_odd letter letters s odd), letters_len letters (s / 2)))
     (λ (even : s % 2 ≡ 0). omega (arith, ap length (letters_even letter letters s even), letters_len letters (s / 2)))
     (parity s)
 
-rights_len : (s : ℕ) → length (rights s) ≤ 8
+pub rights_len : (s : ℕ) → length (rights s) ≤ 8
 rights_len zero = omega arith
 rights_len (suc s) = omega (arith, ap length (rights_letters (suc s) (omega arith)), letters_len all_letters (suc s))
 

@@ -6,7 +6,7 @@ use Rattle.std.specs.List.{position_or_len}
 use Rattle.std.proofs.lemmas.Bool.{and_parts, false≢true, cases_lt}
 use Rattle.std.proofs.lemmas.Bool.Decides.{nat_tests}
 use Rattle.std.proofs.lemmas.Fmt.{decimal_nonempty}
-use Rattle.std.proofs.lemmas.Option.{same_Some}
+use Rattle.std.proofs.lemmas.Option.{none-some, same_Some}
 use Rattle.std.proofs.lemmas.Slice.Eq.{bytes_eq-Decides}
 use borrow.Author.Tests.{ne_eqb}
 use Rattle.hop_base.specs.declared.instructions.Instr.{Instr}
@@ -133,11 +133,8 @@ operands_fit (k ∷ ks) (o ∷ os) h =
 
 -- BOTH WAYS
 
-none_is_not_some : {A : Type 0} (x : A) → None ≡ Some x → ⊥
-none_is_not_some x e = cc
-
 place_below : (name : List ℕ) (ts : List (List ℕ)) (n m : ℕ) → place_of name ts n ≡ Some m → m < n + length ts
-place_below name [] n m e = absurd (none_is_not_some m e)
+place_below name [] n m e = absurd (none-some m e)
 place_below name (t ∷ ts) n m e = by (place_below name ts (n + 1) m) (bytes_eq name t) e
   where
     by : (place_of name ts (n + 1) ≡ Some m → m < n + 1 + length ts) → (b : Bool) → (if b then Some n else place_of name ts (n + 1)) ≡ Some m → m < n + length (t ∷ ts)
@@ -155,13 +152,13 @@ formed_spells text code os i small h = by (are_operands (kinds_at code) os && by
         let (fit, same) = and_parts (are_operands (kinds_at code) os) (bytes_eq (word_at code ++ tail os) text) e in
         let b = built code os small (operands_fit (kinds_at code) os fit) in
         subst (Spells text) (same_Some (build_at code os) i f) (b.0, b.1 ∙ (bytes_eq-Decides (word_at code ++ tail os) text).0 same)
-    by false e f = absurd (none_is_not_some i f)
+    by false e f = absurd (none-some i f)
 
 some_spells : (text : List ℕ) (i : Instr) → instr_of text ≡ Some i → Spells text i
 some_spells text i h = by (place_of (front_word text) words 0) refl h
   where
     by : (p : Option ℕ) → place_of (front_word text) words 0 ≡ p → option_and_then (λ code. formed text code (operands_in (kinds_at code) (behind_word text))) p ≡ Some i → Spells text i
-    by None e f = absurd (none_is_not_some i f)
+    by None e f = absurd (none-some i f)
     by (Some code) e f = formed_spells text code (operands_in (kinds_at code) (behind_word text)) i (place_below (front_word text) words 0 code e) f
 
 told : (text : List ℕ) (i : Instr) → IsInstruction i → spelling i ≡ text → instr_of text ≡ Some i
@@ -184,5 +181,5 @@ pub IsReader-instr_of : IsReader instr_of
 IsReader-instr_of text = by (instr_of text) refl
   where
     by : (o : Option Instr) → instr_of text ≡ o → MatchOption o (¬ (IsSpelling text)) (λ i. Spells text i)
-    by None e = λ s. none_is_not_some s.0 (sym e ∙ told text s.0 s.1 s.2)
+    by None e = λ s. none-some s.0 (sym e ∙ told text s.0 s.1 s.2)
     by (Some i) e = some_spells text i e

@@ -3,7 +3,7 @@ ghost use Rattle.std.specs.Prelude.{◌≡◌, ◌<◌, ◌≤◌, length};
 ghost use Rattle.instr_set.specs.Forms.{register_at, number_at, place_at, rights_at, entry_at, build_at, code_of, operands_of};
 
 use crate::forms::{CODES, Operand};
-use crate::operands::MOST;
+use crate::operands::MOST_OPERANDS;
 use arrayvec::ArrayVec;
 use hop_base::{Instr, Rights};
 
@@ -101,8 +101,8 @@ fn r(register: u8) -> Operand
 }
 
 /// The list of these operands.
-fn list(operands: &[Operand]) -> ArrayVec<Operand, MOST>
-    requires { length operands.now ≤ MOST }
+fn list(operands: &[Operand]) -> ArrayVec<Operand, MOST_OPERANDS>
+    requires { length operands.now ≤ MOST_OPERANDS }
     ensures { result.items ≡ operands.now }
 {
     let mut list = ArrayVec::new();
@@ -147,7 +147,7 @@ pub fn code(instr: &Instr) -> u8
 }
 
 /// The operands of an instruction in the order of the spelling.
-fn operands(instr: &Instr) -> ArrayVec<Operand, MOST>
+fn operands(instr: &Instr) -> ArrayVec<Operand, MOST_OPERANDS>
     ensures { result.items ≡ operands_of instr.now }
 {
     match *instr {
@@ -188,7 +188,7 @@ fn operands(instr: &Instr) -> ArrayVec<Operand, MOST>
 }
 
 /// The code of an instruction, and its operands in the order of the spelling.
-pub(crate) fn parts(instr: &Instr) -> (usize, ArrayVec<Operand, MOST>)
+pub(crate) fn parts(instr: &Instr) -> (usize, ArrayVec<Operand, MOST_OPERANDS>)
     ensures code { result.0 ≡ code_of instr.now }
     ensures operands { result.1.items ≡ operands_of instr.now }
 {

@@ -13,7 +13,7 @@ use arrayvec::ArrayVec;
 use hop_base::Rights;
 
 /// The most operands that an instruction has.
-pub(crate) const MOST: usize = 6;
+pub(crate) const MOST_OPERANDS: usize = 6;
 
 const LAST_REGISTER: u64 = 7;
 
@@ -144,9 +144,9 @@ fn read_operand(kind: OperandKind, bytes: &[u8]) -> (usize, Option<Operand>)
 pub(crate) fn read_operands(
     kinds: &[OperandKind],
     bytes: &[u8],
-    operands: &mut ArrayVec<Operand, MOST>,
+    operands: &mut ArrayVec<Operand, MOST_OPERANDS>,
 ) -> Result<(), usize>
-    requires { array_vec_len operands.old + length kinds.now ≤ MOST }
+    requires { array_vec_len operands.old + length kinds.now ≤ MOST_OPERANDS }
     ensures ok { OnOk result (ReadsAll kinds.now bytes.now operands.old.items operands.new.items) }
     ensures err { IfErr result (λ n. IsBadPlace (IsTail kinds.now) bytes.now n) }
 {

@@ -13,18 +13,18 @@ use arrayvec::ArrayString;
 use hop_base::{Instr, Rights};
 
 /// A length that no spelling exceeds.
-const LINE: usize = 96;
+const SPELLING: usize = 96;
 
-fn push_byte(byte: u8, out: &mut ArrayString<LINE>)
+fn push_byte(byte: u8, out: &mut ArrayString<SPELLING>)
     requires ascii { byte < 128 }
-    requires room { array_string_len out.old + 1 ≤ LINE }
+    requires room { array_string_len out.old + 1 ≤ SPELLING }
     ensures { out.new.bytes ≡ out.old.bytes ++ byte ∷ [] }
 {
     out.push(char::from(byte));
 }
 
-fn push_decimal(n: u64, out: &mut ArrayString<LINE>)
-    requires { array_string_len out.old + length (decimal n) ≤ LINE }
+fn push_decimal(n: u64, out: &mut ArrayString<SPELLING>)
+    requires { array_string_len out.old + length (decimal n) ≤ SPELLING }
     ensures { out.new.bytes ≡ out.old.bytes ++ decimal n }
 {
     if n < 10 {
@@ -35,17 +35,17 @@ fn push_decimal(n: u64, out: &mut ArrayString<LINE>)
     push_byte(b'0' + (n % 10) as u8, out);
 }
 
-fn push_place(at: u8, out: &mut ArrayString<LINE>)
-    requires { array_string_len out.old + length (place at) ≤ LINE }
+fn push_place(at: u8, out: &mut ArrayString<SPELLING>)
+    requires { array_string_len out.old + length (place at) ≤ SPELLING }
     ensures { out.new.bytes ≡ out.old.bytes ++ place at }
 {
     push_byte(b'@', out);
     push_decimal(u64::from(at), out);
 }
 
-fn push_letters(letters: &[u8], set: u8, out: &mut ArrayString<LINE>)
+fn push_letters(letters: &[u8], set: u8, out: &mut ArrayString<SPELLING>)
     requires ascii { IsTrue (list_all (λ letter. nat_lt letter 128) letters.now) }
-    requires room { array_string_len out.old + length (letters_of letters.now set) ≤ LINE }
+    requires room { array_string_len out.old + length (letters_of letters.now set) ≤ SPELLING }
     ensures { out.new.bytes ≡ out.old.bytes ++ letters_of letters.now set }
 {
     let Some((letter, letters)) = letters.split_first() else {
@@ -57,8 +57,8 @@ fn push_letters(letters: &[u8], set: u8, out: &mut ArrayString<LINE>)
     push_letters(letters, set / 2, out);
 }
 
-fn push_rights(set: u8, out: &mut ArrayString<LINE>)
-    requires { array_string_len out.old + length (rights set) ≤ LINE }
+fn push_rights(set: u8, out: &mut ArrayString<SPELLING>)
+    requires { array_string_len out.old + length (rights set) ≤ SPELLING }
     ensures { out.new.bytes ≡ out.old.bytes ++ rights set }
 {
     if set == 0 {
@@ -68,8 +68,8 @@ fn push_rights(set: u8, out: &mut ArrayString<LINE>)
     }
 }
 
-fn push_operand(operand: Operand, out: &mut ArrayString<LINE>)
-    requires { array_string_len out.old + length (token operand) ≤ LINE }
+fn push_operand(operand: Operand, out: &mut ArrayString<SPELLING>)
+    requires { array_string_len out.old + length (token operand) ≤ SPELLING }
     ensures { out.new.bytes ≡ out.old.bytes ++ token operand }
 {
     match operand {
@@ -86,7 +86,7 @@ fn push_operand(operand: Operand, out: &mut ArrayString<LINE>)
 }
 
 /// Writes the letters of a set of rights in place of what `out` holds, a dash for the empty set.
-pub fn write_rights(set: Rights, out: &mut ArrayString<LINE>)
+pub fn write_rights(set: Rights, out: &mut ArrayString<SPELLING>)
     ensures { out.new.bytes ≡ rights set.0 }
 {
     *out = ArrayString::new();
@@ -94,7 +94,7 @@ pub fn write_rights(set: Rights, out: &mut ArrayString<LINE>)
 }
 
 /// Writes the spelling of the instruction in place of what `out` holds.
-pub fn write_line(instr: &Instr, out: &mut ArrayString<LINE>)
+pub fn write_line(instr: &Instr, out: &mut ArrayString<SPELLING>)
     requires { IsInstruction instr.now }
     ensures { out.new.bytes ≡ spelling instr.now }
 {

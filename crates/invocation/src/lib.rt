@@ -9,10 +9,10 @@ ghost use Rattle.locus_machine.specs.wanted_act.Views.{IsReadyLocus};
 ghost use Rattle.locus_machine.specs.Loci.{locus_of, container_with};
 ghost use Rattle.invocation.specs.Entries.{is_invoke, is_leave, is_return, WantsBeside, Invoked};
 
-use hop_base::{Call, Entity, Reply};
+use hop_base::{Call, Entity, MOST_CALLS, Reply};
 pub use locus_machine;
 pub use locus_machine::wanted_act;
-use locus_machine::{Code, Head, Locus, MOST_CALLS};
+use locus_machine::{Code, Head, Locus};
 
 /// Refuses the act.
 fn refuse(locus: &mut Locus, reply: Reply) -> Reply

@@ -44,7 +44,7 @@ module _ (old new : Directory) (kind : Kind) (r : Result ℕ Reply) (made : Matc
       by (Some k) e m = absurd (other k m.0)
 
 -- the number is the lowest free one
-container_number : (a : AtlasState) (x : ℕ) → free_container a ≡ Some x → x ≡ length a.containers + 1
+pub container_number : (a : AtlasState) (x : ℕ) → free_container a ≡ Some x → x ≡ length a.containers + 1
 container_number a x e = by (nat_lt (length a.containers) 40) e
   where
     by : (b : Bool) → (if b then Some (length a.containers + 1) else None) ≡ Some x → x ≡ length a.containers + 1

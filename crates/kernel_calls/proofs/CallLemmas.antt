@@ -1,5 +1,5 @@
 -- The calls' cases in the model.
-use Rattle.std.proofs.Common.{◌≡◌, ℕ, ◌+◌, true, false, List, [], ◌∷◌, Option, Some, None, MatchOption, Result, Ok, Err, OnErr, slice_set, refl, sym, ap, ◌∙◌, subst}
+use Rattle.std.proofs.Common.{◌≡◌, ℕ, true, false, List, Option, Some, None, MatchOption, Result, Ok, Err, OnErr, slice_set, refl, sym, ap, ◌∙◌, subst}
 use Rattle.std.specs.Option.{ok_or}
 use Rattle.hop_base.specs.declared.capabilities.Cap.{Cap}
 use Rattle.hop_base.specs.declared.capabilities.Rights.{Rights}
@@ -12,24 +12,11 @@ use Rattle.invocation.specs.hop_model.State.{Supply, AtlasState, ContainerState,
 use Rattle.invocation.specs.hop_model.Acts.{wanted}
 use Rattle.invocation.specs.hop_model.Outcomes.{Outcome, outcome, on_cell, take_cap, take_by, give, give_at, given_cap, set_reg, with_other, own_reply, finish}
 use Rattle.invocation.specs.hop_model.Refusals.{instr_at, reg}
-use Rattle.invocation.specs.hop_model.Words.{cap_at, free_slot, free_slot_from}
-use Rattle.cap_list.specs.Slots.{free_from}
-use Rattle.cap_list.specs.Slots.{free_slot as lowest_empty}
-use Rattle.cap_list.specs.Slots.{cap_at as slot_at}
-use Rattle.invocation.proofs.locus_machine_lemmas.Allowed.{same_cap}
+use Rattle.invocation.specs.hop_model.Words.{cap_at, free_slot}
 use Rattle.invocation.specs.wanted_act.Views.{may_name_itself}
 use Rattle.invocation.specs.Entries.{WantsBeside}
 use Rattle.invocation.proofs.Entered.{made_by}
 use Rattle.kernel_calls.specs.Calls.{is_take, is_give, CallMade}
-
--- the two crates' words on empty slots are one
-same_free_from : (n : ℕ) (caps : List (Option Cap)) → free_from n caps ≡ free_slot_from n caps
-same_free_from n [] = refl
-same_free_from n (None ∷ caps) = refl
-same_free_from n (Some c ∷ caps) = same_free_from (n + 1) caps
-
-pub same_free : (caps : List (Option Cap)) → lowest_empty caps ≡ free_slot caps
-same_free caps = same_free_from 0 caps
 
 -- COPIES OF CAPABILITIES
 
@@ -84,24 +71,24 @@ pub record Put (caps new : List (Option Cap)) (cap : Cap) (slot : ℕ) : Type 0 
   pub free : free_slot caps ≡ Some slot
   pub now : new ≡ slice_set caps slot (Some cap)
 
-module _ (caps new : List (Option Cap)) (cap : Cap) (r : Result ℕ Reply) (put : MatchOption (lowest_empty caps) (r ≡ Err ListFull) (λ s. (r ≡ Ok s) × (new ≡ slice_set caps s (Some cap)))) where
+module _ (caps new : List (Option Cap)) (cap : Cap) (r : Result ℕ Reply) (put : MatchOption (free_slot caps) (r ≡ Err ListFull) (λ s. (r ≡ Ok s) × (new ≡ slice_set caps s (Some cap)))) where
   pub put_some : (slot : ℕ) → r ≡ Ok slot → Put caps new cap slot
-  put_some slot is = by (lowest_empty caps) refl put
+  put_some slot is = by (free_slot caps) refl put
     where
-      by : (o : Option ℕ) → lowest_empty caps ≡ o → MatchOption o (r ≡ Err ListFull) (λ s. (r ≡ Ok s) × (new ≡ slice_set caps s (Some cap))) → Put caps new cap slot
+      by : (o : Option ℕ) → free_slot caps ≡ o → MatchOption o (r ≡ Err ListFull) (λ s. (r ≡ Ok s) × (new ≡ slice_set caps s (Some cap))) → Put caps new cap slot
       by None e m = absurd (clash (sym is ∙ m))
         where
           clash : {A E : Type 0} {x : A} {y : E} → Ok x ≡ Err y → ⊥
           clash e = cc
       by (Some n) e m =
           let same : n ≡ slot = cc in
-          record { free = sym (same_free caps) ∙ e ∙ ap Some same; now = m.1 ∙ ap (λ k. slice_set caps k (Some cap)) same }
+          record { free = e ∙ ap Some same; now = m.1 ∙ ap (λ k. slice_set caps k (Some cap)) same }
 
   pub put_none : ((slot : ℕ) → r ≡ Ok slot → ⊥) → free_slot caps ≡ None
-  put_none other = by (lowest_empty caps) refl put
+  put_none other = by (free_slot caps) refl put
     where
-      by : (o : Option ℕ) → lowest_empty caps ≡ o → MatchOption o (r ≡ Err ListFull) (λ s. (r ≡ Ok s) × (new ≡ slice_set caps s (Some cap))) → free_slot caps ≡ None
-      by None e m = sym (same_free caps) ∙ e
+      by : (o : Option ℕ) → free_slot caps ≡ o → MatchOption o (r ≡ Err ListFull) (λ s. (r ≡ Ok s) × (new ≡ slice_set caps s (Some cap))) → free_slot caps ≡ None
+      by None e m = e
       by (Some n) e m = absurd (other n m.0)
 
 pub on_err : {A E P : Type 0} (r : Result A E) → ((x : A) → r ≡ Ok x → ⊥) → OnErr r P → P
@@ -109,9 +96,9 @@ on_err (Ok x) other h = absurd (other x refl)
 on_err (Err e) other h = h
 
 -- what a slot of the container holds
-module _ (caps : List (Option Cap)) (slot n : ℕ) (r : Result Cap Reply) (same : slot ≡ n) (is : r ≡ ok_or (slot_at caps slot) NoSlot) where
+module _ (caps : List (Option Cap)) (slot n : ℕ) (r : Result Cap Reply) (same : slot ≡ n) (is : r ≡ ok_or (cap_at caps slot) NoSlot) where
   at_is : r ≡ ok_or (cap_at caps n) NoSlot
-  at_is = is ∙ ap (λ k. ok_or (slot_at caps k) NoSlot) same ∙ ap (λ o. ok_or o NoSlot) (same_cap caps n)
+  at_is = is ∙ ap (λ k. ok_or (cap_at caps k) NoSlot) same
 
   pub at_none : ((x : Cap) → r ≡ Ok x → ⊥) → cap_at caps n ≡ None
   at_none other = by (cap_at caps n) refl at_is

@@ -22,7 +22,6 @@ use Rattle.invocation.specs.hop_model.Outcomes.{Outcome, outcome, on_cell, with_
 use Rattle.invocation.specs.hop_model.Refusals.{instr_at, refusal, reg, named, entity_of, no_cap, no_slot, no_container, lacks, no_page, new_region}
 use Rattle.invocation.specs.hop_model.Words.{unless, first, flat, overlaps, insert_region, put, is_container}
 use Rattle.region_map.specs.Regions.{begins_at, add_answer}
-use Rattle.region_map.specs.Regions.{insert_region as region_put}
 use Rattle.atlas_dir.specs.Directory.{Directory, edges_of, with_count, IsBornContainer}
 use Rattle.circle_law.specs.Containers.{IsAmongContainers}
 use Rattle.circle_law.proofs.Circles.{circle_found}
@@ -90,21 +89,17 @@ done_at (Err e) x is h = cc
 
 -- REGIONS
 
-pub same_insert : (r : Region) (rs : List Region) → region_put r rs ≡ insert_region r rs
-same_insert r [] = refl
-same_insert r (s ∷ rest) = ap (λ t. if nat_lt r.at s.at then r ∷ s ∷ rest else s ∷ t) (same_insert r rest)
-
 pub has_room : (n : ℕ) (full : Bool) → full ≡ false → full ≡ (n == 16) → n ≤ 16 → n < 16
 has_room n full less is few = let differs : (n == 16) ≡ false = sym is ∙ less in grind (arith, nat_tests)
 
 pub is_filled : (n : ℕ) (full : Bool) → full ≡ true → full ≡ (n == 16) → nat_lt n 16 ≡ false
 is_filled n full filled is = let same : n ≡ 16 = eqb-true n 16 (sym is ∙ filled) in grind (arith, nat_tests)
 
-pub added : (r : Region) (rs new : List Region) (result : Result (Unit {0}) Reply) → list_any (overlaps r) rs ≡ false → length rs < 16 → result ≡ add_answer 16 r rs → OnOk result (new ≡ region_put r rs) → new ≡ insert_region r rs
+pub added : (r : Region) (rs new : List Region) (result : Result (Unit {0}) Reply) → list_any (overlaps r) rs ≡ false → length rs < 16 → result ≡ add_answer 16 r rs → OnOk result (new ≡ insert_region r rs) → new ≡ insert_region r rs
 added r rs new result apart few is done =
     let room = lt-ltb (length rs) 16 few in
     let ok : result ≡ Ok tt = is ∙ ap (λ (b : Bool). if b then Err Overlap else (if nat_lt (length rs) 16 then Ok tt else Err ListFull)) apart ∙ ap (λ (b : Bool). if b then Ok tt else Err ListFull) room in
-    done_at result tt ok done ∙ same_insert r rs
+    done_at result tt ok done
 
 -- a region that is found is counted
 abbrev one_if : Bool → ℕ

@@ -12,12 +12,10 @@ use Rattle.kernel_calls.specs.wanted_act.Views.{IsReadyLocus, is_number, may_nam
 use Rattle.kernel_calls.specs.locus_machine.Loci.{IsAlone}
 use Rattle.kernel_calls.proofs.locus_machine_lemmas.Alone.{place_within, seen_same, wanted_says}
 use Rattle.kernel_cells.specs.Itself.{WantsItself}
+use Rattle.std.proofs.lemmas.Bool.{true≢false}
 
 some_none : {A : Type 0} {x : A} → Some x ≡ None → ⊥
 some_none e = cc
-
-yes_no : true ≡ false → ⊥
-yes_no e = cc
 
 -- an act beside another entity isn't refused by the locus alone
 pub beside_allowed : (me x : ℕ) (l : LocusState) → (wanted me l).other ≡ Some x → (wanted me l).refused ≡ None
@@ -52,7 +50,7 @@ itself_at me y l act same seen only is = by (may_name_itself act.instr) refl (y 
 -- such an instruction doesn't halt
 pub itself_within : (me : ℕ) (l : LocusState) (i : Instr) → IsReadyLocus l → WantsItself l i me → l.place < 128
 itself_within me l i ready h =
-    place_within l ready (λ halts. yes_no (sym h.names ∙ ap may_name_itself (sym h.instr ∙ (wanted_says 64 l).instr ∙ halts)))
+    place_within l ready (λ halts. true≢false (sym h.names ∙ ap may_name_itself (sym h.instr ∙ (wanted_says 64 l).instr ∙ halts)))
 
 pub itself_shape : (i : Instr) → may_name_itself i ≡ true → ((c : ℕ) → i ≡ Stop c → ⊥) → ((c : ℕ) → i ≡ Go c → ⊥) → ((c : ℕ) → i ≡ Snap c → ⊥) → ⊥
 itself_shape (Stop c) names stop go snap = stop c refl

@@ -15,7 +15,7 @@ use Rattle.event_clocks.specs.hop_model.State.{Supply, AtlasState, LocusState, C
 use Rattle.event_clocks.specs.hop_model.Steps.{accesses_of, change_by, change_of, if_running, numbered_change, outcome_in, running, seen_atlas, seen_other, step, step_change, with_atlas_access, with_newborn_access, with_other_access}
 use Rattle.kernel_calls.specs.locus_machine.Loci.{IsAlone}
 use Rattle.event_clocks.specs.Clocks.{HasClock, writing, CarriesOne}
-use Rattle.event_clocks.proofs.Changing.{access_first, read_at, written_at}
+use Rattle.event_clocks.proofs.Changing.{access_first, written_at}
 use Rattle.kernel_cells.specs.declared.cells.Cell.{Cell}
 use Rattle.kernel_cells.specs.Cells.{HasCell, part_of}
 use Rattle.kernel_cells.specs.Steps.{MakesAlone, Steps}
@@ -46,12 +46,6 @@ pub written_cell : (s : Supply) (words : ℕ → List ℕ) (w : KernelState) (ac
     → access_at accesses x ≡ Some a → a.new ≡ Some k → c.clock.entity ≡ x → part_of s words c.part ≡ k → HasClock (changed w accesses) c.clock → HasCell s words (changed w accesses) c
 written_cell s words w accesses x a k c at new same is clock =
     record { part = ap (λ y. (changed w accesses y).cell) same ∙ ap (λ (e : EntityState). e.cell) (written_at w accesses x a k at new) ∙ sym is; clock = clock }
-
--- a cell that is read
-pub read_cell : (s : Supply) (words : ℕ → List ℕ) (w : KernelState) (accesses : List Access) (a : Access) (c : Cell)
-    → access_at accesses c.clock.entity ≡ Some a → a.new ≡ None → HasCell s words w c → HasClock (changed w accesses) c.clock → HasCell s words (changed w accesses) c
-read_cell s words w accesses a c at new has clock =
-    record { part = ap (λ (e : EntityState). e.cell) (read_at w accesses c.clock.entity a at new) ∙ has.part; clock = clock }
 
 -- THE LOCUS ALONE
 

@@ -1,23 +1,18 @@
 //! What the tests call.
-ghost use Rattle.std.specs.Prelude.{◌≤◌, IfOk};
-ghost use Rattle.plain_run.specs.history_model.Plains.{cells_of};
-ghost use Rattle.plain_run.specs.hop_model.Soundness.{IsSound};
+ghost use Rattle.std.specs.Prelude.{◌≤◌};
 ghost use Rattle.image_tools.specs.image_blocks.Layout.{least_blocks, most_blocks};
-ghost use Rattle.manager_gate.specs.Managers.{counted_word};
 ghost use Rattle.script_read.specs.script_form.Rules.{IsScript};
 ghost use Rattle.script_read.specs.script_form.Scripts.{tables_of};
 
 use crate::own::OwnKernel;
 use crate::scripts::names_of;
+use cut_replays::text_of;
 use disk_trait::{DiskFault, MemoryDisk};
 use entry_lines::stream_edge::MemorySink;
 use entry_lines::text_lines::NameLists;
 use hop_base::{Entity, Entry};
-use image_tools::plain_show::write_show;
-use image_tools::{ImageFacts, read_image, write_report};
+use image_tools::{ImageFacts, write_report};
 use kernel_opening::kernel_core::Ended;
-use manager_gate::{CountedWords, Supplier};
-use plain_run::history_model::Plain;
 use restart::format;
 use script_read::script_form::Script;
 use std::alloc::Global;
@@ -95,11 +90,6 @@ pub(crate) fn run_whole(
     }
 }
 
-fn text_of(alloc: Global, sink: &MemorySink) -> Result<String, Fail> {
-    let held = std::str::from_utf8(sink.held()).ok().ok_or("text")?;
-    Ok(String::from_str(alloc, held)?)
-}
-
 /// The lines of a history of these containers and loci.
 pub(crate) fn trace(
     alloc: Global,
@@ -119,34 +109,6 @@ pub(crate) fn trace(
     let mut sink = MemorySink::new(alloc, 400_000, Vec::new(alloc))?;
     entry_lines::put_trace(&mut sink, &names, history)?;
     text_of(alloc, &sink)
-}
-
-/// What an image says.
-pub(crate) fn facts_of(alloc: Global, disk: &mut MemoryDisk) -> Result<ImageFacts, Fail>
-    ensures { IfOk result (λ facts. IsSound (cells_of counted_word facts.state)) }
-{
-    let words = |tag, page, place| CountedWords.word(tag, page, place);
-    match read_image(alloc, disk, &words) {
-        Ok(facts) => Ok(facts),
-        Err(_) => Err(Fail::from("an image")),
-    }
-}
-
-/// What is shown of a state.
-pub(crate) fn shown_of(alloc: Global, state: &Plain) -> Result<String, Fail>
-    requires { IsSound (cells_of counted_word state.now) }
-{
-    let words = |tag, page, place| CountedWords.word(tag, page, place);
-    let mut sink = MemorySink::new(alloc, 40_000, Vec::new(alloc))?;
-    write_show(state, &words, &mut sink)?;
-    text_of(alloc, &sink)
-}
-
-/// What is shown of an image.
-pub(crate) fn shown(alloc: Global, facts: &ImageFacts) -> Result<String, Fail>
-    requires { IsSound (cells_of counted_word facts.now.state) }
-{
-    shown_of(alloc, &facts.state)
 }
 
 /// The report of an image.

@@ -1,15 +1,14 @@
 //! Disks each of whose calls fails in turn, and disks with too few blocks.
-ghost use Rattle.std.specs.Prelude.{◌≤◌, ◌<◌, length};
+ghost use Rattle.std.specs.Prelude.{◌≤◌, ◌<◌};
 ghost use Rattle.image_tools.specs.image_blocks.Layout.{least_blocks, most_blocks};
 ghost use Rattle.script_read.specs.script_form.Rules.{IsScript};
 ghost use Rattle.script_read.specs.script_form.Scripts.{tables_of};
 
-use crate::calls::{facts_of, formatted, kernel_of, run, run_whole, shown};
-use crate::clocks::commits_of;
+use crate::calls::{formatted, kernel_of, run, run_whole};
 use crate::forms::{script_of, with_frames, with_steps};
-use crate::fronts::{fronts_from, means_one_of};
 use crate::own::OwnKernel;
 use crate::scripts::{ALL_PAGES, FORTY_PAGES, FORTY_PAGES_STABLE, WISHES};
+use cut_replays::{commits_of, common, facts_of, fronts_from, is_cut_off, means_one_of, shown};
 use disk_trait::{MemoryDisk, NoBlocks};
 use drill_gen::drill_script;
 use hop_base::{Entity, Entry, Event};
@@ -18,38 +17,6 @@ use script_read::script_form::Script;
 use std::alloc::Global;
 use std::process::Abort;
 use std::test::Fail;
-
-// How many entries both begin with.
-fn common(whole: &[Entry], part: &[Entry]) -> usize
-    ensures { result ≤ length part.now }
-{
-    let least = whole.len().min(part.len());
-    for place in 0..least {
-        if whole[place] != part[place] {
-            return place;
-        }
-    }
-    least
-}
-
-// What a kernel that a fault stopped has made: a front of the whole run, then, if a Stable was next, Snaps in its place, and at most one
-// Tried at the end.
-fn is_cut_off(whole: &[Entry], part: &[Entry]) -> bool {
-    let len = common(whole, part);
-    let stable = match whole.get(len) {
-        Some(entry) => entry.event == Event::Stable,
-        None => false,
-    };
-    for place in len..part.len() {
-        let event = part[place].event;
-        let snap = stable && event == Event::Snap;
-        let tried = event == Event::Tried && place == part.len() - 1;
-        if !snap && !tried {
-            return false;
-        }
-    }
-    true
-}
 
 // A kernel that stopped makes no more, whatever is called, and tells why.
 fn goes_on_no_more(
@@ -103,9 +70,9 @@ fn leaves_a_front(
         None => false,
     };
     let least = commits.recs.len().saturating_sub(usize::from(tried));
-    let fronts = fronts_from(rt, alloc, script, &ended.history, &commits.recs, least)?;
+    let fronts = fronts_from(alloc, script, &ended.history, &commits.recs, least)?;
     let mut disk = ended.disk;
-    means_one_of(rt, alloc, &mut disk, &fronts, &commits.recs)?;
+    means_one_of(alloc, &mut disk, &fronts, &commits.recs)?;
     let again = run_whole(alloc, disk, script)?;
     assert!(rt; again.stopped.is_none());
     Ok(())

@@ -1,10 +1,11 @@
 //! Histories of whole runs entry by entry, and what an image shows behind them.
-use crate::calls::{facts_of, formatted, opened, reported, run_whole, shown, trace};
+use crate::calls::{formatted, opened, reported, run_whole, trace};
 use crate::forms::{script_of, with_frames};
 use crate::own::Unborn;
 use crate::scripts::{
     ALL_PAGES, ALWAYS_STABLE, COUNTS_ON, FIVE, LAST_NUMBER, STORES_AGAIN, STORES_BOTH, STORES_ONCE,
 };
+use cut_replays::{facts_of, shown};
 use hop_base::{Answer, Entity, Entry, Event, Reply};
 use image_tools::image_blocks::Area;
 use kernel_opening::kernel_core::{Idle, Looked};

@@ -8,17 +8,11 @@ pub use own::{OwnKernel, Unborn};
 #[cfg(test)]
 mod calls;
 #[cfg(test)]
-mod clocks;
-#[cfg(test)]
 mod fault_tests;
 #[cfg(test)]
 mod forms;
 #[cfg(test)]
-mod fronts;
-#[cfg(test)]
 mod history_tests;
-#[cfg(test)]
-mod replays;
 #[cfg(test)]
 mod scripts;
 #[cfg(test)]

@@ -3,10 +3,8 @@ ghost use Rattle.script_read.specs.script_form.Rules.{IsScript};
 ghost use Rattle.script_read.specs.script_form.Scripts.{tables_of};
 
 use crate::calls::{formatted, opened};
-use crate::clocks::{Clocks, commits_of};
-use crate::fronts::{front_of, means_one_of};
 use crate::own::OwnKernel;
-use crate::replays::{Replay, is_played};
+use cut_replays::{Clocks, Replay, commits_of, front_of, is_played, means_one_of};
 use disk_trait::MemoryDisk;
 use drill_gen::drill_script;
 use hop_base::{Entity, Entry};
@@ -140,10 +138,10 @@ fn drawn_beside(rt: &impl Abort, alloc: Global, number: u64) -> Result<(), Fail>
     step_beside(rt, alloc, &mut own, &script, 360)?;
     let ended = own.into_ended();
     let commits = commits_of(alloc, &ended.history)?;
-    let front = front_of(rt, alloc, &script, &ended.history, &commits.recs)?;
+    let front = front_of(alloc, &script, &ended.history, &commits.recs)?;
     let fronts = vec![in alloc; front]?;
     let mut disk = ended.disk;
-    means_one_of(rt, alloc, &mut disk, &fronts, &commits.recs)
+    means_one_of(alloc, &mut disk, &fronts, &commits.recs)
 }
 
 #[test]

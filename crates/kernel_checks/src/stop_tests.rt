@@ -5,10 +5,9 @@ ghost use Rattle.script_read.specs.script_form.Rules.{IsScript};
 ghost use Rattle.script_read.specs.script_form.Scripts.{tables_of};
 
 use crate::calls::{formatted, opened, run_whole, step_rounds};
-use crate::clocks::commits_of;
 use crate::forms::{script_of, with_steps};
-use crate::fronts::{Front, fronts_from, means_one_of};
 use crate::scripts::{STORES_BOTH, WISHES};
+use cut_replays::{Front, acknowledged, are_rising, commits_of, fronts_from, means_one_of};
 use disk_trait::{MemoryDisk, Torn};
 use drill_gen::drill_script;
 use hop_base::Rec;
@@ -18,32 +17,8 @@ use std::alloc::Global;
 use std::process::Abort;
 use std::test::Fail;
 
-// How many commits are acknowledged by a moment, which counts from the opening's start.
-fn acknowledged(behind: &[usize], marks: &[u64], moment: u64) -> usize {
-    let mut count = 0;
-    for (mark, made) in marks.iter().zip(behind) {
-        if *mark <= moment {
-            count = *made;
-        }
-    }
-    count
-}
-
-// Each mark is at least the one before and at most the end.
-fn are_rising(marks: &[u64], end: u64) -> bool {
-    let mut last = 0;
-    for mark in marks {
-        if *mark < last || end < *mark {
-            return false;
-        }
-        last = *mark;
-    }
-    true
-}
-
 // A stop at a moment, torn in three ways, leaves one of these.
 fn stop_leaves(
-    rt: &impl Abort,
     alloc: Global,
     disk: &MemoryDisk,
     moment: u64,
@@ -54,7 +29,7 @@ fn stop_leaves(
 {
     for torn in [Torn::Old, Torn::New, Torn::Fill(1)] {
         let mut left = disk.crash(moment, torn)?;
-        means_one_of(rt, alloc, &mut left, fronts, recs)?;
+        means_one_of(alloc, &mut left, fronts, recs)?;
     }
     Ok(())
 }
@@ -73,14 +48,14 @@ fn stops_leave(
 {
     let commits = commits_of(alloc, &ended.history)?;
     let recs = &commits.recs;
-    let fronts = fronts_from(rt, alloc, script, &ended.history, recs, 0)?;
+    let fronts = fronts_from(alloc, script, &ended.history, recs, 0)?;
     let end = ended.disk.moments();
     assert!(rt; are_rising(&ended.marks, end.saturating_sub(10)));
     for moment in 10..=end {
         if moment % stride == 0 {
             let made = acknowledged(&commits.behind, &ended.marks, moment.saturating_sub(10));
             let least = made.min(fronts.len());
-            stop_leaves(rt, alloc, &ended.disk, moment, &fronts[least..], recs)?;
+            stop_leaves(alloc, &ended.disk, moment, &fronts[least..], recs)?;
         }
     }
     Ok(recs.len())

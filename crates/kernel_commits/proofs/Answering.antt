@@ -26,9 +26,7 @@ use Rattle.kernel_commits.specs.declared.stopping.Stopped.TheVariants.{Failed, T
 use Rattle.kernel_commits.proofs.Committing.{not_recorded, recorded}
 use Rattle.kernel_commits.proofs.Running.{snap_stands, still_lives}
 use Rattle.kernel_commits.proofs.Trying.{tried_stops}
-
-some_is : {A : Type 0} (x y : A) → Some x ≡ Some y → x ≡ y
-some_is x y e = cc
+use Rattle.std.proofs.lemmas.Option.{same_Some}
 
 abbrev stop_result : Stopped → Result ⊤ Stopped
 stop_result why = Err why
@@ -48,7 +46,7 @@ lists_same : {A : Type 0} (xs ys : List A) → ((y : ℕ) → slice_get xs y ≡
 lists_same [] [] same = refl
 lists_same [] (y ∷ ys) same = absurd (let h = same zero in cc h)
 lists_same (x ∷ xs) [] same = absurd (let h = same zero in cc h)
-lists_same {A} (x ∷ xs) (y ∷ ys) same = ap (λ (z : A). z ∷ xs) (some_is x y (same zero)) ∙ ap (λ (zs : List A). y ∷ zs) (lists_same xs ys (λ k. same (suc k)))
+lists_same {A} (x ∷ xs) (y ∷ ys) same = ap (λ (z : A). z ∷ xs) (same_Some x y (same zero)) ∙ ap (λ (zs : List A). y ∷ zs) (lists_same xs ys (λ k. same (suc k)))
 
 -- a cell that came back as it was leaves the table as it was
 lent_same : (cs cs' : List Cell) (c d : Cell) → Lends cs cs' (c ∷ []) (d ∷ []) → d ≡ c → cs' ≡ cs
@@ -111,7 +109,7 @@ module _ {D : Type 0} (tells : Type 0) (clock faults : D → ℕ) (reading : D �
     pub short_to : (n : TooFewBlocks) → IsShort tells clock faults reading may_leave left_since x old n → r ≡ Err (NoBlocks n)
     short_to n short =
         let s : IsShort tells clock faults reading may_leave left_since x inside n = subst (λ (p : Parts D). IsShort tells clock faults reading may_leave left_since x p n) (sym view) short in
-        let same : s.cell ≡ c = some_is s.cell c (sym s.at ∙ at_c0) in
+        let same : s.cell ≡ c = same_Some s.cell c (sym s.at ∙ at_c0) in
         (fault_is.no_blocks n).1 (unrecorded, subst (λ k. IsTooFew k (books st0) n) same s.short)
 
     pub still : (n : TooFewBlocks) → r ≡ Err (NoBlocks n) → parts_of st' cs' n0 ≡ old

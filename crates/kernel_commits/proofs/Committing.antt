@@ -2,7 +2,7 @@
 use Rattle.std.proofs.Common.{◌≡◌, ℕ, ◌+◌, ◌<◌, ◌≤◌, Bool, true, false, List, [], ◌∷◌, ◌++◌, slice_get, slice_set, Some, Ok, Err, sym, ap, subst, ◌∙◌, arith}
 use Rattle.std.specs.Prelude.{OnErr, OnOk, Result}
 use Rattle.std.proofs.lemmas.Bool.Decides.{nat_tests}
-use Rattle.std.proofs.lemmas.Option.{slice_get_within}
+use Rattle.std.proofs.lemmas.Option.{same_Some, slice_get_within}
 use Rattle.disk_trait.specs.Image.{Image}
 use Rattle.disk_trait.specs.Moments.{LeavesOnly}
 use Rattle.table_steps.specs.hop_model.State.{Supply}
@@ -13,7 +13,7 @@ use Rattle.table_steps.specs.kernel_cells.declared.cells.Cell.{Cell}
 use Rattle.table_steps.specs.cell_blobs.Blobs.{is_recorded}
 use Rattle.table_steps.specs.cell_table.Lending.{Lends}
 use Rattle.table_steps.specs.cell_table.Tables.{AreClean, IsOrderly}
-use Rattle.table_steps.proofs.Pairs.{lends_one}
+use Rattle.table_steps.proofs.cell_table_lemmas.Pairs.{lends_one}
 use Rattle.cell_books.specs.record_laws.Cells.{IsSpellable, words_on}
 use Rattle.cell_books.specs.store_model.Books.{AreSmall, AreTrue}
 use Rattle.cell_books.specs.snapshot_store.Putting.{are_small}
@@ -29,17 +29,14 @@ use Rattle.cell_books.proofs.Keeping.{again}
 use Rattle.kernel_commits.specs.Parts.{Parts}
 use Rattle.kernel_commits.specs.Recording.{CanRecord, CommitsAmong, HasMade, HasNotMade, HasRecorded}
 
-pub some_is : {A : Type 0} (x y : A) → Some x ≡ Some y → x ≡ y
-some_is x y e = cc
-
 -- the cells that stand there are those of the call
 pub set_faults : {D : Type 0} (faults : D → ℕ) (r : Result Bool StoreFault) (x n : ℕ) → n ≡ x → (cs : List Cell) (old new : State D) (c d a z : Cell)
     → slice_get cs x ≡ Some c → slice_get cs x ≡ Some a → slice_get (slice_set cs n d) x ≡ Some z
     → CellFaults faults (is_recorded c ≡ false) r c d old new → CellFaults faults (is_recorded a ≡ false) r a z old new
 set_faults faults r x n is cs old new c d a z at at_a at_z h =
-    let same : c ≡ a = some_is c a (sym at ∙ at_a) in
+    let same : c ≡ a = same_Some c a (sym at ∙ at_a) in
     let set : slice_get (slice_set cs n d) x ≡ Some d = ap (λ m. slice_get (slice_set cs m d) x) is ∙ slice_get-set_same cs x d (slice_get_within cs x c at) in
-    let same_z : d ≡ z = some_is d z (sym set ∙ at_z) in
+    let same_z : d ≡ z = same_Some d z (sym set ∙ at_z) in
     subst (λ k. CellFaults faults (is_recorded k ≡ false) r k z old new) same
     (subst (λ k. CellFaults faults (is_recorded c ≡ false) r c k old new) same_z h)
 

@@ -37,8 +37,8 @@ use Rattle.kernel_commits.specs.Lacking.{LacksBlocks}
 use Rattle.kernel_commits.specs.Parts.{Parts, StandsAs}
 use Rattle.kernel_commits.specs.Recording.{IsShort}
 use Rattle.kernel_commits.specs.Stabilising.{needs_in}
-use Rattle.kernel_commits.proofs.BlobSizes.{blob_few}
-use Rattle.kernel_commits.proofs.Needs.{formed_at, one_within}
+use Rattle.table_steps.proofs.cell_blobs_lemmas.BlobSizes.{blob_few}
+use Rattle.table_steps.proofs.cell_table_lemmas.Needs.{formed_at, one_within}
 
 -- A PART NEEDS no more than its entity's pages and eight blocks
 

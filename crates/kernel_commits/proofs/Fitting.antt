@@ -2,7 +2,7 @@
 use Rattle.std.proofs.Common.{◌≡◌, ◌≢◌, inl, inr, ℕ, zero, suc, ◌+◌, ◌≤◌, Bool, true, false, not, ◌&&◌, ◌||◌, ◌==◌, if◌then◌else◌, List, length, slice_get, slice_index, Option, Some, None, Err, ◌↔◌, refl, sym, ap, subst, ◌∙◌, arith, eqb-true, eq-eqb}
 use Rattle.std.specs.Prelude.{Contains, Result, ⊤}
 use Rattle.std.specs.List.{list_any}
-use Rattle.std.proofs.lemmas.Bool.{false≢true}
+use Rattle.std.proofs.lemmas.Bool.{and_parts, false≢true, or_cases}
 use Rattle.std.proofs.lemmas.Map.Views.{Contains-from_any}
 use Rattle.disk_trait.specs.Image.{Image}
 use Rattle.disk_trait.specs.declared.disk.NoBlocks.{NoBlocks as TooFewBlocks}
@@ -19,8 +19,6 @@ use Rattle.table_steps.specs.kernel_cells.declared.cells.Wish.{Wish}
 use Rattle.table_steps.specs.cell_blobs.Blobs.{blob_need, is_recorded, need_in, page_need}
 use Rattle.table_steps.specs.cell_table.Tables.{IsOrderly, blocks_by, memory_at, tables_in}
 use Rattle.cell_books.specs.record_laws.Cells.{table_of}
-use Rattle.cell_books.proofs.kernel_model_lemmas.Naming.{place_in}
-use Rattle.cell_books.proofs.kernel_room_lemmas.Used.{and_both, or_cases}
 use Rattle.cell_books.specs.snapshot_store.State.{books}
 use Rattle.cell_books.specs.store_model.Books.{Books, Logged, free_in, kept_in, kept_names, names}
 use Rattle.cell_books.specs.kernel_records.Committing.{HasCommitted}
@@ -37,10 +35,9 @@ use Rattle.kernel_commits.specs.Steady.{IsSteady}
 use Rattle.kernel_commits.specs.Stops.{LeavesStopped}
 use Rattle.kernel_commits.specs.declared.stopping.Stopped.{Stopped}
 use Rattle.kernel_commits.specs.declared.stopping.Stopped.TheVariants.{Failed, TooFew}
-use Rattle.kernel_commits.proofs.Needs.{one_replaced, one_within}
-
-some_is : {A : Type 0} (x y : A) → Some x ≡ Some y → x ≡ y
-some_is x y e = cc
+use Rattle.table_steps.proofs.cell_table_lemmas.Needs.{one_replaced, one_within}
+use Rattle.std.proofs.lemmas.Option.{same_Some}
+use Rattle.cell_books.proofs.kernel_model_lemmas.store_model_lemmas.Owners.{place_in}
 
 abbrev pub no_shortage : Option TooFewBlocks
 no_shortage = None
@@ -122,7 +119,7 @@ module _ {D : Type 0} (tells : Type 0) (clock faults : D → ℕ) (reading : D �
     not_new : (y page : ℕ) (m : PagedMemory) → (y ≡ x → ⊥) → memory_at (slice_get new.cells y) ≡ Some m → block_at m page ≢ 0 → names (block_at m page) k ≡ true → ⊥
     not_new y page m apart at some named =
         let n : ℕ = block_at m page in
-        let both = and_both (not (n == 0)) (list_any (λ m. m == n) (blob_blocks k.rec) || list_any (λ m. m == n) k.table) named in
+        let both = and_parts (not (n == 0)) (list_any (λ m. m == n) (blob_blocks k.rec) || list_any (λ m. m == n) k.table) named in
         elim (or_cases (list_any (λ m. m == n) (blob_blocks k.rec)) (list_any (λ m. m == n) k.table) both.1) as (λ _. ⊥) [
           | inl blob ↦
               (let held : fl.held n ≡ true = ap (λ (f : ℕ → Bool). f n) (sym h.has.made.same_held) ∙ (held_at (books new.store).held new.cells again y (slice_get new.cells y) refl m at).held_blocks page some in
@@ -193,10 +190,6 @@ module _ {D : Type 0} (tells : Type 0) (clock faults : D → ℕ) (reading : D �
   only_failed x p r fits short (TooFew n) is = absurd (not_short x p n fits (short n is))
   only_failed x p r fits short Failed is = refl
 
-  -- all fit, or too few are free
-  pub none_too_few : (p : Parts D) (n : TooFewBlocks) → NeedsFit p → AreTooFew p n → ⊥
-  none_too_few p n fits few = let lt = few.fewer in omega (arith, lt, fits)
-
   pub short_stop : (old new : Parts D) (n : TooFewBlocks) → IsSteady tells reading may_leave old → new ≡ old → AreTooFew old n → LeavesStopped faults old new (TooFew n)
   short_stop old new n steady same few = record {
     orderly = subst (λ (p : Parts D). IsOrderly (books p.store).held p.cells) (sym same) steady.sound.matches.orderly;
@@ -218,5 +211,5 @@ module _ {D : Type 0} (tells : Type 0) (clock faults : D → ℕ) (reading : D �
       → (n : TooFewBlocks) → (stop_by (TooFew m) ≡ Err (TooFew n)) ↔ AreTooFew p n
   stops_short p o m is some n = (
     (λ e. let same : m ≡ n = cc e in (some n).0 (is ∙ ap Some same)),
-    (λ few. ap (λ q. stop_by (TooFew q)) (some_is m n (sym is ∙ (some n).1 few))),
+    (λ few. ap (λ q. stop_by (TooFew q)) (same_Some m n (sym is ∙ (some n).1 few))),
   )

@@ -14,11 +14,10 @@ pub mod Through
 pub mod RunsThrough
 pub mod Settling
 pub mod Settled
-pub mod BlobSizes
-pub mod Needs
 pub mod Fitting
 pub mod Enough
 pub mod Dues
+pub mod StepRoom
 pub use Rattle.cell_books.proofs as cell_books_lemmas
 pub use Rattle.table_steps.proofs.directory_laws_lemmas
 pub use Rattle.table_steps.proofs.hop_model_lemmas

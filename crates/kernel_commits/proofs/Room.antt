@@ -8,6 +8,7 @@ use Rattle.table_steps.specs.kernel_cells.declared.cells.Wish.{Wish}
 use Rattle.table_steps.specs.cell_table.Lending.{Lends}
 use Rattle.cell_books.specs.wish_laws.Founded.{IsRecordedNow}
 use Rattle.kernel_commits.specs.Steady.{entries_of, entries_taken, entries_to_come, steps_of, steps_to_come, total}
+use Rattle.std.proofs.lemmas.Option.{same_Some}
 
 pub taken_more : (es : List Entry) → length es + 65 ≤ entries_taken es
 taken_more [] = omega arith
@@ -17,16 +18,13 @@ pub taken_next : (es : List Entry) (e : Entry) → entries_taken (es ++ e ∷ []
 taken_next [] e = omega arith
 taken_next (f ∷ es) e = let len = length-append es (e ∷ []) in omega (arith, len)
 
-some_is : {A : Type 0} (x y : A) → Some x ≡ Some y → x ≡ y
-some_is x y e = cc
-
 -- tables with the same cells have the same total
 same_cells : (f : Cell → ℕ) (cs cs' : List Cell) → ((y : ℕ) → slice_get cs' y ≡ slice_get cs y) → total f cs' ≡ total f cs
 same_cells f [] [] same = refl
 same_cells f [] (a ∷ cs') same = absurd (let h = same zero in cc h)
 same_cells f (a ∷ cs) [] same = absurd (let h = same zero in cc h)
 same_cells f (a ∷ cs) (a' ∷ cs') same =
-    let head : f a' ≡ f a = ap f (some_is a' a (same zero)) in
+    let head : f a' ≡ f a = ap f (same_Some a' a (same zero)) in
     let rest = same_cells f cs cs' (λ y. same (suc y)) in
     omega (arith, head, rest)
 
@@ -36,12 +34,12 @@ pub replaced : (f : Cell → ℕ) (cs cs' : List Cell) (x : ℕ) (c d : Cell) �
 replaced f [] cs' x c d at is same = absurd (cc at)
 replaced f (a ∷ cs) [] x c d at is same = absurd (cc is)
 replaced f (a ∷ cs) (a' ∷ cs') zero c d at is same =
-    let old : f a ≡ f c = ap f (some_is a c at) in
-    let new : f a' ≡ f d = ap f (some_is a' d is) in
+    let old : f a ≡ f c = ap f (same_Some a c at) in
+    let new : f a' ≡ f d = ap f (same_Some a' d is) in
     let rest = same_cells f cs cs' (λ y. same (suc y) (λ e. absurd (omega (arith, e)))) in
     omega (arith, old, new, rest)
 replaced f (a ∷ cs) (a' ∷ cs') (suc x) c d at is same =
-    let head : f a' ≡ f a = ap f (some_is a' a (same zero (λ e. absurd (omega (arith, e))))) in
+    let head : f a' ≡ f a = ap f (same_Some a' a (same zero (λ e. absurd (omega (arith, e))))) in
     let rest = replaced f cs cs' x c d at is (λ y differs. same (suc y) (λ e. differs (omega (arith, e)))) in
     omega (arith, head, rest)
 

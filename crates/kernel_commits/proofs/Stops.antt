@@ -1,8 +1,6 @@
 -- What a kernel is left with where a record fails.
-use Rattle.std.proofs.Common.{◌≡◌, inl, inr, ℕ, ◌-◌, ◌^◌, ◌<◌, ◌≤◌, List, length, Err, sym, ap, subst, ◌∙◌, arith, length-append}
+use Rattle.std.proofs.Common.{◌≡◌, ℕ, ◌<◌, ◌≤◌, List, length, Err, sym, ap, subst, ◌∙◌, arith, length-append}
 use Rattle.std.specs.Prelude.{Result}
-use Rattle.std.proofs.lemmas.Bool.{cases_lt}
-use Rattle.disk_trait.specs.Counts.{Rose}
 use Rattle.disk_trait.specs.Image.{Image}
 use Rattle.disk_trait.specs.declared.disk.NoBlocks.{NoBlocks as TooFewBlocks}
 use Rattle.hop_base.specs.declared.histories.Entry.{Entry}
@@ -15,12 +13,7 @@ use Rattle.kernel_commits.specs.Recording.{HasTried, IsShort}
 use Rattle.kernel_commits.specs.Stops.{LeavesStopped}
 use Rattle.kernel_commits.specs.declared.stopping.Stopped.{Stopped}
 use Rattle.kernel_commits.specs.declared.stopping.Stopped.TheVariants.{Failed, TooFew}
-
-rose_over : (a b c : ℕ) → a ≤ b → b ≤ c → Rose b c → Rose a c
-rose_over a b c le later rose = λ low. elim (cases_lt b (2 ^ 64 - 1)) as (λ _. a < c) [
-  | inl under ↦ (let lt = rose under in omega (arith, le, lt))
-  | inr over ↦ omega (arith, low, over, later)
-]
+use Rattle.cell_books.proofs.kernel_records_lemmas.snapshot_store_lemmas.Causes.{Rose-before}
 
 module _ {D : Type 0} (tells : Type 0) (clock faults : D → ℕ) (reading : D → Image) (may_leave : D → Image → Type 0) (left_since : D → ℕ → Image → Type 0) (x : ℕ) (mid new : Parts D)
     (ord : IsOrderly (books mid.store).held mid.cells) where
@@ -54,5 +47,5 @@ module _ {D : Type 0} (tells : Type 0) (clock faults : D → ℕ) (reading : D �
               let more = ap (λ (es : List Entry). length es) t.entries ∙ length-append mid.noted.entries _ in
               let same_marks = ap (λ (ms : List ℕ). length ms) t.marks in
               omega (arith, marks, more, same_marks);
-          cause = rose_over (faults old.store.disk) (faults mid.store.disk) (faults new.store.disk) before later t.rose;
+          cause = Rose-before (faults old.store.disk) (faults mid.store.disk) (faults new.store.disk) before later t.rose;
         }

@@ -1,6 +1,4 @@
 pub mod Kept
-pub mod StepRoom
-pub mod Idling
 pub mod Stepped
 pub mod StableOwed
 pub mod LookMade

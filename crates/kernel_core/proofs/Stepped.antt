@@ -57,8 +57,8 @@ use Rattle.kernel_commits.specs.declared.stopping.Stopped.TheVariants.{TooFew}
 use Rattle.kernel_commits.proofs.Dues.{due_first}
 use Rattle.kernel_commits.proofs.Enough.{none_lacks}
 use Rattle.kernel_commits.proofs.Room.{steps_within, taken_next}
-use Rattle.kernel_core.proofs.Idling.{can_by, empty_idle, empty_stays, high_by}
-use Rattle.kernel_core.proofs.StepRoom.{step_room, step_spare}
+use Rattle.store_steps.proofs.cell_table_lemmas.Idling.{can_by, empty_idle, empty_stays, high_by}
+use Rattle.kernel_commits.proofs.StepRoom.{step_room, step_spare}
 use Rattle.kernel_core.proofs.Paired.{both_or}
 
 cell_or : (cs : List Cell) (x : ℕ) → ((c : Cell) × (slice_get cs x ≡ Some c)) ⊎ (slice_get cs x ≡ None)

@@ -146,7 +146,7 @@ module _ (s : Supply) (image : Image) (v : KernelState) (m : Means s image v) wh
         once = λ p q some equal. table_once x part spelt.1 p q (λ none. some (tables part spelt.1 p ∙ none)) (sym (tables part spelt.1 p) ∙ (equal ∙ tables part spelt.1 q));
       }
 
-kept_list : (image : Image) (ls : List Logged) → recs_of (map (kept_for image) ls) ≡ logged_recs ls
+pub kept_list : (image : Image) (ls : List Logged) → recs_of (map (kept_for image) ls) ≡ logged_recs ls
 kept_list image [] = refl
 kept_list image (l ∷ ls) = ap (λ (rs : List Rec). l.rec ∷ rs) (kept_list image ls)
 

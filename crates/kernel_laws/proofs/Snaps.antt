@@ -13,9 +13,9 @@ use Rattle.meant_states.specs.hop_model.Histories.{Run, event_of, goes_on, run_a
 use Rattle.meant_states.specs.hop_model.Parts.{after, after_entry, is_event, next_of, part_of, within, writes_within}
 use Rattle.meant_states.specs.hop_model.State.{EntityState, KernelState}
 use Rattle.meant_states.proofs.hop_model_lemmas.StableCuts.{run_append}
-use Rattle.kernel_model.specs.run_cuts.Marks.{completes, is_completing, is_step, is_step_event}
+use Rattle.kernel_model.specs.run_cuts.Marks.{completes, is_completing, is_step}
 use Rattle.kernel_model.proofs.run_cuts_lemmas.Cutting.{after_append}
-use Rattle.kernel_model.proofs.run_cuts_lemmas.Leaving.{comparable}
+use Rattle.kernel_model.proofs.run_cuts_lemmas.Leaving.{comparable, count_append}
 use Rattle.kernel_model.proofs.run_laws_lemmas.Places.{things_stay}
 use Rattle.meant_states.specs.image_meaning.Stores.{Kept}
 use Rattle.kernel_model.specs.store_model.Books.{AreSmall, AreTrue, Books, kept_of}
@@ -24,11 +24,12 @@ use Rattle.kernel_model.specs.Beginnings.{Beginning, IsLegal, completed, entity_
 use Rattle.kernel_model.specs.Left.{HoldAcknowledged, IsCutImage}
 use Rattle.kernel_model.specs.Live.{HasMarks, HoldsCommits, IsRunning, KernelView}
 use Rattle.kernel_model.specs.Records.{AreKeptRecords, IsKeptRecord}
-use Rattle.kernel_model.proofs.Leaving.{count_append, get_front, get_last, last_may, none_complete}
+use Rattle.kernel_model.proofs.Leaving.{get_front, get_last, last_may, none_complete}
 use Rattle.kernel_model.proofs.Staying.{longer, records_stay}
 use Rattle.kernel_laws.specs.Going.{AreSnaps, MadeStable}
 use Rattle.kernel_laws.proofs.Going.{count_steps}
 use Rattle.kernel_laws.proofs.Marking.{Marked, get_more, marks_front, marks_grow}
+use Rattle.kernel_model.specs.sound_runs.run_laws.StepEntries.{is_step as is_step_event}
 
 -- LISTS OF MARKS
 
@@ -202,9 +203,6 @@ module _ {D : Type 0} (b : Beginning) (tells : Type 0) (clock : D → ℕ) (read
 
   legal_new : IsLegal b (m.front ++ e ∷ [])
   legal_new = subst (IsLegal b) m.history m.right.legal
-
-  begun : ℕ
-  begun = old.books.begun
 
   stable_done : completes e ≡ true
   stable_done = ap is_completing m.event

@@ -12,8 +12,8 @@ use Rattle.store_model.specs.Books.{Books, Logged, is_used, kept_for, kept_in, k
 use Rattle.store_model.specs.Owning.{AreOwned, NamesPage}
 use Rattle.kernel_model.specs.Owning.{IsApartNew}
 use Rattle.kernel_model.specs.Records.{ArePagesApart}
-use Rattle.kernel_model.proofs.Naming.{place_in}
 use Rattle.kernel_model.proofs.Pages.{of_map, of_more, page_named}
+use Rattle.store_model.proofs.Owners.{place_in}
 
 -- a test that some item of a list passes
 pub any_passes : {A : Type 0} (f : A → Bool) (xs : List A) (x : A) → Contains xs x → f x ≡ true → list_any f xs ≡ true

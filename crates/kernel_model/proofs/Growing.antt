@@ -55,10 +55,6 @@ module _ (b : Beginning) (es : List Entry) (cs : List Commit) where
         each = each;
       }
 
-  -- other records that agree with them from the cut on
-  pub records_retire : (ks ms : List Kept) (a : AreKeptRecords b es cs ks) → from_cut a.agree.cut (commits_of (recs_of ks)) ≡ from_cut a.agree.cut (commits_of (recs_of ms)) → AllByRecursion (IsKeptRecord b es) ms → AreKeptRecords b es cs ms
-  records_retire ks ms a same each = record { agree = record { cut = a.agree.cut; greatest = a.agree.greatest; same = a.agree.same ∙ same }; each = each }
-
 -- THE BOOKS BEHIND A COMMIT
 
 module _ (P : Kept → Type 0) (image : Image) (low high : Logged → Bool) (lower : (l : Logged) → high l ≡ true → low l ≡ true) where

@@ -3,7 +3,6 @@ use Rattle.std.proofs.Common.{◌≡◌, ℕ, zero, suc, ◌+◌, ◌-◌, ◌�
 use Rattle.std.proofs.Math.Seq.{take-append_seam, take-length}
 use Rattle.std.proofs.lemmas.Bool.{cases_lt}
 use Rattle.std.proofs.lemmas.List.{append-nil, take-append-drop}
-use Rattle.std.proofs.lemmas.List.Sums.{sum_by-append, sum_by-cons}
 use Rattle.disk_trait.specs.Image.{Image}
 use Rattle.hop_base.specs.declared.histories.Entry.{Entry}
 use Rattle.hop_base.specs.declared.histories.Event.TheVariants.{Birth, Step, Snap as SnapEvent, Stable, Tried}
@@ -14,14 +13,14 @@ use Rattle.store_model.specs.hop_model.Parts.{after, part_of}
 use Rattle.store_model.proofs.hop_model_lemmas.Among.{among_map}
 use Rattle.store_model.proofs.hop_model_lemmas.StableCuts.{run_append}
 use Rattle.run_cuts.specs.Marks.{completes, is_completing}
-use Rattle.run_cuts.proofs.Leaving.{comparable}
+use Rattle.run_cuts.proofs.Leaving.{comparable, count_append, count_cons, none_of_none}
 use Rattle.run_cuts.proofs.run_laws_lemmas.Places.{cuts_stay, first_stay}
-use Rattle.run_cuts.proofs.run_laws_lemmas.Wishes.{legal_front}
 use Rattle.kernel_model.specs.Beginnings.{Beginning, BeginsRight, IsLegal, completed, first_commits, run_of, with_tried}
 use Rattle.kernel_model.specs.Left.{HoldAcknowledged, IsCutImage, marks_with}
 use Rattle.kernel_model.specs.Records.{StoresCommits}
 use Rattle.kernel_model.proofs.Cutting.{cut_meant}
 use Rattle.kernel_model.proofs.Staying.{longer}
+use Rattle.sound_states.proofs.hop_model_lemmas.StableCuts.{legal_front}
 
 -- LISTS OF MARKS
 
@@ -33,20 +32,6 @@ get_front (x ∷ xs) ys (suc i) a is = get_front xs ys i a is
 pub get_last : (xs : List ℕ) (m : ℕ) → slice_get (xs ++ m ∷ []) (length xs) ≡ Some m
 get_last [] m = refl
 get_last (x ∷ xs) m = get_last xs m
-
-pub count_append : (fs gs : List Entry) → count_by completes (fs ++ gs) ≡ count_by completes fs + count_by completes gs
-count_append fs gs = sum_by-append (λ e. cond (completes e) 1 0) fs gs
-
-pub count_cons : (e : Entry) (es : List Entry) → count_by completes (e ∷ es) ≡ cond (completes e) 1 0 + count_by completes es
-count_cons e es = sum_by-cons (λ e. cond (completes e) 1 0) e es
-
-none_of_none : (e : Entry) (es : List Entry) → count_by completes (e ∷ es) ≡ 0 → (completes e ≡ false) × (count_by completes es ≡ 0)
-none_of_none e es none =
-    let sum = count_cons e es in
-    elim (completes e) as (λ b. cond b 1 0 + count_by completes es ≡ 0 → (b ≡ false) × (count_by completes es ≡ 0)) [
-      | true ↦ λ h. absurd (omega (arith, h))
-      | false ↦ λ h. (refl, omega (arith, h))
-    ] (sym sum ∙ none)
 
 -- AN IMAGE OF STORED COMMITS
 

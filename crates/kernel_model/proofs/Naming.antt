@@ -1,9 +1,7 @@
 -- The parts of kept records that a choice takes, and where their blocks are named.
 use Rattle.std.proofs.Common.{◌≡◌, ◌≢◌, ℕ, suc, Bool, true, false, ◌&&◌, ◌==◌, if◌then◌else◌, List, [], ◌∷◌, Option, Some, None, refl, sym, ap, subst, ◌∙◌, arith, eqb-true}
-use Rattle.std.specs.Prelude.{Contains, slice_get, slice_index}
+use Rattle.std.specs.Prelude.{Contains, slice_index}
 use Rattle.std.specs.List.{AllByRecursion}
-use Rattle.std.proofs.lemmas.List.{get_or_default}
-use Rattle.std.proofs.lemmas.Option.{slice_get_within, slice_get-get_or}
 use Rattle.hop_base.specs.declared.histories.Entry.{Entry}
 use Rattle.hop_base.specs.declared.records.Rec.{Rec}
 use Rattle.store_model.proofs.hop_model_lemmas.Basics.{and_left}
@@ -15,28 +13,9 @@ use Rattle.store_model.specs.image_meaning.Stores.{Kept, recs_of}
 use Rattle.store_model.proofs.image_meaning_lemmas.Firsts.{clash}
 use Rattle.kernel_model.specs.Beginnings.{Beginning}
 use Rattle.kernel_model.specs.Records.{ArePagesApart, IsKeptRecord}
-
-abbrev pub rec_or : Rec → Option Rec → Rec
-rec_or d None = d
-rec_or d (Some r) = r
-
-abbrev pub part_or : Part → Option Part → Part
-part_or d None = d
-part_or d (Some p) = p
-
-abbrev number_or : Option ℕ → ℕ
-number_or None = 0
-number_or (Some n) = n
-
--- an item at a place
-item_at : (xs : List ℕ) (i n : ℕ) → slice_get xs i ≡ Some n → slice_index xs i ≡ n
-item_at xs i n is =
-    let lt = slice_get_within xs i n is in
-    ap number_or (sym (slice_get-get_or xs i 0 lt) ∙ is)
-
--- the place of an item
-pub place_in : (xs : List ℕ) (n : ℕ) → Contains xs n → (i : ℕ) × (slice_index xs i ≡ n)
-place_in xs n (i, lt, is) = (i, get_or_default xs i 0 n lt ∙ is)
+use Rattle.store_model.proofs.image_blocks_lemmas.Ranges.{rec_or}
+use Rattle.store_model.proofs.Owners.{place_in, item_at}
+use Rattle.store_model.proofs.image_meaning_lemmas.Fitting.{part_or}
 
 pub behind : {A : Type 0} (x y : A) (ys : List A) → Contains ys y → Contains (x ∷ ys) y
 behind x y ys (i, lt, at) = (suc i, omega (arith, lt), at)

@@ -11,8 +11,8 @@ use Rattle.image_opening.specs.kernel_cells.Wishes.{HasWish}
 use Rattle.kernel_core.specs.cell_books.Matching.{MatchesBooks, newest_of, version_of}
 use Rattle.image_opening.specs.cell_table.Tables.{entity_in, state_in}
 use Rattle.image_opening.specs.Images.{IsOpened, IsOpenedTable}
-use Rattle.image_opening.proofs.Choices.{row_of}
-use Rattle.image_opening.proofs.Rows.{row_all}
+use Rattle.kernel_core.proofs.snapshot_store_lemmas.ChosenAlone.{row_of}
+use Rattle.kernel_core.proofs.snapshot_store_lemmas.ChosenRows.{row_all}
 use Rattle.image_opening.proofs.Stored.{same_lists}
 use Rattle.image_opening.specs.image_meaning.Parts.{cut_of}
 use Rattle.kernel_core.specs.Kernels.{MayBegin}

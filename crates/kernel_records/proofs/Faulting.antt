@@ -1,5 +1,5 @@
 -- The faults of a commit, handed on, and where a snapshot is made.
-use Rattle.std.proofs.Common.{◌≡◌, ◌⊎◌, inl, inr, ℕ, ◌<◌, Bool, true, false, ◌&&◌, ◌||◌, ◌==◌, List, nat_lt, refl, ap, ◌∙◌, arith}
+use Rattle.std.proofs.Common.{◌≡◌, ◌⊎◌, inl, inr, ℕ, ◌<◌, Bool, true, false, ◌&&◌, ◌||◌, ◌==◌, List, nat_lt, refl, arith}
 use Rattle.std.specs.Prelude.{IsErrOf, Result}
 use Rattle.std.proofs.lemmas.Bool.Decides.{nat_tests}
 use Rattle.disk_trait.specs.declared.disk.NoBlocks.{NoBlocks as TooFew}
@@ -17,6 +17,8 @@ use Rattle.snapshot_store.specs.declared.faults.StoreFault.{StoreFault as Fault}
 use Rattle.snapshot_store.specs.declared.faults.StoreFault.TheVariants.{NoBlocks, ReadFault, Shut, WriteFault}
 use Rattle.kernel_records.specs.Committing.{CellFaults}
 use Rattle.kernel_records.specs.Snapping.{is_snapped}
+use Rattle.std.proofs.lemmas.Bool.{and_from}
+use Rattle.snapshot_store.proofs.hop_model_lemmas.Basics.{and_left, and_right}
 
 -- a call that hands on the faults of another, and makes a record where that does
 pub handed_on : {D T U : Type 0} (faults : D → ℕ) (P Q : Type 0) (r : Result T Fault) (r' : Result U Fault) (c d : Cell) (old new : State D) → (P → Q) → (Q → P) → ((f : Fault) → IsErrOf r f → IsErrOf r' f) → ((f : Fault) → IsErrOf r' f → IsErrOf r f)
@@ -35,33 +37,22 @@ handed_on faults P Q r r' c d old new to from on back h = record {
 
 -- WHERE A SNAPSHOT IS MADE
 
-both_true : (a b : Bool) → a ≡ true → b ≡ true → (a && b) ≡ true
-both_true a b one two = ap (λ (x : Bool). x && b) one ∙ two
-
-left_true : (a b : Bool) → (a && b) ≡ true → a ≡ true
-left_true true b is = refl
-left_true false b is = is
-
-right_true : (a b : Bool) → (a && b) ≡ true → b ≡ true
-right_true true b is = is
-right_true false b is = absurd (cc is)
-
 noted : (by_step due asked : Bool) → (by_step && due || asked) ≡ true → (by_step || asked) ≡ true
 noted true due asked is = refl
 noted false due asked is = is
 
 module _ (policy : Policy) (s : Supply) (words : ℕ → List ℕ) (c : Cell) (b : Books) where
   pub snapped : is_open policy (part_of s words c.part) c.clock.version c.wish ≡ true → records_of c.clock.entity (kept_in b) < 4 → is_snapped policy s words c b ≡ true
-  snapped is few = both_true (is_open policy (part_of s words c.part) c.clock.version c.wish) (nat_lt (records_of c.clock.entity (kept_in b)) 4) is (has_few (records_of c.clock.entity (kept_in b)) few)
+  snapped is few = and_from (is_open policy (part_of s words c.part) c.clock.version c.wish) (nat_lt (records_of c.clock.entity (kept_in b)) 4) is (has_few (records_of c.clock.entity (kept_in b)) few)
     where
       has_few : (n : ℕ) → n < 4 → nat_lt n 4 ≡ true
       has_few n lt = grind (arith, nat_tests)
 
   pub is_wished : is_snapped policy s words c b ≡ true → is_open policy (part_of s words c.part) c.clock.version c.wish ≡ true
-  is_wished is = left_true (is_open policy (part_of s words c.part) c.clock.version c.wish) (nat_lt (records_of c.clock.entity (kept_in b)) 4) is
+  is_wished is = and_left (is_open policy (part_of s words c.part) c.clock.version c.wish) (nat_lt (records_of c.clock.entity (kept_in b)) 4) is
 
   pub is_few : is_snapped policy s words c b ≡ true → records_of c.clock.entity (kept_in b) < 4
-  is_few is = few (records_of c.clock.entity (kept_in b)) (right_true (is_open policy (part_of s words c.part) c.clock.version c.wish) (nat_lt (records_of c.clock.entity (kept_in b)) 4) is)
+  is_few is = few (records_of c.clock.entity (kept_in b)) (and_right (is_open policy (part_of s words c.part) c.clock.version c.wish) (nat_lt (records_of c.clock.entity (kept_in b)) 4) is)
     where
       few : (n : ℕ) → nat_lt n 4 ≡ true → n < 4
       few n lt = grind (arith, nat_tests)

@@ -2,17 +2,17 @@
 use Rattle.std.proofs.Common.{◌≡◌, ◌⊎◌, inl, inr, ℕ, ◌+◌, ◌-◌, ◌≤◌, Bool, true, false, not, ◌||◌, ◌==◌, List, [], ◌∷◌, ◌++◌, refl, sym, ap, ◌∙◌, arith, eqb-true, eq-eqb}
 use Rattle.std.specs.Prelude.{count_by}
 use Rattle.std.specs.List.{list_any, range_with_len}
-use Rattle.std.proofs.lemmas.Bool.{false≢true}
+use Rattle.std.proofs.lemmas.Bool.{and_parts, false≢true, or_cases, or_left, or_right}
 use Rattle.std.proofs.lemmas.List.{length-take}
 use Rattle.std.proofs.lemmas.Map.Views.{Contains-from_any}
 use Rattle.snapshot_store.specs.image_blocks.Bodies.{blob_blocks, blocks_for}
 use Rattle.snapshot_store.specs.image_blocks.Layout.{pool_at}
 use Rattle.snapshot_store.specs.Committed.{HasNewRecord}
 use Rattle.record_laws.specs.store_model.Books.{AreHeldPages, Books, Logged, free_in, is_used, kept_in, kept_names, names}
-use Rattle.record_laws.proofs.kernel_model_lemmas.Naming.{place_in}
 use Rattle.kernel_room.proofs.Counting.{count_le, count_or}
-use Rattle.kernel_room.proofs.Used.{and_both, blocks_count, or_cases, or_left, or_right}
+use Rattle.kernel_room.proofs.Used.{blocks_count}
 use Rattle.kernel_records.proofs.Fewer.{counts_cons, kept_log, kept_more, own}
+use Rattle.record_laws.proofs.kernel_model_lemmas.store_model_lemmas.Owners.{place_in}
 
 -- SOME ITEM PASSES exactly where one is counted
 module _ {X : Type 0} (p : X → Bool) where
@@ -76,7 +76,7 @@ module _ (old new : Books) (entity version len : ℕ) (stamp table : List ℕ) (
 
   named_used : (n : ℕ) → names n k ≡ true → (is_used old n || in_blob n) ≡ true
   named_used n is =
-      let both = and_both (not (n == 0)) (in_blob n || list_any (λ m. m == n) table) is in
+      let both = and_parts (not (n == 0)) (in_blob n || list_any (λ m. m == n) table) is in
       elim (or_cases (in_blob n) (list_any (λ m. m == n) table) both.1) as (λ _. (is_used old n || in_blob n) ≡ true) [
         | inl blob ↦ or_right (is_used old n) (in_blob n) blob
         | inr there ↦ or_left (is_used old n) (in_blob n) (or_left (old.held n) (kept_names old n) (in_table n both.0 there))

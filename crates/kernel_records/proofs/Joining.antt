@@ -17,7 +17,6 @@ use Rattle.snapshot_store.specs.page_store.declared.faults.PageFault.{PageFault}
 use Rattle.snapshot_store.specs.page_store.declared.faults.PageFault.TheVariants.{NoBlocks, ReadFault, Shut, WriteFault}
 use Rattle.wish_laws.specs.fault_paging.Calls.{IsCausedBy}
 use Rattle.wish_laws.specs.kernel_cells.declared.cells.Cell.{Cell}
-use Rattle.wish_laws.specs.kernel_cells.declared.cells.Wish.{Wish}
 use Rattle.record_laws.specs.cell_blobs.Blobs.{bytes_of, spelt_in}
 use Rattle.record_laws.specs.Cells.{IsSettled, IsSoundIn, table_of}
 use Rattle.kernel_records.specs.Committing.{HasPages, IsSpelt, MayCommit, StoresKeptOrCell}
@@ -91,10 +90,3 @@ module _ {D : Type 0} (tells : Type 0) (clock : D → ℕ) (reading : D → Imag
       each : (image : Image) → StoresKeptOrMore (reading mid.disk) (books mid) d.clock.entity d.clock.version d.clock.stamp.0 (bytes_of (spelt_in d.part)) (table_of d.part) image → Left image
       each image (inl h) = inl (subst (λ (P : Image → Type 0). P image) same h)
       each image (inr h) = inr (record { flushed = mid; pages = pages; more = h; spelt = spelt; settled = settled })
-
--- what a stop leaves hangs on the cell's part and clock alone
-pub stores_wished : {D : Type 0} (tells : Type 0) (clock : D → ℕ) (reading : D → Image) (may_leave : D → Image → Type 0) (left_since : D → ℕ → Image → Type 0) (c d : Cell) (w : Wish) (old : State D) (image : Image)
-    → StoresKeptOrCell tells clock reading may_leave left_since c d old image → StoresKeptOrCell tells clock reading may_leave left_since c (record d { wish = w }) old image
-stores_wished tells clock reading may_leave left_since c d w old image (inl h) = inl h
-stores_wished tells clock reading may_leave left_since c d w old image (inr h) =
-    inr (record { flushed = h.flushed; pages = h.pages; more = h.more; spelt = record { spells = h.spelt.spells; components = h.spelt.components }; settled = h.settled })

@@ -9,6 +9,7 @@ pub mod Raising
 pub mod Fewer
 pub mod Newest
 pub mod Freeing
+pub mod ChosenNewest
 pub use Rattle.snapshot_store.proofs.hop_model_lemmas
 pub use Rattle.kernel_room.proofs as kernel_room_lemmas
 pub use Rattle.record_laws.proofs as record_laws_lemmas

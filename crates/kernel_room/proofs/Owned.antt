@@ -18,9 +18,10 @@ use Rattle.kernel_model.specs.store_model.Books.{Books, Logged, cut_in, is_used,
 use Rattle.kernel_model.specs.store_model.Owning.{AreOwned, NamesPage}
 use Rattle.kernel_model.proofs.Apart.{any_passes, page_names}
 use Rattle.kernel_model.proofs.Growing.{fitting_narrow, recs_more}
-use Rattle.kernel_model.proofs.Naming.{behind, first_in, place_in}
+use Rattle.kernel_model.proofs.Naming.{behind, first_in}
 use Rattle.kernel_model.proofs.Pages.{of_more}
 use Rattle.kernel_room.specs.Owning.{PutsRecord}
+use Rattle.kernel_model.proofs.store_model_lemmas.Owners.{place_in}
 
 -- FILTERS
 

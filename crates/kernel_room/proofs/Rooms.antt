@@ -14,10 +14,10 @@ use Rattle.kernel_model.specs.hop_model.State.{EntityState, KernelState, Supply,
 use Rattle.kernel_model.specs.hop_model.Steps.{accesses_of, atlas_in, change_of, numbered_change, outcome_in, running, step, step_change}
 use Rattle.kernel_model.proofs.hop_model_lemmas.Basics.{some_of_map}
 use Rattle.kernel_model.proofs.hop_model_lemmas.LegalRuns.{state_goes_on}
-use Rattle.kernel_model.proofs.run_laws_lemmas.Writing.{running_is}
 use Rattle.kernel_model.specs.script_form.Rules.{IsScript}
 use Rattle.kernel_model.proofs.sound_runs_lemmas.Standing.{IsStanding, standing_next}
 use Rattle.kernel_room.proofs.Widths.{AreWide, atlas_room, cell_room, changed_wide, free_container_unborn, free_locus_unborn, step_wide, unborn_room}
+use Rattle.kernel_model.proofs.hop_model_lemmas.StepTallies.{running_is}
 
 -- A BIRTH
 

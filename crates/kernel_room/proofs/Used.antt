@@ -1,8 +1,8 @@
 -- The blocks in use, counted.
-use Rattle.std.proofs.Common.{◌≡◌, ℕ, zero, suc, ◌+◌, ◌-◌, ◌≤◌, ◌<◌, Bool, true, false, not, ◌&&◌, ◌||◌, ◌==◌, cond, List, [], ◌∷◌, ◌++◌, count_by, length, refl, sym, ap, subst, ◌∙◌, arith, eqb-true, eq-eqb, inl, inr, ◌⊎◌}
+use Rattle.std.proofs.Common.{◌≡◌, ℕ, zero, suc, ◌+◌, ◌-◌, ◌≤◌, ◌<◌, Bool, true, false, not, ◌&&◌, ◌||◌, ◌==◌, cond, List, [], ◌∷◌, ◌++◌, count_by, length, refl, sym, ap, subst, ◌∙◌, arith, eqb-true, eq-eqb, inl, inr}
 use Rattle.std.specs.Prelude.{Contains}
 use Rattle.std.specs.List.{list_any, range_with_len}
-use Rattle.std.proofs.lemmas.Bool.{cases_lt, false≢true}
+use Rattle.std.proofs.lemmas.Bool.{and_parts, cases_lt, false≢true, or_cases, or_left, or_right}
 use Rattle.std.proofs.lemmas.List.FromFn.{length-range_with_len}
 use Rattle.hop_base.specs.Edges.{upto}
 use Rattle.kernel_model.specs.image_blocks.Bodies.{blob_blocks}
@@ -14,21 +14,6 @@ use Rattle.kernel_room.proofs.Counting.{count_any, count_le, count_more, count_n
 
 abbrev pool : Books → List ℕ
 pool b = range_with_len pool_at (b.count - pool_at)
-
-pub or_cases : (p q : Bool) → (p || q) ≡ true → (p ≡ true) ⊎ (q ≡ true)
-or_cases true q h = inl refl
-or_cases false q h = inr h
-
-pub or_left : (p q : Bool) → p ≡ true → (p || q) ≡ true
-or_left p q h = ap (λ t. t || q) h
-
-pub or_right : (p q : Bool) → q ≡ true → (p || q) ≡ true
-or_right true q h = refl
-or_right false q h = h
-
-pub and_both : (p q : Bool) → (p && q) ≡ true → (p ≡ true) × (q ≡ true)
-and_both true q h = (refl, h)
-and_both false q h = absurd (false≢true h)
 
 -- A TABLE
 
@@ -53,7 +38,7 @@ module _ (a k : ℕ) where
 
   table_one : (m : ℕ) (ms : List ℕ) (z : Bool) → (m == 0) ≡ z → count_by (table_names ms) (range_with_len a k) ≤ named_in ms → count_by (table_names (m ∷ ms)) (range_with_len a k) ≤ cond (not z) 1 0 + named_in ms
   table_one m ms true e rest =
-      let less = count_le (table_names (m ∷ ms)) (table_names ms) (λ n h. skip n (and_both (not (n == 0)) ((m == n) || list_any (λ l. l == n) ms) h)) (range_with_len a k) in
+      let less = count_le (table_names (m ∷ ms)) (table_names ms) (λ n h. skip n (and_parts (not (n == 0)) ((m == n) || list_any (λ l. l == n) ms) h)) (range_with_len a k) in
       omega (arith, less, rest)
     where
       skip : (n : ℕ) → (not (n == 0) ≡ true) × (((m == n) || list_any (λ l. l == n) ms) ≡ true) → table_names ms n ≡ true
@@ -62,7 +47,7 @@ module _ (a k : ℕ) where
         | inr any ↦ ap (λ t. t && list_any (λ l. l == n) ms) some ∙ any
       ]
   table_one m ms false e rest =
-      let less = count_le (table_names (m ∷ ms)) (λ n. (m == n) || table_names ms n) (λ n h. keep n (and_both (not (n == 0)) ((m == n) || list_any (λ l. l == n) ms) h)) (range_with_len a k) in
+      let less = count_le (table_names (m ∷ ms)) (λ n. (m == n) || table_names ms n) (λ n h. keep n (and_parts (not (n == 0)) ((m == n) || list_any (λ l. l == n) ms) h)) (range_with_len a k) in
       let split = count_or (λ (n : ℕ). m == n) (table_names ms) (range_with_len a k) in
       let one = count_one m a k in
       omega (arith, less, split, one, rest)
@@ -74,7 +59,7 @@ module _ (a k : ℕ) where
       ]
 
   table_count : (t : List ℕ) → count_by (table_names t) (range_with_len a k) ≤ named_in t
-  table_count [] = (let less = count_le (table_names []) (λ _. false) (λ n h. (and_both (not (n == 0)) false h).1) (range_with_len a k) in let none = count_none (range_with_len a k) in omega (arith, less, none))
+  table_count [] = (let less = count_le (table_names []) (λ _. false) (λ n h. (and_parts (not (n == 0)) false h).1) (range_with_len a k) in let none = count_none (range_with_len a k) in omega (arith, less, none))
   table_count (m ∷ ms) = (let one = table_one m ms (m == 0) refl (table_count ms) in let more = named_more m ms in omega (arith, one, more))
 
   -- the blocks that a record names
@@ -93,7 +78,7 @@ module _ (a k : ℕ) where
       ]
 
       split : (n : ℕ) → names n l ≡ true → (list_any (λ m. m == n) (blob_blocks l.rec) || table_names l.table n) ≡ true
-      split n h = by_parts n (and_both (not (n == 0)) (list_any (λ m. m == n) (blob_blocks l.rec) || list_any (λ m. m == n) l.table) h)
+      split n h = by_parts n (and_parts (not (n == 0)) (list_any (λ m. m == n) (blob_blocks l.rec) || list_any (λ m. m == n) l.table) h)
 
 -- NUMBERS
 

@@ -15,19 +15,15 @@ use Rattle.kernel_core.specs.kernel_cells.declared.cells.Cell.{Cell}
 use Rattle.kernel_core.specs.kernel_cells.declared.cells.Part.TheVariants as part
 use Rattle.kernel_core.specs.kernel_cells.Cells.{part_of}
 use Rattle.kernel_core.specs.cell_table.Tables.{entity_in, state_in}
-use Rattle.kernel_core.proofs.script_against_lemmas.ByKind.{container_test, locus_test, no_locus}
+use Rattle.kernel_core.proofs.directory_laws_lemmas.ByKind.{container_test, locus_test, no_locus}
 use Rattle.kernel_core.specs.record_laws.Cells.{words_on}
 use Rattle.kernel_core.specs.kernel_model.Beginnings.{Beginning, run_of}
 use Rattle.kernel_core.specs.Kernels.{Held, Lives}
+use Rattle.std.proofs.lemmas.Option.{same_Some}
+use Rattle.std.proofs.lemmas.Bool.{true≢false}
 
 none_some : {l : ℕ} → None ≡ Some l → ⊥
 none_some e = cc
-
-same_some : (k l : ℕ) → Some k ≡ Some l → k ≡ l
-same_some k l e = cc
-
-true_false : true ≡ false → ⊥
-true_false e = cc
 
 -- a locus of this name is what the directory finds
 number_is : (d : Directory) (name : Text) (l : ℕ) → IsDirectory d → locus_named (atlas_state d) name ≡ Some l → number_of (atlas_state d) name ≡ Some l
@@ -37,16 +33,16 @@ number_is d name l h e = by (number_of (atlas_state d) name) refl
     c = container_named (atlas_state d) name
 
     behind : (k : ℕ) → 41 ≤ k → (o : Option ℕ) → is_some o ≡ (nat_le 1 k && nat_lt k 41) → or_else o (locus_named (atlas_state d) name) ≡ Some k → k ≡ l
-    behind k far (Some m) some is = (let off : (nat_le 1 k && nat_lt k 41) ≡ false = grind (arith, nat_tests) in absurd (true_false (some ∙ off)))
-    behind k far None some is = same_some k l (sym is ∙ e)
+    behind k far (Some m) some is = (let off : (nat_le 1 k && nat_lt k 41) ≡ false = grind (arith, nat_tests) in absurd (true≢false (some ∙ off)))
+    behind k far None some is = same_Some k l (sym is ∙ e)
 
     by : (o : Option ℕ) → number_of (atlas_state d) name ≡ o → number_of (atlas_state d) name ≡ Some l
-    by None is = absurd (true_false (sym (ap is_some e) ∙ no_locus d name h is))
+    by None is = absurd (true≢false (sym (ap is_some e) ∙ no_locus d name h is))
     by (Some k) is =
         let test : nat_le 41 k ≡ true = sym (locus_test d name k h is) ∙ ap is_some e in
         let far : 41 ≤ k = grind (arith, nat_tests) in
         elim (text_eq name atlas_name) as (λ b. (if b then Some 0 else or_else c (locus_named (atlas_state d) name)) ≡ Some k → number_of (atlas_state d) name ≡ Some l) [
-          | true ↦ λ f. (let z = same_some 0 k f in absurd (omega (arith, z, far)))
+          | true ↦ λ f. (let z = same_Some 0 k f in absurd (omega (arith, z, far)))
           | false ↦ λ f. is ∙ ap Some (behind k far c (container_test d name k h is) f)
         ] is
 

@@ -11,12 +11,12 @@ use Rattle.kernel_core.specs.hop_model.Steps.{atlas_in}
 use Rattle.kernel_core.specs.script_form.Rules.{IsScript}
 use Rattle.kernel_core.specs.fitting_births.Fitting.{Fits}
 use Rattle.kernel_core.specs.serial_runs.Serial.{IsStopped, IsWhole, look, looks, opening}
-use Rattle.kernel_core.proofs.run_laws_lemmas.Wishes.{run_append}
 use Rattle.kernel_core.proofs.serial_runs_lemmas.Histories.{looks_append}
 use Rattle.kernel_core.specs.serial_turns.Turns.{ComeFirst, HasLooked, IsStoppedIn, opened}
 use Rattle.kernel_core.proofs.serial_turns_lemmas.Course.{rounded}
 use Rattle.kernel_core.proofs.serial_turns_lemmas.Stops.{stopped_looks}
 use Rattle.kernel_core.proofs.serial_turns_lemmas.Whereabouts.{looked_more, round_idle, whole}
+use Rattle.kernel_core.proofs.hop_model_lemmas.StableCuts.{run_append}
 
 module _ (s : Supply) (policy : Policy) (script : Script) (w : KernelState) where
   abbrev run : List Entry → Run

@@ -17,10 +17,10 @@ use Rattle.cell_table.specs.beside_steps.Besides.{memory_of}
 use Rattle.cell_table.specs.Tables.{HasNews, IsOrderly, blocks_by, memory_at, tables_in}
 use Rattle.cell_table.specs.Lending.{Lends}
 use Rattle.kernel_laws.proofs.kernel_model_lemmas.Apart.{page_names}
-use Rattle.kernel_laws.proofs.kernel_model_lemmas.Naming.{place_in}
 use Rattle.kernel_records.specs.Flushing.{Flushes}
 use Rattle.kernel_views.proofs.Keeping.{blob_named, kept_named}
 use Rattle.kernel_views.proofs.Others.{held_at}
+use Rattle.kernel_laws.proofs.kernel_model_lemmas.store_model_lemmas.Owners.{place_in}
 
 -- LISTS
 

@@ -1,7 +1,7 @@
 -- Kept records as an image holds them stay the same where the blocks that they name do.
 use Rattle.std.proofs.Common.{◌≡◌, ℕ, ◌<◌, ◌≤◌, ◌==◌, ◌||◌, Bool, true, false, not, ◌&&◌, inl, inr, if◌then◌else◌, List, [], ◌∷◌, ◌++◌, map, take, zero, suc, refl, sym, ap, subst, ◌∙◌, arith, eq-eqb, eqb-true}
 use Rattle.std.specs.Prelude.{Contains}
-use Rattle.std.proofs.lemmas.Bool.{cases_lt, false≢true}
+use Rattle.std.proofs.lemmas.Bool.{cases_lt, false≢true, or_left, or_right}
 use Rattle.std.specs.List.{AllByRecursion, concat, flat_map, list_any}
 use Rattle.disk_trait.specs.Image.{Image, block_at}
 use Rattle.kernel_records.specs.image_blocks.Bodies.{blob_blocks, blob_in}
@@ -14,14 +14,6 @@ use Rattle.kernel_laws.specs.store_model.Owning.{NamesPage}
 use Rattle.kernel_records.specs.snapshot_store.Committed.{SameUsed}
 
 -- A BLOCK OF A KEPT RECORD IS IN USE
-
-or_right : (a b : Bool) → b ≡ true → (a || b) ≡ true
-or_right true b h = refl
-or_right false b h = h
-
-or_left : (a b : Bool) → a ≡ true → (a || b) ≡ true
-or_left true b h = refl
-or_left false b h = absurd (cc h)
 
 not_zero : (n : ℕ) → pool_at ≤ n → (n == 0) ≡ false
 not_zero n high = by_test (n == 0) refl
@@ -45,9 +37,6 @@ kept_named b n l within is = or_right b.found (list_any (names n) (kept_in b)) (
 -- AS IMAGES HOLD THEM
 
 module _ (old new : Image) where
-  Same : ℕ → Type 0
-  Same n = block_at new n ≡ block_at old n
-
   blocks_same : (xs : List ℕ) → ((n : ℕ) → Contains xs n → block_at new n ≡ block_at old n) → map (block_at new) xs ≡ map (block_at old) xs
   blocks_same [] same = refl
   blocks_same (x ∷ xs) same =

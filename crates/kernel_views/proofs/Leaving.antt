@@ -30,9 +30,7 @@ use Rattle.kernel_views.specs.Snaps.{Stands}
 use Rattle.kernel_views.proofs.Flushing.{spot}
 use Rattle.kernel_views.proofs.Following.{cells_follow}
 use Rattle.kernel_views.proofs.Others.{other_clean, other_part}
-
-pub some_is : {A : Type 0} (x y : A) → Some x ≡ Some y → x ≡ y
-some_is x y e = cc
+use Rattle.std.proofs.lemmas.Option.{same_Some}
 
 -- clean pages, of a part and of its memory
 pub clean_part : (s : _) (words : ℕ → List ℕ) (p : Part) → ((m : PagedMemory) → memory_of p ≡ Some m → AreCleanTrue s words m) → IsCleanIn s words p
@@ -42,7 +40,7 @@ clean_part s words (part.Locus l) clean = tt
 
 pub clean_memory : (s : _) (words : ℕ → List ℕ) (p : Part) (m : PagedMemory) → IsCleanIn s words p → memory_of p ≡ Some m → AreCleanTrue s words m
 clean_memory s words (part.Atlas a) m clean is = absurd (cc is)
-clean_memory s words (part.Container a) m clean is = subst (AreCleanTrue s words) (some_is a.memory m is) clean
+clean_memory s words (part.Container a) m clean is = subst (AreCleanTrue s words) (same_Some a.memory m is) clean
 clean_memory s words (part.Locus l) m clean is = absurd (cc is)
 
 -- the table of a part, and of its memory
@@ -143,7 +141,7 @@ module _ {D : Type 0} {tells : Type 0} {clock faults : D → ℕ} {reading : D �
     where
       number_at : (y : ℕ) (a : Cell) → slice_get cs' y ≡ Some a → a.clock.entity ≡ y
       number_at y a is = elim (place_of y) as (λ _. a.clock.entity ≡ y) [
-        | inl p ↦ ap (λ (a : Cell). a.clock.entity) (sym (some_is d a (sym p.1 ∙ is))) ∙ (kept_entity ∙ sym p.0)
+        | inl p ↦ ap (λ (a : Cell). a.clock.entity) (sym (same_Some d a (sym p.1 ∙ is))) ∙ (kept_entity ∙ sym p.0)
         | inr p ↦ numbered.each y a (sym p.1 ∙ is)
       ]
 

@@ -29,9 +29,7 @@ use Rattle.cell_table.proofs.Looked.{own_supplied}
 use Rattle.cell_table.proofs.WordsApart.{blank, sound_by_blank}
 use Rattle.kernel_views.proofs.Flushing.{Goes, goes, spot}
 use Rattle.kernel_views.proofs.Others.{apart, held_at, own_table}
-
-some_is : {A : Type 0} (x y : A) → Some x ≡ Some y → x ≡ y
-some_is x y e = cc
+use Rattle.std.proofs.lemmas.Option.{same_Some}
 
 -- THE PART MEANS the same but for its words
 
@@ -97,7 +95,7 @@ module _ {D : Type 0} (tells : Type 0) (reading : D → Image) (words : State D 
 
   each_cell : (P : ℕ → Cell → Type 0) → P x d → ((y : ℕ) (a : Cell) → y ≢ x → slice_get cs y ≡ Some a → P y a) → (y : ℕ) (a : Cell) → slice_get cs' y ≡ Some a → P y a
   each_cell P one rest y a is = elim (place y) as (λ _. P y a) [
-    | inl p ↦ subst (P y) (some_is d a (sym p.1 ∙ is)) (subst (λ (z : ℕ). P z d) (sym p.0) one)
+    | inl p ↦ subst (P y) (same_Some d a (sym p.1 ∙ is)) (subst (λ (z : ℕ). P z d) (sym p.0) one)
     | inr p ↦ rest y a p.0 (sym p.1 ∙ is)
   ]
 

@@ -18,14 +18,12 @@ use Rattle.kernel_records.specs.record_laws.Cells.{words_on}
 use Rattle.kernel_records.specs.Committing.{LeavesCell}
 use Rattle.kernel_records.specs.Flushing.{Flushes}
 use Rattle.kernel_views.proofs.Words.{clean_same, part_same}
-
-some_is : {A : Type 0} (x y : A) → Some x ≡ Some y → x ≡ y
-some_is x y e = cc
+use Rattle.std.proofs.lemmas.Option.{same_Some}
 
 -- the table of a part's own memory is sound
 pub own_table : (held : ℕ → Bool) (p : Part) (m : PagedMemory) → HasOwnMemory held p → memory_of p ≡ Some m → IsSoundTable held m
 own_table held (part.Atlas a) m own is = absurd (cc is)
-own_table held (part.Container b) m own is = subst (IsSoundTable held) (some_is b.memory m is) own.1
+own_table held (part.Container b) m own is = subst (IsSoundTable held) (same_Some b.memory m is) own.1
 own_table held (part.Locus l) m own is = absurd (cc is)
 
 module _ {D : Type 0} (tells : Type 0) (reading : D → Image) (old flushed : State D) (told : tells) where

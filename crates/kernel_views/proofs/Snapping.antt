@@ -38,8 +38,9 @@ use Rattle.kernel_views.specs.Snaps.{CommitsOne}
 use Rattle.kernel_views.proofs.Following.{follows}
 use Rattle.kernel_views.proofs.Keeping.{blob_high, kept_same}
 use Rattle.kernel_views.proofs.Legal.{legal_then, run_next}
-use Rattle.kernel_views.proofs.Leaving.{LeftCell, clean_after, clean_before, follows_before, had, kept_clock, kept_entity, numbered, numbered_after, place_of, small_both, some_is, state_same, stood, version_is}
+use Rattle.kernel_views.proofs.Leaving.{LeftCell, clean_after, clean_before, follows_before, had, kept_clock, kept_entity, numbered, numbered_after, place_of, small_both, state_same, stood, version_is}
 use Rattle.kernel_views.proofs.Storing.{IsNextEntry, hold, kept_record, next_commits, owned_by_pages, records0, same_books, stored, stores_next, stores_still, table_there}
+use Rattle.std.proofs.lemmas.Option.{same_Some}
 
 module _ {D : Type 0} {tells : Type 0} {clock faults : D → ℕ} {reading : D → Image} {may_leave : D → Image → Type 0} {left_since : D → ℕ → Image → Type 0}
     {b : Beginning} {cs cs' : List Cell} {c d : Cell} {old new : State D} {es : List Entry} {marks : List ℕ}
@@ -85,7 +86,7 @@ module _ {D : Type 0} {tells : Type 0} {clock faults : D → ℕ} {reading : D �
 
   wish_at : (y : ℕ) (a : Cell) → slice_get cs' y ≡ Some a → HasWish b.script.steps (run_of b (es ++ e ∷ [])) a
   wish_at y a is = subst (λ (z : Run). HasWish b.script.steps z a) (sym next) (elim (place_of q y) as (λ _. HasWish b.script.steps (goes_on b.supply b.script r e) a) [
-    | inl p ↦ subst (HasWish b.script.steps (goes_on b.supply b.script r e)) (some_is d a (sym p.1 ∙ is))
+    | inl p ↦ subst (HasWish b.script.steps (goes_on b.supply b.script r e)) (same_Some d a (sym p.1 ∙ is))
         (snap_wish b.supply b.script r e words0 b.script.steps c d refl refl (had q) ((follows_before q).wishes x c (stood q)) h.recorded)
     | inr p ↦
         (let was : slice_get cs y ≡ Some a = sym p.1 ∙ is in

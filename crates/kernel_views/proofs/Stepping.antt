@@ -6,7 +6,7 @@ use Rattle.hop_base.specs.declared.histories.Event.{Event}
 use Rattle.hop_base.specs.declared.histories.Event.TheVariants.{Step}
 use Rattle.kernel_records.specs.hop_model.Histories.{May, Run, goes_on, start_run}
 use Rattle.kernel_records.specs.hop_model.Steps.{step}
-use Rattle.kernel_laws.specs.run_cuts.Marks.{is_completing, is_step, is_step_event}
+use Rattle.kernel_laws.specs.run_cuts.Marks.{is_completing, is_step}
 use Rattle.serial_runs.specs.Serial.{IsCalm as IsQuiet}
 use Rattle.serial_runs.proofs.Calm.{step_entry, step_may}
 use Rattle.kernel_records.specs.snapshot_store.State.{State, books}
@@ -27,6 +27,7 @@ use Rattle.kernel_views.proofs.Flushing.{owned_again}
 use Rattle.kernel_views.proofs.Following.{cells_follow, follows}
 use Rattle.kernel_views.proofs.Keeping.{blob_high}
 use Rattle.kernel_views.proofs.Legal.{legal_then, run_next}
+use Rattle.cell_table.specs.sound_runs.run_laws.StepEntries.{is_step as is_step_event}
 
 module _ {D : Type 0} (tells : Type 0) (clock faults : D → ℕ) (reading : D → Image) (may_leave : D → Image → Type 0) (left_since : D → ℕ → Image → Type 0)
     (b : Beginning) (me : ℕ) (cs cs' : List Cell) (old new : State D) (es : List Entry) (marks : List ℕ) (e : Entry) (told : tells)

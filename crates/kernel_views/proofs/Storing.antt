@@ -32,7 +32,6 @@ use Rattle.kernel_laws.specs.kernel_model.Records.{AreKeptRecords, ArePagesApart
 use Rattle.kernel_laws.specs.kernel_model.Telling.{TellsOf}
 use Rattle.kernel_laws.proofs.kernel_model_lemmas.Apart.{kept_apart, more_apart}
 use Rattle.kernel_laws.proofs.kernel_model_lemmas.Growing.{records_grow}
-use Rattle.kernel_laws.proofs.kernel_model_lemmas.Naming.{place_in}
 use Rattle.kernel_laws.proofs.kernel_model_lemmas.Pages.{page_named}
 use Rattle.kernel_laws.proofs.kernel_model_lemmas.Staying.{records_stay}
 use Rattle.kernel_laws.proofs.kernel_model_lemmas.Telling.{told_record as kept_told}
@@ -40,6 +39,7 @@ use Rattle.kernel_views.specs.Views.{view_in}
 use Rattle.kernel_views.proofs.Flushing.{goes, one_news, owned_again, within_at}
 use Rattle.kernel_views.proofs.Keeping.{blob_high}
 use Rattle.kernel_views.proofs.Leaving.{LeftCell, clean_before, had, kept_clock, kept_entity, place_of, same_table, stood, version_is}
+use Rattle.kernel_laws.proofs.kernel_model_lemmas.store_model_lemmas.Owners.{place_in}
 
 -- THE ENTRY of the record, made or tried: it may follow, changes no state, and its commit is the entity's
 pub record IsNextEntry (b : Beginning) (es : List Entry) (e : Entry) (x : ℕ) : Type 0 where

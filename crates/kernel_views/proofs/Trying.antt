@@ -20,8 +20,9 @@ use Rattle.kernel_views.specs.Views.{FollowsRun, view_in}
 use Rattle.kernel_views.specs.Snaps.{LeavesOne}
 use Rattle.kernel_views.proofs.Following.{follows}
 use Rattle.kernel_views.proofs.Legal.{legal_then, run_next}
-use Rattle.kernel_views.proofs.Leaving.{LeftCell, follows_before, numbered_after, place_of, some_is, state_same, stood, version_is}
+use Rattle.kernel_views.proofs.Leaving.{LeftCell, follows_before, numbered_after, place_of, state_same, stood, version_is}
 use Rattle.kernel_views.proofs.Storing.{IsNextEntry, stores_next, stores_still}
+use Rattle.std.proofs.lemmas.Option.{same_Some}
 
 module _ {D : Type 0} {tells : Type 0} {clock faults : D → ℕ} {reading : D → Image} {may_leave : D → Image → Type 0} {left_since : D → ℕ → Image → Type 0}
     {b : Beginning} {cs cs' : List Cell} {c d : Cell} {old new : State D} {es : List Entry} {marks : List ℕ}
@@ -68,7 +69,7 @@ module _ {D : Type 0} {tells : Type 0} {clock faults : D → ℕ} {reading : D �
 
   wish_at : (y : ℕ) (a : Cell) → slice_get cs' y ≡ Some a → HasWish b.script.steps (run_of b (es ++ e ∷ [])) a
   wish_at y a is = subst (λ (z : Run). HasWish b.script.steps z a) (sym next) (same_wish a (elim (place_of q y) as (λ _. HasWish b.script.steps r a) [
-    | inl p ↦ subst (HasWish b.script.steps r) (some_is d a (sym p.1 ∙ is)) wish_d
+    | inl p ↦ subst (HasWish b.script.steps r) (same_Some d a (sym p.1 ∙ is)) wish_d
     | inr p ↦ (follows_before q).wishes y a (sym p.1 ∙ is)
   ]))
 

@@ -1,5 +1,5 @@
 -- The birth that leaves a container showing a locus.
-use Rattle.std.proofs.Common.{◌≡◌, ℕ, IsTrue, List, [], ◌∷◌, codes, Some, None, lit<, lit≤, refl, sym, ap, subst, ◌∙◌}
+use Rattle.std.proofs.Common.{◌≡◌, IsTrue, List, [], ◌∷◌, codes, Some, lit<, lit≤, refl, sym, ap, subst, ◌∙◌}
 use Rattle.std.specs.List.{All}
 use Rattle.std.proofs.lemmas.Bool.{false≢true}
 use Rattle.std.proofs.lemmas.List.Elements.{All-cons, All-head, All-nil}
@@ -17,14 +17,12 @@ use Rattle.sound_states.proofs.sound_runs_lemmas.Births.{birth_leaves}
 use Rattle.sound_states.proofs.Empty.{empty_is_sound, empty_names}
 use Rattle.law_limits.specs.Clash.{bears_a, bears_b, bears_h, clashing, earlier_script, plain_container, showing_locus, three_names, with_clash, with_container, with_locus}
 use Rattle.worked_runs.specs.Snapshots.{no_words}
+use Rattle.std.proofs.lemmas.Option.{none-some}
 
 -- THE SCRIPTS ARE ALLOWED
 
 no_code : IsSoundCode []
 no_code = record { few = lit≤ tt; each = All-nil IsInstruction }
-
-none_some : (x : ℕ) → None ≡ Some x → ⊥
-none_some x e = cc
 
 plain_is : (earlier : List Text) (name : Text) → IsTrue (is_given_name name) → IsContainerTable earlier (plain_container name [])
 plain_is earlier name given = record {
@@ -33,7 +31,7 @@ plain_is earlier name given = record {
   tag = lit< tt;
   every = lit≤ tt;
   code = no_code;
-  entry = λ x e. absurd (none_some x e);
+  entry = λ x e. absurd (none-some x e);
   few_regions = lit≤ tt;
   regions = All-nil (IsRegionTable earlier 1);
   apart = tt;
@@ -77,7 +75,7 @@ allowed_clash = record {
         tag = lit< tt;
         every = lit≤ tt;
         code = no_code;
-        entry = λ x e. absurd (none_some x e);
+        entry = λ x e. absurd (none-some x e);
         few_regions = lit≤ tt;
         regions = All-cons (IsRegionTable (codes "a" ∷ []) 1) (record { at = 0; target = codes "a"; from = 0; count = 1; rights = 1 }) []
             (record { some = lit≤ tt; at = lit≤ tt; from = lit≤ tt; access = (lit≤ tt, lit< tt); target = refl }) (All-nil (IsRegionTable (codes "a" ∷ []) 1));

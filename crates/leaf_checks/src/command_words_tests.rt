@@ -73,6 +73,25 @@ fn words_are_read_as_commands(rt: HostRuntime) -> Result<(), Fail> {
         ("Report", None),
         ("", None),
         ("2600", None),
+        // Empty words before, between and behind; `--` and `=` in any place; digits of other scripts, signs and marks within a number.
+        (" run", None),
+        ("run ", None),
+        ("run  --trace", None),
+        ("drill 1 ", None),
+        ("--", None),
+        ("-- run", None),
+        ("=", None),
+        ("run =", None),
+        ("drill =1", None),
+        ("run --trace=1", None),
+        ("drill \u{661}", None),
+        ("drill \u{ff11}", None),
+        ("drill 0x1", None),
+        ("drill 1_0", None),
+        ("drill 1.0", None),
+        ("format 2600\n", None),
+        ("run\0", None),
+        ("\u{feff}run", None),
     ];
     for (line, want) in cases {
         assert_eq!(rt; read_line(alloc, line)?, want, "{line}");

@@ -2,7 +2,8 @@ ghost use Rattle.std.specs.Prelude.{◌≤◌, length, take, IfOk};
 ghost use Rattle.std.specs.Io.{ReadsAtMost, WritesAtMost};
 
 use disk_trait::Disk;
-use std::fs::{self, Files, OpenOptions};
+use std::alloc::Global;
+use std::fs::{self, File, Files, OpenOptions};
 use std::io;
 use std::io::{ErrorKind, Read, Write};
 use std::test::Fail;
@@ -195,5 +196,66 @@ fn a_file_is_a_disk(rt: HostRuntime) -> Result<(), Fail> {
     assert_eq!(rt; disk.read(0, &mut block), Ok(()));
     assert_eq!(rt; block.as_slice(), ends_inside.as_slice());
     fs::remove_file(&rt, "a_file_is_a_disk.img")?;
+    Ok(())
+}
+
+// Bytes of two whole blocks and a part of a third, of which the last is another.
+fn bytes_past_two_blocks(alloc: Global) -> Result<Vec<u8>, Fail> {
+    let mut bytes = vec![in alloc; 7u8; 2499]?;
+    bytes.push(9)?;
+    Ok(bytes)
+}
+
+#[test]
+fn a_file_is_a_source(rt: HostRuntime) -> Result<(), Fail> {
+    let alloc = rt.alloc();
+    let path = "a_file_is_a_source.txt";
+    let long = bytes_past_two_blocks(alloc)?;
+    let contents: [&[u8]; 3] = [b"", b"abc", &long];
+    for content in contents {
+        fs::write(&rt, path, content)?;
+        let mut source = ReadSource::new(File::open(&rt, path)?);
+        let read = read_all(alloc, &mut source, 2500)?;
+        assert_eq!(rt; read.as_slice(), content);
+        assert_eq!(rt; source.take(&mut [0; 10]), Ok(0));
+    }
+
+    // In pieces, and past a limit.
+    let mut source = ReadSource::new(File::open(&rt, path)?);
+    let mut out = [0; 1000];
+    for (count, last) in [(1000, 7), (1000, 7), (500, 7), (0, 7)] {
+        assert_eq!(rt; source.take(&mut out), Ok(count));
+        assert_eq!(rt; out[999], last);
+    }
+    assert_eq!(rt; out[499], 9);
+    let mut source = ReadSource::new(File::open(&rt, path)?);
+    let Err(stop) = read_all(alloc, &mut source, 2499) else {
+        return Err(Fail::from("a file past the limit was read"));
+    };
+    assert_eq!(rt; stop, ReadStop::Long);
+    fs::remove_file(&rt, path)?;
+    Ok(())
+}
+
+#[test]
+fn a_file_is_a_sink(rt: HostRuntime) -> Result<(), Fail> {
+    let alloc = rt.alloc();
+    let path = "a_file_is_a_sink.txt";
+    drop(WriteSink::new(fs::create(&rt, path)?));
+    let read = fs::read(&rt, path)?;
+    assert!(rt; read.is_empty());
+
+    let long = bytes_past_two_blocks(alloc)?;
+    let mut sink = WriteSink::new(fs::create(&rt, path)?);
+    let puts: [&[u8]; 4] = [b"ab", b"", &long, b"c\n"];
+    let mut whole = Vec::new(alloc);
+    for bytes in puts {
+        assert_eq!(rt; sink.put(bytes), Ok(()));
+        whole.extend_from_slice(bytes)?;
+        // What was put is seen at once.
+        let read = fs::read(&rt, path)?;
+        assert_eq!(rt; read.as_slice(), whole.as_slice());
+    }
+    fs::remove_file(&rt, path)?;
     Ok(())
 }

@@ -1,5 +1,5 @@
 -- What holds where the locus refuses nothing.
-use Rattle.std.proofs.Common.{◌≡◌, ℕ, ◌<◌, true, not, nat_lt, List, [], ◌∷◌, length, Option, Some, None, is_some, Result, OnOk, slice_get, slice_set, refl, ap, ◌∙◌, subst}
+use Rattle.std.proofs.Common.{◌≡◌, ℕ, ◌<◌, true, not, nat_lt, List, [], ◌∷◌, length, Option, Some, None, is_some, Result, OnOk, slice_set, ap, ◌∙◌, subst}
 use Rattle.std.specs.Option.{ok_or}
 use Rattle.std.proofs.lemmas.Bool.{ltb-true}
 use Rattle.hop_base.specs.declared.capabilities.Cap.{Cap}
@@ -9,10 +9,7 @@ use Rattle.hop_base.specs.declared.instructions.Reply.{Reply}
 use Rattle.hop_base.specs.declared.instructions.Reply.TheVariants.{NoSlot, Overlap, ListFull}
 use Rattle.hop_model.specs.State.{LocusState}
 use Rattle.hop_model.specs.Words.{first, unless, cap_at}
-use Rattle.hop_model.specs.Words.{flat as model_flat}
 use Rattle.hop_model.specs.Refusals.{refusal, no_slot, no_container, lacks, no_page, named, overlaps_private, new_region}
-use Rattle.cap_list.specs.Slots.{flat as slot_flat}
-use Rattle.cap_list.specs.Slots.{cap_at as slot_at}
 use Rattle.wanted_act.proofs.Allowed.{unless_none, first_none}
 
 pub record MayMapPrivate (l : LocusState) (a b n : ℕ) : Type 0 where
@@ -40,19 +37,11 @@ pub drop_allowed : (l : LocusState) (s : ℕ) → refusal l (Drop s) ≡ None �
 unfolding refusal
 drop_allowed l s none = unless_none (is_some (named l s)) NoSlot none
 
--- the two crates' words on slots are one
-same_flat : {A : Type 0} (o : Option (Option A)) → slot_flat o ≡ model_flat o
-same_flat None = refl
-same_flat (Some x) = refl
-
-pub same_cap : (caps : List (Option Cap)) (slot : ℕ) → slot_at caps slot ≡ cap_at caps slot
-same_cap caps slot = same_flat (slice_get caps slot)
-
 -- a slot that holds a capability is emptied
-pub cleared : (caps new : List (Option Cap)) (slot n : ℕ) (result : Result Cap Reply) → slot ≡ n → is_some (cap_at caps n) ≡ true → result ≡ ok_or (slot_at caps slot) NoSlot
+pub cleared : (caps new : List (Option Cap)) (slot n : ℕ) (result : Result Cap Reply) → slot ≡ n → is_some (cap_at caps n) ≡ true → result ≡ ok_or (cap_at caps slot) NoSlot
     → OnOk result (new ≡ slice_set caps slot None) → new ≡ slice_set caps n None
 cleared caps new slot n result same some is done =
-    by (cap_at caps n) some (is ∙ ap (λ k. ok_or (slot_at caps k) NoSlot) same ∙ ap (λ o. ok_or o NoSlot) (same_cap caps n)) ∙ ap (λ k. slice_set caps k None) same
+    by (cap_at caps n) some (is ∙ ap (λ k. ok_or (cap_at caps k) NoSlot) same) ∙ ap (λ k. slice_set caps k None) same
   where
     by : (o : Option Cap) → is_some o ≡ true → result ≡ ok_or o NoSlot → new ≡ slice_set caps slot None
     by None e r = cc

@@ -5,6 +5,6 @@ mod lists;
 mod local_acts;
 mod loci;
 
-pub use lists::{Chain, Code, MOST_CALLS, MOST_INSTRS, Privates};
+pub use lists::{Chain, Code, MOST_INSTRS, Privates};
 pub use loci::{Head, Locus};
 pub use wanted_act;

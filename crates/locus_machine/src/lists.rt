@@ -3,18 +3,12 @@ ghost use Rattle.std.specs.Prelude.{◌≡◌, ◌+◌, ◌<◌, ◌≤◌, ◌&
 ghost use Rattle.hop_model.specs.Outcomes.{insert_private};
 ghost use Rattle.hop_model.specs.Words.{last_call, but_last};
 
-use hop_base::{Call, Entity, Instr, Private, Region, Rights};
+use hop_base::{Call, Entity, Instr, MOST_CALLS, MOST_PRIVATES, Private, Region, Rights};
 use std::marker::Model;
 use wanted_act::place_of_private;
 
 /// The most instructions of a code.
 pub const MOST_INSTRS: usize = 128;
-
-/// The most calls of a chain.
-pub const MOST_CALLS: usize = 64;
-
-/// The most private regions of a locus.
-pub const MOST_PRIVATES: usize = 16;
 
 /// A code: at most 128 instructions.
 #[derive(Drop, Debug)]

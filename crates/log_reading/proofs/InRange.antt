@@ -1,143 +1,21 @@
 -- A record that was read is in range behind those before it.
--- (The section up to `in_range` stands in image_blocks' Ranges too, where it is private: to move down.)
-use Rattle.std.proofs.Common.{◌≡◌, ◌≢◌, ℕ, zero, suc, ◌+◌, ◌-◌, ◌*◌, ◌≤◌, ◌<◌, Bool, true, false, not, ◌&&◌, ◌==◌, nat_le, nat_lt, if◌then◌else◌, inl, inr, List, [], ◌∷◌, ◌++◌, length, map, take, get_or, Option, Some, None, refl, ◌⊎◌, sym, ap, subst, ◌∙◌, arith, eqb-true, codes}
-use Rattle.std.specs.Prelude.{bytes_eq, slice_get, slice_index}
-use Rattle.std.specs.List.{list_any}
-use Rattle.std.proofs.lemmas.Bool.{and_parts, cases_eq, cases_lt, eq-eqb, false≢true, leb-true, lt-ltb, ltb-true}
-use Rattle.std.proofs.lemmas.Bool.Decides.{nat_tests}
-use Rattle.std.proofs.lemmas.List.{get_or-append_right, get_or-map, get_or-take, get_or_append_left, get_or_past, length-append, length-map, length-take, take-append-le}
-use Rattle.std.proofs.lemmas.List.Folds.{list_any_at}
-use Rattle.std.proofs.lemmas.Option.{get_or_from_slice_get, slice_get-get_or, slice_get_within}
-use Rattle.hop_base.specs.Edges.{upto}
+use Rattle.std.proofs.Common.{◌≡◌, ℕ, ◌≤◌, true, ◌&&◌, ◌==◌, nat_le, inl, inr, List, [], ◌∷◌, ◌++◌, length, take, Option, None, refl, sym, ap, subst, ◌∙◌, arith, codes}
+use Rattle.std.specs.Prelude.{bytes_eq}
+use Rattle.std.proofs.lemmas.Bool.{and_parts, leb-true}
+use Rattle.std.proofs.lemmas.List.{take-append-le}
 use Rattle.hop_base.specs.declared.records.Rec.{Rec}
-use Rattle.image_blocks.specs.hop_model.Words.{first}
-use Rattle.image_blocks.specs.Bodies.{blocks_for, number_at, record_in}
-use Rattle.image_blocks.specs.Checks.{block_fault, blocks_fault, body_fault, is_block_number, is_count, is_epoch, last_version, stamp_fault, stamps_fault, superblock_fault, unless_at, zeros_from}
-use Rattle.image_blocks.specs.Layout.{last_number, least_blocks, most_blocks, most_length, pool_at}
+use Rattle.image_blocks.specs.Bodies.{number_at, record_in}
+use Rattle.image_blocks.specs.Checks.{body_fault, is_count, superblock_fault, unless_at, zeros_from}
+use Rattle.image_blocks.specs.Layout.{least_blocks, most_blocks}
 use Rattle.image_blocks.specs.Logs.{IsInRange}
-use Rattle.image_blocks.proofs.Firsts.{first_each, first_head, ne_test, unless_none}
-use Rattle.image_blocks.proofs.Opening.{Tests, tests}
-use Rattle.image_blocks.proofs.Rest.{upto_get, upto_len}
+use Rattle.image_blocks.proofs.Firsts.{first_head, unless_none}
+use Rattle.image_blocks.proofs.Opening.{tests}
 use Rattle.log_reading.specs.Logs.{AreInRange}
-
--- the numbers of a list made by a function
-row_at : (f : ℕ → ℕ) (n i : ℕ) → i < n → slice_index (map f (upto n)) i ≡ f i
-row_at f n i lt = let len = upto_len n in get_or-map f (upto n) i 0 0 (omega (arith, lt, len)) ∙ ap f (upto_get n i lt)
-
-row_len : (f : ℕ → ℕ) (n : ℕ) → length (map f (upto n)) ≡ n
-row_len f n = length-map (upto n) f ∙ upto_len n
-
-not_true : (b : Bool) → not b ≡ true → b ≡ false
-not_true true e = absurd (false≢true e)
-not_true false e = refl
-
--- no number of the list is this one
-none_is : (xs : List ℕ) (n k : ℕ) → list_any (λ b. b == n) xs ≡ false → k < length xs → get_or xs k 0 ≢ n
-none_is xs n k none lt = λ is. false≢true (sym none ∙ list_any_at (λ b. b == n) xs k 0 lt (eq-eqb (get_or xs k 0) n is))
-
-not_below : (a b : ℕ) → b ≤ a → nat_lt a b ≡ false
-not_below a b le = grind (arith, nat_tests)
-
-module _ (count : ℕ) (before : List Rec) (body : List ℕ) (t : Tests count before body) where
-  abbrev x : ℕ
-  x = number_at 0 4 body
-
-  abbrev v : ℕ
-  v = number_at 8 8 body
-
-  abbrev need : ℕ
-  need = blocks_for (number_at 4 4 body)
-
-  abbrev component : ℕ → ℕ
-  component y = number_at (16 + 8 * y) 8 body
-
-  abbrev number : ℕ → ℕ
-  number i = number_at (528 + 4 * i) 4 body
-
-  version : ((1 ≤ v) × (v ≤ last_number)) × (last_version before x < v)
-  version =
-      let both = and_parts (is_epoch v) (nat_lt (last_version before x) v) t.version in
-      let range = and_parts (nat_le 1 v) (nat_le v last_number) both.0 in
-      ((leb-true 1 v range.0, leb-true v last_number range.1), ltb-true (last_version before x) v both.1)
-
-  -- (the number of components is a variable here: a literal would be counted down)
-  component_test : (n : ℕ) → first (map (stamp_fault x v body) (upto n)) ≡ None → (y : ℕ) → y < n → (if y == x then component y == v else nat_le (component y) last_number) ≡ true
-  component_test n none y lt = unless_none _ (16 + 8 * y) (first_each (stamp_fault x v body) n none y lt)
-
-  tested : (y : ℕ) → y < 64 → (if y == x then component y == v else nat_le (component y) last_number) ≡ true
-  unfolding stamps_fault
-  tested y lt = component_test 64 t.stamp y lt
-
-  own : x < 64 → component x ≡ v
-  own lt = eqb-true (component x) v (sym (ap (λ c. if c then component x == v else nat_le (component x) last_number) (eq-eqb x x refl)) ∙ tested x lt)
-
-  small : (y : ℕ) → y < 64 → component y ≤ last_number
-  small y lt = elim (cases_eq y x) as (λ _. component y ≤ last_number) [
-    | inl is ↦ (let e : component y ≡ v = subst (λ z. component z ≡ v) (sym is) (own (subst (λ z. z < 64) is lt)) in let high = version.0.1 in omega (arith, e, high))
-    | inr other ↦ leb-true (component y) last_number (sym (ap (λ c. if c then component y == v else nat_le (component y) last_number) (ne_test y x other)) ∙ tested y lt)
-  ]
-
-  number_test : (n : ℕ) → first (map (block_fault count need (record_in body).blocks) (upto n)) ≡ None → (i : ℕ) → i < n → is_block_number count need (record_in body).blocks i ≡ true
-  number_test n none i lt = unless_none _ (528 + 4 * i) (first_each (block_fault count need (record_in body).blocks) n none i lt)
-
-  numbered : (i : ℕ) → i < 8 → is_block_number count need (record_in body).blocks i ≡ true
-  unfolding blocks_fault
-  numbered i lt = number_test 8 t.numbers i lt
-
-  few : need ≤ 8
-  few = let high = (and_parts (nat_le 1 (number_at 4 4 body)) (nat_le (number_at 4 4 body) most_length) t.length).1 in let le = leb-true (number_at 4 4 body) most_length high in omega (arith, le)
-
-  abbrev in_pool : ℕ → Bool
-  in_pool i = nat_le pool_at (slice_index (record_in body).blocks i) && nat_lt (slice_index (record_in body).blocks i) count && not (list_any (λ b. b == slice_index (record_in body).blocks i) (take i (record_in body).blocks))
-
-  is_needed : (i : ℕ) → i < need → in_pool i ≡ true
-  is_needed i lt = sym (ap (λ c. if c then in_pool i else slice_index (record_in body).blocks i == 0) (lt-ltb i need lt)) ∙ numbered i (let most = few in omega (arith, lt, most))
-
-  pub in_range : IsInRange count before (record_in body)
-  unfolding record_in
-  in_range = record {
-    entity = ltb-true x 64 t.entity;
-    lengths = (let both = and_parts (nat_le 1 (number_at 4 4 body)) (nat_le (number_at 4 4 body) most_length) t.length in (leb-true 1 (number_at 4 4 body) both.0, leb-true (number_at 4 4 body) most_length both.1));
-    versions = version.0;
-    newer = version.1;
-    components = row_len component 64;
-    own = row_at component 64 x (ltb-true x 64 t.entity) ∙ own (ltb-true x 64 t.entity);
-    small = λ y lt. subst (λ n. n ≤ last_number) (sym (row_at component 64 y lt)) (small y lt);
-    numbers = row_len number 8;
-    needed = λ i lt. (let two = and_parts _ _ (and_parts _ _ (is_needed i lt)).0 in (leb-true _ _ two.0, ltb-true _ _ two.1));
-    different = λ i k lt earlier.
-        (let others = not_true _ (and_parts _ _ (is_needed i lt)).1 in
-        let len = row_len number 8 in
-        let most = few in
-        let cut = length-take i (record_in body).blocks in
-        λ same. none_is (take i (record_in body).blocks) (slice_index (record_in body).blocks i) k others (omega (arith, cut, len, lt, earlier, most)) (get_or-take i (record_in body).blocks k 0 earlier ∙ same));
-    unused = λ i past. zero_at i past (cases_lt i 8);
-  }
-    where
-      zero_at : (i : ℕ) → need ≤ i → (i < 8) ⊎ (8 ≤ i) → slice_index (record_in body).blocks i ≡ 0
-      zero_at i past (inl lt) = eqb-true _ 0 (sym (ap (λ c. if c then in_pool i else slice_index (record_in body).blocks i == 0) (not_below i need past)) ∙ numbered i lt)
-      zero_at i past (inr far) = get_or_past (record_in body).blocks i 0 (let len : length (record_in body).blocks ≡ 8 = row_len number 8 in omega (arith, len, far))
+use Rattle.image_blocks.proofs.Ranges.{in_range, last_or_before}
 
 -- a body that no check refuses
 pub read_in_range : (count : ℕ) (before : List Rec) (body : List ℕ) (r : Rec) → body_fault count before body ≡ None → r ≡ record_in body → IsInRange count before r
 read_in_range count before body r none is = subst (IsInRange count before) (sym is) (in_range count before body (tests count before body none))
-
--- an item of a list with one more
--- (commit_log's Through has it too, private: to move down)
-pub last_or_before : (recs : List Rec) (rec : Rec) (i : ℕ) (r : Rec) → slice_get (recs ++ rec ∷ []) i ≡ Some r → ((i < length recs) × (slice_get recs i ≡ Some r)) ⊎ ((i ≡ length recs) × (rec ≡ r))
-last_or_before recs rec i r here = elim (cases_lt i (length recs)) as (λ _. ((i < length recs) × (slice_get recs i ≡ Some r)) ⊎ ((i ≡ length recs) × (rec ≡ r))) [
-  | inl lt ↦
-      (let e : get_or (recs ++ rec ∷ []) i r ≡ r = get_or_from_slice_get (recs ++ rec ∷ []) i r r here in
-      let f : get_or recs i r ≡ r = sym (get_or_append_left recs (rec ∷ []) r i lt) ∙ e in
-      inl (lt, slice_get-get_or recs i r lt ∙ ap Some f))
-  | inr ge ↦
-      (let within : i < length (recs ++ rec ∷ []) = slice_get_within (recs ++ rec ∷ []) i r here in
-      let more : length (recs ++ rec ∷ []) ≡ length recs + 1 = length-append recs (rec ∷ []) in
-      let is : i ≡ length recs = omega (arith, ge, within, more) in
-      let e : get_or (recs ++ rec ∷ []) i r ≡ r = get_or_from_slice_get (recs ++ rec ∷ []) i r r here in
-      let last : get_or (recs ++ rec ∷ []) i r ≡ rec = ap (λ k. get_or (recs ++ rec ∷ []) k r) is ∙ get_or-append_right recs (rec ∷ []) (length recs) (length recs) r refl (omega arith) ∙ ap (λ k. get_or (rec ∷ []) k r) (let z : length recs - length recs ≡ 0 = omega arith in z) in
-      inr (is, sym last ∙ e))
-]
 
 -- one record more
 pub in_range_more : (count : ℕ) (recs : List Rec) (rec : Rec) → AreInRange count recs → IsInRange count recs rec → AreInRange count (recs ++ rec ∷ [])

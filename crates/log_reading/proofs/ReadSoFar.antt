@@ -1,5 +1,5 @@
 -- Reads one after the other, and a log as far as it is read.
-use Rattle.std.proofs.Common.{◌≡◌, ◌≤◌, ◌<◌, true, inl, inr, ⊎_elim, ℕ, List, length, None, refl, ◌∙◌, arith}
+use Rattle.std.proofs.Common.{◌≡◌, ◌≤◌, ◌<◌, true, inl, inr, ⊎_elim, ℕ, List, length, None, ◌∙◌, arith}
 use Rattle.std.specs.List.{AllPairs}
 use Rattle.disk_trait.specs.Image.{Image}
 use Rattle.hop_base.specs.declared.records.Rec.{Rec}
@@ -22,17 +22,6 @@ pub record ReadSoFar {D : Type 0} (tells : Type 0) (block_count : D → ℕ) (re
   pub same : ReadsOnly tells block_count reading may_leave left_since clock faults old new
 
 module _ {D : Type 0} {tells : Type 0} {block_count : D → ℕ} {reading : D → Image} {may_leave : D → Image → Type 0} {left_since : D → ℕ → Image → Type 0} {clock faults : D → ℕ} where
-  -- before the first read
-  pub ReadsOnly-refl : (d : D) → ReadsOnly tells block_count reading may_leave left_since clock faults d d
-  ReadsOnly-refl d = record {
-    same_count = refl;
-    same_clock = refl;
-    later = omega arith;
-    same_reading = λ t. refl;
-    stop = λ t c may. may;
-    time = λ t. record { later = omega arith; nothing_else = λ s c le left. inl left; keeps = λ s c le left. left };
-  }
-
   -- reads after reads
   pub ReadsOnly-trans : (old mid new : D) → (tells → (d : D) (t : ℕ) (c : Image) → t ≤ clock d → may_leave d c → left_since d t c)
       → ReadsOnly tells block_count reading may_leave left_since clock faults old mid → ReadsOnly tells block_count reading may_leave left_since clock faults mid new

@@ -1,5 +1,5 @@
 -- The slots of an area while kept records are written into them.
-use Rattle.std.proofs.Common.{◌≡◌, ◌≤◌, ◌<◌, ◌+◌, ◌*◌, ℕ, ◌==◌, inl, inr, List, [], length, set, get_or, Some, ap, subst, ◌∙◌, arith}
+use Rattle.std.proofs.Common.{◌≡◌, ◌≤◌, ◌<◌, ◌+◌, ◌*◌, ℕ, inl, inr, List, [], length, set, get_or, Some, ap, subst, ◌∙◌, arith}
 use Rattle.std.specs.Prelude.{slice_get}
 use Rattle.std.proofs.lemmas.Bool.{cases_eq}
 use Rattle.std.proofs.lemmas.List.{get_or-set_same}
@@ -9,15 +9,12 @@ use Rattle.disk_trait.specs.Moments.{Quiet}
 use Rattle.disk_tally.specs.Counts.{CountsOn}
 use Rattle.hop_base.specs.declared.records.Rec.{Rec}
 use Rattle.commit_log.specs.image_blocks.Bodies.{body_block}
-use Rattle.commit_log.specs.image_blocks.Layout.{body_at, closed_gate, first_number, header_at, is_open, open_gate, other, slot_count, slot_gate_at}
+use Rattle.commit_log.specs.image_blocks.Layout.{body_at, closed_gate, header_at, open_gate, other, slot_count, slot_gate_at}
 use Rattle.commit_log.specs.image_blocks.Logs.{HasSlots}
 use Rattle.commit_log.specs.image_blocks.declared.areas.Area.{Area}
 use Rattle.commit_log.specs.image_blocks.declared.areas.Area.TheVariants.{A, B}
 use Rattle.commit_log.proofs.Through.{gate_closed, gate_open}
 use Rattle.log_turn.specs.Stages.{HasFilled, HasSlotGates, IsBehindGate, IsGateOf, IsOfSlot}
-
-pub same_gate : (d c : Image) (n : ℕ) → block_at c n ≡ block_at d n → is_open c n ≡ is_open d n
-same_gate d c n same = ap (λ (b : List ℕ). first_number b == 1) same
 
 -- what a write of a block leaves there
 pub wrote : (old new : Image) (at n : ℕ) (block : List ℕ) → at ≡ n → at < length old → new ≡ set old at block → block_at new n ≡ block
@@ -62,10 +59,6 @@ header_not_slot A i (inr is) = absurd (omega (arith, is))
 header_not_slot B i (inl is) = absurd (omega (arith, is))
 header_not_slot B i (inr is) = absurd (omega (arith, is))
 
-pub header_not_gate : (area : Area) (i : ℕ) → IsGateOf area i (header_at area) → ⊥
-header_not_gate A i (lt, is) = absurd (omega (arith, is))
-header_not_gate B i (lt, is) = absurd (omega (arith, is))
-
 -- one slot more
 pub first_more : (area : Area) (recs : List Rec) (i : ℕ) (rec : Rec) (old new : Image) → rec ≡ get_or recs i rec → HasFirst area recs i old → SameOutside (IsOfSlot area i) old new
     → block_at new (body_at area i) ≡ body_block rec → block_at new (slot_gate_at area i) ≡ open_gate → HasFirst area recs (i + 1) new
@@ -82,9 +75,6 @@ first_more area recs i rec old new item first same body gate = record {
     | inr other ↦ same.same (slot_gate_at area k) (gate_not_slot area i k other) ∙ first.gates k (omega (arith, lt, other))
   ];
 }
-
-pub first_none : (area : Area) (recs : List Rec) (image : Image) → HasFirst area recs 0 image
-first_none area recs image = record { bodies = λ k r lt here. absurd (omega (arith, lt)); gates = λ k lt. absurd (omega (arith, lt)) }
 
 pub first_all : (area : Area) (recs : List Rec) (i : ℕ) (image : Image) → length recs ≤ i → HasFirst area recs i image → HasFilled area recs image
 first_all area recs i image all first = record {

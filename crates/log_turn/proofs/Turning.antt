@@ -15,7 +15,7 @@ use Rattle.commit_log.specs.image_blocks.declared.areas.Area.{Area}
 use Rattle.commit_log.specs.image_blocks.declared.areas.Area.TheVariants.{A, B}
 use Rattle.log_turn.specs.Stages.{HasSlotGates, IsBehindGate, IsClosing, IsEitherGate, IsSwitching}
 use Rattle.log_turn.specs.Standing.{SameAreas}
-use Rattle.log_turn.proofs.Slots.{same_gate}
+use Rattle.commit_log.proofs.Through.{same_gate}
 
 -- HEADERS
 

@@ -13,7 +13,7 @@ use Rattle.kernel_cells.specs.hop_model.Changes.{carried_by, ordered}
 use Rattle.kernel_cells.specs.hop_model.Outcomes.{Outcome, finish, load, look_address, looked, looked_by, on_cell, outcome, own, own_reply, set_reg, store, with_other, with_word}
 use Rattle.kernel_cells.specs.hop_model.Refusals.{instr_at, reg}
 use Rattle.kernel_cells.specs.hop_model.State.{AtlasState, Cell as ModelCell, ContainerCell, ContainerState, KernelState, LocusCell, LocusState, Supply}
-use Rattle.kernel_cells.specs.hop_model.Steps.{accesses_of, if_running, outcome_in, running, seen_atlas, seen_other, step}
+use Rattle.kernel_cells.specs.hop_model.Steps.{accesses_of, if_running, outcome_in, running, seen_atlas, seen_other}
 use Rattle.kernel_cells.specs.hop_model.Words.{covers}
 use Rattle.address_resolve.specs.locus_machine.Loci.{container_with, locus_of}
 use Rattle.address_resolve.specs.locus_machine.declared.loci.Head.{Head}
@@ -30,7 +30,8 @@ use Rattle.kernel_cells.specs.Cells.{IsRunning, container_cell, part_of}
 use Rattle.kernel_cells.proofs.Stepping.{step_by}
 use Rattle.look_steps.specs.Looking.{ComesToWord, IsAnswerOfWord, LooksAtWord}
 use Rattle.look_steps.proofs.LookSteps.{look_touches}
-use Rattle.look_steps.proofs.Stored.{look_apart}
+use Rattle.std.proofs.lemmas.Option.{same_Some}
+use Rattle.address_resolve.proofs.Making.{look_apart}
 
 -- THE LOOK
 
@@ -89,9 +90,6 @@ on_any_fault (Err f) p = p
 
 -- THE STEP
 
-some_is : {A : Type 0} (x y : A) → Some x ≡ Some y → x ≡ y
-some_is x y e = cc
-
 module _ (c d : Cell) (l : Locus) (run : IsRunning c.part l) (wants : WantsBeside is_look (locus_of l) d.clock.entity)
     (comes : (s : Supply) (words : ℕ → List ℕ) (k : LocusState) → part_of s words c.part ≡ LocusCell k → ComesToWord k d.part) where
   -- the step of the locus makes the look
@@ -103,7 +101,7 @@ module _ (c d : Cell) (l : Locus) (run : IsRunning c.part l) (wants : WantsBesid
       let o = outcome_in s k act w in
       let cell : (w me).cell ≡ LocusCell k = hasc.part ∙ ap (part_of s words) run.is in
       let is : made ≡ carried_by w Step me (ordered (accesses_of me act o)) o.answer =
-      some_is made (carried_by w Step me (ordered (accesses_of me act o)) o.answer) (sym steps ∙ step_by s w me k act o (ordered (accesses_of me act o)) cell run.runs refl refl refl) in
+      same_Some made (carried_by w Step me (ordered (accesses_of me act o)) o.answer) (sym steps ∙ step_by s w me k act o (ordered (accesses_of me act o)) cell run.runs refl refl refl) in
       let actor : made.0.actor ≡ me = ap (λ (m : Entry × KernelState). m.0.actor) is in
       let answer : made.0.answer ≡ o.answer = ap (λ (m : Entry × KernelState). m.0.answer) is in
       let touches = look_touches me d.clock.entity k wants in

@@ -26,7 +26,8 @@ use Rattle.kernel_cells.specs.Cells.{HasCell, part_of}
 use Rattle.kernel_cells.specs.Steps.{Steps}
 use Rattle.kernel_cells.proofs.Stepping.{step_by, stepped_entry, written_cell}
 use Rattle.look_steps.specs.Looking.{MakesLook, is_stored, looking}
-use Rattle.look_steps.proofs.Stored.{TellsStores, Touches, look_apart}
+use Rattle.look_steps.proofs.Stored.{TellsStores, Touches}
+use Rattle.address_resolve.proofs.Making.{look_apart}
 
 -- WHAT IS TOUCHED
 

@@ -12,7 +12,7 @@ use Rattle.kernel_cells.specs.declared.cells.Part.TheVariants as part
 use Rattle.kernel_cells.specs.declared.cells.Storage.{Storage}
 use Rattle.look_steps.specs.Looking.{MakesLook, MakesSomehow, head_with, pages_of}
 
-same_locus : (k l : LocusState) → LocusCell k ≡ LocusCell l → k ≡ l
+pub same_locus : (k l : LocusState) → LocusCell k ≡ LocusCell l → k ≡ l
 same_locus k l e = cc
 
 -- a look at a container with this head

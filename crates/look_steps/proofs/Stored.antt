@@ -13,11 +13,11 @@ use Rattle.kernel_cells.specs.hop_model.State.{Supply, AtlasState, ContainerStat
 use Rattle.kernel_cells.specs.hop_model.Words.{covers}
 use Rattle.std.proofs.Common.{option_map}
 use Rattle.hop_base.specs.declared.instructions.Reply.TheVariants as replies
-use Rattle.address_resolve.specs.wanted_act.Views.{may_name_itself}
 use Rattle.address_resolve.specs.invocation.Entries.{WantsBeside}
 use Rattle.address_resolve.proofs.invocation_lemmas.Entered.{instr_is, made_by}
 use Rattle.address_resolve.specs.Looks.{is_look}
 use Rattle.look_steps.specs.Looking.{is_stored}
+use Rattle.address_resolve.proofs.Making.{look_apart}
 
 -- the outcome writes the other entity exactly where it is answered as a store is
 abbrev pub TellsStores : Outcome → Type 0
@@ -47,11 +47,6 @@ unfolding on_cell load store
 on_cell_tells s l a x (Load d r) c h = looked_tells l c _ 1 _ refl
 on_cell_tells s l a x (Store r v) c h = looked_tells l c _ 2 _ refl
 on_cell_tells s l a x i c h = cc
-
-pub look_apart : (i : Instr) → is_look i ≡ true → may_name_itself i ≡ false
-look_apart (Load d a) h = refl
-look_apart (Store a v) h = refl
-look_apart i h = cc
 
 -- of a look that is wanted
 pub look_tells : (s : Supply) (l : LocusState) (a : AtlasState) (x me : ℕ) (c : ContainerState) → WantsBeside is_look l x → TellsStores (outcome s l (wanted me l) a (ContainerCell c))

@@ -1,10 +1,10 @@
 -- The manager of a number is one of the managers, so its program is a manager's.
 use Rattle.std.proofs.Common.{◌≡◌, ℕ, ◌==◌, Bool, true, false, List, [], ◌∷◌, Option, Some, None, if◌then◌else◌, map, option_map, refl, sym, ◌∙◌, subst}
 use Rattle.std.specs.List.{find, position_or_len}
-use Rattle.std.proofs.lemmas.List.Elements.{All-get_or, All-weaker}
+use Rattle.std.proofs.lemmas.List.Elements.{All-get_or}
 use Rattle.std.proofs.lemmas.List.Folds.{find_at}
 use Rattle.std.proofs.lemmas.Option.{get_or_from_slice_get, slice_get_within}
-use Rattle.manager_form.specs.Managing.{AreManagerTables, IsManagerCode, IsManagerTable, ManagerTable}
+use Rattle.manager_form.specs.Managing.{IsManagerCode, ManagerTable}
 use Rattle.manager_code.specs.Answering.{CanAnswer, manager_named}
 
 pub map_of_map : {A B C : Type 0} (f : B → C) (g : A → B) (o : Option A) → option_map (λ x. f (g x)) o ≡ option_map f (option_map g o)
@@ -18,10 +18,6 @@ find_of_map test f (x ∷ xs) = by (find_of_map test f xs) (test (f x))
     by : find test (map f xs) ≡ option_map f (find (λ y. test (f y)) xs) → (b : Bool) → (if b then Some (f x) else find test (map f xs)) ≡ option_map f (if b then Some x else find (λ y. test (f y)) xs)
     by more true = refl
     by more false = more
-
--- the managers of a script can answer
-pub can_answer : (greatest : ℕ) (ms : List ManagerTable) → AreManagerTables greatest ms → CanAnswer ms
-can_answer greatest ms are = All-weaker (IsManagerTable greatest) (λ (m : ManagerTable). IsManagerCode m.code) (λ m is. is.code) ms are.each
 
 pub named_manages : (ms : List ManagerTable) (n : ℕ) (m : ManagerTable) → CanAnswer ms → Some m ≡ manager_named ms n
     → IsManagerCode m.code

@@ -12,7 +12,7 @@ use Rattle.image_meaning.specs.cut_laws.Agreeing.{nothing}
 use Rattle.image_meaning.specs.cut_laws.Records.{commit_of, commits_of}
 use Rattle.image_meaning.specs.image_blocks.Checks.{count_in}
 use Rattle.image_meaning.specs.image_blocks.Logs.{IsInRange}
-use Rattle.image_meaning.proofs.image_blocks_lemmas.Ranges.{ascending_law, in_range_law}
+use Rattle.image_meaning.proofs.image_blocks_lemmas.Ranges.{ascending_law, in_range_law, rec_or}
 use Rattle.image_meaning.specs.Meaning.{Accepted, Means, entity_of, state_of}
 use Rattle.image_meaning.specs.Parts.{AtlasPart, ContainerPart, IsFormed, LocusPart, Part, Spells, cell_of, chosen, chosen_by, cut_of, word_in, words_in}
 use Rattle.image_meaning.proofs.Finding.{passes, slot_of}
@@ -20,10 +20,6 @@ use Rattle.image_meaning.proofs.Sounding.{sound_parts, spelt_formed, spelt_taken
 use Rattle.meant_states.specs.Restoring.{MakeUpState}
 use Rattle.meant_states.specs.Versions.{AreCutVersions}
 use Rattle.sound_states.specs.States.{IsSoundState, IsSupplied}
-
-abbrev rec_or : Rec → Option Rec → Rec
-rec_or d None = d
-rec_or d (Some r) = r
 
 abbrev is_some : {A : Type 0} → Option A → Bool
 is_some None = false

@@ -25,9 +25,7 @@ use Rattle.image_parts.specs.part_checks.declared.chosen.ChosenPart.TheVariants 
 use Rattle.image_parts.specs.snapshot_reading.declared.containers.ContainerBlob.{ContainerBlob}
 use Rattle.opened_cells.specs.Opened.{HoldWords, IsChosenPart, memory_with}
 use Rattle.opened_cells.proofs.Numbers.{is_atlas, is_container}
-
-some_of : {A : Type 0} (x y : A) → Some x ≡ Some y → x ≡ y
-some_of x y is = cc
+use Rattle.std.proofs.lemmas.Option.{same_Some}
 
 -- THE TABLE of a container
 
@@ -78,8 +76,8 @@ module _ (x : ℕ) (c : ContainerBlob) (table : List ℕ) (formed : IsFormed x (
       state = λ s bytes words holds. ap (λ (w : ℕ → ℕ). ContainerCell (container_with w c.head)) (λ i address. word_is s bytes words holds address i);
       table = same_block;
       own = λ held h. (record { tag = refl; pages = refl }, begun_table m 256 refl held few_pages is.long none_past (held_table held h));
-      room = λ n same. ap (λ (k : PagedMemory). k.frames) (sym (some_of m n same));
-      clean = λ s words n same. subst (λ (k : PagedMemory). AreCleanTrue s words k) (some_of m n same) (begun_clean m 256 refl s words);
+      room = λ n same. ap (λ (k : PagedMemory). k.frames) (sym (same_Some m n same));
+      clean = λ s words n same. subst (λ (k : PagedMemory). AreCleanTrue s words k) (same_Some m n same) (begun_clean m 256 refl s words);
     }
 
 -- NOTHING IS CHOSEN
@@ -116,6 +114,6 @@ unborn_container frames x kind =
         begun_table m 256 refl held (omega arith) (length-replicate {A = ℕ} 256 0) (λ page high. zeros page)
             (record { held_blocks = λ page some. absurd (some (zeros page)); differ = λ p q some same. absurd (some (zeros p)) }),
       );
-      room = λ n same. ap (λ (k : PagedMemory). k.frames) (sym (some_of m n same));
-      clean = λ s words n same. subst (λ (k : PagedMemory). AreCleanTrue s words k) (some_of m n same) (begun_clean m 256 refl s words);
+      room = λ n same. ap (λ (k : PagedMemory). k.frames) (sym (same_Some m n same));
+      clean = λ s words n same. subst (λ (k : PagedMemory). AreCleanTrue s words k) (same_Some m n same) (begun_clean m 256 refl s words);
     }

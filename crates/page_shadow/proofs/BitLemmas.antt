@@ -29,10 +29,6 @@ writes_bit words block word bit within here others = record {
 pub bit_past : (words : List ℕ) (block : ℕ) → length words ≤ block / 64 → bit_of words block ≡ 0
 bit_past words block past = ap (λ w. bit_at w (block % 64)) (get_or_past words (block / 64) 0 past) ∙ bit_at-zero (block % 64)
 
--- the bits of a word that is 0 are clear
-pub bit_of_zero : (words : List ℕ) (block at : ℕ) → block / 64 ≡ at → get_or words at 0 ≡ 0 → bit_of words block ≡ 0
-bit_of_zero words block at is none = ap (λ w. bit_at w (block % 64)) (ap (λ i. get_or words i 0) is ∙ none) ∙ bit_at-zero (block % 64)
-
 -- the bit at a place of a word
 bit_of_at : (words : List ℕ) (at place : ℕ) → place < 64 → bit_of words (at * 64 + place) ≡ bit_at (get_or words at 0) place
 bit_of_at words at place within =
@@ -184,9 +180,6 @@ module _ (words : List ℕ) (first end free hint : ℕ) (sound : IsSound words f
     | inl on ↦ absurd (taken (free_set block on))
     | inr off ↦ omega (arith, bit_at-lt (get_or words (block / 64) 0) (block % 64))
   ]
-
-  pub few_free : free ≤ end - first
-  few_free = omega (arith, sound.counted, length-passing (is_set words) first (end - first))
 
 -- a pool with no bit set
 pub sound_none : (words : List ℕ) (first end : ℕ) → end < 2 ^ 32 → length words ≡ end / 64 + 1 → ((b : ℕ) → bit_of words b ≡ 0) → IsSound words first end 0 0

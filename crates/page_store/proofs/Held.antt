@@ -2,11 +2,10 @@
 use Rattle.std.proofs.Common.{◌≡◌, ◌≢◌, ℕ, suc, ◌+◌, ◌-◌, ◌<◌, true, false, not, cond, eqb, List, [], ◌∷◌, length, get_or, set, refl, sym, ap, ◌∙◌, inl, inr, count_by, zero-add, arith}
 use Rattle.std.proofs.lemmas.Bool.{cases_eq, cases_lt}
 use Rattle.std.proofs.lemmas.Bool.Decides.{nat_tests}
-use Rattle.std.proofs.lemmas.List.{get_or_default, get_or_past, get_or-set_same, get_or-set_other, length-set}
+use Rattle.std.proofs.lemmas.List.{get_or_default, get_or_past, get_or-set_same, get_or-set_other}
 use Rattle.std.proofs.lemmas.List.Sums.{sum_by-set, sum_by-cons}
-use Rattle.hop_model.specs.Words.{put}
 use Rattle.page_store.specs.declared.page.Page.{Page}
-use Rattle.page_store.specs.Memory.{no_page, place_at, block_at, is_held, words_at, is_free, AreWhole}
+use Rattle.page_store.specs.Memory.{no_page, place_at, block_at, is_held, is_free}
 
 -- the block with a number above 0
 at_place : (pages : List Page) (n : ℕ) → n ≢ 0 → block_at pages n ≡ place_at pages (n - 1)
@@ -40,20 +39,6 @@ module _ (pages : List Page) (block : ℕ) (page : Page) (above : 0 < block) (wi
         at_place (set pages (block - 1) page) other some ∙ get_or-set_other pages (block - 1) (other - 1) page no_page (λ e. apart (omega arith)) ∙ sym (at_place pages other some)
   ]
 
-  -- it is held as it says, and the others as before
-  pub held_put : is_held (set pages (block - 1) page) ≡ put (is_held pages) block page.held
-  held_put = λ i n. each n i
-    where
-      each : (n : ℕ) → is_held (set pages (block - 1) page) n ≡ put (is_held pages) block page.held n
-      each n = elim (cases_eq n block) [
-        | inl same ↦
-            let yes : eqb n block ≡ true = grind (arith, nat_tests) in
-            rw yes (ap (λ k. is_held (set pages (block - 1) page) k) same ∙ ap (λ (p : Page). p.held) block_same)
-        | inr apart ↦
-            let no : eqb n block ≡ false = grind (arith, nat_tests) in
-            rw no (ap (λ (p : Page). p.held) (block_other n apart))
-      ]
-
   -- where it is held as before, all are
   pub held_kept : page.held ≡ is_held pages block → is_held (set pages (block - 1) page) ≡ is_held pages
   held_kept same_mark = λ i n. each n i
@@ -63,22 +48,6 @@ module _ (pages : List Page) (block : ℕ) (page : Page) (above : 0 < block) (wi
         | inl same ↦ ap (is_held (set pages (block - 1) page)) same ∙ ap (λ (p : Page). p.held) block_same ∙ same_mark ∙ sym (ap (is_held pages) same)
         | inr apart ↦ ap (λ (p : Page). p.held) (block_other n apart)
       ]
-
-  pub words_other : (other : ℕ) → other ≢ block → words_at (set pages (block - 1) page) other ≡ words_at pages other
-  words_other other apart = ap (λ (p : Page). p.words) (block_other other apart)
-
-  pub words_kept : page.words ≡ words_at pages block → (other : ℕ) → words_at (set pages (block - 1) page) other ≡ words_at pages other
-  words_kept same_words other = elim (cases_eq other block) [
-    | inl same ↦ ap (words_at (set pages (block - 1) page)) same ∙ ap (λ (p : Page). p.words) block_same ∙ same_words ∙ sym (ap (words_at pages) same)
-    | inr apart ↦ words_other other apart
-  ]
-
-  pub whole_put : length page.words ≡ 128 → AreWhole pages → AreWhole (set pages (block - 1) page)
-  whole_put whole were = λ place inside. elim (cases_eq place (block - 1)) [
-    | inl same ↦ ap (λ k. length (place_at (set pages (block - 1) page) k).words) same ∙ ap (λ (p : Page). length p.words) (get_or-set_same pages (block - 1) page no_page within) ∙ whole
-    | inr apart ↦
-        ap (λ (p : Page). length p.words) (get_or-set_other pages (block - 1) place page no_page apart) ∙ were place (omega (arith, length-set pages (block - 1) page))
-  ]
 
   counted : Page → ℕ
   counted p = cond (is_free p) 1 0
@@ -90,20 +59,6 @@ module _ (pages : List Page) (block : ℕ) (page : Page) (above : 0 < block) (wi
   held_counts : (p : Page) → p.held ≡ true → counted p ≡ 0
   unfolding counted
   held_counts p held = ap (λ b. cond (not b) 1 0) held
-
-  free_counts : (p : Page) → p.held ≡ false → counted p ≡ 1
-  unfolding counted
-  free_counts p free = ap (λ b. cond (not b) 1 0) free
-
-  -- one fewer is free after a free block was taken
-  pub free_taken : (place_at pages (block - 1)).held ≡ false → page.held ≡ true → count_by is_free (set pages (block - 1) page) + 1 ≡ count_by is_free pages
-  free_taken was now = omega (arith, free_set, free_counts (place_at pages (block - 1)) was, held_counts page now)
-
-  -- one more after one was given back
-  pub free_given : is_held pages block ≡ true → page.held ≡ false → count_by is_free (set pages (block - 1) page) ≡ count_by is_free pages + 1
-  free_given was now =
-      let before : (place_at pages (block - 1)).held ≡ true = sym (ap (λ (p : Page). p.held) (at_place pages block (omega arith))) ∙ was in
-      omega (arith, free_set, held_counts (place_at pages (block - 1)) before, free_counts page now)
 
   -- as many where it is held as before
   pub free_kept : is_held pages block ≡ true → page.held ≡ true → count_by is_free (set pages (block - 1) page) ≡ count_by is_free pages

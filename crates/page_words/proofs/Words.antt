@@ -1,11 +1,8 @@
 -- Words in a block, one after the other.
-use Rattle.std.proofs.Common.{◌≡◌, ◌≢◌, ◌≤◌, ◌<◌, inl, inr, ℕ, ◌+◌, ◌*◌, ◌^◌, List, [], length, map, get_or, refl, sym, ap, subst, ◌∙◌, arith}
+use Rattle.std.proofs.Common.{◌≡◌, ◌≢◌, ◌<◌, inl, inr, ℕ, ◌+◌, ◌*◌, ◌^◌, List, get_or, sym, ap, subst, ◌∙◌, arith}
 use Rattle.std.proofs.lemmas.Bool.{cases_eq, cases_lt}
-use Rattle.std.proofs.lemmas.List.{ext_get_or, get_or-map, length-map}
-use Rattle.hop_base.specs.Edges.{upto}
 use Rattle.block_code.specs.Fields.{PutsNumber, number_at, with_number}
 use Rattle.block_code.proofs.FieldLaws.{number_at-with_number_apart, number_at-with_number_same}
-use Rattle.store_model.proofs.image_blocks_lemmas.Rest.{upto_get, upto_len}
 
 -- the word that was put is read back
 pub put_here : (place word : ℕ) (old new : List ℕ) → word < 2 ^ 64 → PutsNumber (8 * place) 8 word old new → number_at (8 * place) 8 new ≡ word
@@ -27,12 +24,3 @@ put_more words i old new before here others k lt = elim (cases_eq k i) as (λ _.
   | inl is ↦ subst (λ j. number_at (8 * j) 8 new ≡ get_or words j 0) (sym is) here
   | inr other ↦ others k other ∙ before k (omega (arith, lt, other))
 ]
-
--- a list that has these numbers
-pub all_numbers : (f : ℕ → ℕ) (xs : List ℕ) (n : ℕ) → length xs ≡ n → ((k : ℕ) → k < n → f k ≡ get_or xs k 0) → map f (upto n) ≡ xs
-all_numbers f xs n len each =
-    let many : length (map f (upto n)) ≡ n = length-map (upto n) f ∙ upto_len n in
-    ext_get_or 0 (map f (upto n)) xs (omega (arith, many, len)) (λ k lt.
-    let low : k < n = omega (arith, lt, many) in
-    let all = upto_len n in
-    get_or-map f (upto n) k 0 0 (omega (arith, low, all)) ∙ (ap f (upto_get n k low) ∙ each k low))

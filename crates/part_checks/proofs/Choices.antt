@@ -2,11 +2,12 @@
 use Rattle.std.proofs.Common.{◌≡◌, ℕ, zero, suc, ◌+◌, ◌<◌, ◌≤◌, Bool, true, false, ◌&&◌, List, [], ◌∷◌, Option, Some, None, length, get_or, refl, sym, ap, ◌∙◌, subst, ⊎_elim, arith}
 use Rattle.std.specs.Prelude.{IsTrue, is_some, not}
 use Rattle.std.proofs.lemmas.Bool.{cases_lt, false≢true}
-use Rattle.image_meaning.proofs.Fitting.{none_some, same_part}
+use Rattle.image_meaning.proofs.Fitting.{none_some}
 use Rattle.part_checks.specs.Fits.{AreFitBy, IsFirstUnfitBy, IsFitBy}
 use Rattle.image_meaning.specs.Parts.{Part}
 use Rattle.part_checks.specs.Chosen.{entity_at, part_in, part_of, parts_of}
 use Rattle.part_checks.specs.declared.chosen.ChosenEntity.{ChosenEntity}
+use Rattle.std.proofs.lemmas.Option.{same_Some}
 
 -- one that is read from the list is that of its number
 pub read_at : (es : List (Option ChosenEntity)) (x : ℕ) (o : Option ChosenEntity) → x < length es → o ≡ get_or es x o → entity_at es x ≡ o
@@ -35,12 +36,9 @@ chosen_there es x o named missing lt is born not_both tells =
 -- what is chosen where there is a part
 pub part_there : (o : Option ChosenEntity) (part : Part) → part_in o ≡ Some part → (e : ChosenEntity) × (o ≡ Some e) × (part_of e.part ≡ part)
 part_there None part is = none_some part is
-part_there (Some e) part is = (e, refl, same_part (part_of e.part) part is)
+part_there (Some e) part is = (e, refl, same_Some (part_of e.part) part is)
 
 -- THE FIRST THAT DOESN'T FIT
-
-pub some_entity : (e f : ChosenEntity) → Some e ≡ Some f → e ≡ f
-some_entity e f is = cc
 
 module _ (uses : List ℕ) (es : List (Option ChosenEntity)) where
   pub fit_more : (n : ℕ) (o : Option ChosenEntity) → n < length es → o ≡ get_or es n o → ((e : ChosenEntity) → o ≡ Some e → IsFitBy uses es n (part_of e.part))

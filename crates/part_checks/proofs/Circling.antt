@@ -6,7 +6,7 @@ use Rattle.std.specs.List.{list_all}
 use Rattle.std.proofs.lemmas.Bool.{false≢true, cases_eq, cases_lt}
 use Rattle.atlas_dir.specs.Reached.{is_marked}
 use Rattle.atlas_dir.proofs.Paths.{path_more, still_marked}
-use Rattle.atlas_reading.proofs.Pigeons.{pigeons}
+use Rattle.atlas_dir.proofs.Pigeons.{pigeons}
 use Rattle.circle_law.specs.Containers.{IsAmongContainers}
 use Rattle.hop_base.specs.Edges.{Edges, IsPath}
 use Rattle.image_meaning.specs.hop_model.Soundness.{HasNoCircle}

@@ -3,7 +3,7 @@ use Rattle.std.proofs.Common.{◌≡◌, ℕ, zero, suc, ◌+◌, ◌≤◌, Lis
 use Rattle.std.specs.Prelude.{Contains, slice_get, sum_by, cond, ◌==◌}
 use Rattle.std.proofs.lemmas.Bool.{cases_eq}
 use Rattle.std.proofs.lemmas.List.Sums.{sum_by-cons}
-use Rattle.std.proofs.lemmas.Option.{get_or_from_slice_get, slice_get-get_or, slice_get_within}
+use Rattle.std.proofs.lemmas.Option.{get_or_from_slice_get, same_Some, slice_get-get_or, slice_get_within}
 use Rattle.part_checks.specs.Chosen.{entity_at}
 use Rattle.part_checks.specs.Naming.{count_of, one_at}
 use Rattle.part_checks.specs.declared.chosen.ChosenEntity.{ChosenEntity}
@@ -14,24 +14,21 @@ use Rattle.part_checks.proofs.Uses.{one_other, one_same}
 count_cons : (n b : ℕ) (xs : List ℕ) → count_of (n ∷ xs) b ≡ one_at n b + count_of xs b
 count_cons n b xs = sum_by-cons (λ (m : ℕ). cond (m == b) 1 0) n xs
 
-some_same : (n b : ℕ) → Some n ≡ Some b → n ≡ b
-some_same n b e = cc
-
 pub counted : (xs : List ℕ) (k b : ℕ) → slice_get xs k ≡ Some b → 1 ≤ count_of xs b
 counted [] k b e = cc
-counted (n ∷ xs) zero b e = let one = one_same n b (some_same n b e) in let all = count_cons n b xs in omega (arith, one, all)
+counted (n ∷ xs) zero b e = let one = one_same n b (same_Some n b e) in let all = count_cons n b xs in omega (arith, one, all)
 counted (n ∷ xs) (suc k) b e = let more = counted xs k b e in let all = count_cons n b xs in omega (arith, more, all)
 
 pub twice : (xs : List ℕ) (p q b : ℕ) → slice_get xs p ≡ Some b → slice_get xs q ≡ Some b → (p ≡ q → ⊥) → 2 ≤ count_of xs b
 twice [] p q b e f apart = cc
 twice (n ∷ xs) zero zero b e f apart = absurd (apart refl)
 twice (n ∷ xs) zero (suc q) b e f apart =
-    let one = one_same n b (some_same n b e) in
+    let one = one_same n b (same_Some n b e) in
     let more = counted xs q b f in
     let all = count_cons n b xs in
     omega (arith, one, more, all)
 twice (n ∷ xs) (suc p) zero b e f apart =
-    let one = one_same n b (some_same n b f) in
+    let one = one_same n b (same_Some n b f) in
     let more = counted xs p b e in
     let all = count_cons n b xs in
     omega (arith, one, more, all)

@@ -6,7 +6,7 @@ use Rattle.std.specs.Option.{ForSome}
 use Rattle.std.proofs.lemmas.Bool.{cases_eq}
 use Rattle.std.proofs.lemmas.Bool.Decides.{nat_tests}
 use Rattle.std.proofs.lemmas.List.Sums.{AllPass-from_list_all, list_all-from_AllPass}
-use Rattle.std.proofs.lemmas.Option.{get_or_from_slice_get, slice_get-get_or, slice_get_within}
+use Rattle.std.proofs.lemmas.Option.{get_or_from_slice_get, same_Some, slice_get-get_or, slice_get_within}
 use Rattle.hop_base.specs.declared.records.Rec.{Rec}
 use Rattle.image_meaning.specs.image_blocks.Bodies.{blob_blocks}
 use Rattle.image_meaning.specs.image_blocks.Layout.{pool_at}
@@ -16,7 +16,6 @@ use Rattle.part_checks.specs.Chosen.{entity_at, part_in, part_of, parts_of, reco
 use Rattle.part_checks.specs.Fits.{AreFit, AreFitBy, IsFirstUnfit, IsFirstUnfitBy, IsFitBy}
 use Rattle.part_checks.specs.Naming.{AreUses, block_passes, count_of, names_in, names_of}
 use Rattle.part_checks.specs.declared.chosen.ChosenEntity.{ChosenEntity}
-use Rattle.image_meaning.proofs.Fitting.{same_part}
 use Rattle.part_checks.proofs.Choices.{part_there}
 use Rattle.part_checks.proofs.Counting.{contained, counted, counted_once, one_of, only_of, twice, two_of, uncounted}
 
@@ -39,9 +38,6 @@ NoBlob b o = ForSome o (λ r. Contains (blob_blocks r) b → ⊥)
 abbrev NoTable : ℕ → Option Part → Type 0
 NoTable b o = ForSome o (λ part. Contains (table_in part) b → ⊥)
 
-record_same : (r q : Rec) → Some r ≡ Some q → r ≡ q
-record_same r q e = cc
-
 no_record : (r : Rec) (o : Option Rec) → o ≡ None → o ≡ Some r → ⊥
 no_record r o e f = cc
 
@@ -50,12 +46,12 @@ no_part p o e f = cc
 
 no_blob : (b : ℕ) (e : ChosenEntity) → count_of (blob_blocks e.rec) b ≡ 0 → NoBlob b (Some e.rec)
 no_blob b e none r is has =
-    let some = contained (blob_blocks e.rec) b (subst (λ (q : Rec). Contains (blob_blocks q) b) (sym (record_same e.rec r is)) has) in
+    let some = contained (blob_blocks e.rec) b (subst (λ (q : Rec). Contains (blob_blocks q) b) (sym (same_Some e.rec r is)) has) in
     omega (arith, none, some)
 
 no_table : (b : ℕ) (e : ChosenEntity) → count_of (table_in (part_of e.part)) b ≡ 0 → NoTable b (Some (part_of e.part))
 no_table b e none p is has =
-    let some = contained (table_in (part_of e.part)) b (subst (λ (q : Part). Contains (table_in q) b) (sym (same_part (part_of e.part) p is)) has) in
+    let some = contained (table_in (part_of e.part)) b (subst (λ (q : Part). Contains (table_in q) b) (sym (same_Some (part_of e.part) p is)) has) in
     omega (arith, none, some)
 
 unnamed : (b : ℕ) (o : Option ChosenEntity) → names_in b o ≡ 0 → NoBlob b (record_in o) × NoTable b (part_in o)

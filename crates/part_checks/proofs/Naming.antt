@@ -1,8 +1,8 @@
 -- What tests of all elements of a list say of those who are named in it.
-use Rattle.std.proofs.Common.{◌≡◌, zero, suc, Bool, true, false, ◌&&◌, List, [], ◌∷◌, Option, Some, None, refl, sym, ap, subst, ◌∙◌}
+use Rattle.std.proofs.Common.{◌≡◌, zero, suc, Bool, true, ◌&&◌, List, [], ◌∷◌, Option, Some, None, refl, sym, ap, subst, ◌∙◌}
 use Rattle.std.specs.Prelude.{◌↔◌, IsTrue}
 use Rattle.std.specs.List.{list_all}
-use Rattle.std.proofs.lemmas.Bool.{false≢true}
+use Rattle.std.proofs.lemmas.Bool.{and_parts}
 use Rattle.std.proofs.lemmas.List.Sums.{AllPass-from_list_all, list_all-from_AllPass}
 use Rattle.std.proofs.lemmas.List.Elements.{All-weaker}
 use Rattle.hop_base.specs.declared.capabilities.Cap.{Cap}
@@ -15,10 +15,6 @@ use Rattle.image_meaning.specs.hop_model.State.{AtlasState, ContainerState, Locu
 use Rattle.image_meaning.specs.Fits.{IsTiedContainer, IsTiedLocus, NamesBorn}
 use Rattle.part_checks.specs.Ties.{IsTiedWalk, slot_born}
 
-pub both : (p q : Bool) → (p && q) ≡ true → (p ≡ true) × (q ≡ true)
-both true q e = (refl, e)
-both false q e = absurd (false≢true e)
-
 -- CAPABILITIES
 
 some_some : (c d : Cap) → Some (Some c) ≡ Some (Some d) → c ≡ d
@@ -29,10 +25,10 @@ none_some d n none e = cc
 
 names_born : (a : AtlasState) (caps : List (Option Cap)) → list_all (slot_born a) caps ≡ true → NamesBorn a caps
 names_born a [] e slot cap h = cc
-names_born a (c ∷ caps) e (suc slot) cap h = names_born a caps (both (slot_born a c) (list_all (slot_born a) caps) e).1 slot cap h
+names_born a (c ∷ caps) e (suc slot) cap h = names_born a caps (and_parts (slot_born a c) (list_all (slot_born a) caps) e).1 slot cap h
 names_born a (None ∷ caps) e zero cap h = absurd (none_some cap None refl h)
 names_born a (Some c ∷ caps) e zero cap h =
-    ap (λ (d : Cap). is_born a d.entity) (sym (some_some c cap h)) ∙ (both (is_born a c.entity) (list_all (slot_born a) caps) e).0
+    ap (λ (d : Cap). is_born a d.entity) (sym (some_some c cap h)) ∙ (and_parts (is_born a c.entity) (list_all (slot_born a) caps) e).0
 
 all_born : (a : AtlasState) (caps : List (Option Cap)) → NamesBorn a caps → list_all (slot_born a) caps ≡ true
 all_born a [] h = refl
@@ -47,7 +43,7 @@ named_all a caps = (names_born a caps, all_born a caps)
 pub tied_container : (a : AtlasState) (c : ContainerState) (named : Bool) → (IsTrue named ↔ NamesBorn a c.caps)
     → IsTrue (list_all (λ (r : Region). is_born_container a r.target) c.regions && named) ↔ IsTiedContainer a c
 tied_container a c named born = (
-  λ e. let parts = both (list_all (λ (r : Region). is_born_container a r.target) c.regions) named e in
+  λ e. let parts = and_parts (list_all (λ (r : Region). is_born_container a r.target) c.regions) named e in
       record { regions = AllPass-from_list_all (λ (r : Region). is_born_container a r.target) c.regions parts.0; caps = born.0 parts.1 },
   λ t. both_true (list_all (λ (r : Region). is_born_container a r.target) c.regions) named (list_all-from_AllPass (λ (r : Region). is_born_container a r.target) c.regions t.regions) (born.1 t.caps),
 )
@@ -61,16 +57,16 @@ is_private a p = is_born_container a p.made && is_born_container a p.region.targ
 tied_locus : (a : AtlasState) (l : LocusState) (named walking : Bool) → (IsTrue named ↔ NamesBorn a l.caps) → (IsTrue walking ↔ IsTiedWalk a l)
     → IsTrue (is_born_container a l.host && list_all (is_called a) l.chain && list_all (is_private a) l.privates && named && walking) ↔ IsTiedLocus a l
 tied_locus a l named walking born walks = (
-  λ e. let last = both (is_born_container a l.host && list_all (is_called a) l.chain && list_all (is_private a) l.privates && named) walking e in
-      let third = both (is_born_container a l.host && list_all (is_called a) l.chain && list_all (is_private a) l.privates) named last.0 in
-      let second = both (is_born_container a l.host && list_all (is_called a) l.chain) (list_all (is_private a) l.privates) third.0 in
-      let front = both (is_born_container a l.host) (list_all (is_called a) l.chain) second.0 in
+  λ e. let last = and_parts (is_born_container a l.host && list_all (is_called a) l.chain && list_all (is_private a) l.privates && named) walking e in
+      let third = and_parts (is_born_container a l.host && list_all (is_called a) l.chain && list_all (is_private a) l.privates) named last.0 in
+      let second = and_parts (is_born_container a l.host && list_all (is_called a) l.chain) (list_all (is_private a) l.privates) third.0 in
+      let front = and_parts (is_born_container a l.host) (list_all (is_called a) l.chain) second.0 in
       let walk = walks.0 last.1 in
       record {
         host = front.0;
         chain = AllPass-from_list_all (is_called a) l.chain front.1;
         privates = All-weaker (λ (p : Private). is_private a p ≡ true) (λ (p : Private). IsTrue (is_born_container a p.made) × IsTrue (is_born_container a p.region.target))
-            (λ p f. both (is_born_container a p.made) (is_born_container a p.region.target) f) l.privates (AllPass-from_list_all (is_private a) l.privates second.1);
+            (λ p f. and_parts (is_born_container a p.made) (is_born_container a p.region.target) f) l.privates (AllPass-from_list_all (is_private a) l.privates second.1);
         caps = born.0 third.1;
         walk = walk.at;
         looking = walk.looking;

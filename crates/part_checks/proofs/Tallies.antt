@@ -1,6 +1,6 @@
 -- Counts of the regions that show each entity.
 use Rattle.std.proofs.Common.{◌≡◌, ℕ, zero, suc, ◌+◌, ◌<◌, ◌≤◌, Bool, cond, ◌==◌, List, [], ◌∷◌, length, set, get_or, take, refl, sym, ap, ◌∙◌, ⊎_elim, arith, get_or-set_same, get_or-set_other, eq-eqb}
-use Rattle.std.specs.Prelude.{replicate, slice_index}
+use Rattle.std.specs.Prelude.{slice_index}
 use Rattle.std.proofs.lemmas.Bool.{cases_eq, cases_lt}
 use Rattle.std.proofs.lemmas.List.Sums.{sum_by_more}
 use borrow.Author.Tests.{ne_eqb}
@@ -8,11 +8,6 @@ use Rattle.circle_law.specs.Containers.{IsAmongContainers}
 use Rattle.hop_base.specs.Edges.{Edges}
 use Rattle.hop_base.specs.declared.capabilities.Region.{Region}
 use Rattle.part_checks.specs.Edges.{IsRow, IsTally, count_onto}
-
-pub zeros : (n y : ℕ) → slice_index (replicate n 0) y ≡ 0
-zeros zero y = refl
-zeros (suc n) zero = refl
-zeros (suc n) (suc y) = zeros n y
 
 -- past the end of a list of numbers there is 0
 pub past_end : (xs : List ℕ) (y : ℕ) → length xs ≤ y → slice_index xs y ≡ 0

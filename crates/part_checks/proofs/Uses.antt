@@ -7,13 +7,13 @@ use Rattle.std.proofs.Common.{length-set, take_all}
 use borrow.Author.Tests.{ne_eqb}
 use Rattle.std.proofs.Math.Seq.{take-append_seam}
 use Rattle.std.proofs.lemmas.Option.{get_or_from_slice_get, slice_get-get_or}
-use Rattle.part_checks.proofs.Tallies.{zeros}
 use Rattle.std.proofs.Common.{◌++◌}
 use Rattle.image_meaning.specs.image_blocks.Bodies.{blob_blocks}
 use Rattle.image_meaning.specs.Parts.{table_in}
 use Rattle.part_checks.specs.Chosen.{part_of}
 use Rattle.part_checks.specs.Naming.{AreUses, count_of, names_in, one_at}
 use Rattle.part_checks.specs.declared.chosen.ChosenEntity.{ChosenEntity}
+use Rattle.atlas_dir.proofs.Paths.{zeros}
 
 pub one_same : (n b : ℕ) → n ≡ b → one_at n b ≡ 1
 one_same n b e = ap (λ (t : Bool). if t then 1 else 0) (eq-eqb n b e)

@@ -6,11 +6,8 @@ ghost use Rattle.atlas_dir.specs.Directory.{edges_of};
 ghost use Rattle.image_meaning.specs.hop_model.Soundness.{HasNoCircle};
 ghost use Rattle.part_checks.specs.Circles.{IsLeaf, IsStuck, ShowsUnmarked};
 
-use atlas_dir::{Atlas, CONTAINERS};
+use atlas_dir::{Atlas, SIDE};
 use hop_base::Entity;
-
-/// One more than the greatest number of a container.
-const SIDE: usize = CONTAINERS + 1;
 
 // Whether the container shows regions of one that isn't marked.
 fn shows_unmarked(atlas: &Atlas, container: u8, marks: &[bool; SIDE]) -> bool

@@ -8,11 +8,8 @@ ghost use Rattle.part_checks.specs.Naming.{AreUses, block_passes, count_of, name
 
 use crate::chosen::{ChosenEntity, ChosenPart};
 use hop_base::Rec;
-use image_meaning::image_blocks::POOL_AT;
+use image_meaning::image_blocks::{BLOCK_BYTES, POOL_AT};
 use std::alloc::{AllocError, Global};
-
-/// The bytes of a block.
-const BLOCK: usize = 1024;
 
 // How often a block is named where it is named more than once.
 const MANY: u8 = 2;
@@ -40,7 +37,10 @@ pub(crate) fn table_of(part: &ChosenPart) -> &[u32]
 fn blob_of(rec: &Rec) -> &[u32]
     ensures { result.now ≡ blob_blocks rec.now }
 {
-    front_of(&rec.blocks, (rec.length as usize + BLOCK - 1) / BLOCK)
+    front_of(
+        &rec.blocks,
+        (rec.length as usize + BLOCK_BYTES - 1) / BLOCK_BYTES,
+    )
 }
 
 // Counts the block, if it is there, once more, up to many.

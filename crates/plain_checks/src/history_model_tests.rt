@@ -9,9 +9,8 @@ ghost use Rattle.plain_show.specs.history_model.Events.{AreFewVersions};
 ghost use Rattle.plain_show.specs.history_model.Plains.{cells_of};
 
 use hop_base::{Answer, Cap, Entity, Entry, Instr, Reply, Rights};
-use plain_show::history_model::{
-    Plain, PlainAtlas, container_named, number_among, plain_birth, plain_step,
-};
+use plain_run::plain_steps::plain_step;
+use plain_show::history_model::{Plain, PlainAtlas, container_named, number_among, plain_birth};
 use script_read::script_form::{Script, ScriptContainer, ScriptLocus};
 use std::alloc::{AllocError, Global};
 use std::process::Abort;

@@ -82,9 +82,6 @@ pub record AreCountedTo (f : Edges) (es : List Edge) (n : ℕ) : Type 0 where
   pub same : (c d : ℕ) → d < 41 → 41 * c + d < n → edges_of es c d ≡ f c d
   pub inside : 0 < n → IsAmongContainers f
 
-pub none_counted : (f : Edges) → AreCountedTo f [] 0
-none_counted f = record { before = tt; listed = record { ascending = tt; counts = All-nil (λ (e : Edge). 1 ≤ e.count) }; same = λ c d to lt. absurd (omega (arith, lt)); inside = λ some. absurd (omega (arith, some)) }
-
 module _ (f : Edges) (es : List Edge) (n a b : ℕ) (so_far : AreCountedTo f es n) (inside : IsAmongContainers f) (pair : 41 * a + b ≡ n) (to : b < 41) where
   pub counted_more : (count : ℕ) → 1 ≤ count → count ≡ f a b → AreCountedTo f (es ++ record { from = a; to = b; count = count } ∷ []) (n + 1)
   counted_more count some is =

@@ -32,9 +32,6 @@ at_last (z ∷ xs) y (suc i) x long is = at_last xs y i x (omega (arith, long)) 
 -- NAMES
 
 module _ (a : Directory) (first : ℕ) where
-  pub no_names : AreNames a first 0 []
-  no_names = record { long = refl; each = λ i name lt is. absurd (omega (arith, lt)) }
-
   -- one more
   pub names_more : (n : ℕ) (names : List (List ℕ)) (new : List ℕ) → AreNames a first n names → ((name : List ℕ) → name_of a (first + n) ≡ Some name → new ≡ name) → AreNames a first (n + 1) (names ++ new ∷ [])
   names_more n names new are here = record {
@@ -51,9 +48,6 @@ module _ (a : Directory) (first : ℕ) where
   }
 
 -- NUMBERS AND NAMES
-
-pub some_is : {X : Type 0} (x y : X) → Some x ≡ Some y → x ≡ y
-some_is x y is = cc
 
 pub none_is : {X Y : Type 0} (y : X) → None ≡ Some y → Y
 none_is y is = absurd (let e : None ≡ Some y = is in cc)

@@ -6,18 +6,13 @@ ghost use Rattle.history_model.specs.Plains.{atlas_of, edges_of};
 ghost use Rattle.kernel_calls.specs.Calls.{atlas_state};
 ghost use Rattle.plain_parts.specs.Names.{AreNames};
 
-use atlas_dir::Atlas;
+use atlas_dir::{Atlas, SIDE};
 use history_model::{Edge, PlainAtlas};
-use hop_base::{Entity, Kind};
+use hop_base::{Entity, FIRST_CONTAINER, FIRST_LOCUS, Kind};
 use std::alloc::{AllocError, Global};
 
-/// The number of the first container, and of the first locus.
-const FIRST_CONTAINER: u8 = 1;
-
-const FIRST_LOCUS: u8 = 41;
-
 /// A container's number is below it.
-const SIDE: u16 = 41;
+const ROW: u16 = SIDE as u16;
 
 // The names of so many entities, from a number on.
 fn names_from(alloc: Global, atlas: &Atlas, first: u8, many: u8) -> Result<Vec<String>, AllocError>
@@ -41,9 +36,9 @@ fn counted(alloc: Global, atlas: &Atlas) -> Result<Vec<Edge>, AllocError>
     ensures listed { IfOk result (λ edges. AreEdges edges.items) }
 {
     let mut edges = Vec::new(alloc);
-    for pair in 0..SIDE * SIDE {
-        let from = (pair / SIDE) as u8;
-        let to = (pair % SIDE) as u8;
+    for pair in 0..ROW * ROW {
+        let from = (pair / ROW) as u8;
+        let to = (pair % ROW) as u8;
         let count = atlas.count(Entity::of(from), Entity::of(to));
         if count > 0 {
             edges.push(Edge { from, to, count })?;

@@ -1,9 +1,9 @@
 -- What the parts of a call say, put together.
-use Rattle.std.proofs.Common.{◌≡◌, ℕ, zero, suc, ◌+◌, ◌-◌, ◌<◌, ◌≤◌, Bool, true, false, nat_lt, if◌then◌else◌, List, [], ◌∷◌, ◌++◌, length, map, get_or, Option, Some, None, IfSome, IfNone, is_some, Result, Ok, Err, IfOk, OnOk, OnErr, slice_get, slice_index, slice_set, string_bytes, refl, sym, ap, subst, ◌∙◌, arith}
+use Rattle.std.proofs.Common.{◌≡◌, ℕ, zero, suc, ◌+◌, ◌-◌, ◌<◌, ◌≤◌, Bool, true, false, nat_lt, List, [], ◌∷◌, ◌++◌, length, map, get_or, Option, Some, None, IfSome, IfNone, is_some, Result, Ok, Err, IfOk, OnOk, OnErr, slice_get, slice_index, slice_set, string_bytes, refl, sym, ap, subst, ◌∙◌, arith}
 use Rattle.std.proofs.lemmas.Bool.Decides.{nat_tests}
 use Rattle.std.proofs.lemmas.List.{length-map}
 use Rattle.hop_base.specs.declared.histories.Entry.{Entry}
-use Rattle.history_model.specs.hop_model.Scripts.{Script, place_of, text_eq}
+use Rattle.history_model.specs.hop_model.Scripts.{Script}
 use Rattle.history_model.specs.hop_model.Serial.{can_step, owed_stable}
 use Rattle.history_model.specs.hop_model.Soundness.{IsSound}
 use Rattle.history_model.specs.hop_model.State.{Supply, Text, AtlasState, Cell, KernelState}
@@ -15,15 +15,14 @@ use Rattle.history_model.specs.Plains.{atlas_of, cells_of, locus_cell}
 use Rattle.history_model.specs.declared.plain.Plain.{Plain}
 use Rattle.history_model.proofs.CellLemmas.{high_cell}
 use Rattle.history_model.proofs.PlainBirths.{sound_here}
-use Rattle.plain_run.specs.Fitting.{Fits}
 use Rattle.plain_run.specs.Looking.{AllIdle, Stills, Turns, ended, owed_after, wants_stable}
 use Rattle.plain_run.specs.Standing.{GoesOn, IsAt, IsBearing, IsLow, IsStanding, Keeps, Reaches, Stands, names_born, run_from, settled}
 use Rattle.plain_run.specs.declared.serial.Place.{Place}
 use Rattle.plain_run.specs.declared.serial.Place.TheVariants.{Births, Pick, Round}
 use Rattle.plain_run.specs.declared.serial.SerialRun.{SerialRun}
-use Rattle.plain_run.proofs.KnownNames.{some_none}
 use Rattle.plain_run.proofs.Placing.{bearing, stands}
 use Rattle.plain_run.proofs.Stepping.{reaches_stay, step_made}
+use Rattle.serial_turns.specs.fitting_births.Fitting.{Fits}
 
 -- RESULTS
 
@@ -76,17 +75,6 @@ pub few_names_of : (s : Supply) (p : Plain) → IsSound (cells_of s p) → HasFe
 few_names_of s p sound =
     let h = sound_here s p sound in
     record { containers = subst (λ n. n ≤ 40) (length-map p.atlas.containers.items string_bytes) h.names.few_containers; loci = subst (λ n. n ≤ 23) (length-map p.atlas.loci.items string_bytes) h.names.few_loci }
-
-pub place_low : (name : Text) (ts : List Text) (k n : ℕ) → place_of name ts k ≡ Some n → k ≤ n
-place_low name [] k n is = some_none n (sym is)
-place_low name (t ∷ ts) k n is =
-    elim (text_eq name t) as (λ b. (if b then Some k else place_of name ts (k + 1)) ≡ Some n → k ≤ n) [
-      | true ↦ λ e. let same : k ≡ n = one k n e in omega (arith, same)
-      | false ↦ λ e. let h = place_low name ts (k + 1) n e in omega (arith, h)
-    ] is
-  where
-    one : (a b : ℕ) → Some a ≡ Some b → a ≡ b
-    one a b e = cc
 
 -- LOOKS
 

@@ -14,17 +14,17 @@ use Rattle.history_model.specs.hop_model.State.{Supply, Text, AtlasState, Cell, 
 use Rattle.history_model.specs.hop_model.Steps.{atlas_in}
 use Rattle.history_model.specs.script_form.Rules.{IsScript}
 use Rattle.history_model.proofs.EmptyLemmas.{sound_empty}
-use Rattle.history_model.proofs.PlainSteps.{same_sound}
+use Rattle.plain_steps.proofs.PlainSteps.{same_sound}
 use Rattle.history_model.specs.Born.{AreEdges}
 use Rattle.history_model.specs.Plains.{atlas_of, cells_by, cells_of, edges_of}
 use Rattle.history_model.specs.declared.plain.Edge.{Edge}
 use Rattle.history_model.specs.declared.plain.Plain.{Plain}
-use Rattle.plain_run.specs.Fitting.{Fits}
 use Rattle.plain_run.specs.Plays.{IsPlay}
 use Rattle.plain_run.specs.Snaps.{HasNoSnapTables, code_of, has_no_snap}
 use Rattle.plain_run.specs.Standing.{CanBegin, Stands, settled}
 use Rattle.plain_run.specs.declared.serial.SerialRun.{SerialRun}
 use Rattle.plain_run.proofs.Placing.{zeros_at}
+use Rattle.serial_turns.specs.fitting_births.Fitting.{Fits}
 
 -- nothing but the atlas is born
 pub record IsEmpty (p : Plain) : Type 0 where

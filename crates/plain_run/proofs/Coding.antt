@@ -1,5 +1,5 @@
 -- Steps and births make no code of their own: each entity has the code that some entity or table had before, or none.
-use Rattle.std.proofs.Common.{◌≡◌, ℕ, ◌+◌, ◌-◌, ◌/◌, ◌<◌, Bool, true, false, ◌&&◌, if◌then◌else◌, ◌==◌, nat_lt, IsTrue, List, [], ◌∷◌, length, find, All, Option, Some, None, IfSome, option_map, unwrap_or, slice_get, refl, sym, ap, subst, ◌∙◌}
+use Rattle.std.proofs.Common.{◌≡◌, ℕ, ◌+◌, ◌/◌, Bool, true, false, if◌then◌else◌, ◌==◌, nat_lt, List, [], ◌∷◌, length, find, All, Option, Some, None, IfSome, unwrap_or, sym, subst, ◌∙◌}
 use Rattle.std.proofs.lemmas.List.Elements.{All-head, All-tail}
 use Rattle.hop_base.specs.declared.capabilities.Cap.{Cap}
 use Rattle.hop_base.specs.declared.capabilities.Region.{Region}
@@ -7,46 +7,28 @@ use Rattle.hop_base.specs.declared.histories.Answer.{Answer}
 use Rattle.hop_base.specs.declared.histories.Entry.{Entry}
 use Rattle.hop_base.specs.declared.histories.Event.TheVariants.{Step}
 use Rattle.hop_base.specs.declared.instructions.Call.{Call}
-use Rattle.hop_base.specs.declared.instructions.Condition.{Condition}
-use Rattle.hop_base.specs.declared.instructions.Condition.TheVariants.{Running, Stopped, Halted}
 use Rattle.hop_base.specs.declared.instructions.Instr.{Instr}
 use Rattle.hop_base.specs.declared.instructions.Instr.TheVariants.{Jz, Load, Store, Invoke, Leave, Return, Map, Unmap, Take, Give, Make, Spawn, Stop, Go}
 use Rattle.hop_base.specs.declared.instructions.Reply.{Reply}
 use Rattle.history_model.specs.hop_model.Acts.{Act, wanted}
 use Rattle.history_model.specs.hop_model.Births.{birth, code_in}
 use Rattle.history_model.specs.hop_model.Changes.{Access, Change, carried, changed, ordered}
-use Rattle.history_model.specs.hop_model.Outcomes.{Outcome, back, back_to, by_other, by_refused, code_for, free_container, free_locus, give, give_at, given_cap, invoke, invoke_at, leave, leave_at, load, local_act, look_address, look_hops, looked, looked_by, make, make_at, map_by, map_refusal, map_region, next, on_cell, outcome, own, own_reply, spawn, spawn_at, store, take_by, take_cap, through, unmap, unmap_at, with_newborn}
+use Rattle.history_model.specs.hop_model.Outcomes.{Outcome, back, back_to, by_other, by_refused, free_container, free_locus, give, give_at, given_cap, invoke, invoke_at, leave, leave_at, load, local_act, look_address, look_hops, looked, looked_by, make, make_at, map_by, map_refusal, map_region, next, on_cell, outcome, own, own_reply, spawn, spawn_at, store, take_by, take_cap, through, unmap, unmap_at, with_newborn}
 use Rattle.history_model.specs.hop_model.Refusals.{new_region, reg}
 use Rattle.history_model.specs.hop_model.Scripts.{ContainerTable, Script, container_named, container_table, text_eq}
 use Rattle.history_model.specs.hop_model.State.{Supply, Text, AtlasState, ContainerState, LocusState, Cell, NotBorn, AtlasCell, ContainerCell, LocusCell, KernelState}
-use Rattle.history_model.specs.hop_model.Steps.{accesses_of, change_of, if_running, numbered_change, outcome_in, running, seen_atlas, seen_other, step, step_change, with_atlas_access, with_newborn_access, with_other_access}
+use Rattle.history_model.specs.hop_model.Steps.{accesses_of, change_of, numbered_change, outcome_in, running, seen_atlas, seen_other, step, step_change, with_atlas_access, with_newborn_access, with_other_access}
 use Rattle.history_model.specs.hop_model.Words.{cap_at, covers, denied, free_slot, last_call}
 use Rattle.history_model.proofs.hop_model_lemmas.Basics.{some_of_map}
 use Rattle.history_model.proofs.hop_model_lemmas.Writes.{cell_with, changed_cell}
 use Rattle.history_model.proofs.ScriptLemmas.{named_container, named_locus}
 use Rattle.plain_run.specs.Snaps.{code_of}
-use Rattle.plain_run.proofs.Growing.{birth_named_made, container_change, locus_change}
-use Rattle.plain_run.proofs.KnownNames.{NextName, OfContainer, OfLocus, some_none}
+use Rattle.plain_run.proofs.Growing.{birth_named_made}
+use Rattle.history_model.proofs.hop_model_lemmas.StepTallies.{running_is}
+use Rattle.serial_turns.proofs.fitting_births_lemmas.Growing.{container_change, locus_change}
+use Rattle.serial_turns.proofs.fitting_births_lemmas.KnownNames.{NextName, OfContainer, OfLocus, some_none}
 
 -- RUNNING LOCI
-
--- a cell with a running locus is that locus's
-pub running_cell : (k : Cell) (st : LocusState) → running k ≡ Some st → k ≡ LocusCell st
-running_cell (LocusCell l) st h = by_condition l.condition h
-  where
-    by_condition : (c : Condition) → if_running l c ≡ Some st → LocusCell l ≡ LocusCell st
-    by_condition Running h = cc
-    by_condition Stopped h = absurd (apart h)
-      where
-        apart : None ≡ Some st → ⊥
-        apart e = cc
-    by_condition Halted h = absurd (apart h)
-      where
-        apart : None ≡ Some st → ⊥
-        apart e = cc
-running_cell NotBorn st h = cc
-running_cell (AtlasCell a) st h = cc
-running_cell (ContainerCell c) st h = cc
 
 -- code for which P holds; it holds for no code
 module _ (P : List Instr → Type 0) (none : P []) where
@@ -212,7 +194,7 @@ module _ (P : List Instr → Type 0) (none : P []) where
   step_coded s me w v e is old =
       let g = some_of_map (λ (c : ℕ × Change). carried w Step c.0 c.1) (step_change s me w) (e, v) is in
       let l = some_of_map (numbered_change s me w) (running (w me).cell) g.0 g.1 in
-      let here : P l.0.code = subst (λ (k : Cell). P (code_of k)) (running_cell (w me).cell l.0 l.1) (old me) in
+      let here : P l.0.code = subst (λ (k : Cell). P (code_of k)) (running_is (w me).cell l.0 l.1) (old me) in
       let all = subst (λ (c : ℕ × Change). AllCoded c.1.accesses) l.2 (change_coded s me w l.0 here old) in
       subst (λ (r : Entry × KernelState). (x : ℕ) → P (code_of (r.1 x).cell)) g.2 (changed_coded w g.0.1.accesses all old)
 

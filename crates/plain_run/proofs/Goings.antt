@@ -24,6 +24,7 @@ use Rattle.history_model.specs.Events.{Has, state_with}
 use Rattle.plain_run.specs.Looking.{is_stabilise, owed_after}
 use Rattle.plain_run.specs.Snaps.{is_no_snap}
 use Rattle.plain_run.specs.Standing.{IsLow, IsQuiet}
+use Rattle.std.proofs.lemmas.Bool.{false≢true}
 
 -- LISTS OF ENTRIES
 
@@ -109,15 +110,12 @@ state_is w cells versions h = λ i x. record { cell = h.cells x i; version = h.n
 
 -- NO SNAP, NO WISH
 
-not_snap : false ≡ true → ⊥
-not_snap e = cc
-
 pub asks_nothing : (answer : Answer) (i : Instr) (l : LocusState) → is_no_snap i ≡ true → asks answer i l ≡ None
 asks_nothing Quiet i l calm = refl
 asks_nothing Hop i l calm = refl
 asks_nothing (Read v) i l calm = refl
 asks_nothing (Printed v) i l calm = refl
-asks_nothing (Replied Ok) (Snap c) l calm = absurd (not_snap calm)
+asks_nothing (Replied Ok) (Snap c) l calm = absurd (false≢true calm)
 asks_nothing (Replied Ok) i l calm = refl
 asks_nothing (Replied r) i l calm = refl
 

@@ -1,17 +1,18 @@
 -- Names that are kept: what was known by them still is.
 use Rattle.std.proofs.Common.{◌≡◌, ℕ, ◌<◌, Bool, true, false, if◌then◌else◌, IsTrue, List, [], ◌∷◌, ◌++◌, length, get_or, Option, Some, None, is_some, is_none, refl, sym, ap, subst, ◌∙◌, append_assoc, append-nil}
 use Rattle.std.specs.List.{All, list_all}
-use Rattle.std.proofs.lemmas.List.Elements.{All-cons, All-head, All-nil, All-tail}
+use Rattle.std.proofs.lemmas.List.Elements.{All-cons, All-nil}
 use Rattle.history_model.specs.hop_model.Scripts.{ContainerTable, LocusTable, Script, container_named, locus_named, next_container_name, next_locus_name, next_name, number_of, place_of}
 use Rattle.history_model.specs.hop_model.Soundness.{is_given_name}
 use Rattle.history_model.specs.hop_model.State.{Text, AtlasState}
 use Rattle.history_model.specs.hop_model.Words.{or_else}
 use Rattle.history_model.specs.Lists.{IsFront, KeepsNames}
-use Rattle.history_model.proofs.sound_runs_lemmas.Found.{text_same}
-use Rattle.history_model.specs.script_form.Rules.{AreLocusTables, IsScript, container_names, is_among, locus_names}
-use Rattle.plain_run.specs.Fitting.{Fits}
-use Rattle.plain_run.proofs.Growing.{grown_known, not_atlas, place_more}
-use Rattle.plain_run.proofs.KnownNames.{is_named, loci_known, none_some, or_cases, some_none, true_false}
+use Rattle.history_model.specs.script_form.Rules.{IsScript, container_names, is_among, locus_names}
+use Rattle.serial_turns.specs.fitting_births.Fitting.{Fits}
+use Rattle.serial_turns.proofs.fitting_births_lemmas.Growing.{grown_known, place_more}
+use Rattle.serial_turns.proofs.fitting_births_lemmas.KnownNames.{is_named, loci_known, none_some, some_none, true_false}
+use Rattle.history_model.proofs.sound_runs_lemmas.Found.{not_atlas}
+use Rattle.serial_turns.proofs.Picks.{locus_of_kind}
 
 -- FRONTS
 
@@ -80,15 +81,6 @@ next_kept a b script f none =
 
 -- PICKS
 
--- a locus's name of the script is a given one, and no container's
-given_locus : (a : AtlasState) (containers earlier : List Text) (ts : List LocusTable) (x : Text) → AreLocusTables containers earlier ts → All (λ (t : LocusTable). container_named a t.name ≡ None) ts → IsTrue (is_among (locus_names ts) x)
-    → IsTrue (is_given_name x) × (container_named a x ≡ None)
-given_locus a containers earlier [] x h kinds among = true_false false among refl
-given_locus a containers earlier (t ∷ ts) x h kinds among =
-    or_cases (Rattle.history_model.specs.hop_model.Scripts.text_eq x t.name) (is_among (locus_names ts) x) among
-    (λ e. (subst (λ (n : Text). IsTrue (is_given_name n)) (sym (text_same x t.name e)) h.0.name, ap (container_named a) (text_same x t.name e) ∙ All-head (λ (t : LocusTable). container_named a t.name ≡ None) t ts kinds))
-    (λ e. given_locus a containers (t.name ∷ earlier) ts x h.1 (All-tail (λ (t : LocusTable). container_named a t.name ≡ None) t ts kinds) e)
-
 -- so, where it is known, it is a born locus's
 locus_known : (a : AtlasState) (x : Text) → IsTrue (is_given_name x) → container_named a x ≡ None → is_some (number_of a x) ≡ true → IsTrue (is_some (locus_named a x))
 locus_known a x given kind known = by_named (locus_named a x) refl
@@ -109,7 +101,7 @@ picks_born a script rules fits none =
     let h = both_none (next_container_name a script.containers) (next_locus_name a script.loci) none in
     all_of (is_among (locus_names script.loci)) (λ (name : Text). IsTrue (is_some (locus_named a name))) script.order
     (λ x among.
-    let given = given_locus a (container_names script.containers) [] script.loci x rules.loci fits.kinds.loci among in
+    let given = locus_of_kind a (container_names script.containers) [] script.loci x rules.loci fits.kinds.loci among in
     locus_known a x given.0 given.1 (loci_known a script.loci h.1 x among)) rules.order
 
 -- a pick that was born early has its number since then

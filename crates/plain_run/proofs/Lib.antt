@@ -10,9 +10,8 @@ pub mod Stepping
 pub mod Placing
 pub mod Answering
 pub mod Beginning
-pub mod Clashing
-pub mod Misfits
 pub mod ShortNames
 pub use Rattle.history_model.proofs as history_model_lemmas
 pub use Rattle.history_model.proofs.hop_model_lemmas
 pub use Rattle.history_model.proofs.sound_runs_lemmas
+pub use Rattle.serial_turns.proofs.fitting_births_lemmas

@@ -5,7 +5,7 @@ use Rattle.history_model.specs.hop_model.State.{AtlasState}
 use Rattle.history_model.specs.script_form.Scripts.{container_of, locus_of}
 use Rattle.history_model.specs.script_form.declared.ScriptContainer.{ScriptContainer}
 use Rattle.history_model.specs.script_form.declared.ScriptLocus.{ScriptLocus}
-use Rattle.plain_run.proofs.KnownNames.{true_false}
+use Rattle.serial_turns.proofs.fitting_births_lemmas.KnownNames.{true_false}
 
 none_is : {X : Type 0} (o : Option X) (b : Bool) → is_some o ≡ b → is_none o ≡ (if b then false else true)
 none_is None true e = true_false false e refl

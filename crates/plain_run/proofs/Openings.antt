@@ -15,11 +15,12 @@ use Rattle.history_model.specs.hop_model.Steps.{atlas_in}
 use Rattle.history_model.specs.Events.{Bears, Has}
 use Rattle.history_model.specs.Lists.{KeepsNames}
 use Rattle.history_model.specs.script_form.Rules.{IsScript}
-use Rattle.plain_run.specs.Fitting.{Fits}
 use Rattle.plain_run.specs.Snaps.{HasNoSnaps}
 use Rattle.plain_run.specs.Standing.{HasLooked, IsLow, IsQuiet, Reaches, opened_atlas, opening_from, run_from, settled}
 use Rattle.plain_run.proofs.Keeping.{keeps_itself, picks_born}
 use Rattle.plain_run.proofs.Goings.{acts_made, below-push, changed_rise, legal-push, may_stable, quiet_stable, run_after-append, state_is}
+use Rattle.serial_turns.specs.fitting_births.Fitting.{Fits}
+use Rattle.serial_turns.proofs.fitting_births_lemmas.Ends.{births_none}
 
 -- A STABLE
 
@@ -72,12 +73,6 @@ births_split s script (suc k) m r =
     ∙ ap (λ es. t ++ es) (births_split s script k m q)
     ∙ sym (append_assoc t b (births m s script (run_after s script q b)))
     ∙ ap (λ (v : Run). (t ++ b) ++ births m s script v) (sym (run_after-append s script r t b))
-
-pub births_none : (s : Supply) (script : Script) (m : ℕ) (r : Run) → births_owed script r ≡ false → births m s script r ≡ []
-births_none s script zero r born = refl
-births_none s script (suc m) r born =
-    let none : birth_turn s script r ≡ [] = ap (λ (b : Bool). if b then made_and_owed s script r (next_birth s script r.state) else []) born in
-    ap (λ es. es ++ births m s script (run_after s script r es)) none ∙ births_none s script m r born
 
 births_one : (s : Supply) (script : Script) (r : Run) → births 1 s script r ≡ birth_turn s script r
 births_one s script r = append-nil (birth_turn s script r)

@@ -19,7 +19,6 @@ use Rattle.history_model.specs.Lists.{KeepsNames}
 use Rattle.history_model.specs.Plains.{atlas_of, cells_of}
 use Rattle.history_model.specs.declared.plain.Plain.{Plain}
 use Rattle.history_model.proofs.PlainBirths.{sound_here}
-use Rattle.plain_run.specs.Fitting.{Fits}
 use Rattle.plain_run.specs.Looking.{IsReady, IsTurn, ended}
 use Rattle.plain_run.specs.Snaps.{HasNoSnaps, HasNoSnapTables, code_of, has_no_snap}
 use Rattle.plain_run.specs.Standing.{CanBegin, HasLooked, IsAt, IsBearing, IsInRound, IsLow, Reaches, Stands, names_born, opened_atlas, opening_from, run_from, settled}
@@ -27,11 +26,14 @@ use Rattle.plain_run.specs.declared.serial.Place.{Place}
 use Rattle.plain_run.specs.declared.serial.Place.TheVariants.{Births, Pick, Round}
 use Rattle.plain_run.specs.declared.serial.SerialRun.{SerialRun}
 use Rattle.plain_run.proofs.Goings.{run_after-append, state_is, turn_idle, turns-append}
-use Rattle.plain_run.proofs.Growing.{Grew, born_atlas, fits_after, one_more_name}
+use Rattle.plain_run.proofs.Growing.{born_atlas, one_more_name}
 use Rattle.plain_run.proofs.Coding.{birth_coded}
 use Rattle.plain_run.proofs.Keeping.{keeps_both, named_since}
-use Rattle.plain_run.proofs.KnownNames.{NextName, next_name_is, next_new}
 use Rattle.plain_run.proofs.Openings.{birth_made, births_more, births_split, opened, owed_then, reaches_stable, settled_born, settled_is, settled_state}
+use Rattle.serial_turns.specs.fitting_births.Fitting.{Fits}
+use Rattle.serial_turns.proofs.fitting_births_lemmas.Growing.{Grew, fits_after}
+use Rattle.serial_turns.proofs.fitting_births_lemmas.KnownNames.{NextName, next_name_is, next_new}
+use Rattle.serial_turns.proofs.Course.{picks-append, picked}
 
 -- NUMBERS OF LOCI
 
@@ -63,18 +65,6 @@ take_locus i h = take_more all_loci i 0 h ∙ ap (λ n. take i all_loci ++ n ∷
 pub rounds-suc : (n : ℕ) → rounds n ++ all_loci ≡ rounds (n + 1)
 rounds-suc zero = sym (append-nil all_loci) ∙ refl
 rounds-suc (suc n) = append_assoc all_loci (rounds n) all_loci ∙ ap (λ k. all_loci ++ k) (rounds-suc n) ∙ (let e : suc (n + 1) ≡ suc n + 1 = omega arith in ap rounds e)
-
-pub picks-append : (a : AtlasState) (xs ys : List Text) → picks_of a (xs ++ ys) ≡ picks_of a xs ++ picks_of a ys
-picks-append a [] ys = refl
-picks-append a (x ∷ xs) ys = by_name (locus_named a x) refl (picks-append a xs ys)
-  where
-    by_name : (o : Option ℕ) → locus_named a x ≡ o → picks_of a (xs ++ ys) ≡ picks_of a xs ++ picks_of a ys → picks_of a (x ∷ (xs ++ ys)) ≡ picks_of a (x ∷ xs) ++ picks_of a ys
-    by_name (Some l) is rest = rw is (ap (λ ls. l ∷ ls) rest)
-    by_name None is rest = rw is rest
-
-abbrev pub picked : Option ℕ → List ℕ
-picked None = []
-picked (Some l) = l ∷ []
 
 -- one pick more
 pub picks_more : (a : AtlasState) (names : List Text) (i : ℕ) (name : Text) (o : Option ℕ) → i < length names → get_or names i [] ≡ name → locus_named a name ≡ o → picks_of a (take (i + 1) names) ≡ picks_of a (take i names) ++ picked o

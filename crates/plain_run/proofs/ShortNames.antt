@@ -4,11 +4,11 @@ use Rattle.std.specs.List.{list_all}
 use Rattle.std.proofs.lemmas.Bool.Decides.{nat_tests}
 use Rattle.std.proofs.lemmas.Fmt.{length-decimal-le}
 use Rattle.std.proofs.lemmas.List.Elements.{All-cons}
-use Rattle.history_model.proofs.sound_runs_lemmas.Found.{text_same}
 use Rattle.history_model.specs.hop_model.Outcomes.{made_name}
 use Rattle.history_model.specs.hop_model.Scripts.{text_eq}
 use Rattle.history_model.specs.hop_model.Soundness.{IsSound, are_names_from, begins_with_letter, is_given_name, is_name_byte, is_name_of}
 use Rattle.history_model.specs.hop_model.State.{Text, AtlasState, Cell, AtlasCell}
+use Rattle.history_model.proofs.sound_steps_lemmas.MadeNames.{text_same}
 
 left_true : (a b : Bool) → IsTrue (a && b) → IsTrue a
 left_true true b h = refl

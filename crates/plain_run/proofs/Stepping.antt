@@ -21,10 +21,11 @@ use Rattle.history_model.specs.Lists.{KeepsNames}
 use Rattle.plain_run.specs.Looking.{is_stabilise, owed_after, wants_stable}
 use Rattle.plain_run.specs.Snaps.{HasNoSnaps, code_of, has_no_snap, is_no_snap}
 use Rattle.plain_run.specs.Standing.{IsLow, IsQuiet, Reaches, run_from, settled}
-use Rattle.plain_run.proofs.Coding.{running_cell, step_coded}
+use Rattle.plain_run.proofs.Coding.{step_coded}
 use Rattle.plain_run.proofs.Goings.{asks_nothing, below-push, goes_on_step, legal-push, may_step, state_is, step_rise, stepped, turn_step}
 use Rattle.plain_run.proofs.Keeping.{next_kept}
 use Rattle.plain_run.proofs.Openings.{run_more}
+use Rattle.history_model.proofs.hop_model_lemmas.StepTallies.{running_is}
 
 -- RUNNING LOCI
 
@@ -33,7 +34,7 @@ pub runs : (k : Cell) → (running k ≡ None → ⊥) → (st : LocusState) × 
 runs k busy = by_running (running k) refl
   where
     by_running : (o : Option LocusState) → running k ≡ o → (st : LocusState) × (running k ≡ Some st) × (k ≡ LocusCell st)
-    by_running (Some st) is = (st, is, running_cell k st is)
+    by_running (Some st) is = (st, is, running_is k st is)
     by_running None is = absurd (busy is)
 
 -- the instruction of a locus without snaps is none

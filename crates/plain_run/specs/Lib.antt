@@ -1,4 +1,3 @@
-pub mod Fitting
 pub mod Snaps
 pub mod Standing
 pub mod Looking
@@ -7,3 +6,4 @@ pub use Rattle.history_model.specs as history_model
 pub use Rattle.history_model.specs.hop_model
 pub use Rattle.history_model.specs.script_form
 pub use Rattle.history_model.specs.sound_runs
+pub use Rattle.serial_turns.specs.fitting_births

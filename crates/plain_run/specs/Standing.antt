@@ -15,11 +15,11 @@ use Rattle.history_model.specs.Lists.{KeepsNames}
 use Rattle.history_model.specs.Plains.{atlas_of, cells_of}
 use Rattle.history_model.specs.declared.plain.Plain.{Plain}
 use Rattle.history_model.specs.script_form.Rules.{IsScript}
-use Rattle.plain_run.specs.Fitting.{Fits}
 use Rattle.plain_run.specs.Snaps.{HasNoSnaps, HasNoSnapTables}
 use Rattle.plain_run.specs.declared.serial.Place.{Place}
 use Rattle.plain_run.specs.declared.serial.Place.TheVariants.{Births, Pick, Round}
 use Rattle.plain_run.specs.declared.serial.SerialRun.{SerialRun}
+use Rattle.serial_turns.specs.fitting_births.Fitting.{Fits}
 
 -- THE RUN
 

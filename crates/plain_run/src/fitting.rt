@@ -3,9 +3,10 @@ ghost use Rattle.std.specs.Prelude.{◌≡◌, ◌+◌, ◌≤◌, ◌++◌, OnO
 ghost use Rattle.history_model.specs.hop_model.Scripts.{container_named as container_number, locus_named as locus_number, number_of as number};
 ghost use Rattle.history_model.specs.Born.{HasFewNames};
 ghost use Rattle.history_model.specs.Plains.{atlas_of};
-ghost use Rattle.plain_run.specs.Fitting.{Fits, IsClash, IsMisfit, IsNoRoom, clash_key, container_clash as clash_of_containers, locus_clash as clash_of_loci, name_key as key_of_name, new_containers as new_of_containers, new_loci as new_of_loci, room_key};
 ghost use Rattle.history_model.specs.script_form.Scripts.{container_of, locus_of, tables_of};
 ghost use Rattle.history_model.specs.script_form.declared.refusals.Why.{Why as AWhy};
+ghost use Rattle.serial_turns.specs.fitting_births.Fitting.{Fits, new_containers as new_of_containers, new_loci as new_of_loci};
+ghost use Rattle.serial_turns.specs.fitting_births.Misfits.{IsClash, IsMisfit, IsNoRoom, clash_key, container_clash as clash_of_containers, locus_clash as clash_of_loci, name_key as key_of_name, room_key};
 
 use history_model::script_form::{Refusal, Script, ScriptContainer, ScriptFault, ScriptLocus, Why};
 use history_model::{PlainAtlas, container_named, number_among, number_of};

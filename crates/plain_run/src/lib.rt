@@ -12,5 +12,6 @@ pub use fitting::against;
 pub use history_model;
 pub use history_model::script_form;
 pub use names::next_name;
+pub use plain_steps;
 pub use plays::{Played, finish, play, replay};
 pub use serial::SerialRun;

@@ -10,8 +10,9 @@ ghost use Rattle.history_model.specs.script_form.Scripts.{tables_of};
 
 use crate::serial::{Place, SerialRun};
 use history_model::script_form::Script;
-use history_model::{PlainLocus, number_among, plain_step};
+use history_model::{PlainLocus, number_among};
 use hop_base::{Answer, Entity, Entry, FIRST_LOCUS, Instr, MOST_ENTITIES, Reply};
+use plain_steps::plain_step;
 use std::alloc::AllocError;
 
 /// Whether the next instruction of this locus is a stabilise.

@@ -6,12 +6,12 @@ ghost use Rattle.history_model.specs.hop_model.State.{Supply};
 ghost use Rattle.history_model.specs.Born.{AreEdges, HasFewNames};
 ghost use Rattle.history_model.specs.Events.{AreFewVersions, Bears, Stays};
 ghost use Rattle.history_model.specs.Plains.{atlas_of, cells_of};
-ghost use Rattle.plain_run.specs.Fitting.{Fits};
 ghost use Rattle.plain_run.specs.Standing.{GoesOn, IsLow, IsStanding, Keeps};
 ghost use Rattle.plain_run.specs.Looking.{IsPastBirths, ended};
 ghost use Rattle.plain_run.specs.declared.serial.Place.TheVariants.{Births as AtBirths};
 ghost use Rattle.history_model.specs.script_form.Rules.{IsScript};
 ghost use Rattle.history_model.specs.script_form.Scripts.{tables_of};
+ghost use Rattle.serial_turns.specs.fitting_births.Fitting.{Fits};
 
 use crate::names::next_name;
 use crate::serial::{Place, SerialRun};

@@ -12,7 +12,7 @@ use Rattle.history_model.specs.declared.plain.PlainLocus.{PlainLocus}
 use Rattle.history_model.proofs.CellLemmas.{high_cell}
 use Rattle.history_model.proofs.SoundLemmas.{sound_container, sound_here}
 use Rattle.plain_show.specs.Show.{cell_lines, container_lines, entity_lines, locus_lines}
-use Rattle.plain_show.proofs.Puts.{Puts-as}
+use Rattle.text_lines.proofs.Puts.{Puts-as}
 
 -- a container is there
 pub record HasContainer (s : Supply) (p : Plain) (i : ℕ) : Type 0 where

@@ -1,5 +1,5 @@
 -- Names and rights are short.
-use Rattle.std.proofs.Common.{◌≡◌, ℕ, zero, suc, ◌+◌, ◌-◌, ◌/◌, ◌%◌, ◌≤◌, ◌<◌, ◌==◌, ◌&&◌, ◌||◌, Bool, true, false, cond, if◌then◌else◌, codes, nat_le, nat_lt, List, [], ◌∷◌, length, slice_get, unwrap_or, refl, arith}
+use Rattle.std.proofs.Common.{◌≡◌, ℕ, zero, suc, ◌+◌, ◌-◌, ◌≤◌, ◌<◌, ◌==◌, ◌&&◌, ◌||◌, Bool, true, false, if◌then◌else◌, nat_le, nat_lt, List, [], ◌∷◌, length, slice_get, unwrap_or, refl, arith}
 use Rattle.std.specs.Prelude.{decimal}
 use Rattle.std.specs.List.{list_all}
 use Rattle.std.proofs.lemmas.Bool.{false≢true, leb-true}
@@ -12,25 +12,10 @@ use Rattle.history_model.specs.hop_model.State.{AtlasState, Supply, Text}
 use Rattle.history_model.specs.Plains.{atlas_of, cells_of}
 use Rattle.history_model.specs.declared.plain.Plain.{Plain}
 use Rattle.history_model.proofs.SoundLemmas.{sound_here}
-use Rattle.instr_set.specs.Spelling.{letters_of, rights}
 use Rattle.text_lines.specs.Lines.{HasShortNames, name_in}
+use Rattle.instr_set.proofs.Lines.{rights_len}
 
 -- RIGHTS
-
-letters_len : (letters : List ℕ) (set : ℕ) → length (letters_of letters set) ≤ length letters
-letters_len [] set = omega arith
-letters_len (l ∷ ls) set = by_bit (set % 2 == 1) (letters_len ls (set / 2))
-  where
-    by_bit : (b : Bool) → length (letters_of ls (set / 2)) ≤ length ls → length (cond b (l ∷ letters_of ls (set / 2)) (letters_of ls (set / 2))) ≤ length (l ∷ ls)
-    by_bit true rest = omega (arith, rest)
-    by_bit false rest = omega (arith, rest)
-
-pub rights_len : (set : ℕ) → length (rights set) ≤ 8
-rights_len set = by_none (set == 0)
-  where
-    by_none : (b : Bool) → length (if b then codes "-" else letters_of (codes "rwimcskt") set) ≤ 8
-    by_none true = omega arith
-    by_none false = letters_len (codes "rwimcskt") set
 
 -- for a line with rights
 pub ruleset short_rights = (rights_len)

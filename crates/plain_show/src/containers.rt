@@ -116,7 +116,7 @@ fn put_word_line<W: Sink, N: Names>(
 }
 
 /// Puts a line for each word that differs from the supplier's.
-#[tactic(auto, using(crate::proofs::Puts::pieces))]
+#[tactic(auto, using(text_lines::proofs::Puts::pieces))]
 fn put_words<W: Sink, N: Names, S: Fn(u64, u32, u16) -> u64>(
     sink: &mut W,
     names: &N,

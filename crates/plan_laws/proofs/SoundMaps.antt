@@ -1,5 +1,5 @@
 -- What a sound state says of a mapping.
-use Rattle.std.proofs.Common.{◌≡◌, ℕ, ◌<◌, true, false, ◌||◌, ◌==◌, count_by, List, sym, ap, ◌∙◌}
+use Rattle.std.proofs.Common.{◌≡◌, ℕ, ◌<◌, true, ◌||◌, ◌==◌, count_by, List, sym, ap, ◌∙◌}
 use Rattle.hop_base.specs.declared.instructions.Instr.{Instr}
 use Rattle.hop_base.specs.declared.instructions.Instr.TheVariants.{Map, Unmap}
 use Rattle.history_model.specs.hop_model.Refusals.{instr_at}
@@ -17,14 +17,12 @@ use Rattle.birth_steps.specs.kernel_cells.Cells.{part_of}
 use Rattle.step_plans.specs.map_steps.Mapping.{IsHeadPart, MayMap, WantsMapping}
 use Rattle.plan_laws.proofs.SoundParts.{born_part}
 use Rattle.plan_laws.proofs.SoundPlans.{beside_here, container_low}
-
-yes_no : true ≡ false → ⊥
-yes_no e = cc
+use Rattle.std.proofs.lemmas.Bool.{true≢false}
 
 mapping_apart : (i : Instr) → (is_map i || is_unmap i) ≡ true → may_name_itself i ≡ true → ⊥
-mapping_apart (Map d a c b n rights) maps names = yes_no (sym names)
-mapping_apart (Unmap d a) maps names = yes_no (sym names)
-mapping_apart i maps names = yes_no (sym maps)
+mapping_apart (Map d a c b n rights) maps names = true≢false (sym names)
+mapping_apart (Unmap d a) maps names = true≢false (sym names)
+mapping_apart i maps names = true≢false (sym maps)
 
 pub map_here : (s : Supply) (words : ℕ → List ℕ) (d : Directory) (cells : ℕ → Cell) (me x : ℕ) (l : LocusState) (i : Instr) (p : Part)
     → AreSound (atlas_state d) cells → cells me ≡ LocusCell l → WantsMapping l i x → part_of s words p ≡ cells x

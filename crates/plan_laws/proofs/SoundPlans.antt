@@ -21,9 +21,7 @@ use Rattle.birth_steps.specs.kernel_cells.declared.cells.Part.TheVariants as par
 use Rattle.birth_steps.specs.kernel_cells.Cells.{container_cell, part_of}
 use Rattle.step_plans.specs.beside_steps.Besides.{FitsBeside, WantsOther, calls_container, is_snap}
 use Rattle.step_plans.specs.Plans.{IsCallBeside}
-
-yes_no : true ≡ false → ⊥
-yes_no e = cc
+use Rattle.std.proofs.lemmas.Bool.{true≢false}
 
 -- THE LOCUS
 
@@ -88,9 +86,9 @@ module _ (a : AtlasState) (cells : ℕ → Cell) (me : ℕ) (l : LocusState) (h 
   -- LOOKS
 
   look_apart : (i : Instr) → is_look i ≡ true → may_name_itself i ≡ true → ⊥
-  look_apart (Load d k) looks names = yes_no (sym names)
-  look_apart (Store k v) looks names = yes_no (sym names)
-  look_apart i looks names = yes_no (sym looks)
+  look_apart (Load d k) looks names = true≢false (sym names)
+  look_apart (Store k v) looks names = true≢false (sym names)
+  look_apart i looks names = true≢false (sym looks)
 
   pub look_here : (x : ℕ) → WantsBeside is_look l x → (c : ContainerState) × (cells x ≡ ContainerCell c) × (0 < x) × (x < me)
   look_here x wants = by (beside_here (instr_at l) x refl wants.allowed wants.other)

@@ -12,7 +12,7 @@ use itoa::Buffer;
 use stream_edge::{Sink, SinkFault};
 
 /// A length that no printed line exceeds.
-const LINE: usize = 64;
+const PRINTED_LINE: usize = 64;
 
 // The name of the locus with this number; empty where it isn't born.
 fn name_of(atlas: &Atlas, locus: Entity) -> ArrayString<24>
@@ -31,7 +31,7 @@ fn name_of(atlas: &Atlas, locus: Entity) -> ArrayString<24>
 }
 
 // The line of one printed value.
-fn line_with(name: &ArrayString<24>, value: u64) -> ArrayString<LINE>
+fn line_with(name: &ArrayString<24>, value: u64) -> ArrayString<PRINTED_LINE>
     ensures { result.bytes ≡ printed_line name.now.bytes value }
 {
     let mut digits = Buffer::new();

@@ -23,9 +23,7 @@ use Rattle.cell_blobs.specs.Blobs.{HasFormedHead, IsFormed, spelt_in, spelt_locu
 use Rattle.record_laws.specs.Cells.{IsCleanIn, IsSettled, IsSoundIn, IsSpellable, table_of, words_on}
 use Rattle.record_laws.specs.Telling.{IsOnImage, IsRecordOf}
 use Rattle.record_laws.proofs.Settled.{front_block, settled}
-
-some_same : {X : Type 0} (x y : X) → Some x ≡ Some y → x ≡ y
-some_same x y e = cc
+use Rattle.std.proofs.lemmas.Option.{same_Some}
 
 pub no_blocks : (page : ℕ) → slice_index (replicate 256 0) page ≡ 0
 no_blocks page = elim (cases_lt page 256) as (λ _. slice_index (replicate 256 0) page ≡ 0) [
@@ -60,7 +58,7 @@ module _ (s : Supply) (image : Image) (held : ℕ → Bool) where
       → (container_cell s (words_on image) m o ≡ cell_of s (block_at image) p) × ((page : ℕ) → slice_index m.table page ≡ slice_index (table_in p) page)
   storage_tells m None p e formed sound clean unchanged = absurd (cc e)
   storage_tells m (Some h) p e formed sound clean unchanged =
-      let same = some_same _ p e in (
+      let same = same_Some _ p e in (
         container_told m h formed sound clean unchanged ∙ ap (cell_of s (block_at image)) same,
         λ page. container_named m h formed sound clean unchanged page ∙ ap (λ (x : Spelt). slice_index (table_in x) page) same,
       )
@@ -69,7 +67,7 @@ module _ (s : Supply) (image : Image) (held : ℕ → Bool) where
       → (locus_cell l ≡ cell_of s (block_at image) p) × ((page : ℕ) → slice_index (replicate 256 0) page ≡ slice_index (table_in p) page)
   locus_tells None p e = absurd (cc e)
   locus_tells (Some l) p e =
-      let same = some_same _ p e in
+      let same = same_Some _ p e in
       (ap (cell_of s (block_at image)) same, λ page. no_blocks page ∙ ap (λ (x : Spelt). slice_index (table_in x) page) same)
 
   none_apart : AreApart (replicate 256 0)
@@ -77,7 +75,7 @@ module _ (s : Supply) (image : Image) (held : ℕ → Bool) where
 
   part_tells : (q : Part) (p : Spelt) → spelt_in q ≡ Some p → IsFormed q → IsSoundIn held q → IsCleanIn s (words_on image) q → IsSettled q → Tells s image q p
   part_tells (part.Atlas a) p e formed sound clean settled =
-      let same = some_same _ p e in
+      let same = same_Some _ p e in
       record { cell = ap (cell_of s (block_at image)) same; named = λ page. no_blocks page ∙ ap (λ (x : Spelt). slice_index (table_in x) page) same; once = none_apart }
   part_tells (part.Container b) p e formed sound clean settled =
       let told = storage_tells b.memory b.head p e formed sound clean settled in
@@ -88,7 +86,7 @@ module _ (s : Supply) (image : Image) (held : ℕ → Bool) where
 
   spelling : (o : Option Spelt) (p : Spelt) (bytes : List ℕ) → o ≡ Some p → IfSome o (λ q. Spells q bytes) → Spells p bytes
   spelling None p bytes e spells = absurd (cc e)
-  spelling (Some q) p bytes e spells = subst (λ (x : Spelt). Spells x bytes) (some_same q p e) spells
+  spelling (Some q) p bytes e spells = subst (λ (x : Spelt). Spells x bytes) (same_Some q p e) spells
 
   -- THE LAW
   pub told : (w : KernelState) (c : Cell) (k : Kept) → HasCell s (words_on image) w c → IsSpellable c → IsOnImage s image held c → IsRecordOf image c k → TellsOf s w image (table_of c.part) k

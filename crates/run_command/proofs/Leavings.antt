@@ -15,7 +15,6 @@ use Rattle.script_source.specs.Sources.{HasRead, StopsSource}
 use Rattle.run_opening.specs.snapshot_store.State.{books}
 use Rattle.watched_disk.specs.Handing.{next_moment}
 use Rattle.watched_disk.specs.Watching.{HasGoneOn, Start, start_of}
-use Rattle.watched_disk.proofs.Going.{is_start}
 use Rattle.run_opening.specs.command_parts.Ends.{IsUnrun}
 use Rattle.run_opening.specs.command_parts.Seen.{Call, Gave, SeenDisk, SeenSink, seen_disk}
 use Rattle.run_opening.specs.command_parts.Statuses.{Ending, Stopped, Unput, Whole, Wrong, ending, status_by}
@@ -45,10 +44,6 @@ rose_later a b c ab bc rose below =
 
 module _ {D : Type 0} (tells : Type 0) (block_count : D → ℕ) (may_leave : D → Image → Type 0) (left_since : D → ℕ → Image → Type 0) (clock faults : D → ℕ)
     (counts_now : (disk : D) (t : ℕ) (c : Image) → tells → t ≤ clock disk → may_leave disk c → left_since disk t c) (old : D) where
-  -- a disk is handed in as it is
-  pub handed : IsHandedIn tells block_count may_leave left_since clock faults (start_of tells block_count may_leave left_since clock faults old) old
-  handed = record { is = is_start tells block_count may_leave left_since clock faults counts_now old; no_more = λ c may. may; no_earlier = λ t c left. left }
-
   -- and has gone on since it was
   pub goes_on : (s : Start) (new : D) → IsHandedIn tells block_count may_leave left_since clock faults s old → HasGoneOn tells block_count may_leave left_since clock faults s new
       → HasGoneOn tells block_count may_leave left_since clock faults (start_of tells block_count may_leave left_since clock faults old) new

@@ -14,8 +14,9 @@ use Rattle.sound_runs.specs.hop_model.Histories.{Policy, Run, event_of, has_chan
 use Rattle.sound_runs.proofs.hop_model_lemmas.Basics.{some_of_map}
 use Rattle.sound_runs.proofs.hop_model_lemmas.Covering.{found}
 use Rattle.sound_runs.proofs.hop_model_lemmas.LegalRuns.{event_of_local, event_of_stamped, next_legal}
-use Rattle.sound_runs.proofs.hop_model_lemmas.StableCuts.{IsKept, kept_goes_on, run_append}
+use Rattle.sound_runs.proofs.hop_model_lemmas.StableCuts.{IsKept, kept_goes_on, run_append, start_kept}
 use Rattle.run_cuts.specs.Cuts.{stable_commits}
+use Rattle.run_cuts.proofs.Reaching.{below_front}
 
 -- an entity has changed since its newest record
 pub record HasNews (newest : ℕ → ℕ) (w : KernelState) : Type 0 where
@@ -100,19 +101,12 @@ module _ (s : Supply) (policy : Policy) (script : Script) where
   both_after r [] kept owes legal low = (kept, owes)
   both_after r (e ∷ es) kept owes legal low = both_after (goes_on s script r e) es (kept_goes_on s policy script r e kept legal.0 low.0) (owes_goes_on r e kept legal.0 low.0 owes) legal.1 low.1
 
-  start_kept : (w : KernelState) → StampsBelow w → IsKept (start_run w)
-  start_kept w below = record { stamps = below; newest_low = λ x. omega arith; record_of = λ x. inr (inl refl); beyond = λ x h. refl }
-
   start_owes : (w : KernelState) → OwesNews (start_run w)
   start_owes w a owed short = (let none : None ≡ Some a = owed in cc)
 
   legal_last : (r : Run) (es : List Entry) (e : Entry) → IsLegalFrom s policy script r (es ++ e ∷ []) → IsLegalFrom s policy script r es × May s policy script (run_after s script r es) e
   legal_last r [] e legal = (tt, legal.0)
   legal_last r (f ∷ es) e legal = (let rest = legal_last (goes_on s script r f) es e legal.1 in ((legal.0, rest.0), rest.1))
-
-  below_front : (es fs : List Entry) → AllBelow64 (es ++ fs) → AllBelow64 es
-  below_front [] fs low = tt
-  below_front (e ∷ es) fs low = (low.0, below_front es fs low.1)
 
   may_stable : (r : Run) (e : Entry) → e.event ≡ Stable → May s policy script r e → (r.owed ≡ Some e.actor) × (r.short ≡ false)
   may_stable r e is m =
@@ -124,7 +118,7 @@ module _ (s : Supply) (policy : Policy) (script : Script) where
   stable_counts w fs e below low legal is =
       let r = run_after s script (start_run w) fs in
       let last = legal_last (start_run w) fs e legal in
-      let both = both_after (start_run w) fs (start_kept w below) (start_owes w) last.0 (below_front fs (e ∷ []) low) in
+      let both = both_after (start_run w) fs (start_kept s policy script w below) (start_owes w) last.0 (below_front s policy script fs (e ∷ []) low) in
       let may : (r.owed ≡ Some e.actor) × (r.short ≡ false) = may_stable r e is last.1 in
       let one = stable_some r (both.1 e.actor may.0 may.1) in
       let grown : (run_after s script (start_run w) (fs ++ e ∷ [])).commits ≡ r.commits ++ stable_commits r = ap (λ (r : Run). r.commits) (run_append s policy script (start_run w) fs (e ∷ [])) ∙ ap (λ ev. (went_on s script r e ev).commits) is in

@@ -19,16 +19,9 @@ use Rattle.sound_runs.proofs.hop_model_lemmas.CommitStamps.{AllCommits}
 use Rattle.sound_runs.proofs.hop_model_lemmas.LegalRuns.{event_of_local, event_of_stamped}
 use Rattle.sound_runs.proofs.hop_model_lemmas.StableCuts.{versions_rise, versions_rise_over, all_in}
 use Rattle.run_cuts.specs.Cuts.{IsCutState}
+use Rattle.sound_runs.proofs.run_laws_lemmas.Places.{part_append}
 
 -- PARTS OF LONGER HISTORIES
-
-part_append : (q : ℕ → ℕ) (fs gs : List Entry) → part_of q (fs ++ gs) ≡ part_of q fs ++ part_of q gs
-part_append q [] gs = refl
-part_append q (e ∷ fs) gs =
-    elim (within q e) as (λ b. cond b (e ∷ part_of q (fs ++ gs)) (part_of q (fs ++ gs)) ≡ cond b (e ∷ part_of q fs) (part_of q fs) ++ part_of q gs) [
-      | true ↦ ap (λ es. e ∷ es) (part_append q fs gs)
-      | false ↦ part_append q fs gs
-    ]
 
 module _ (act : Entry → KernelState → Option (Entry × KernelState)) where
   pub after_append : (fs gs : List Entry) (w : KernelState) → after act w (fs ++ gs) ≡ after act (after act w fs) gs

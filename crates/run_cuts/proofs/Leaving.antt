@@ -1,10 +1,9 @@
 -- What a stop leaves of a run, as entries are added to its history.
-use Rattle.std.proofs.Common.{◌≡◌, ℕ, zero, suc, ◌+◌, ◌≤◌, ◌<◌, true, false, cond, List, [], ◌∷◌, ◌++◌, count_by, length, take, slice_get, get_or, Some, refl, sym, ap, subst, ◌∙◌, arith, ◌⊎◌, inl, inr, length-append, append_assoc}
+use Rattle.std.proofs.Common.{◌≡◌, ℕ, ◌+◌, ◌≤◌, ◌<◌, true, false, cond, List, [], ◌∷◌, ◌++◌, count_by, length, take, slice_get, get_or, Some, refl, sym, ap, subst, ◌∙◌, arith, ◌⊎◌, inl, inr, length-append}
 use Rattle.std.proofs.Math.Seq.{take-length}
 use Rattle.std.proofs.lemmas.Bool.{cases_lt}
 use Rattle.std.proofs.lemmas.List.Sums.{sum_by-append, sum_by-cons}
-use Rattle.std.proofs.lemmas.Option.{slice_get-get_or, slice_get_within}
-use Rattle.std.proofs.lemmas.List.{append-nil}
+use Rattle.std.proofs.lemmas.Option.{slice_get-get_or}
 use Rattle.hop_base.specs.declared.histories.Entry.{Entry}
 use Rattle.hop_base.specs.declared.histories.Event.TheVariants.{Birth, Step, Snap as SnapEvent, Stable, Tried}
 use Rattle.sound_runs.specs.hop_model.State.{Supply, KernelState}
@@ -14,7 +13,7 @@ use Rattle.sound_runs.specs.hop_model.Vectors.{StampsBelow}
 use Rattle.sound_runs.specs.hop_model.Histories.{Policy, Run, event_of, commits_in, goes_on, went_on, start_run, run_after, AllBelow64}
 use Rattle.sound_runs.proofs.hop_model_lemmas.StableCuts.{commits_grow, run_append}
 use Rattle.run_cuts.specs.Cuts.{EndsTried, IsCutState, IsKeptRun, all_commits}
-use Rattle.run_cuts.specs.Left.{AckedWithin, IsFrontLeft, IsLeft, IsReached, IsStop, IsTryLeft}
+use Rattle.run_cuts.specs.Left.{AckedWithin, IsReached, IsStop}
 use Rattle.run_cuts.specs.Marks.{completes, is_completing}
 use Rattle.run_cuts.proofs.Reaching.{below_front, commits_first, cut_at_stable, cut_at_start, cut_at_try}
 
@@ -32,26 +31,19 @@ comparable {A = A} (x ∷ xs) (y ∷ ys) zs ws e =
       | inr d ↦ inr (d.0, (let t : xs ≡ ys ++ d.0 = d.1 in cc))
     ]
 
-count_append : (fs gs : List Entry) → count_by completes (fs ++ gs) ≡ count_by completes fs + count_by completes gs
+pub count_append : (fs gs : List Entry) → count_by completes (fs ++ gs) ≡ count_by completes fs + count_by completes gs
 count_append fs gs = sum_by-append (λ e. cond (completes e) 1 0) fs gs
 
-count_cons : (e : Entry) (es : List Entry) → count_by completes (e ∷ es) ≡ cond (completes e) 1 0 + count_by completes es
+pub count_cons : (e : Entry) (es : List Entry) → count_by completes (e ∷ es) ≡ cond (completes e) 1 0 + count_by completes es
 count_cons e es = sum_by-cons (λ e. cond (completes e) 1 0) e es
 
-none_of_none : (e : Entry) (es : List Entry) → count_by completes (e ∷ es) ≡ 0 → (completes e ≡ false) × (count_by completes es ≡ 0)
+pub none_of_none : (e : Entry) (es : List Entry) → count_by completes (e ∷ es) ≡ 0 → (completes e ≡ false) × (count_by completes es ≡ 0)
 none_of_none e es none =
     let sum = count_cons e es in
     elim (completes e) as (λ b. cond b 1 0 + count_by completes es ≡ 0 → (b ≡ false) × (count_by completes es ≡ 0)) [
       | true ↦ λ h. absurd (omega (arith, h))
       | false ↦ λ h. (refl, omega (arith, h))
     ] (sym sum ∙ none)
-
--- a list with one more item
-pub slice_get_more : (xs : List ℕ) (m i a : ℕ) → slice_get (xs ++ m ∷ []) i ≡ Some a → (slice_get xs i ≡ Some a) ⊎ ((i ≡ length xs) × (a ≡ m))
-slice_get_more [] m zero a e = inr (refl, cc)
-slice_get_more [] m (suc i) a e = cc
-slice_get_more (x ∷ xs) m zero a e = inl e
-slice_get_more (x ∷ xs) m (suc i) a e = elim (slice_get_more xs m i a e) as (λ _. (slice_get xs i ≡ Some a) ⊎ ((suc i ≡ suc (length xs)) × (a ≡ m))) [ inl h ↦ inl h | inr h ↦ inr (ap suc h.0, h.1) ]
 
 module _ (s : Supply) (policy : Policy) (script : Script) where
   -- entries that complete no records add none
@@ -142,69 +134,3 @@ module _ (s : Supply) (policy : Policy) (script : Script) where
         };
         cut = subst (λ cs. IsCutState s script w es cs (after (event_of s script) w es)) (sym (take-length cs)) (cut_at_try s policy script w es below low tried);
       }
-
-  pub left_of_front : {C : Type 0} (Means : C → KernelState → Type 0) (w : KernelState) (es : List Entry) (marks : List ℕ) (since t : ℕ) (c : C) → StampsBelow w → AllBelow64 es → IsKeptRun s policy script w es
-      → length marks ≡ count_by completes es → IsFrontLeft Means s script w es marks since t c → IsLeft Means s script w es marks since t c
-  left_of_front Means w es marks since t c below low kept long f = record {
-    state = after (event_of s script) w f.front;
-    reached = reached_at_stop w es f.front f.rest marks since t below low kept long f.split f.stop f.acked;
-    means = f.means;
-  }
-
-  pub left_of_try : {C : Type 0} (Means : C → KernelState → Type 0) (w : KernelState) (es : List Entry) (marks : List ℕ) (since t : ℕ) (c : C) → StampsBelow w → AllBelow64 es
-      → IsTryLeft Means s policy script w es c → IsLeft Means s script w es marks since t c
-  left_of_try Means w es marks since t c below low f = record {
-    state = after (event_of s script) w es;
-    reached = reached_at_try w es marks since t below low f.tried;
-    means = f.means;
-  }
-
-  -- AS ENTRIES ARE ADDED
-
-  -- nothing is acknowledged, and the image means the opened state
-  pub front_at_start : {C : Type 0} (Means : C → KernelState → Type 0) (w : KernelState) (es : List Entry) (since t : ℕ) (c : C) → Means c w → IsFrontLeft Means s script w es [] since t c
-  front_at_start Means w es since t c means = record { front = []; rest = es; split = refl; stop = inl refl; acked = λ i mark is early. cc; means = means }
-
-  -- an entry more, whatever it is
-  pub front_more : {C : Type 0} (Means : C → KernelState → Type 0) (w : KernelState) (es : List Entry) (e : Entry) (marks : List ℕ) (since t : ℕ) (c : C)
-      → IsFrontLeft Means s script w es marks since t c → IsFrontLeft Means s script w (es ++ e ∷ []) marks since t c
-  front_more Means w es e marks since t c f = record {
-    front = f.front;
-    rest = f.rest ++ e ∷ [];
-    split = ap (λ fs. fs ++ e ∷ []) f.split ∙ append_assoc f.front f.rest (e ∷ []);
-    stop = f.stop;
-    acked = f.acked;
-    means = f.means;
-  }
-
-  -- a Stable more, whose mark is after the moment
-  pub front_before : {C : Type 0} (Means : C → KernelState → Type 0) (w : KernelState) (es : List Entry) (e : Entry) (marks : List ℕ) (m since t : ℕ) (c : C) → t < since + m
-      → IsFrontLeft Means s script w es marks since t c → IsFrontLeft Means s script w (es ++ e ∷ []) (marks ++ m ∷ []) since t c
-  front_before Means w es e marks m since t c later f = record {
-    front = f.front;
-    rest = f.rest ++ e ∷ [];
-    split = ap (λ fs. fs ++ e ∷ []) f.split ∙ append_assoc f.front f.rest (e ∷ []);
-    stop = f.stop;
-    acked = λ i mark is early. elim (slice_get_more marks m i mark is) as (λ _. i < count_by completes f.front) [
-      | inl there ↦ f.acked i mark there early
-      | inr last ↦ (let e = last.1 in absurd (omega (arith, e, early, later)))
-    ];
-    means = f.means;
-  }
-
-  -- a Stable more, at which the image stands
-  pub front_at_stable : {C : Type 0} (Means : C → KernelState → Type 0) (w : KernelState) (es : List Entry) (e : Entry) (marks : List ℕ) (m since t : ℕ) (c : C) → e.event ≡ Stable → length marks ≡ count_by completes es
-      → Means c (after (event_of s script) w (es ++ e ∷ [])) → IsFrontLeft Means s script w (es ++ e ∷ []) (marks ++ m ∷ []) since t c
-  front_at_stable Means w es e marks m since t c stable long means = record {
-    front = es ++ e ∷ [];
-    rest = [];
-    split = sym (append-nil (es ++ e ∷ []));
-    stop = inr (record { front = es; last = e; stable = stable; is = refl });
-    acked = λ i mark is early. (
-        let inside = slice_get_within (marks ++ m ∷ []) i mark is in
-        let a : length (marks ++ m ∷ []) ≡ length marks + 1 = length-append marks (m ∷ []) in
-        let b = count_append es (e ∷ []) in
-        let one : count_by completes (e ∷ []) ≡ 1 = count_cons e [] ∙ ap (λ ev. cond (is_completing ev) 1 0 + 0) stable in
-        omega (arith, inside, a, b, one, long));
-    means = means;
-  }

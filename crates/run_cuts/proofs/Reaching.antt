@@ -11,9 +11,9 @@ use Rattle.sound_runs.specs.hop_model.Parts.{after_entry, after, IsPlayed}
 use Rattle.sound_runs.specs.hop_model.Vectors.{StampsBelow}
 use Rattle.sound_runs.specs.hop_model.Choices.{Commit, IsClosedChoice}
 use Rattle.sound_runs.specs.hop_model.Histories.{Policy, Run, event_of, commit_of, commits_of, commits_in, chosen_commits, May, mark, goes_on, went_on, IsLegalFrom, IsLegalRun, start_run, run_after, AllBelow64}
-use Rattle.sound_runs.proofs.hop_model_lemmas.CommitStamps.{AllCommits}
+use Rattle.sound_runs.proofs.hop_model_lemmas.CommitStamps.{AllCommits, all_append, all_map}
 use Rattle.sound_runs.proofs.hop_model_lemmas.LegalRuns.{event_of_local, event_of_stamped, next_legal, legal_played, state_after}
-use Rattle.sound_runs.proofs.hop_model_lemmas.StableCuts.{versions_rise, stable_closed, commits_grow, run_append}
+use Rattle.sound_runs.proofs.hop_model_lemmas.StableCuts.{commits_grow, legal_front, run_append, stable_closed, versions_rise}
 use Rattle.run_cuts.specs.Cuts.{EndsTried, IsCutState, IsKeptRun, all_commits, commits_with_uncertain, stable_commits, try_of, uncertain}
 use Rattle.run_cuts.proofs.Cutting.{ReachesTo, after_append, cut_state}
 
@@ -42,14 +42,6 @@ front_within (a ∷ xs) zs (b ∷ ys) z y e =
     (rest.0, (let r : ys ≡ xs ++ rest.0 = rest.1 in cc))
 
 -- COMMITS
-
-all_append : (P : Commit → Type 0) (cs ds : List Commit) → AllCommits P cs → AllCommits P ds → AllCommits P (cs ++ ds)
-all_append P [] ds a b = b
-all_append P (c ∷ cs) ds a b = (a.0, all_append P cs ds a.1 b)
-
-all_map : (P Q : Commit → Type 0) → ((c : Commit) → P c → Q c) → (cs : List Commit) → AllCommits P cs → AllCommits Q cs
-all_map P Q f [] a = tt
-all_map P Q f (c ∷ cs) a = (f c a.0, all_map P Q f cs a.1)
 
 -- no record is of a later version
 abbrev pub AreLow : KernelState → List Commit → Type 0
@@ -83,10 +75,6 @@ module _ (s : Supply) (policy : Policy) (script : Script) where
   low_after : (r : Run) (es : List Entry) → IsLegalFrom s policy script r es → AreLow r.state r.commits → AreLow (run_after s script r es).state (run_after s script r es).commits
   low_after r [] legal low = low
   low_after r (e ∷ es) legal low = low_after (goes_on s script r e) es legal.1 (low_goes_on r e legal.0 low)
-
-  pub legal_front : (r : Run) (es fs : List Entry) → IsLegalFrom s policy script r (es ++ fs) → IsLegalFrom s policy script r es
-  legal_front r [] fs legal = tt
-  legal_front r (e ∷ es) fs legal = (legal.0, legal_front (goes_on s script r e) es fs legal.1)
 
   legal_more : (r : Run) (es : List Entry) (e : Entry) → IsLegalFrom s policy script r es → May s policy script (run_after s script r es) e → IsLegalFrom s policy script r (es ++ e ∷ [])
   legal_more r [] e legal m = (m, tt)
@@ -171,7 +159,7 @@ module _ (s : Supply) (policy : Policy) (script : Script) where
   -- a front that ends with a Stable is legal
   pub front_legal : (w : KernelState) (es fs gs : List Entry) (e : Entry) → IsKeptRun s policy script w es → es ≡ (fs ++ e ∷ []) ++ gs → e.event ≡ Stable → IsLegalRun s policy w script (fs ++ e ∷ [])
   front_legal w es fs gs e kept is stable = elim kept as (λ _. IsLegalRun s policy w script (fs ++ e ∷ [])) [
-    | inl u ↦ legal_front (start_run w) (fs ++ e ∷ []) gs (subst (IsLegalRun s policy w script) is u.legal)
+    | inl u ↦ legal_front s policy script (start_run w) (fs ++ e ∷ []) gs (subst (IsLegalRun s policy w script) is u.legal)
     | inr t ↦ within t gs is
   ]
     where
@@ -183,7 +171,7 @@ module _ (s : Supply) (policy : Policy) (script : Script) where
           cc
       within t (g ∷ gs) is =
           let d = front_within (fs ++ e ∷ []) gs t.front g _ (sym is ∙ t.is) in
-          legal_front (start_run w) (fs ++ e ∷ []) d.0 (subst (IsLegalRun s policy w script) d.1 t.before.legal)
+          legal_front s policy script (start_run w) (fs ++ e ∷ []) d.0 (subst (IsLegalRun s policy w script) d.1 t.before.legal)
 
   -- the records of a front are the first of all
   pub commits_first : (w : KernelState) (es fs gs : List Entry) → es ≡ fs ++ gs → (ds : List Commit) × (all_commits s script w es ≡ commits_in s script w fs ++ ds)

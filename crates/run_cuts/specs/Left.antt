@@ -1,13 +1,11 @@
 -- What a stop at some moment of a run leaves: an image that means the cut of records which hold all that are acknowledged by then.
-use Rattle.std.specs.Prelude.{◌≡◌, ◌≤◌, ◌<◌, ◌+◌, ◌⊎◌, ℕ, List, [], ◌∷◌, ◌++◌, count_by, take, slice_get, Some}
+use Rattle.std.specs.Prelude.{◌≡◌, ◌≤◌, ◌<◌, ◌+◌, ◌⊎◌, ℕ, List, [], ◌∷◌, ◌++◌, take, slice_get, Some}
 use Rattle.hop_base.specs.declared.histories.Entry.{Entry}
 use Rattle.hop_base.specs.declared.histories.Event.TheVariants.{Stable}
 use Rattle.sound_runs.specs.hop_model.State.{Supply, KernelState}
 use Rattle.sound_runs.specs.hop_model.Scripts.{Script}
-use Rattle.sound_runs.specs.hop_model.Parts.{after}
-use Rattle.sound_runs.specs.hop_model.Histories.{Policy, event_of}
-use Rattle.run_cuts.specs.Cuts.{EndsTried, IsCutState, all_commits}
-use Rattle.run_cuts.specs.Marks.{Completed, completes}
+use Rattle.run_cuts.specs.Cuts.{IsCutState, all_commits}
+use Rattle.run_cuts.specs.Marks.{Completed}
 
 -- The state is that of the greatest closed choice of the first k records of the history, for a k for which they hold all that are
 -- acknowledged by the moment t.
@@ -38,17 +36,3 @@ IsStop es = (es ≡ []) ⊎ EndsStable es
 -- of the marks, only the first so many are acknowledged by the moment t
 abbrev pub AckedWithin : List ℕ → ℕ → ℕ → ℕ → Type 0
 AckedWithin marks since t count = (i mark : ℕ) → slice_get marks i ≡ Some mark → since + mark ≤ t → i < count
-
--- the image means the state after a front that stops at a Stable, no later one of which is acknowledged by the moment t
-pub record IsFrontLeft {C : Type 0} (Means : C → KernelState → Type 0) (s : Supply) (script : Script) (w : KernelState) (es : List Entry) (marks : List ℕ) (since t : ℕ) (c : C) : Type 0 where
-  pub front : List Entry
-  pub rest : List Entry
-  pub split : es ≡ front ++ rest
-  pub stop : IsStop front
-  pub acked : AckedWithin marks since t (count_by completes front)
-  pub means : Means c (after (event_of s script) w front)
-
--- the history ends with a try, and the image means the state at its end
-pub record IsTryLeft {C : Type 0} (Means : C → KernelState → Type 0) (s : Supply) (policy : Policy) (script : Script) (w : KernelState) (es : List Entry) (c : C) : Type 0 where
-  pub tried : EndsTried s policy script w es
-  pub means : Means c (after (event_of s script) w es)

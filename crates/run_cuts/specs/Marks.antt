@@ -7,6 +7,7 @@ use Rattle.sound_runs.specs.hop_model.State.{Supply, KernelState}
 use Rattle.sound_runs.specs.hop_model.Scripts.{Script}
 use Rattle.sound_runs.specs.hop_model.Histories.{commits_in}
 use Rattle.run_cuts.specs.Cuts.{all_commits}
+use Rattle.sound_runs.specs.run_laws.StepEntries.{is_step as is_step_event}
 
 abbrev pub is_completing : Event → Bool
 is_completing Snap = true
@@ -18,13 +19,6 @@ is_completing Tried = false
 -- the entry completes records for certain
 abbrev pub completes : Entry → Bool
 completes e = is_completing e.event
-
-abbrev pub is_step_event : Event → Bool
-is_step_event Step = true
-is_step_event Birth = false
-is_step_event Snap = false
-is_step_event Stable = false
-is_step_event Tried = false
 
 abbrev pub is_step : Entry → Bool
 is_step e = is_step_event e.event

@@ -10,12 +10,12 @@ use Rattle.cut_laws.specs.hop_model.State.{Supply, KernelState}
 use Rattle.cut_laws.specs.hop_model.Words.{put}
 use Rattle.cut_laws.specs.hop_model.Scripts.{Script}
 use Rattle.cut_laws.specs.hop_model.Vectors.{StampsBelow}
-use Rattle.cut_laws.specs.hop_model.Choices.{Commit, Among, IsBelow, IsClosedChoice, IsGreatest}
+use Rattle.cut_laws.specs.hop_model.Choices.{Commit, IsBelow, IsGreatest}
 use Rattle.cut_laws.specs.hop_model.Histories.{Policy, Run, may, May, is_full, goes_on, went_on, noting, after_snap, after_stable, version_of, commit_of, commits_of, commits_above, has_changed, next_changed, IsLegalFrom, IsLegalRun, start_run, run_after, AllBelow64}
-use Rattle.cut_laws.proofs.hop_model_lemmas.Among.{among_map, among_more, among_right}
-use Rattle.cut_laws.proofs.hop_model_lemmas.CommitStamps.{AllCommits}
+use Rattle.cut_laws.proofs.hop_model_lemmas.Among.{among_more, among_right}
+use Rattle.cut_laws.proofs.hop_model_lemmas.CommitStamps.{AllCommits, all_append, all_map}
 use Rattle.cut_laws.proofs.hop_model_lemmas.Lowering.{rising_cut}
-use Rattle.cut_laws.proofs.hop_model_lemmas.StableCuts.{IsKept, OnRecord, Stands, kept_goes_on}
+use Rattle.cut_laws.proofs.hop_model_lemmas.StableCuts.{IsKept, OnRecord, Stands, closed_now, commits_append, in_upto, kept_goes_on}
 use Rattle.run_laws.specs.Versions.{OnlyBelow64}
 use Rattle.run_laws.proofs.Cuts.{HasCut, cut_greatest, chosen_same, cut_goes_on, start_kept, start_has}
 
@@ -74,14 +74,6 @@ none_above (c ∷ cs) newest cut x all lt =
 
 -- COMMITS OF SOME ENTITIES
 
-commits_append : (r : Run) (f : ℕ → Bool) (xs ys : List ℕ) → commits_of r (filter f (xs ++ ys)) ≡ commits_of r (filter f xs) ++ commits_of r (filter f ys)
-commits_append r f [] ys = refl
-commits_append r f (x ∷ xs) ys =
-    elim (f x) as (λ b. commits_of r (cond b (x ∷ filter f (xs ++ ys)) (filter f (xs ++ ys))) ≡ commits_of r (cond b (x ∷ filter f xs) (filter f xs)) ++ commits_of r (filter f ys)) [
-      | true ↦ (λ i. commit_of r x ∷ commits_append r f xs ys i)
-      | false ↦ commits_append r f xs ys
-    ]
-
 pub record AreOne (n : ℕ) (f : ℕ → Bool) (x count : ℕ) : Type 0 where
   pub past : n ≤ x → count ≡ 0
   pub one : count ≤ 1
@@ -130,30 +122,6 @@ module _ (r : Run) (f : ℕ → Bool) (cut : ℕ → ℕ) (x : ℕ) where
 
 -- AFTER A STABLE EACH VERSION IS ON RECORD
 
-closed_now : (start : ℕ → ℕ) (cs : List Commit) (w : KernelState) → StampsBelow w
-    → ((x : ℕ) → ((w x).version ≡ start x) ⊎ Among cs (λ c. (c.entity ≡ x) × (c.version ≡ (w x).version) × (c.stamp ≡ (w x).stamp)))
-    → IsClosedChoice start cs (λ x. (w x).version)
-closed_now start cs w below h x =
-    elim (h x) as (λ _. ((w x).version ≡ start x) ⊎ Among cs (λ c. (c.entity ≡ x) × (c.version ≡ (w x).version) × IsBelow c.stamp (λ y. (w y).version))) [
-      | inl e ↦ inl e
-      | inr a ↦ inr (among_map cs _ _ (λ c k. (k.0, k.1, λ y. let f = ap (λ (s : ℕ → ℕ). s y) k.2 in let g = below x y in omega arith)) a)
-    ]
-
-pub in_upto : (x n : ℕ) → x < n → (f : ℕ → Bool) → f x ≡ true → (r : Run) → Among (commits_of r (filter f (upto n))) (Stands r x)
-in_upto x zero lt f h r = absurd (omega arith)
-in_upto x (suc n) lt f h r =
-    subst (λ (cs : List Commit). Among cs (Stands r x)) (sym (commits_append r f (upto n) (n ∷ [])))
-    (elim (cases_lt x n) as (λ _. Among (commits_of r (filter f (upto n)) ++ commits_of r (filter f (n ∷ []))) (Stands r x)) [
-      | inl low ↦ among_more _ _ _ (in_upto x n low f h r)
-      | inr high ↦
-          let e : n ≡ x = omega arith in
-          among_right (commits_of r (filter f (upto n))) (commits_of r (filter f (n ∷ []))) (Stands r x)
-          (elim (f n) as (λ b. f n ≡ b → Among (commits_of r (cond b (n ∷ []) [])) (Stands r x)) [
-            | true ↦ λ _. inl (e, ap (λ y. (r.state y).version) e, ap (λ y. (r.state y).stamp) e)
-            | false ↦ λ is. absurd (false≢true (sym is ∙ ap f e ∙ h))
-          ] refl)
-    ])
-
 record_more : (start : ℕ → ℕ) (cs ds : List Commit) (x : ℕ) (b : Rattle.cut_laws.specs.hop_model.State.EntityState) → OnRecord start cs x b → OnRecord start (cs ++ ds) x b
 record_more start cs ds x b h = elim h as (λ _. OnRecord start (cs ++ ds) x b) [ inl e ↦ inl e | inr a ↦ inr (among_more cs ds _ a) ]
 
@@ -178,14 +146,6 @@ pub record Few (r : Run) : Type 0 where
   pub four : r.short ≡ false → (x : ℕ) → commits_above r.commits r.cut x ≤ 4
   pub changed : (x : ℕ) → has_changed r x ≡ true → commits_above r.commits r.cut x ≤ 4
   pub low : AllCommits (λ c. c.version ≤ r.newest c.entity) r.commits
-
-pub all_append : (P : Commit → Type 0) (cs ds : List Commit) → AllCommits P cs → AllCommits P ds → AllCommits P (cs ++ ds)
-all_append P [] ds a b = b
-all_append P (c ∷ cs) ds a b = (a.0, all_append P cs ds a.1 b)
-
-all_map : (P Q : Commit → Type 0) → ((c : Commit) → P c → Q c) → (cs : List Commit) → AllCommits P cs → AllCommits Q cs
-all_map P Q f [] a = tt
-all_map P Q f (c ∷ cs) a = (f c a.0, all_map P Q f cs a.1)
 
 pub found_true : (f : ℕ → Bool) (xs : List ℕ) (x : ℕ) → find f xs ≡ Some x → f x ≡ true
 found_true f [] x e = cc

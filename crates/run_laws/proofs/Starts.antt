@@ -13,11 +13,10 @@ use Rattle.cut_laws.specs.hop_model.Fronts.{tried_commits}
 use Rattle.cut_laws.proofs.hop_model_lemmas.Among.{among_map, among_more}
 use Rattle.cut_laws.proofs.hop_model_lemmas.CommitStamps.{AllCommits, IsMadeIn, all_made}
 use Rattle.cut_laws.proofs.hop_model_lemmas.LegalRuns.{event_of_local, event_of_stamped, legal_played}
-use Rattle.cut_laws.proofs.hop_model_lemmas.StableCuts.{Stands, commits_grow, versions_rise_over}
+use Rattle.cut_laws.proofs.hop_model_lemmas.StableCuts.{Stands, commits_grow, in_upto, versions_rise_over}
 use Rattle.cut_laws.specs.Agreeing.{AreFromStart, HoldsStart}
 use Rattle.run_laws.specs.Versions.{OnlyBelow64}
 use Rattle.run_laws.proofs.Cuts.{chosen_same}
-use Rattle.run_laws.proofs.Few.{in_upto}
 use Rattle.run_laws.proofs.Places.{played_front}
 
 module _ (s : Supply) (policy : Policy) (script : Script) where

@@ -16,23 +16,14 @@ use Rattle.kernel_opening.specs.cell_table.Tables.{state_in}
 use Rattle.kernel_opening.specs.record_laws.Cells.{words_on}
 use Rattle.kernel_opening.specs.table_births.Births.{atlas_state_in}
 use Rattle.kernel_opening.proofs.table_births_lemmas.AtlasStates.{same_atlas}
-use Rattle.kernel_opening.specs.script_against.Misfits.{IsMisfit}
-use Rattle.command_parts.specs.script_form.declared.refusals.ScriptFault.{ScriptFault}
-use Rattle.command_parts.specs.script_form.declared.refusals.ScriptFault.TheVariants as script_fault
 use Rattle.kernel_opening.specs.snapshot_store.declared.opening.OpenWhy.{OpenWhy}
 use Rattle.kernel_opening.specs.snapshot_store.declared.opening.OpenWhy.TheVariants as why
-use Rattle.command_parts.specs.Faults.{fault_of_script}
 use Rattle.command_parts.specs.Seen.{SeenDisk, seen_disk}
 use Rattle.command_parts.specs.declared.faults.Fault.{Fault}
 use Rattle.command_parts.specs.declared.faults.Fault.TheVariants as fault
 use Rattle.run_opening.specs.Openings.{HasFailedSync, IsKeptImage, KeepsMeaning}
 use Rattle.run_opening.specs.Ready.{IsFitFault, IsUnopened, RefusesFor, StopsOpening, fault_of_opening}
 use Rattle.run_opening.proofs.Kept.{keeps_meaning, stays_as_read}
-
--- why a script doesn't fit
-pub fit_fault : (a : AtlasState) (script : Tables) (f : ScriptFault) → IsMisfit a script f → IsFitFault a script (fault_of_script f)
-fit_fault a script (script_fault.Refused refusal) (first, unfit) = record { first = first; unfit = unfit }
-fit_fault a script script_fault.Memory misfit = tt
 
 module _ {D : Type 0} (tells : Type 0) (block_count : D → ℕ) (reading : D → Image) (may_leave : D → Image → Type 0) (left_since : D → ℕ → Image → Type 0) (clock faults : D → ℕ)
     (counts_now : (disk : D) (t : ℕ) (c : Image) → tells → t ≤ clock disk → may_leave disk c → left_since disk t c) (script : Tables) (old new : D) where

@@ -1,6 +1,6 @@
 -- The versions of an entity's commits strictly ascend.
-use Rattle.std.proofs.Common.{◌≡◌, ℕ, zero, suc, ◌-◌, ◌≤◌, ◌<◌, Bool, true, false, ◌&&◌, ◌||◌, ◌==◌, nat_lt, cond, if◌then◌else◌, List, [], ◌∷◌, ◌++◌, filter, option_to_list, None, ◌⊎◌, inl, inr, refl, sym, ap, subst, ◌∙◌, arith, eq-eqb, eqb-true}
-use Rattle.std.proofs.lemmas.Bool.{false≢true, ltb-true}
+use Rattle.std.proofs.Common.{◌≡◌, ℕ, zero, suc, ◌-◌, ◌≤◌, ◌<◌, Bool, true, false, ◌&&◌, ◌==◌, nat_lt, cond, if◌then◌else◌, List, [], ◌∷◌, ◌++◌, filter, option_to_list, None, inl, inr, refl, sym, ap, subst, ◌∙◌, arith, eq-eqb, eqb-true}
+use Rattle.std.proofs.lemmas.Bool.{false≢true, ltb-true, or_cases}
 use Rattle.std.proofs.lemmas.List.{append-nil}
 use Rattle.std.proofs.lemmas.List.Elements.{filter-append}
 use Rattle.hop_base.specs.Edges.{upto}
@@ -12,11 +12,12 @@ use Rattle.run_laws.specs.hop_model.Choices.{Commit}
 use Rattle.run_laws.specs.hop_model.Words.{put}
 use Rattle.run_laws.specs.hop_model.Fronts.{tried_commits}
 use Rattle.run_laws.specs.hop_model.Histories.{Policy, Run, IsLegalFrom, IsLegalRun, May, MayCommit, commit_of, commits_of, every_of, goes_on, has_changed, may, run_after, start_run, version_of, went_on}
-use Rattle.run_laws.proofs.hop_model_lemmas.CommitStamps.{AllCommits}
+use Rattle.run_laws.proofs.hop_model_lemmas.CommitStamps.{AllCommits, all_append, all_map}
 use Rattle.run_laws.proofs.Cuts.{chosen_same}
-use Rattle.run_laws.proofs.Few.{all_append, found_true}
+use Rattle.run_laws.proofs.Few.{found_true}
 use Rattle.run_rules.specs.Records.{AreAbove, AreAscending}
 use Rattle.run_rules.proofs.Fresh.{IsFresh, fresh_next, fresh_start}
+use Rattle.run_laws.proofs.hop_model_lemmas.Basics.{and_left}
 
 -- LISTS
 
@@ -27,10 +28,6 @@ above_append c (d ∷ ds) es a b = (a.0, above_append c ds es a.1 b)
 ascending_append : (cs ds : List Commit) → AreAscending cs → AreAscending ds → AllCommits (λ c. AreAbove c ds) cs → AreAscending (cs ++ ds)
 ascending_append [] ds a b all = b
 ascending_append (c ∷ cs) ds a b all = (above_append c cs ds a.0 all.0, ascending_append cs ds a.1 b all.1)
-
-all_map : (P Q : Commit → Type 0) → ((c : Commit) → P c → Q c) → (cs : List Commit) → AllCommits P cs → AllCommits Q cs
-all_map P Q f [] a = tt
-all_map P Q f (c ∷ cs) a = (f c a.0, all_map P Q f cs a.1)
 
 module _ (r : Run) where
   commits_append : (xs ys : List ℕ) → commits_of r (xs ++ ys) ≡ commits_of r xs ++ commits_of r ys
@@ -96,19 +93,11 @@ pub record IsAscendingRun (r : Run) : Type 0 where
 with_changed : (r : Run) → IsAscendingRun r → (xs : List ℕ) → AllChanged r xs → AreAscending (commits_of r xs) → AreAscending (r.commits ++ commits_of r xs)
 with_changed r k xs changed ascending = ascending_append r.commits (commits_of r xs) k.ascending ascending (all_map _ _ (λ c low. changed_above r c low xs changed) r.commits k.low)
 
-or_cases : (a b : Bool) → (a || b) ≡ true → (a ≡ true) ⊎ (b ≡ true)
-or_cases true b h = inl refl
-or_cases false b h = inr h
-
-and_first : (a b : Bool) → (a && b) ≡ true → a ≡ true
-and_first true b h = refl
-and_first false b h = h
-
 -- what may be committed has changed
 commit_changed : (policy : Policy) (r : Run) (x : ℕ) → IsFresh r → MayCommit policy r x → r.newest x < version_of r x
 commit_changed policy r x fresh m = elim m as (λ _. r.newest x < version_of r x) [
   | inl c ↦ elim (or_cases (r.by_step x && policy (every_of (r.state x).cell) (version_of r x - r.newest x)) (r.asked x) c.0) as (λ _. r.newest x < version_of r x) [
-    | inl h ↦ fresh.by_step x (and_first (r.by_step x) _ h)
+    | inl h ↦ fresh.by_step x (and_left (r.by_step x) _ h)
     | inr h ↦ fresh.asked x h
   ]
   | inr c ↦ ltb-true _ _ (found_true (has_changed r) (upto 64) x c.1)

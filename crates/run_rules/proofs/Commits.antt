@@ -11,10 +11,10 @@ use Rattle.run_laws.specs.hop_model.Fronts.{tried_commits}
 use Rattle.run_laws.specs.hop_model.Histories.{Policy, Run, event_of, chosen_commits, commits_of, commits_in, has_changed, goes_on, went_on, IsLegalRun, start_run, run_after}
 use Rattle.run_laws.specs.hop_model.Parts.{after}
 use Rattle.run_laws.proofs.hop_model_lemmas.LegalRuns.{state_after}
-use Rattle.run_laws.proofs.Wishes.{run_append}
 use Rattle.run_rules.specs.Commits.{changed_since, commits_now, new_commits}
 use Rattle.run_rules.specs.Newest.{newest_in}
 use Rattle.run_rules.proofs.Wishes.{newest_told}
+use Rattle.run_laws.proofs.hop_model_lemmas.StableCuts.{run_append}
 
 -- tests that agree below n pick the same
 same_picked : (f g : ℕ → Bool) (n : ℕ) → ((x : ℕ) → x < n → f x ≡ g x) → filter f (upto n) ≡ filter g (upto n)

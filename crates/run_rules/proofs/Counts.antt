@@ -8,8 +8,7 @@ use Rattle.run_laws.specs.hop_model.Scripts.{Script}
 use Rattle.run_laws.specs.hop_model.Choices.{Commit, Among}
 use Rattle.run_laws.specs.hop_model.Histories.{Policy, Run, commits_of, run_after, version_of}
 use Rattle.run_laws.proofs.hop_model_lemmas.CommitStamps.{AllCommits}
-use Rattle.run_laws.proofs.hop_model_lemmas.StableCuts.{commits_grow}
-use Rattle.run_laws.proofs.Few.{in_upto}
+use Rattle.run_laws.proofs.hop_model_lemmas.StableCuts.{commits_grow, in_upto}
 use Rattle.run_rules.specs.Newest.{commit_count, newest_from}
 
 count_cons : (c : Commit) (cs : List Commit) (x : ℕ) → commit_count (c ∷ cs) x ≡ cond (c.entity == x) 1 0 + commit_count cs x

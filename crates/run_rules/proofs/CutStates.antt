@@ -3,27 +3,19 @@ use Rattle.std.proofs.Common.{◌≡◌, ℕ, ◌≤◌, true, ◌==◌, List, [
 use Rattle.hop_base.specs.declared.histories.Entry.{Entry}
 use Rattle.run_laws.specs.hop_model.State.{Supply, EntityState, KernelState}
 use Rattle.run_laws.specs.hop_model.Scripts.{Script}
-use Rattle.run_laws.specs.hop_model.Choices.{Among, Commit, IsGreatest}
+use Rattle.run_laws.specs.hop_model.Choices.{Commit, IsGreatest}
 use Rattle.run_laws.specs.hop_model.Fronts.{tried_commits, version_vector}
 use Rattle.run_laws.specs.hop_model.Histories.{Policy, IsLegalRun, event_of, start_run}
 use Rattle.run_laws.specs.hop_model.Parts.{IsPlayed, after, after_entry, part_of, thing_at}
 use Rattle.run_laws.specs.hop_model.Vectors.{IsPart, StampsBelow}
 use Rattle.run_laws.proofs.hop_model_lemmas.Among.{among_some}
 use Rattle.run_laws.proofs.hop_model_lemmas.ChosenVectors.{same_vector}
-use Rattle.run_laws.proofs.hop_model_lemmas.CommitStamps.{AllCommits, IsMadeIn, all_made, legal_greatest}
+use Rattle.run_laws.proofs.hop_model_lemmas.CommitStamps.{AllCommits, IsMadeIn, all_front, all_made, among_both, legal_greatest}
 use Rattle.run_laws.proofs.hop_model_lemmas.LegalRuns.{event_of_local, event_of_stamped, legal_played, legal_vectors}
 use Rattle.run_laws.proofs.hop_model_lemmas.PartStates.{part_state}
 use Rattle.run_laws.proofs.hop_model_lemmas.StableCuts.{versions_rise_over}
 use Rattle.run_rules.specs.Records.{IsRecordOf}
 use Rattle.run_rules.proofs.Records.{record_of}
-
-all_front : (P : Commit → Type 0) (cs ds : List Commit) → AllCommits P (cs ++ ds) → AllCommits P cs
-all_front P [] ds a = tt
-all_front P (c ∷ cs) ds a = (a.0, all_front P cs ds a.1)
-
-among_both : (P Q : Commit → Type 0) (cs : List Commit) → AllCommits P cs → Among cs Q → Among cs (λ c. P c × Q c)
-among_both P Q [] a h = h
-among_both P Q (c ∷ cs) a h = elim h as (λ _. Among (c ∷ cs) (λ c. P c × Q c)) [ inl k ↦ inl (a.0, k) | inr k ↦ inr (among_both P Q cs a.1 k) ]
 
 at_once : (act : Entry → KernelState → Option (Entry × KernelState)) (es : List Entry) (w : KernelState) (x n : ℕ) → (w x).version ≡ n → thing_at act (λ (b : EntityState). b.version) w es x n ≡ w x
 at_once act [] w x n e = refl

@@ -7,10 +7,11 @@ use Rattle.run_laws.specs.hop_model.State.{Supply, KernelState}
 use Rattle.run_laws.specs.hop_model.Scripts.{Script}
 use Rattle.run_laws.specs.hop_model.Histories.{Policy, Run, May, goes_on, IsLegalFrom, run_after}
 use Rattle.run_laws.proofs.hop_model_lemmas.Basics.{or_false_left, or_false_right}
-use Rattle.run_laws.proofs.Wishes.{legal_back, legal_front, run_append}
+use Rattle.run_laws.proofs.Wishes.{legal_back}
 use Rattle.run_rules.specs.Newest.{commit_count}
 use Rattle.run_rules.proofs.Counts.{counts_grow}
 use Rattle.run_rules.proofs.Fresh.{IsFresh, fresh_next, fresh_over}
+use Rattle.run_laws.proofs.hop_model_lemmas.StableCuts.{legal_front, run_append}
 
 module _ (s : Supply) (policy : Policy) (script : Script) (x : ℕ) (flag : Run → Bool) (Sets : KernelState → Entry → Type 0) (ends : Entry → Bool) where
   abbrev pub IsSameCount : Run → Run → Type 0

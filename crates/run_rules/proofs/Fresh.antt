@@ -1,5 +1,5 @@
 -- What has a wish has changed since its newest commit.
-use Rattle.std.proofs.Common.{◌≡◌, ℕ, ◌+◌, ◌≤◌, ◌<◌, Bool, true, false, not, ◌&&◌, ◌||◌, ◌==◌, if◌then◌else◌, List, [], ◌∷◌, Option, Some, None, refl, sym, ap, subst, arith, inl, inr, ◌⊎◌, eqb-true}
+use Rattle.std.proofs.Common.{◌≡◌, ℕ, ◌+◌, ◌≤◌, ◌<◌, Bool, true, false, not, ◌||◌, ◌==◌, if◌then◌else◌, List, [], ◌∷◌, Option, Some, None, refl, sym, ap, subst, arith, inl, inr, ◌⊎◌, eqb-true}
 use Rattle.std.proofs.lemmas.Bool.{false≢true}
 use Rattle.hop_base.specs.declared.histories.Entry.{Entry}
 use Rattle.hop_base.specs.declared.histories.Event.TheVariants.{Birth, Step, Snap as SnapEvent, Stable, Tried}
@@ -12,6 +12,7 @@ use Rattle.run_laws.proofs.hop_model_lemmas.LegalRuns.{event_of_local, event_of_
 use Rattle.run_laws.proofs.hop_model_lemmas.StableCuts.{versions_rise}
 use Rattle.run_laws.proofs.Tellings.{written_rises}
 use Rattle.run_laws.proofs.Writing.{step_is, step_writes_asked}
+use Rattle.run_laws.proofs.hop_model_lemmas.Basics.{and_right}
 
 pub record IsFresh (r : Run) : Type 0 where
   pub low : (x : ℕ) → r.newest x ≤ version_of r x
@@ -30,10 +31,6 @@ asked_or (Some y) f x h =
       | false ↦ λ _ h. inr h
     ] refl h
 
-pub and_second : (a b : Bool) → (a && b) ≡ true → b ≡ true
-and_second true b h = h
-and_second false b h = absurd (false≢true h)
-
 module _ (s : Supply) (policy : Policy) (script : Script) where
   rises : (r : Run) (e : Entry) → May s policy script r e → (x : ℕ) → version_of r x ≤ (after_entry (event_of s script) r.state e x).version
   rises r e m x = versions_rise (event_of s script) (event_of_local s policy script) (event_of_stamped s policy script) r.state e (next_legal s policy script r e m) x
@@ -46,7 +43,7 @@ module _ (s : Supply) (policy : Policy) (script : Script) where
       elim e.event as (λ ev. e.event ≡ ev → IsFresh (went_on s script r e ev)) [
         | Birth ↦ λ is. record {
           low = λ x. (let a = k.low x in let b = rises r e m x in omega (arith, a, b));
-          by_step = λ x h. (let a = k.by_step x (and_second (not (writes e x)) (r.by_step x) h) in let b = rises r e m x in omega (arith, a, b));
+          by_step = λ x h. (let a = k.by_step x (and_right (not (writes e x)) (r.by_step x) h) in let b = rises r e m x in omega (arith, a, b));
           asked = λ x h. (let a = k.asked x h in let b = rises r e m x in omega (arith, a, b));
         }
         | Step ↦ λ is. record {

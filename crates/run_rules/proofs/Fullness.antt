@@ -1,28 +1,21 @@
 -- When an entity was full, and which open wishes are due.
 use Rattle.std.proofs.Common.{◌≡◌, ℕ, ◌<◌, Bool, true, false, not, ◌&&◌, ◌||◌, nat_le, IsTrue, List, [], ◌∷◌, ◌++◌, Some, ◌↔◌, refl, sym, ap, subst, ◌∙◌, inl, inr, ◌⊎◌}
 use Rattle.std.specs.List.{list_any}
-use Rattle.std.proofs.lemmas.Bool.{false≢true}
+use Rattle.std.proofs.lemmas.Bool.{false≢true, or_cases}
 use Rattle.hop_base.specs.declared.histories.Entry.{Entry}
 use Rattle.hop_base.specs.declared.histories.Event.TheVariants.{Birth, Step, Snap as SnapEvent, Stable, Tried}
 use Rattle.run_laws.specs.hop_model.State.{Supply, KernelState}
 use Rattle.run_laws.specs.hop_model.Scripts.{Script}
 use Rattle.run_laws.specs.hop_model.Histories.{Policy, Run, asked_by, locus_in, writes, commits_above, commits_in, has_wish, is_due, is_full, may, goes_on, went_on, IsLegalRun, start_run, run_after}
-use Rattle.run_laws.proofs.hop_model_lemmas.Basics.{both, not_false, or_false_left, or_false_right, or_left, or_right}
+use Rattle.run_laws.proofs.hop_model_lemmas.Basics.{and_left, both, not_false, or_false_left, or_false_right, or_left, or_right}
 use Rattle.run_laws.proofs.hop_model_lemmas.LegalRuns.{state_after}
 use Rattle.run_laws.specs.StepEntries.{is_step}
 use Rattle.run_laws.proofs.Cuts.{cut_kept}
-use Rattle.run_laws.proofs.Wishes.{legal_back, run_append}
+use Rattle.run_laws.proofs.Wishes.{legal_back}
 use Rattle.run_laws.proofs.Writing.{step_is, step_writes_asked}
 use Rattle.run_rules.specs.Wishes.{HasOpenWish, IsNamedBySnap, WasNeverFull, is_full_after, steps_on}
 use Rattle.run_rules.proofs.Wishes.{wish_told}
-
-or_cases : (a b : Bool) → (a || b) ≡ true → (a ≡ true) ⊎ (b ≡ true)
-or_cases true b h = inl refl
-or_cases false b h = inr h
-
-and_first : (a b : Bool) → (a && b) ≡ true → a ≡ true
-and_first true b h = refl
-and_first false b h = h
+use Rattle.run_laws.proofs.hop_model_lemmas.StableCuts.{run_append}
 
 unwritten : (a b : Bool) → (not a && b) ≡ true → (a ≡ false) × (b ≡ true)
 unwritten true b h = absurd (false≢true h)
@@ -98,7 +91,7 @@ module _ (s : Supply) (script : Script) (x : ℕ) where
   noted_from [] r some = absurd (false≢true some)
   noted_from (e ∷ es) r some =
       elim (or_cases (steps_on x e) (list_any (steps_on x) es) some) as (λ _. IsNoted (run_after s script (goes_on s script r e) es)) [
-        | inl here ↦ noted_over es (goes_on s script r e) (noted_step r e (and_first (is_step e.event) (writes e x) here))
+        | inl here ↦ noted_over es (goes_on s script r e) (noted_step r e (and_left (is_step e.event) (writes e x) here))
         | inr later ↦ noted_from es (goes_on s script r e) later
       ]
 
@@ -185,7 +178,7 @@ module _ (s : Supply) (policy : Policy) (script : Script) (x : ℕ) (w : KernelS
       → IsTrue (is_due policy (run_after s script (start_run w) es) x) ↔ (HasOpenWish s script w es x policy × WasNeverFull s script w es x)
   due_by wish =
       let r = run_after s script (start_run w) es in (
-        λ due. (wish.0 (and_first (has_wish policy r x) (not (r.was_full x)) due), never_full (not_of (has_wish policy r x) (r.was_full x) due)),
+        λ due. (wish.0 (and_left (has_wish policy r x) (not (r.was_full x)) due), never_full (not_of (has_wish policy r x) (r.was_full x) due)),
         λ k. both (has_wish policy r x) (not (r.was_full x)) (wish.1 k.0) (ap not (of_never_full (wish_writes k.0) k.1)),
       )
 

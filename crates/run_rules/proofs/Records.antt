@@ -1,5 +1,5 @@
 -- What a commit holds is what its entity was at that version.
-use Rattle.std.proofs.Common.{◌≡◌, ℕ, true, false, ◌==◌, if◌then◌else◌, List, [], ◌∷◌, ◌++◌, Option, inl, inr, refl, sym, ap, subst, ◌∙◌, arith, eq-eqb, eqb-true}
+use Rattle.std.proofs.Common.{◌≡◌, ℕ, true, false, ◌==◌, if◌then◌else◌, List, [], ◌∷◌, ◌++◌, Option, refl, sym, ap, subst, ◌∙◌, eq-eqb, eqb-true}
 use Rattle.hop_base.specs.declared.histories.Entry.{Entry}
 use Rattle.run_laws.specs.hop_model.State.{Supply, EntityState, KernelState}
 use Rattle.run_laws.specs.hop_model.Scripts.{Script}
@@ -8,25 +8,12 @@ use Rattle.run_laws.specs.hop_model.Fronts.{tried_commits}
 use Rattle.run_laws.specs.hop_model.Histories.{Policy, IsLegalRun, event_of, start_run}
 use Rattle.run_laws.specs.hop_model.LocalEvents.{IsLocal}
 use Rattle.run_laws.specs.hop_model.Parts.{IsPlayed, after, after_entry, thing_at}
-use Rattle.run_laws.specs.hop_model.Vectors.{IsStamped, vector_at}
-use Rattle.run_laws.proofs.hop_model_lemmas.ChosenVectors.{Moves, moves}
-use Rattle.run_laws.proofs.hop_model_lemmas.CommitStamps.{AllCommits, IsMadeIn, all_made, vector_at_front}
+use Rattle.run_laws.specs.hop_model.Vectors.{IsStamped}
+use Rattle.run_laws.proofs.hop_model_lemmas.CommitStamps.{AllCommits, IsMadeIn, all_made, same_between, vector_of_made}
 use Rattle.run_laws.proofs.hop_model_lemmas.LegalRuns.{event_of_local, event_of_stamped, legal_played, legal_vectors}
-use Rattle.run_laws.proofs.hop_model_lemmas.StableCuts.{versions_rise_over}
 use Rattle.run_rules.specs.Records.{AreRecordsOf, IsRecordOf}
 
 module _ (act : Entry → KernelState → Option (Entry × KernelState)) (local : (e : Entry) → IsLocal (λ (b : EntityState). b.version) (act e)) (stamped : (e : Entry) → IsStamped (act e)) where
-  -- an entity that ends with the version with which it began is as it was
-  unmoved : (es : List Entry) (w : KernelState) (x : ℕ) → IsPlayed act w es → (w x).version ≡ (after act w es x).version → after act w es x ≡ w x
-  unfolding Moves
-  unmoved [] w x played e = refl
-  unmoved (d ∷ es) w x played e =
-      let low = versions_rise_over act local stamped es (after_entry act w d) played.1 x in
-      elim (moves act local stamped w d played.0 x) as (λ _. after act (after_entry act w d) es x ≡ w x) [
-        | inl k ↦ unmoved es (after_entry act w d) x played.1 (ap (λ (b : EntityState). b.version) k ∙ e) ∙ k
-        | inr k ↦ (let f = k.0 in absurd (omega (arith, low, f, e)))
-      ]
-
   -- what an entity was at the version that it has behind a front
   thing_at_front : (front rest : List Entry) (w : KernelState) (x : ℕ) → IsPlayed act w (front ++ rest)
       → thing_at act (λ (b : EntityState). b.version) w (front ++ rest) x (after act w front x).version ≡ after act w front x
@@ -38,7 +25,7 @@ module _ (act : Entry → KernelState → Option (Entry × KernelState)) (local 
       let n = (after act (after_entry act w d) front x).version in
       elim ((w x).version == n) as (λ b. ((w x).version == n) ≡ b
       → (if◌then◌else◌ {A = EntityState} b (w x) (thing_at act (λ (b : EntityState). b.version) (after_entry act w d) (front ++ rest) x n)) ≡ after act (after_entry act w d) front x) [
-        | true ↦ λ is. sym (unmoved (d ∷ front) w x (front_played (d ∷ front) rest w played) (eqb-true _ _ is))
+        | true ↦ λ is. sym (same_between act local stamped (d ∷ front) w x (front_played (d ∷ front) rest w played) (eqb-true _ _ is))
         | false ↦ λ is. thing_at_front front rest (after_entry act w d) x played.1
       ] refl
     where
@@ -51,11 +38,6 @@ module _ (act : Entry → KernelState → Option (Entry × KernelState)) (local 
       ap (λ gs. thing_at act (λ (b : EntityState). b.version) w gs c.entity c.version) m.split
       ∙ ap (thing_at act (λ (b : EntityState). b.version) w (m.front ++ m.rest) c.entity) m.version
       ∙ thing_at_front m.front m.rest w c.entity (subst (IsPlayed act w) m.split played)
-
-  vector_of_made : (w : KernelState) (es : List Entry) (c : Commit) → IsPlayed act w es → IsMadeIn act w es c → vector_at act w es c.entity c.version ≡ c.stamp
-  vector_of_made w es c played m =
-      subst (λ gs. vector_at act w gs c.entity c.version ≡ c.stamp) (sym m.split)
-      (ap (vector_at act w (m.front ++ m.rest) c.entity) m.version ∙ vector_at_front act local stamped m.front m.rest w c.entity (subst (IsPlayed act w) m.split played) ∙ sym m.stamp)
 
 module _ (s : Supply) (policy : Policy) (script : Script) (w : KernelState) (es : List Entry) (legal : IsLegalRun s policy w script es) where
   pub record_of : (c : Commit) → IsMadeIn (event_of s script) w es c → IsRecordOf s script w es c

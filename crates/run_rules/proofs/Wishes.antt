@@ -1,5 +1,5 @@
 -- An open wish stands exactly in its two cases.
-use Rattle.std.proofs.Common.{◌≡◌, ℕ, ◌+◌, ◌-◌, ◌≤◌, ◌<◌, Bool, true, false, not, ◌&&◌, ◌||◌, ◌==◌, nat_lt, if◌then◌else◌, IsTrue, List, [], ◌∷◌, ◌++◌, filter, Option, Some, None, ◌↔◌, refl, sym, ap, subst, ◌∙◌, arith, inl, inr, ◌⊎◌, eqb-true, eq-eqb}
+use Rattle.std.proofs.Common.{◌≡◌, ℕ, ◌-◌, ◌≤◌, ◌<◌, Bool, true, false, not, ◌&&◌, ◌||◌, ◌==◌, nat_lt, if◌then◌else◌, IsTrue, List, [], ◌∷◌, ◌++◌, filter, Option, Some, None, ◌↔◌, refl, sym, ap, subst, ◌∙◌, arith, inl, inr, ◌⊎◌, eqb-true, eq-eqb}
 use Rattle.std.specs.List.{list_any}
 use Rattle.std.proofs.lemmas.Bool.{false≢true, lt-ltb}
 use Rattle.std.proofs.lemmas.Bool.Decides.{nat_tests}
@@ -17,7 +17,8 @@ use Rattle.run_rules.specs.Newest.{commit_count, newest_from, newest_in}
 use Rattle.run_rules.specs.Wishes.{HasOpenWish, IsNamedBySnap, IsWrittenByStep}
 use Rattle.run_rules.proofs.Counts.{count_append, count_other, count_own, count_picked, newest_append, newest_picked}
 use Rattle.run_rules.proofs.Flags.{IsFlag, IsSet, is_set, was_set}
-use Rattle.run_rules.proofs.Fresh.{IsFresh, and_second, asked_or, fresh_next, fresh_start}
+use Rattle.run_rules.proofs.Fresh.{IsFresh, asked_or, fresh_next, fresh_start}
+use Rattle.run_laws.proofs.hop_model_lemmas.Basics.{and_right}
 
 not_true : (a b : Bool) → (not a && b) ≡ true → a ≡ false
 not_true true b h = absurd (false≢true h)
@@ -34,9 +35,6 @@ put_kept f y x h = elim (x == y) as (λ b. (if b then false else f x) ≡ true �
 
 turned : (x y : ℕ) → (x == y) ≡ false → (y == x) ≡ false
 turned x y h = grind (arith, nat_tests)
-
-no_more : (n : ℕ) → n + 1 ≡ n → ⊥
-no_more n e = omega (arith, e)
 
 -- A COMMIT TAKES BACK
 
@@ -76,7 +74,7 @@ module _ (s : Supply) (policy : Policy) (script : Script) (x : ℕ) (low : x < 6
   flag_by_step = record {
     was = λ r e m. elim e.event as (λ ev. e.event ≡ ev → may s policy script r e ev → (went_on s script r e ev).by_step x ≡ true
         → ((e.event ≡ Step) × (writes e x ≡ true)) ⊎ ((r.by_step x ≡ true) × (writes e x ≡ false) × (commit_count (went_on s script r e ev).commits x ≡ commit_count r.commits x))) [
-          | Birth ↦ λ is m h. inr (and_second (not (writes e x)) (r.by_step x) h, not_true (writes e x) (r.by_step x) h, refl)
+          | Birth ↦ λ is m h. inr (and_right (not (writes e x)) (r.by_step x) h, not_true (writes e x) (r.by_step x) h, refl)
           | Step ↦ λ is m h. elim (writes e x) as (λ b. writes e x ≡ b → (b || r.by_step x) ≡ true → ((e.event ≡ Step) × (b ≡ true)) ⊎ ((r.by_step x ≡ true) × (b ≡ false) × (commit_count r.commits x ≡ commit_count r.commits x))) [
             | true ↦ λ _ _. inl (is, refl)
             | false ↦ λ _ h. inr (h, refl, refl)

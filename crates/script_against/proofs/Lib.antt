@@ -1,7 +1,3 @@
-pub mod Clashing
-pub mod Reasons
-pub mod ByKind
-pub mod Ahead
 pub mod Staying
 pub use Rattle.directory_laws.proofs as directory_laws_lemmas
 pub use Rattle.fitting_births.proofs as fitting_births_lemmas

@@ -13,7 +13,7 @@ use Rattle.fitting_births.proofs.Growing.{born_atlas, still_known}
 use Rattle.fitting_births.proofs.KnownNames.{is_named, next_name_is}
 use Rattle.script_against.specs.NextTables.{AreBornBefore}
 use Rattle.script_against.specs.declared.tables.Progress.{Progress}
-use Rattle.script_against.proofs.Ahead.{known_first, known_is}
+use Rattle.fitting_births.proofs.Ahead.{known_first, known_is}
 
 abbrev Keeps : AtlasState → AtlasState → Type 0
 Keeps a b = (x : Text) → is_some (number_of a x) ≡ true → is_some (number_of b x) ≡ true

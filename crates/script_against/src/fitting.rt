@@ -4,7 +4,7 @@ ghost use Rattle.fitting_births.specs.hop_model.Scripts.{container_named as cont
 ghost use Rattle.atlas_dir.specs.Directory.{IsDirectory};
 ghost use Rattle.fitting_births.specs.Fitting.{Fits, new_containers as new_of_containers, new_loci as new_of_loci};
 ghost use Rattle.directory_laws.specs.kernel_calls.Calls.{atlas_state};
-ghost use Rattle.script_against.specs.Misfits.{IsClash, IsMisfit, IsNoRoom, clash_key, container_clash as clash_of_containers, locus_clash as clash_of_loci, name_key as key_of_name, room_key};
+ghost use Rattle.fitting_births.specs.Misfits.{IsClash, IsMisfit, IsNoRoom, clash_key, container_clash as clash_of_containers, locus_clash as clash_of_loci, name_key as key_of_name, room_key};
 ghost use Rattle.fitting_births.specs.script_form.Scripts.{container_of, locus_of, tables_of};
 ghost use Rattle.fitting_births.specs.script_form.declared.refusals.Why.{Why as AWhy};
 

@@ -2,9 +2,9 @@
 use Rattle.std.proofs.Common.{◌≡◌, ℕ, suc, ◌+◌, ◌<◌, ◌≤◌, ◌^◌, Bool, true, false, not, ◌&&◌, ◌||◌, nat_lt, nat_le, if◌then◌else◌, List, [], ◌∷◌, ◌++◌, length, Ok, Option, Some, None, MatchOption, option_and_then, get_or, ◌==◌, All, IsTrue, codes, refl, sym, ap, ◌∙◌, subst, arith, append_assoc}
 use Rattle.std.specs.Option.{ForSome}
 use Rattle.std.specs.List.{list_all}
-use Rattle.std.proofs.lemmas.Bool.{and_parts, false≢true}
+use Rattle.std.proofs.lemmas.Bool.{and_parts, not-true, or_parts}
 use Rattle.std.proofs.lemmas.Bool.Decides.{nat_tests}
-use Rattle.std.proofs.lemmas.Option.{same_Some}
+use Rattle.std.proofs.lemmas.Option.{none-some, same_Some}
 use Rattle.std.proofs.lemmas.List.{map_push}
 use Rattle.std.proofs.lemmas.List.Elements.{All-nil, All-push}
 use Rattle.std.proofs.lemmas.List.Folds.{list_all-append}
@@ -26,30 +26,16 @@ use Rattle.script_form.specs.Rules.{is_among, AreDifferent, IsRegionTable, AreAp
 use Rattle.script_form.specs.declared.refusals.Why.TheVariants.{Name, Unknown, Range, BadCode}
 use Rattle.script_read.proofs.Lists.{any_of_append}
 use Rattle.script_read.proofs.Readings.{then_ok, or_ok, same_ok, test_ok, err_is_not_ok, a_number_ok, number_at_ok, number_or_ok, a_list_ok, list_keeps, each_keeps, each_length}
+use Rattle.std.proofs.Math.Bool.{or-false}
 
 -- TESTS
 
-or_false : (b : Bool) → (b || false) ≡ b
-or_false true = refl
-or_false false = refl
-
-pub or_parts : (a b : Bool) → (a || b) ≡ false → (a ≡ false) × (b ≡ false)
-or_parts true b h = absurd (false≢true (sym h))
-or_parts false b h = (refl, h)
-
-pub not_true : (b : Bool) → not b ≡ true → b ≡ false
-not_true true h = absurd (false≢true h)
-not_true false h = refl
-
-none_is_not_some : {A : Type 0} (x : A) → None ≡ Some x → ⊥
-none_is_not_some x e = cc
-
 some_if : {A : Type 0} (b : Bool) (x y : A) → (if b then Some x else None) ≡ Some y → (b ≡ true) × (x ≡ y)
 some_if true x y f = (refl, same_Some x y f)
-some_if false x y f = absurd (none_is_not_some y f)
+some_if false x y f = absurd (none-some y f)
 
 some_then : {A B : Type 0} (f : A → Option B) (o : Option A) (y : B) → option_and_then f o ≡ Some y → (x : A) × (o ≡ Some x) × (f x ≡ Some y)
-some_then f None y h = absurd (none_is_not_some y h)
+some_then f None y h = absurd (none-some y h)
 some_then f (Some x) y h = (x, refl, h)
 
 pub eq_sym : (x y : ℕ) → (x == y) ≡ (y == x)
@@ -109,7 +95,7 @@ programs_ok ms xs h = by (get_member (codes "program") ms) h
     by (Some d) f = let p = then_ok (a_table (codes "program") d) (programs_in instr_of) xs f in more_ok (in_order p.0) [] xs (All-nil Sound) p.2
 
 pub named_ok : (name : Text) (ps : List Program) (code : List Instr) → All Sound ps → code_named name ps ≡ Some code → IsSoundCode code
-named_ok name [] code all h = absurd (none_is_not_some code h)
+named_ok name [] code all h = absurd (none-some code h)
 named_ok name (p ∷ ps) code all h = by (named_ok name ps code (λ k d lt. all (suc k) d (omega arith))) (text_eq name p.name) h
   where
     by : (code_named name ps ≡ Some code → IsSoundCode code) → (b : Bool) → (if b then Some p.code else code_named name ps) ≡ Some code → IsSoundCode code
@@ -236,7 +222,7 @@ name_ok taken key ms name h =
     let t = test_ok (is_given_name p.0 && not (is_among taken p.0)) p.0 name Name (dotted key (codes "name")) p.2 in
     let (given, new) = and_parts (is_given_name p.0) (not (is_among taken p.0)) t.0 in
     let M : Text → Type 0 = λ n. IsTrue (is_given_name n) × (is_among taken n ≡ false) in
-    subst M t.1 (given, not_true (is_among taken p.0) new)
+    subst M t.1 (given, not-true (is_among taken p.0) new)
 
 among_both : (xs ys : List Text) (name : Text) → is_among (xs ++ ys) name ≡ (is_among xs name || is_among ys name)
 among_both xs ys name = any_of_append (text_eq name) xs ys
@@ -268,7 +254,7 @@ sized_container_ok done key ms t h =
     let pages = number_at_ok 1 256 key (codes "pages") ms b.0 b.1 in
     let tag = number_or_ok 0 0 9223372036854775807 key (codes "tag") ms c.0 (omega arith) (omega arith) c.1 in
     subst (Sized done) (same_ok (made a.0 b.0 c.0 d.0) t d.2) (sized a.0 b.0 c.0 d.0 named.0
-    (sym (or_false (is_among (container_names done) a.0)) ∙ sym (among_both (container_names done) [] a.0) ∙ named.1)
+    (sym (or-false (is_among (container_names done) a.0)) ∙ sym (among_both (container_names done) [] a.0) ∙ named.1)
     pages (omega (arith, tag.1)) (every_ok key ms d.0 d.1))
   where
     sized : (name : Text) (pages tag every : ℕ) → IsTrue (is_given_name name) → is_among (container_names done) name ≡ false → (1 ≤ pages) × (pages ≤ 256) → tag < 2 ^ 63 → every ≤ 1000000
@@ -279,7 +265,7 @@ entry_ok : (key : Text) (ms : Members) (e : Option ℕ) → entry_at key ms ≡ 
 entry_ok key ms e h = by (get_member (codes "entry") ms) h
   where
     by : (o : Option Data) → optional None (λ d. a_number 0 127 (dotted key (codes "entry")) d >>= (λ n. Ok (Some n))) o ≡ Ok e → ForSome e IsPlace
-    by None f = let M : Option ℕ → Type 0 = λ x. ForSome x IsPlace in subst M (same_ok None e f) (λ x no. absurd (none_is_not_some x no))
+    by None f = let M : Option ℕ → Type 0 = λ x. ForSome x IsPlace in subst M (same_ok None e f) (λ x no. absurd (none-some x no))
     by (Some d) f =
         let p = then_ok (a_number 0 127 (dotted key (codes "entry")) d) (λ n. Ok (Some n)) e f in
         let small = a_number_ok 0 127 (dotted key (codes "entry")) d p.0 p.1 in
@@ -334,7 +320,7 @@ whole_ok programs done key ms t all h =
     }
       where
         known_same : (name : Text) → is_among (atlas_name ∷ u.name ∷ known) name ≡ is_among (known_names u.name done []) name
-        known_same name = ap (λ b. text_eq name atlas_name || (text_eq name u.name || b)) (same name ∙ sym (or_false (is_among (container_names done) name)) ∙ sym (among_both (container_names done) [] name))
+        known_same name = ap (λ b. text_eq name atlas_name || (text_eq name u.name || b)) (same name ∙ sym (or-false (is_among (container_names done) name)) ∙ sym (among_both (container_names done) [] name))
 
 container_ok : (programs : List Program) (done : List ContainerTable) (d : Data) (t : ContainerTable) → All Sound programs → a_container programs done d ≡ Ok t → Whole done t
 container_ok programs done d t all h =
@@ -343,17 +329,17 @@ container_ok programs done d t all h =
     let q = then_ok (only container_keys key p.0) (λ _. whole_container programs done key p.0) t p.2 in
     whole_ok programs done key p.0 t all q.2
 
-or_moved : (a b c : Bool) → (a || (b || c)) ≡ (b || a || c)
+pub or_moved : (a b c : Bool) → (a || (b || c)) ≡ (b || a || c)
 or_moved true true c = refl
 or_moved true false c = refl
 or_moved false true c = refl
 or_moved false false c = refl
 
 -- one more container
-containers_more : (earlier : List Text) (ts : List ContainerTable) (t : ContainerTable) → AreContainerTables earlier ts
+pub containers_more : (earlier : List Text) (ts : List ContainerTable) (t : ContainerTable) → AreContainerTables earlier ts
     → ((known : List Text) → ((name : Text) → is_among known name ≡ (is_among earlier name || is_among (container_names ts) name)) → IsContainerTable known t)
     → AreContainerTables earlier (ts ++ t ∷ [])
-containers_more earlier [] t h good = (good earlier (λ name. sym (or_false (is_among earlier name))), tt)
+containers_more earlier [] t h good = (good earlier (λ name. sym (or-false (is_among earlier name))), tt)
 containers_more earlier (u ∷ ts) t h good =
     (h.0, containers_more (u.name ∷ earlier) ts t h.1 (λ known same. good known (λ name. same name ∙ sym (or_moved (is_among earlier name) (text_eq name u.name) (is_among (container_names ts) name)))))
 
@@ -420,7 +406,7 @@ locus_ok containers done d t h =
 loci_more : (containers earlier : List Text) (ts : List LocusTable) (t : LocusTable) → AreLocusTables containers earlier ts
     → ((known : List Text) → ((name : Text) → is_among known name ≡ (is_among earlier name || is_among (locus_names ts) name)) → IsLocusTable containers known t)
     → AreLocusTables containers earlier (ts ++ t ∷ [])
-loci_more containers earlier [] t h good = (good earlier (λ name. sym (or_false (is_among earlier name))), tt)
+loci_more containers earlier [] t h good = (good earlier (λ name. sym (or-false (is_among earlier name))), tt)
 loci_more containers earlier (u ∷ ts) t h good =
     (h.0, loci_more containers (u.name ∷ earlier) ts t h.1 (λ known same. good known (λ name. same name ∙ sym (or_moved (is_among earlier name) (text_eq name u.name) (is_among (locus_names ts) name)))))
 

@@ -12,9 +12,10 @@ use Rattle.script_read.specs.Strings.{ManagerForm, manager_form}
 use Rattle.script_read.specs.Fields.{a_string, in_range, item_key}
 use Rattle.script_read.specs.Meaning.{Program, code_named, managing_code, new_manager, formed_manager, a_manager, managers_at, both_kinds}
 use Rattle.script_form.specs.declared.refusals.Why.TheVariants.{Unknown, BadCode, Clash}
-use Rattle.script_read.proofs.Allowed.{Sound, eq_sym, named_ok, not_true, or_parts}
+use Rattle.script_read.proofs.Allowed.{Sound, eq_sym, named_ok}
 use Rattle.script_read.proofs.Lists.{any_of_append}
 use Rattle.script_read.proofs.Readings.{then_ok, or_ok, same_ok, test_ok, in_range_ok, list_keeps}
+use Rattle.std.proofs.lemmas.Bool.{not-true, or_parts}
 
 -- one more manager, with a number of its own
 different_more : (ms : List ManagerTable) (m : ManagerTable) → AreDifferent ms → has_number ms m.number ≡ false → AreDifferent (ms ++ m ∷ [])
@@ -43,7 +44,7 @@ formed_ok greatest programs at done m x all h =
     let made : ManagerTable = record { number = p.0; code = q.0 } in
     let t = test_ok (not (has_number done p.0)) made x Clash at q.2 in
     let good : IsManagerTable greatest made = record { number = in_range_ok 1 greatest at (pos m.number) p.0 p.1; code = managing_ok programs at m.program q.0 all q.1 } in
-    subst (IsNew greatest done) t.1 (good, not_true (has_number done p.0) t.0)
+    subst (IsNew greatest done) t.1 (good, not-true (has_number done p.0) t.0)
 
 manager_ok : (greatest : ℕ) (programs : List Program) (key : Text) (done : List ManagerTable) (d : Data) (x : ManagerTable) → All Sound programs → a_manager greatest programs key done d ≡ Ok x → IsNew greatest done x
 manager_ok greatest programs key done d x all h =

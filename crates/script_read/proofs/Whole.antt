@@ -36,7 +36,8 @@ tree_ok ms s h =
     let programs = programs_ok ms d.0 d.1 in
     subst IsAllowedSource (same_ok (made e.0 f.0) s f.2) (entities_ok b.0 c.0 d.0 ms e.0 steps frames programs e.1, managers_ok d.0 ms f.0 programs f.1)
 
-allowed : (bytes : Text) (s : Source) → script_meaning bytes ≡ Ok s → IsAllowedSource s
+-- a source that means a script means an allowed one
+pub allowed : (bytes : Text) (s : Source) → script_meaning bytes ≡ Ok s → IsAllowedSource s
 allowed bytes s h = by (nat_le (length bytes) 1048576) h
   where
     read : Reading Members

@@ -29,12 +29,12 @@ use toml::{Table, Value};
 /// How many names an order may have.
 const MOST_PICKS: usize = 4096;
 
-const STEPS: Limits = Limits {
+const STEP_LIMITS: Limits = Limits {
     low: 1,
     high: 40_000,
 };
 
-const FRAMES: Limits = Limits { low: 1, high: 256 };
+const FRAME_LIMITS: Limits = Limits { low: 1, high: 256 };
 
 /// A script and the managers that it brings.
 #[derive(Drop, Debug)]
@@ -119,8 +119,8 @@ fn read_tree(alloc: Global, table: &Table) -> Result<ManagedScript, ScriptFault>
     ensures { (spelled : Text → Option AnInstr) → IsReader spelled → Reads source_of (tree_meaning spelled (table_view table.now)) result }
 {
     only_top_keys(alloc, table)?;
-    let steps = number_or(alloc, table, "", "steps", STEPS, 10_000)? as u32;
-    let frames = number_or(alloc, table, "", "frames", FRAMES, 32)? as u16;
+    let steps = number_or(alloc, table, "", "steps", STEP_LIMITS, 10_000)? as u32;
+    let frames = number_or(alloc, table, "", "frames", FRAME_LIMITS, 32)? as u16;
     let programs = read_programs(alloc, table)?;
     let script = read_entities(alloc, table, steps, frames, programs.as_slice())?;
     let managers = read_managers(alloc, table, programs.as_slice())?;

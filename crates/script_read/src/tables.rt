@@ -19,10 +19,10 @@ use script_form::{ScriptContainer, ScriptFault, ScriptLocus, Why};
 use std::alloc::Global;
 use toml::{Table, Value};
 
-const PAGES: Limits = Limits { low: 1, high: 256 };
+const PAGE_LIMITS: Limits = Limits { low: 1, high: 256 };
 
 /// A tag is below 2^63.
-const TAG: Limits = Limits {
+const TAG_LIMITS: Limits = Limits {
     low: 0,
     high: 9_223_372_036_854_775_807,
 };
@@ -73,8 +73,8 @@ fn sized_container(
     ensures small { IfOk result (λ container. container.pages ≤ 256) }
 {
     let name = read_name(alloc, table, key, before, &[])?;
-    let pages = number_at(alloc, table, key, "pages", PAGES)? as u16;
-    let tag = number_or(alloc, table, key, "tag", TAG, 0)?;
+    let pages = number_at(alloc, table, key, "pages", PAGE_LIMITS)? as u16;
+    let tag = number_or(alloc, table, key, "tag", TAG_LIMITS, 0)?;
     let every = read_every(alloc, table, key)?;
     Ok(ScriptContainer {
         name,

@@ -1,7 +1,7 @@
 -- Behind each step of a serial history nothing is owed and no wish is due.
 use Rattle.std.proofs.Common.{◌≡◌, ℕ, ◌<◌, ◌-◌, inl, Bool, true, false, not, ◌&&◌, ◌||◌, ◌==◌, nat_lt, if◌then◌else◌, List, [], ◌∷◌, ◌++◌, Option, Some, None, is_some, option_map, refl, sym, ap, subst, ◌∙◌, eqb-true}
 use Rattle.std.specs.List.{list_any}
-use Rattle.std.proofs.lemmas.Bool.{and_parts, eq-eqb, ltb-true}
+use Rattle.std.proofs.lemmas.Bool.{and_parts, eq-eqb, ltb-true, or_right}
 use Rattle.hop_base.specs.declared.histories.Entry.{Entry}
 use Rattle.hop_base.specs.declared.histories.Event.{Event}
 use Rattle.hop_base.specs.declared.histories.Event.TheVariants.{Snap, Step}
@@ -12,23 +12,18 @@ use Rattle.fitting_births.specs.hop_model.Serial.{can_step}
 use Rattle.fitting_births.specs.hop_model.State.{KernelState, Supply}
 use Rattle.fitting_births.specs.hop_model.Steps.{running, step}
 use Rattle.fitting_births.specs.script_form.Rules.{IsScript}
-use Rattle.fitting_births.proofs.run_laws_lemmas.Wishes.{due_stays, run_append}
+use Rattle.fitting_births.proofs.run_laws_lemmas.Wishes.{due_stays}
 use Rattle.fitting_births.proofs.run_laws_lemmas.Writing.{step_is}
 use Rattle.fitting_births.proofs.sound_runs_lemmas.Naming.{owed_over}
 use Rattle.fitting_births.proofs.sound_runs_lemmas.Standing.{IsStanding, standing_over}
 use Rattle.serial_runs.specs.Serial.{IsBehind, IsCalm, kept_behind, look, looks, step_and_kept, wished_snaps, written_in}
-
--- one of the list
-abbrev has : List ℕ → ℕ → Bool
-has xs x = list_any (λ y. y == x) xs
+use Rattle.fitting_births.proofs.hop_model_lemmas.StableCuts.{run_append}
+use Rattle.fitting_births.specs.hop_model.Pasts.{has}
+use Rattle.std.proofs.Math.Bool.{and-false}
 
 and_true : (c : Bool) → (c && true) ≡ c
 and_true true = refl
 and_true false = refl
-
-and_false : (c : Bool) → (c && false) ≡ false
-and_false true = refl
-and_false false = refl
 
 written_has : (ts : List Touch) (x : ℕ) → list_any (λ (t : Touch). t.entity == x && t.wrote) ts ≡ has (written_in ts) x
 written_has [] x = refl
@@ -37,17 +32,13 @@ written_has (t ∷ ts) x = one t.wrote (written_has ts x)
     one : (b : Bool) → list_any (λ (t : Touch). t.entity == x && t.wrote) ts ≡ has (written_in ts) x
         → ((t.entity == x && b) || list_any (λ (t : Touch). t.entity == x && t.wrote) ts) ≡ has (if b then t.entity ∷ written_in ts else written_in ts) x
     one true e = ap (λ c. c || list_any (λ (t : Touch). t.entity == x && t.wrote) ts) (and_true (t.entity == x)) ∙ ap (λ c. (t.entity == x) || c) e
-    one false e = ap (λ c. c || list_any (λ (t : Touch). t.entity == x && t.wrote) ts) (and_false (t.entity == x)) ∙ e
+    one false e = ap (λ c. c || list_any (λ (t : Touch). t.entity == x && t.wrote) ts) (and-false (t.entity == x)) ∙ e
 
 -- without a wish, or full before, nothing is due
 not_due : (h f w : Bool) → (h && not f) ≡ false → (f ≡ true → w ≡ true) → (h && not w) ≡ false
 not_due false f w e noted = refl
 not_due true true w e noted = ap not (noted refl)
 not_due true false w e noted = cc
-
-noted_or : (w f : Bool) → f ≡ true → (w || f) ≡ true
-noted_or true f e = refl
-noted_or false f e = e
 
 module _ (s : Supply) (policy : Policy) (script : Script) where
   pub legal_join : (r : Run) (es fs : List Entry) → IsLegalFrom s policy script r es → IsLegalFrom s policy script (run_after s script r es) fs → IsLegalFrom s policy script r (es ++ fs)
@@ -82,7 +73,7 @@ module _ (s : Supply) (policy : Policy) (script : Script) where
   snap_next r x xs owed k m = record {
     short = ap is_some owed;
     tried = k.tried;
-    noted = λ y full. noted_or (r.was_full y) (is_full (next r x) y) full;
+    noted = λ y full. or_right (r.was_full y) (is_full (next r x) y) full;
     due = λ y none. at_or_other y none (x == y) refl;
   }
     where
@@ -120,7 +111,7 @@ module _ (s : Supply) (policy : Policy) (script : Script) where
   none_due r [] calm = refl
   none_due r (t ∷ ts) calm = ap (λ b. b || list_any (λ (t : Touch). is_due policy r t.entity) ts) (calm.due t.entity) ∙ none_due r ts calm
 
-  abbrev entry_in : Entry × KernelState → Entry
+  abbrev pub entry_in : Entry × KernelState → Entry
   entry_in made = made.0
 
   -- a step's entry is a Step of its locus
@@ -146,7 +137,7 @@ module _ (s : Supply) (policy : Policy) (script : Script) where
   step_behind r e calm is m = record {
     short = subst (λ (ev : Event). (went_on s script r e ev).short ≡ false) (sym is) calm.short;
     tried = subst (λ (ev : Event). (went_on s script r e ev).tried ≡ None) (sym is) calm.tried;
-    noted = λ x. subst (λ (ev : Event). is_full (went_on s script r e ev) x ≡ true → (went_on s script r e ev).was_full x ≡ true) (sym is) (noted_or (not (writes e x) && r.was_full x) (is_full r x));
+    noted = λ x. subst (λ (ev : Event). is_full (went_on s script r e ev) x ≡ true → (went_on s script r e ev).was_full x ≡ true) (sym is) (or_right (not (writes e x) && r.was_full x) (is_full r x));
     due = λ x none. due_stays s policy script r e x m (written_has e.touched x ∙ none) (calm.due x);
   }
 

@@ -11,12 +11,13 @@ use Rattle.fitting_births.specs.hop_model.Soundness.{IsSound}
 use Rattle.fitting_births.specs.hop_model.State.{KernelState, Supply}
 use Rattle.fitting_births.specs.hop_model.Steps.{step}
 use Rattle.fitting_births.specs.script_form.Rules.{IsScript}
-use Rattle.fitting_births.proofs.run_laws_lemmas.Wishes.{legal_back, legal_front, run_append}
+use Rattle.fitting_births.proofs.run_laws_lemmas.Wishes.{legal_back}
 use Rattle.fitting_births.proofs.sound_runs_lemmas.Standing.{standing_over}
 use Rattle.fitting_births.specs.sound_runs.Kinds.{NamesNoLocus}
 use Rattle.serial_runs.specs.Serial.{IsCut, IsFront, IsStopped, IsWhole, first_snaps, look, looks, opening, serial_history, snap_then, step_and_kept}
 use Rattle.serial_runs.proofs.Calm.{Leaves, leaves_join, legal_join, looks_leave}
 use Rattle.serial_runs.proofs.Openings.{opening_calm, opening_legal}
+use Rattle.fitting_births.proofs.hop_model_lemmas.StableCuts.{legal_front, run_append}
 
 -- this many numbers, from one on
 abbrev pub numbers : ℕ → ℕ → List ℕ

@@ -10,10 +10,10 @@ use Rattle.fitting_births.specs.hop_model.Histories.{IsLegalFrom, May, Policy, R
 use Rattle.fitting_births.specs.hop_model.Scripts.{Script}
 use Rattle.fitting_births.specs.hop_model.Serial.{birth_turn, births, made_and_owed, owed_stable}
 use Rattle.fitting_births.specs.hop_model.State.{KernelState, Supply}
-use Rattle.fitting_births.proofs.run_laws_lemmas.Wishes.{run_append}
 use Rattle.fitting_births.proofs.Ends.{births_none}
 use Rattle.serial_runs.specs.Serial.{IsCalm, IsNew, opening}
-use Rattle.serial_runs.proofs.Calm.{legal_join}
+use Rattle.serial_runs.proofs.Calm.{entry_in, legal_join}
+use Rattle.fitting_births.proofs.hop_model_lemmas.StableCuts.{run_append}
 
 pub no_wish : (b c p f : Bool) → b ≡ false → c ≡ false → ((b && p || c) && f) ≡ false
 no_wish false false p f b_no c_no = refl
@@ -36,14 +36,11 @@ module _ (s : Supply) (policy : Policy) (script : Script) where
   pub new_calm : (r : Run) → IsNew r → r.owed ≡ None → IsCalm policy r
   new_calm r k owed = record { owed = owed; short = k.short; tried = k.tried; due = λ x. no_wish (r.by_step x) (r.asked x) _ _ (k.by_step x) (k.asked x) }
 
-  abbrev entry_in : Entry × KernelState → Entry
-  entry_in made = made.0
-
   pub birth_event : (r : Run) (made : Entry × KernelState) → next_birth s script r.state ≡ Some made → made.0.event ≡ Birth
   birth_event r made is = ap (λ (q : Entry × KernelState). q.0.event) (sym (some_of_map (λ (c : ℕ × Change). carried r.state Birth c.0 c.1) (next_birth_change s script r.state) made is).2)
 
   pub birth_may : (r : Run) (made : Entry × KernelState) → IsNew r → next_birth s script r.state ≡ Some made → May s policy script r made.0
-  birth_may r made k is = (k.tried, subst (λ (ev : Event). may s policy script r made.0 ev) (sym (birth_event r made is)) (k.began, ap (option_map entry_in) is))
+  birth_may r made k is = (k.tried, subst (λ (ev : Event). may s policy script r made.0 ev) (sym (birth_event r made is)) (k.began, ap (option_map (entry_in s policy script)) is))
 
   pub born_next : (r : Run) (e : Entry) → e.event ≡ Birth → IsNew r → IsNew (goes_on s script r e) × ((goes_on s script r e).owed ≡ (if births_owed script (goes_on s script r e) then None else Some 0))
   born_next r e is k = (

@@ -16,13 +16,13 @@ use Rattle.fitting_births.specs.hop_model.State.{KernelState, Supply}
 use Rattle.fitting_births.specs.hop_model.Steps.{numbered_change, running, step, step_change}
 use Rattle.fitting_births.specs.hop_model.Words.{put}
 use Rattle.fitting_births.specs.script_form.Rules.{IsScript}
-use Rattle.fitting_births.proofs.run_laws_lemmas.Wishes.{run_append}
 use Rattle.fitting_births.specs.sound_runs.Kinds.{NamesNoLocus}
 use Rattle.fitting_births.proofs.sound_runs_lemmas.Naming.{births_over}
 use Rattle.fitting_births.proofs.Ends.{some_is}
 use Rattle.serial_runs.specs.Serial.{IsWhole, kept_behind, look, looks, opening, serial_history, step_and_kept, steps_left, wished_snap, wished_snaps, written_in}
 use Rattle.serial_runs.proofs.Calm.{step_entry}
 use Rattle.serial_runs.proofs.Histories.{Idle, longer_by, looks_append, numbers, serial_leaves}
+use Rattle.fitting_births.proofs.hop_model_lemmas.StableCuts.{run_append}
 
 -- STEPS LEFT
 

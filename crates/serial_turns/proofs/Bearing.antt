@@ -14,12 +14,12 @@ use Rattle.serial_runs.specs.hop_model.Soundness.{IsSound}
 use Rattle.serial_runs.specs.hop_model.State.{KernelState, Supply, Text}
 use Rattle.serial_runs.specs.hop_model.Steps.{atlas_in}
 use Rattle.serial_runs.specs.script_form.Rules.{IsScript}
-use Rattle.serial_runs.proofs.run_laws_lemmas.Wishes.{run_append}
 use Rattle.serial_runs.specs.fitting_births.Fitting.{Fits}
 use Rattle.serial_runs.proofs.fitting_births_lemmas.Ends.{all_births_done, births_none}
 use Rattle.serial_runs.specs.Serial.{IsBehind, IsFront, IsNew, looks, opening}
 use Rattle.serial_runs.proofs.Openings.{birth_event, born_next, no_wish, start_new}
 use Rattle.serial_turns.specs.Turns.{IsBearing, opened}
+use Rattle.serial_runs.proofs.fitting_births_lemmas.hop_model_lemmas.StableCuts.{run_append}
 
 module _ (s : Supply) (script : Script) where
   -- a birth is made where a name is owed

@@ -21,7 +21,7 @@ picks-cons : (a : AtlasState) (name : Text) (names : List Text) (o : Option ℕ)
 picks-cons a name names None is = rw is refl
 picks-cons a name names (Some l) is = rw is refl
 
-picks-append : (a : AtlasState) (xs ys : List Text) → picks_of a (xs ++ ys) ≡ picks_of a xs ++ picks_of a ys
+pub picks-append : (a : AtlasState) (xs ys : List Text) → picks_of a (xs ++ ys) ≡ picks_of a xs ++ picks_of a ys
 picks-append a [] ys = refl
 picks-append a (x ∷ xs) ys =
     let first = picked (locus_named a x) in

@@ -10,8 +10,8 @@ use Rattle.serial_runs.specs.hop_model.Scripts.{Script}
 use Rattle.serial_runs.specs.hop_model.Serial.{can_step}
 use Rattle.serial_runs.specs.hop_model.State.{KernelState, Supply}
 use Rattle.serial_runs.specs.hop_model.Steps.{step}
-use Rattle.serial_runs.proofs.run_laws_lemmas.Wishes.{run_append}
 use Rattle.serial_runs.specs.Serial.{kept_behind, look, step_and_kept, wished_snap, wished_snaps, written_in}
+use Rattle.serial_runs.proofs.fitting_births_lemmas.hop_model_lemmas.StableCuts.{run_append}
 
 module _ (s : Supply) (policy : Policy) (script : Script) where
   pub look_idle : (r : Run) (l : ℕ) → can_step script r l ≡ false → look s policy script r l ≡ []

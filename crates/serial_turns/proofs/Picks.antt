@@ -12,19 +12,21 @@ use Rattle.serial_runs.specs.hop_model.State.{AtlasState, KernelState, Supply, T
 use Rattle.serial_runs.specs.hop_model.Steps.{atlas_in}
 use Rattle.serial_runs.specs.hop_model.Words.{or_else}
 use Rattle.serial_runs.specs.script_form.Rules.{AreLocusTables, IsScript, container_names, is_among, locus_names}
-use Rattle.serial_runs.proofs.run_laws_lemmas.Wishes.{legal_back, run_append}
-use Rattle.serial_runs.proofs.sound_runs_lemmas.Found.{text_same}
+use Rattle.serial_runs.proofs.run_laws_lemmas.Wishes.{legal_back}
 use Rattle.serial_runs.proofs.sound_runs_lemmas.Naming.{KeepsNames, names_over}
 use Rattle.serial_runs.proofs.sound_runs_lemmas.Standing.{standing_over}
 use Rattle.serial_runs.specs.fitting_births.Fitting.{Fits}
 use Rattle.serial_runs.proofs.fitting_births_lemmas.Ends.{all_births_done, births_ready, some_is}
-use Rattle.serial_runs.proofs.fitting_births_lemmas.Growing.{not_atlas, place_more}
+use Rattle.serial_runs.proofs.fitting_births_lemmas.Growing.{place_more}
 use Rattle.serial_runs.proofs.fitting_births_lemmas.KnownNames.{loci_known, or_cases, true_false}
 use Rattle.serial_runs.specs.Serial.{looks, opening}
 use Rattle.serial_runs.proofs.Openings.{opening_legal}
 use Rattle.serial_turns.specs.Turns.{HasLooked, before_pick, opened}
 use Rattle.serial_turns.proofs.Course.{pick_more}
 use Rattle.serial_turns.proofs.Whereabouts.{looked_rest}
+use Rattle.serial_runs.proofs.fitting_births_lemmas.hop_model_lemmas.StableCuts.{run_append}
+use Rattle.serial_runs.proofs.fitting_births_lemmas.sound_steps_lemmas.MadeNames.{text_same}
+use Rattle.serial_runs.proofs.sound_runs_lemmas.Found.{not_atlas}
 
 -- WHERE ALL NAMES ARE BORN each name of a locus's table is a locus
 
@@ -34,7 +36,7 @@ no_locus_name None (Some x) none = true_false true refl none
 no_locus_name (Some x) l none = true_false true refl none
 
 -- it is a given one, and no container's
-locus_of_kind : (a : AtlasState) (containers earlier : List Text) (ts : List LocusTable) (x : Text) → AreLocusTables containers earlier ts → All (λ (t : LocusTable). container_named a t.name ≡ None) ts → IsTrue (is_among (locus_names ts) x)
+pub locus_of_kind : (a : AtlasState) (containers earlier : List Text) (ts : List LocusTable) (x : Text) → AreLocusTables containers earlier ts → All (λ (t : LocusTable). container_named a t.name ≡ None) ts → IsTrue (is_among (locus_names ts) x)
     → IsTrue (is_given_name x) × (container_named a x ≡ None)
 locus_of_kind a containers earlier [] x rules kinds among = true_false false among refl
 locus_of_kind a containers earlier (t ∷ ts) x rules kinds among =

@@ -7,10 +7,10 @@ use Rattle.serial_runs.specs.hop_model.Histories.{Policy, Run, goes_on, mark, ne
 use Rattle.serial_runs.specs.hop_model.Scripts.{Script}
 use Rattle.serial_runs.specs.hop_model.Serial.{looks_of}
 use Rattle.serial_runs.specs.hop_model.State.{KernelState, Supply}
-use Rattle.serial_runs.proofs.run_laws_lemmas.Wishes.{run_append}
 use Rattle.serial_runs.specs.Serial.{IsCut, IsFront, IsStopped, first_snaps, opening, snap_then}
 use Rattle.serial_turns.specs.Turns.{ComeFirst, HasLooked, IsCutIn, IsStoppedIn, opened}
 use Rattle.serial_turns.proofs.Whereabouts.{looked_front, looked_opening}
+use Rattle.serial_runs.proofs.fitting_births_lemmas.hop_model_lemmas.StableCuts.{run_append}
 
 module _ (s : Supply) (script : Script) where
   -- SNAPS IN PLACE OF A STABLE

@@ -10,7 +10,6 @@ use Rattle.serial_runs.specs.hop_model.Soundness.{IsSound}
 use Rattle.serial_runs.specs.hop_model.State.{KernelState, Supply}
 use Rattle.serial_runs.specs.hop_model.Steps.{atlas_in, running}
 use Rattle.serial_runs.specs.script_form.Rules.{IsScript}
-use Rattle.serial_runs.proofs.run_laws_lemmas.Wishes.{run_append}
 use Rattle.serial_runs.proofs.sound_runs_lemmas.Naming.{births_over}
 use Rattle.serial_runs.proofs.sound_runs_lemmas.Standing.{standing_over}
 use Rattle.serial_runs.specs.fitting_births.Fitting.{Fits}
@@ -22,6 +21,7 @@ use Rattle.serial_runs.proofs.Openings.{opening_calm, opening_legal}
 use Rattle.serial_runs.proofs.Rounds.{Looked, Round, are_loci, at_number, look_falls, looked, round, step_some}
 use Rattle.serial_turns.specs.Turns.{ComeFirst, HasLooked, IsAtRest, opened}
 use Rattle.serial_turns.proofs.Looks.{look_idle, look_made}
+use Rattle.serial_runs.proofs.fitting_births_lemmas.hop_model_lemmas.StableCuts.{run_append}
 
 module _ (s : Supply) (policy : Policy) (script : Script) where
   -- more looks behind those that were made

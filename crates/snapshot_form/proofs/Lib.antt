@@ -1,7 +1,6 @@
 pub mod Items
 pub mod Room
 pub mod Used
-pub mod Lengths
 pub mod Rows
 pub mod Names
 pub use Rattle.blob_grammar.proofs as blob_grammar_lemmas

@@ -6,15 +6,10 @@ ghost use Rattle.kernel_calls.specs.Calls.{atlas_state};
 ghost use Rattle.snapshot_form.specs.Pieces.{first_of, names_of};
 
 use crate::edges::put_edges;
-use atlas_dir::Atlas;
+use atlas_dir::{Atlas, NAME_LENGTH};
+use blob_grammar::ATLAS_BLOB;
 use block_code::Blob;
 use hop_base::{Entity, FIRST_CONTAINER, FIRST_LOCUS, Kind};
-
-/// The first byte of an atlas's blob.
-const ATLAS: u8 = 0;
-
-/// The length of a name at most.
-const NAME_LENGTH: usize = 24;
 
 /// The bytes of a name at most: one, and its length.
 const NAME_BYTES: usize = 25;
@@ -66,7 +61,7 @@ pub fn write_atlas(atlas: &Atlas, blob: &mut Blob)
     ensures { blob.new ≡ atlas_blob (atlas_state atlas.now) }
 {
     blob.clear();
-    blob.push(ATLAS);
+    blob.push(ATLAS_BLOB);
     put_names(atlas, Kind::Container, blob);
     put_names(atlas, Kind::Locus, blob);
     put_edges(atlas, blob);

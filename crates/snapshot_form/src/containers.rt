@@ -7,15 +7,10 @@ ghost use Rattle.snapshot_form.specs.Pieces.{head_front};
 
 use crate::lists::{put_caps, put_code, put_regions};
 use crate::numbers::put_blocks;
+use blob_grammar::{CONTAINER_BLOB, NO_ENTRY};
 use block_code::Blob;
 use hop_base::MOST_PAGES;
 use kernel_calls::locus_machine::Head;
-
-/// The first byte of a container's blob.
-const CONTAINER: u8 = 1;
-
-/// What stands for a container without an entry.
-const NO_ENTRY: u8 = 255;
 
 /// The bytes from the kind up to the entry.
 const FRONT_BYTES: usize = 16;
@@ -35,7 +30,7 @@ fn put_front(head: &Head, blob: &mut Blob)
     ensures front { blob.new ≡ blob.old ++ head_front head.now }
     ensures most { length blob.new ≤ length blob.old + FRONT_BYTES }
 {
-    blob.push(CONTAINER);
+    blob.push(CONTAINER_BLOB);
     blob.put_u16(head.pages);
     blob.put_u64(head.tag);
     blob.put_u32(head.every);

@@ -6,21 +6,10 @@ ghost use Rattle.kernel_calls.specs.locus_machine.Loci.{locus_of};
 
 use crate::lists::{put_caps, put_chain, put_code, put_privates};
 use crate::numbers::put_registers;
+use blob_grammar::{LONG_LOCUS, SHORT_CALLS, SHORT_LOCUS, SHORT_PRIVATES};
 use block_code::Blob;
 use hop_base::{Condition, Walk};
 use kernel_calls::locus_machine::Locus;
-
-/// The first byte of a locus's blob in the short form.
-const SHORT_LOCUS: u8 = 2;
-
-/// The first byte of a locus's blob in the long form, which has the number of printed values too.
-const LONG_LOCUS: u8 = 3;
-
-/// The calls in the short form at most.
-const SHORT_CALLS: usize = 32;
-
-/// The private regions in the short form at most.
-const SHORT_PRIVATES: usize = 8;
 
 /// The bytes of a walk at most.
 const WALK_BYTES: usize = 11;
@@ -61,8 +50,8 @@ fn is_short(locus: &Locus) -> bool
     ensures { result ≡ is_short (locus_of locus.now) }
 {
     locus.printed == 0
-        && locus.chain.as_slice().len() <= SHORT_CALLS
-        && locus.privates.as_slice().len() <= SHORT_PRIVATES
+        && locus.chain.as_slice().len() <= SHORT_CALLS as usize
+        && locus.privates.as_slice().len() <= SHORT_PRIVATES as usize
 }
 
 /// From `every` up to the registers.

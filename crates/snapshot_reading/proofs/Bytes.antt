@@ -8,7 +8,7 @@ use Rattle.snapshot_reading.proofs.Sequences.{TellsApart}
 pub record IsOneByte {A : Type 0} (Field : A → List ℕ → Type 0) : Type 0 where
   pub byte : (v : A) (a : List ℕ) → Field v a → (b : ℕ) × (a ≡ b ∷ [])
 
-empty : (bytes : List ℕ) → length bytes ≡ 0 → bytes ≡ []
+pub empty : (bytes : List ℕ) → length bytes ≡ 0 → bytes ≡ []
 empty [] e = refl
 empty (b ∷ bytes) e = absurd (omega (arith, e))
 

@@ -5,7 +5,7 @@ use Rattle.hop_base.specs.declared.instructions.Condition.{Condition}
 use Rattle.hop_base.specs.declared.instructions.Condition.TheVariants.{Running, Stopped, Halted}
 use Rattle.blob_grammar.specs.Spelling.{condition_number}
 use Rattle.blob_grammar.proofs.Fields.{condition_same}
-use Rattle.snapshot_reading.specs.Fields.{IsByteIn, IsFound, IsRefused, Spells}
+use Rattle.snapshot_reading.specs.Fields.{IsByteIn, IsRefused, Spells}
 use Rattle.snapshot_reading.specs.Loci.{IsConditionSpelled, IsFormSpelled, form_byte}
 use Rattle.snapshot_reading.specs.declared.forms.Form.{Form}
 use Rattle.snapshot_reading.specs.declared.forms.Form.TheVariants.{Short, Long}
@@ -31,9 +31,6 @@ module _ {A : Type 0} (code : A → ℕ) where
         (λ y s. record { value = code s.value; spelled = record { low = (within s.value).0; high = (within s.value).1; is = s.spelled } })
         r
 
-    pub coded_found : (v : A) (n : ℕ) (bytes rest : List ℕ) → n ≡ code v → IsFound (IsByteIn least most) bytes n rest → IsFound Coded bytes v rest
-    coded_found v n bytes rest e f = record { front = f.front; spelled = f.spelled.is ∙ ap (λ m. m ∷ []) e; is = f.is }
-
 -- FORMS
 form_same : (f g : Form) → form_byte f ≡ form_byte g → f ≡ g
 form_same Short Short e = refl
@@ -58,9 +55,6 @@ form_tells = coded_tells form_byte form_same
 pub form_refused : (bytes behind : List ℕ) → IsRefused (Spells (IsByteIn 2 3)) bytes behind → IsRefused (Spells IsFormSpelled) bytes behind
 form_refused bytes behind r = coded_refused form_byte 2 3 bytes behind form_of form_within r
 
-pub form_found : (f : Form) (n : ℕ) (bytes rest : List ℕ) → n ≡ form_byte f → IsFound (IsByteIn 2 3) bytes n rest → IsFound IsFormSpelled bytes f rest
-form_found = coded_found form_byte 2 3
-
 -- CONDITIONS
 condition_of : (n : ℕ) → 0 ≤ n → n ≤ 2 → (c : Condition) × (n ≡ condition_number c)
 condition_of zero low high = (Running, refl)
@@ -78,6 +72,3 @@ condition_tells = coded_tells condition_number condition_same
 
 pub condition_refused : (bytes behind : List ℕ) → IsRefused (Spells (IsByteIn 0 2)) bytes behind → IsRefused (Spells IsConditionSpelled) bytes behind
 condition_refused bytes behind r = coded_refused condition_number 0 2 bytes behind condition_of condition_within r
-
-pub condition_found : (c : Condition) (n : ℕ) (bytes rest : List ℕ) → n ≡ condition_number c → IsFound (IsByteIn 0 2) bytes n rest → IsFound IsConditionSpelled bytes c rest
-condition_found = coded_found condition_number 0 2

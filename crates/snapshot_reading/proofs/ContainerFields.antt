@@ -1,5 +1,5 @@
 -- The blob of a container, field by field.
-use Rattle.std.proofs.Common.{◌≡◌, ◌<◌, ◌≤◌, ℕ, ◌+◌, ◌^◌, List, [], ◌∷◌, ◌++◌, replicate, Option, Some, None, refl, sym, ap, subst, ◌∙◌, arith}
+use Rattle.std.proofs.Common.{◌≡◌, ◌≤◌, ℕ, ◌+◌, List, [], ◌∷◌, ◌++◌, replicate, Option, Some, None, refl, sym, ap, subst, ◌∙◌, arith}
 use Rattle.std.specs.Prelude.{All, drop, slice_index}
 use Rattle.std.specs.List.{AllByRecursion, flat_map}
 use Rattle.std.proofs.lemmas.List.Elements.{All-nil}
@@ -23,6 +23,7 @@ use Rattle.snapshot_reading.proofs.Numbers.{tells}
 use Rattle.snapshot_reading.proofs.Sequences.{TellsApart, chain, joined, refused_as, refused_here, refused_later}
 use Rattle.snapshot_reading.proofs.SlotLists.{caps_spelled, not_filled}
 use Rattle.snapshot_reading.proofs.Tables.{last_block, some_table}
+use Rattle.blob_grammar.proofs.Values.{IsShort}
 
 abbrev pub last_word : ℕ
 last_word = 18446744073709551615
@@ -41,9 +42,6 @@ code_tells = record {
       (list instr_bytes IsInstruction instr v w (each IsInstruction v f.good.each) (each IsInstruction w g.good.each)).told x y
       (ap (λ (l : List ℕ). l ++ x) (sym f.is) ∙ same ∙ ap (λ (l : List ℕ). l ++ y) g.is);
 }
-
-abbrev IsShort : Region → Type 0
-IsShort r = r.count < 256 ^ 2
 
 short : (rs : List Region) → All (IsRegionOver IsNumber) rs → AllByRecursion IsShort rs
 short rs all = each IsShort rs (λ i d lt. let at = (all i d lt).at in omega (arith, at))

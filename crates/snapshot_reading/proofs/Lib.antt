@@ -26,5 +26,6 @@ pub mod PrivatesRead
 pub mod WalkFields
 pub mod LocusForms
 pub mod LocusFields
+pub mod Texts
 pub use Rattle.blob_grammar.proofs as blob_grammar_lemmas
 pub use Rattle.locus_machine.proofs.hop_model_lemmas

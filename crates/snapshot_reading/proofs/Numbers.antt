@@ -89,9 +89,6 @@ some_number w least most some = record { value = least; spelled = record { low =
 
 -- WHERE A NUMBER IS REFUSED
 
-front_byte : List ℕ → ℕ
-front_byte l = slice_index l 0
-
 -- the bytes end
 pub ends : (w least most : ℕ) → least ≤ most → IsStuck (Spells (IsNumberIn (suc w) least most)) [] []
 ends w least most some = record {

@@ -4,7 +4,7 @@ use Rattle.std.specs.Prelude.{All}
 use Rattle.std.specs.List.{AllByRecursion, flat_map}
 use Rattle.std.proofs.lemmas.List.Elements.{All-cons, All-nil}
 use Rattle.snapshot_reading.specs.Fields.{IsFound, IsRefused, Items, Spells}
-use Rattle.snapshot_reading.proofs.Items.{HasRead, all_read, none_yet, one_more, one_refused}
+use Rattle.snapshot_reading.proofs.Items.{HasRead, all_read, one_more, one_refused}
 use Rattle.snapshot_reading.proofs.Sequences.{TellsApart, joined}
 
 module _ {A : Type 0} (Item : A → List ℕ → Type 0) where
@@ -23,11 +23,6 @@ module _ {A : Type 0} (Item : A → List ℕ → Type 0) where
   PlainSoFar count bytes place vs rest = HasRead Each same count tt bytes vs (count - place) tt rest
 
   module _ (count : ℕ) (bytes : List ℕ) where
-    pub plain_begun : (vs : List A) → vs ≡ [] → PlainSoFar count bytes 0 vs bytes
-    plain_begun vs none =
-        subst (λ (l : List A). PlainSoFar count bytes 0 l bytes) (sym none)
-        (subst (λ n. HasRead Each same count tt bytes [] n tt bytes) (let e : count ≡ count - 0 = omega arith in e) (none_yet Each same count tt bytes))
-
     plain_still : (place : ℕ) (vs : List A) (rest : List ℕ) → place < count → PlainSoFar count bytes place vs rest → HasRead Each same count tt bytes vs (suc (count - place - 1)) tt rest
     plain_still place vs rest more so_far = subst (λ n. HasRead Each same count tt bytes vs n tt rest) (let e : count - place ≡ suc (count - place - 1) = omega (arith, more) in e) so_far
 

@@ -3,14 +3,14 @@ use Rattle.std.proofs.Common.{◌≡◌, ◌<◌, ◌≤◌, ℕ, suc, ◌+◌, 
 use Rattle.std.proofs.lemmas.Bool.Decides.{eqb_tells, leb_tells}
 use Rattle.hop_base.specs.declared.capabilities.Private.{Private}
 use Rattle.hop_base.specs.declared.capabilities.Region.{Region}
-use Rattle.blob_grammar.specs.Spelling.{private_bytes, region_bytes}
+use Rattle.blob_grammar.specs.Spelling.{region_bytes}
 use Rattle.blob_grammar.proofs.Fields.{private_region}
 use Rattle.snapshot_reading.specs.Fields.{IsByteIn, IsFound, IsRefused, Spells, Then}
 use Rattle.snapshot_reading.specs.Loci.{IsPrivateIn, end_page, first_page, least_host}
 use Rattle.snapshot_reading.specs.Parts.{IsRegionIn}
 use Rattle.snapshot_reading.proofs.Bytes.{byte_tells}
 use Rattle.snapshot_reading.proofs.RegionFields.{region_with}
-use Rattle.snapshot_reading.proofs.Sequences.{TellsApart, chain, joined, refused_as, refused_here, refused_later}
+use Rattle.snapshot_reading.proofs.Sequences.{TellsApart, joined, refused_as, refused_here, refused_later}
 
 -- THE BOUNDS, case by case
 pub end_cases : (made left : ℕ) → ((made ≡ 63) × (end_page made left ≡ 256 - left)) ⊎ ((made ≡ 63 → ⊥) × (end_page made left ≡ 256))
@@ -77,15 +77,6 @@ some_region least most some size = (
 )
 
 module _ (host page left : ℕ) (number : host < 64) (few : left < 16) (room : page + left + 1 ≤ 256 * (64 - host)) where
-  pub least_small : least_host host page left ≤ 63
-  least_small = by (least_cases host page left) (end_cases host left)
-    where
-      by : ((page < end_page host left) × (least_host host page left ≡ host)) ⊎ ((end_page host left ≤ page) × (least_host host page left ≡ host + 1))
-          → ((host ≡ 63) × (end_page host left ≡ 256 - left)) ⊎ ((host ≡ 63 → ⊥) × (end_page host left ≡ 256)) → least_host host page left ≤ 63
-      by (inl t) d = let e = t.1 in omega (arith, e, number)
-      by (inr t) (inl d) = let full = t.0 in let e = d.1 in let m = d.0 in absurd (omega (arith, full, e, m, room, few))
-      by (inr t) (inr d) = let e = t.1 in let m = d.0 in omega (arith, e, m, number)
-
   pub region_room : (made : ℕ) → least_host host page left ≤ made → first_page host page made < end_page made left
   region_room made low = by (least_cases host page left) (first_cases host page made)
     where
@@ -165,24 +156,6 @@ module _ (host page left : ℕ) (number : host < 64) (few : left < 16) (room : p
     pub region_refused : (made : ℕ) → IsFound (IsByteIn (least_host host page left) 63) bytes made rest → IsRefused (Spells (IsRegionIn (first_page host page made) (end_page made left))) rest behind
         → IsRefused (Spells (IsPrivateIn host page left)) bytes behind
     region_refused made f r = refused_as private_of fields_of (refused_later (byte_tells (least_host host page left) 63) f r)
-
-    pub private_found : (made : ℕ) (region : Region) → IsFound (IsByteIn (least_host host page left) 63) bytes made rest
-        → IsFound (IsRegionIn (first_page host page made) (end_page made left)) rest region behind → IsFound (IsPrivateIn host page left) bytes (private_with made region) behind
-    private_found made region f g =
-        let low = f.spelled.low in
-        let high = f.spelled.high in
-        let below = host_below in
-        record {
-          front = private_bytes (private_with made region);
-          spelled = record {
-            behind = omega (arith, low, below);
-            good = record { made = omega (arith, high); region = g.spelled.good };
-            low = g.spelled.low;
-            high = g.spelled.high;
-            is = refl;
-          };
-          is = chain (region_bytes region) behind f.is f.spelled.is (joined g.is g.spelled.is refl);
-        }
 
 pub private_tells : (host page left : ℕ) → TellsApart (IsPrivateIn host page left)
 private_tells host page left = record {

@@ -1,12 +1,12 @@
 -- A reader of private regions, at each of them.
-use Rattle.std.proofs.Common.{◌≡◌, ◌<◌, ◌≤◌, ℕ, suc, ◌+◌, ◌-◌, ◌*◌, List, [], ◌∷◌, ◌++◌, length, refl, sym, subst, arith}
+use Rattle.std.proofs.Common.{◌≡◌, ◌<◌, ◌≤◌, ℕ, suc, ◌+◌, ◌-◌, List, [], ◌∷◌, ◌++◌, length, sym, subst, arith}
 use Rattle.std.proofs.lemmas.List.{length-append}
 use Rattle.hop_base.specs.declared.capabilities.Private.{Private}
 use Rattle.snapshot_reading.specs.Fields.{IsFound, IsRefused, Spells}
 use Rattle.snapshot_reading.specs.Loci.{IsPrivateIn}
-use Rattle.snapshot_reading.proofs.Items.{HasRead, all_read, none_yet, one_more, one_refused}
+use Rattle.snapshot_reading.proofs.Items.{HasRead, all_read, one_more, one_refused}
 use Rattle.snapshot_reading.proofs.PrivateFields.{private_tells}
-use Rattle.snapshot_reading.proofs.PrivateLists.{Edge, HasRoom, Item, PrivateItems, edge_of, first_edge, first_room, room_behind, some_privates}
+use Rattle.snapshot_reading.proofs.PrivateLists.{Edge, HasRoom, Item, PrivateItems, edge_of, first_edge, room_behind, some_privates}
 
 abbrev pub edge_at : ℕ → ℕ → Edge
 edge_at host page = record { host = host; page = page }
@@ -18,23 +18,12 @@ module _ (count : ℕ) (bytes : List ℕ) where
   abbrev pub SoFar : ℕ → ℕ → ℕ → List Private → List ℕ → Type 0
   SoFar place host page ps rest = (length ps ≡ place) × HasRoom (edge_at host page) (count - place) × Read ps (count - place) (edge_at host page) rest
 
-  pub begun : (ps : List Private) → ps ≡ [] → count ≤ 16 → SoFar 0 0 0 ps bytes
-  begun ps none few =
-      subst (λ (l : List Private). SoFar 0 0 0 l bytes) (sym none) (
-        refl,
-        first_room (count - 0) (omega (arith, few)),
-        subst (λ n. Read [] n first_edge bytes) (let e : count ≡ count - 0 = omega arith in e) (none_yet Item edge_of count first_edge bytes),
-      )
-
   module _ (place host page : ℕ) (ps : List Private) (rest behind : List ℕ) (few : count ≤ 16) (more : place < count) (so_far : SoFar place host page ps rest) where
     left_is : count - place ≡ suc (count - place - 1)
     left_is = omega (arith, more)
 
     still : Read ps (suc (count - place - 1)) (edge_at host page) rest
     still = subst (λ n. Read ps n (edge_at host page) rest) left_is so_far.2
-
-    pub room_now : page + (count - place - 1) + 1 ≤ 256 * (64 - host)
-    room_now = let r = so_far.1.room in omega (arith, r, more)
 
     pub private_refused : IsRefused (Spells (IsPrivateIn host page (count - place - 1))) rest behind → IsRefused (Spells (PrivateItems count first_edge)) bytes behind
     private_refused r =

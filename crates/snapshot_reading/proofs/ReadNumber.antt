@@ -4,10 +4,7 @@ use Rattle.std.specs.Prelude.{slice_index}
 use Rattle.std.specs.Int.{div_ceil}
 use Rattle.snapshot_reading.specs.Fields.{IsFound, IsNumberIn, IsRefused, Spells}
 use Rattle.snapshot_reading.proofs.Numbers.{above_fits, ends, high_above, low_above, more, refuses, refuses_above}
-
-empty : (bytes : List ℕ) → length bytes ≡ 0 → bytes ≡ []
-empty [] e = refl
-empty (b ∷ bytes) e = absurd (omega (arith, e))
+use Rattle.snapshot_reading.proofs.Bytes.{empty}
 
 pub refused_end : (width least most : ℕ) (bytes : List ℕ) → (width ≡ 0 → ⊥) → least ≤ most → length bytes ≡ 0
     → IsRefused (Spells (IsNumberIn width least most)) bytes bytes

@@ -10,6 +10,7 @@ use Rattle.snapshot_reading.specs.Parts.{AreCapsSpelled, IsSlotIn, slot_with}
 use Rattle.snapshot_reading.proofs.Bytes.{byte_tells, some_byte}
 use Rattle.snapshot_reading.proofs.Items.{HasRead, all_read, none_yet, one_more, one_refused}
 use Rattle.snapshot_reading.proofs.Sequences.{TellsApart, chain, joined, refused_as, refused_here, refused_later}
+use Rattle.blob_grammar.proofs.Sizes.{used_few}
 
 -- ONE SLOT
 abbrev pub SlotFields : ℕ → ℕ → List ℕ → Type 0
@@ -258,11 +259,6 @@ filled_by (suc n) least caps before (s ∷ ss) y filled h =
     let more = filled_by n (s.slot + 1) (slice_set caps s.slot (Some s.cap)) (before ++ s ∷ []) ss h.1
     (fill least caps before s filled h.2.low (omega (arith, high)) h.2.entity h.2.rights) h.3 in
     (more.0, more.1, subst (IsFilled more.0 more.1) (append_assoc before (s ∷ []) ss) more.2)
-
-used_few : (n : ℕ) (caps : List (Option Cap)) → length (used_slots n caps) ≤ length caps
-used_few n [] = omega arith
-used_few n (None ∷ caps) = let h = used_few (n + 1) caps in omega (arith, h)
-used_few n (Some c ∷ caps) = let h = used_few (n + 1) caps in omega (arith, h)
 
 abbrev AllGood : List (Option Cap) → Type 0
 AllGood [] = Unit {0}

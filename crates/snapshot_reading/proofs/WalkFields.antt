@@ -6,13 +6,12 @@ use Rattle.hop_base.specs.declared.instructions.Walk.{Walk}
 use Rattle.blob_grammar.specs.Forms.{IsNumber}
 use Rattle.blob_grammar.specs.Shapes.{IsWalkOver}
 use Rattle.blob_grammar.specs.Spelling.{walk_bytes}
-use Rattle.blob_grammar.proofs.Fields.{walk}
 use Rattle.snapshot_reading.specs.Fields.{IsByteIn, IsFound, IsNumberIn, IsRefused, Spells, Then}
 use Rattle.snapshot_reading.specs.Loci.{IsWalkSpelled}
 use Rattle.snapshot_reading.proofs.Bytes.{byte_tells, some_byte}
 use Rattle.snapshot_reading.proofs.Numbers.{tells}
 use Rattle.snapshot_reading.proofs.RegisterLists.{last_number}
-use Rattle.snapshot_reading.proofs.Sequences.{TellsApart, chain, joined, refused_as, refused_here, refused_later}
+use Rattle.snapshot_reading.proofs.Sequences.{joined, refused_as, refused_here, refused_later}
 
 -- WHAT FOLLOWS each field
 abbrev BehindAt : List ℕ → Type 0
@@ -135,25 +134,6 @@ module _ (bytes b1 b2 b3 behind : List ℕ) (kind at address hops : ℕ) where
       → IsRefused (Spells (IsByteIn 1 63)) b3 behind → IsRefused (Spells IsWalkSpelled) bytes behind
   hops_refused some f g h r =
       refused_as walk_of fields_of (refused_later (byte_tells 0 1) f (on some (refused_later (byte_tells 0 63) g (refused_later (tells 8 0 last_number (omega arith)) h r))))
-
-  pub none_found : kind ≡ 0 → IsFound (IsByteIn 0 1) bytes kind b1 → IsFound IsWalkSpelled bytes None b1
-  none_found none f = record { front = 0 ∷ []; spelled = none_spelled; is = joined f.is (f.spelled.is ∙ (λ i. none i ∷ [])) refl }
-
-  pub walk_found : (kind ≡ 0 → ⊥) → IsFound (IsByteIn 0 1) bytes kind b1 → IsFound (IsByteIn 0 63) b1 at b2 → IsFound (IsNumberIn 8 0 last_number) b2 address b3
-      → IsFound (IsByteIn 1 63) b3 hops behind → IsFound IsWalkSpelled bytes (Some (walk_with at address hops)) behind
-  walk_found some f g h k =
-      let few = f.spelled.high in
-      let one : kind ≡ 1 = omega (arith, some, few) in
-      record {
-        front = walk_bytes (Some (walk_with at address hops));
-        spelled = some_spelled at address hops g.spelled.high h.spelled.high k.spelled.low k.spelled.high;
-        is = chain (at ∷ little_bytes 8 address ++ hops ∷ []) behind f.is (f.spelled.is ∙ (λ i. one i ∷ [])) (chain (little_bytes 8 address ++ hops ∷ []) behind g.is g.spelled.is (chain (hops ∷ []) behind h.is h.spelled.is (joined k.is k.spelled.is refl)));
-      }
-
-pub walk_tells : TellsApart IsWalkSpelled
-walk_tells = record {
-  told = λ v w a b x y f g same. (walk v w f.address g.address).told x y (ap (λ (l : List ℕ). l ++ x) (sym f.is) ∙ same ∙ ap (λ (l : List ℕ). l ++ y) g.is);
-}
 
 pub some_walk : (b : List ℕ) × Spells IsWalkSpelled b
 some_walk = (0 ∷ [], record { value = None; spelled = none_spelled })

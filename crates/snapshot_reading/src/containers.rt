@@ -12,16 +12,11 @@ use crate::lists::{read_code, read_table};
 use crate::places::{BadBlob, place_of};
 use crate::regions::read_regions;
 use crate::slots::read_caps;
+use blob_grammar::{CONTAINER_BLOB, NO_ENTRY};
 use cap_list::CapList;
 use hop_base::{Instr, MOST_PAGES};
 use locus_machine::{Code, Head, MOST_INSTRS};
 use region_map::RegionMap;
-
-/// The first byte of a container's blob.
-const CONTAINER: u8 = 1;
-
-/// The byte that stands for no entry.
-const NO_ENTRY: u8 = 255;
 
 /// The place where a container is entered, or none.
 fn read_entry<'a>(bytes: &'a [u8]) -> Parsed<'a, Option<u8>>
@@ -46,7 +41,7 @@ pub(crate) fn read_parts<'a>(bytes: &'a [u8], page_table: &mut [u32; 256]) -> Pa
     ensures others { IfOk result (λ r. drop r.0.pages page_table.new ≡ drop r.0.pages page_table.old) }
     ensures refused { IfErr result (λ stuck. IsRefused (IsSpelling Container) bytes.now stuck.rest.now) }
 {
-    let (kind, rest) = read_byte(bytes, CONTAINER, CONTAINER)?;
+    let (kind, rest) = read_byte(bytes, CONTAINER_BLOB, CONTAINER_BLOB)?;
     let (pages, rest) = read_number(rest, 2, 1, MOST_PAGES)?;
     let (tag, rest) = read_number(rest, 8, 0, u64::MAX)?;
     let (every, rest) = read_number(rest, 4, 0, u32::MAX as u64)?;

@@ -4,19 +4,8 @@ ghost use Rattle.snapshot_reading.specs.Fields.{IsFound, IsRefused, Spells};
 ghost use Rattle.snapshot_reading.specs.Loci.{IsFormSpelled, IsPrintedSpelled, least_privates as fewest_privates, most_calls as greatest_calls, most_privates as greatest_privates};
 
 use crate::fields::{Parsed, read_byte, read_number};
+use blob_grammar::{LONG_LOCUS, SHORT_CALLS, SHORT_LOCUS, SHORT_PRIVATES};
 use hop_base::{MOST_CALLS, MOST_PRINTED, MOST_PRIVATES};
-
-/// The first byte of a locus's blob in the short form.
-const SHORT_LOCUS: u8 = 2;
-
-/// The first byte of a locus's blob in the long form.
-const LONG_LOCUS: u8 = 3;
-
-/// The calls in the short form at most.
-const SHORT_CALLS: u8 = 32;
-
-/// The private regions in the short form at most.
-const SHORT_PRIVATES: u8 = 8;
 
 /// A form of a locus's blob. A locus has the short one where it can have it.
 #[derive(Clone, Copy)]

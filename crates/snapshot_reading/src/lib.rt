@@ -18,6 +18,7 @@ mod regions;
 mod slots;
 mod walks;
 
+pub use blob_grammar;
 pub use containers::{ContainerBlob, read_container};
 pub use loci::read_locus;
 pub use locus_machine;

@@ -8,7 +8,7 @@ use cap_list::{CapList, SLOTS};
 use hop_base::{Cap, Entity, MOST_ENTITIES, Rights};
 
 /// The last slot of a list.
-const LAST_SLOT: u8 = SLOTS as u8 - 1;
+const LAST_CAP_SLOT: u8 = SLOTS as u8 - 1;
 
 /// A slot within these bounds, and the capability in it.
 fn read_slot<'a>(bytes: &'a [u8], least: u8, most: u8) -> Parsed<'a, (u8, Cap)>
@@ -36,7 +36,7 @@ pub(crate) fn read_caps<'a>(bytes: &'a [u8], caps: &mut CapList) -> Parsed<'a, (
     let mut least = 0;
     for place in 0..count {
         let left = count - place - 1;
-        let ((slot, cap), behind) = match read_slot(rest, least, LAST_SLOT - left) {
+        let ((slot, cap), behind) = match read_slot(rest, least, LAST_CAP_SLOT - left) {
             Ok(read) => read,
             Err(stuck) => return Err(stuck),
         };

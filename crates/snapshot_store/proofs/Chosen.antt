@@ -5,8 +5,8 @@ use Rattle.std.specs.List.{AllPairs}
 use Rattle.std.specs.List.{list_any}
 use Rattle.std.proofs.lemmas.List.{get_or-take, get_or_default, length-take}
 use Rattle.std.proofs.lemmas.List.Quantifiers.{all_pairs_push}
-use Rattle.std.proofs.lemmas.Option.{get_or_from_slice_get, slice_get-get_or, slice_get_within}
-use Rattle.std.proofs.lemmas.Bool.{and_parts, cases_lt, eq-eqb, false≢true}
+use Rattle.std.proofs.lemmas.Option.{get_or_from_slice_get, same_Some, slice_get-get_or, slice_get_within}
+use Rattle.std.proofs.lemmas.Bool.{and_from, and_parts, cases_lt, eq-eqb, false≢true}
 use Rattle.std.proofs.lemmas.Grind.{flat_map-append}
 use Rattle.hop_base.specs.Edges.{upto}
 use Rattle.hop_base.specs.declared.records.Rec.{Rec}
@@ -19,9 +19,9 @@ use Rattle.log_reading.proofs.image_blocks_lemmas.Fits.{fitting_law}
 use Rattle.log_reading.specs.image_blocks.Checks.{last_version}
 use Rattle.log_reading.specs.image_blocks.Layout.{most_blocks}
 use Rattle.log_reading.specs.image_blocks.Logs.{AreFitting}
-use Rattle.log_reading.proofs.InRange.{last_or_before}
 use Rattle.log_reading.specs.Logs.{AreInRange, IsOlder}
 use Rattle.snapshot_store.specs.Choosing.{chosen_list, listed}
+use Rattle.log_reading.proofs.image_blocks_lemmas.Ranges.{last_or_before}
 
 abbrev pub is_chosen : (ℕ → ℕ) → ℕ → Rec → Bool
 is_chosen cut x r = (r.entity == x) && (r.version == cut x)
@@ -33,9 +33,6 @@ pub record IsChosen (cut : ℕ → ℕ) (recs : List Rec) (x : ℕ) (r : Rec) : 
   pub entity : r.entity ≡ x
   pub version : r.version ≡ cut x
 
-some_is : (a b : Rec) → Some a ≡ Some b → a ≡ b
-some_is a b same = cc
-
 none_some : {X : Type 0} (r : Rec) → None ≡ Some r → X
 none_some r clash = absurd (let e : None ≡ Some r = clash in cc)
 
@@ -45,7 +42,7 @@ chosen_is cut (q ∷ recs) x r is = by_test (λ rest. chosen_is cut recs x r res
   where
     by_test : (chosen_by cut recs x ≡ Some r → IsChosen cut recs x r) → (b : Bool) → is_chosen cut x q ≡ b → (if b then Some q else chosen_by cut recs x) ≡ Some r → IsChosen cut (q ∷ recs) x r
     by_test later true test is =
-        let same : q ≡ r = some_is q r is in
+        let same : q ≡ r = same_Some q r is in
         let both = and_parts (q.entity == x) (q.version == cut x) test in
         record {
           place = 0;
@@ -66,10 +63,6 @@ no_later q [] x v P of at older among = among
 no_later q (r ∷ recs) x v P of at older (inl here) = absurd (let less = older zero r (omega arith) (of ∙ sym here.0) in let same = here.1 in omega (arith, less, same, at))
 no_later q (r ∷ recs) x v P of at older (inr among) = no_later q recs x v P of at (λ k d lt. older (suc k) d (omega (arith, lt))) among
 
-both_true : (a b : Bool) → a ≡ true → b ≡ true → (a && b) ≡ true
-both_true true b one two = two
-both_true false b one two = absurd (false≢true one)
-
 pub picked : (cut : ℕ → ℕ) (recs : List Rec) (x : ℕ) (P : Commit → Type 0) → AllPairs IsOlder recs → Among (commits_of recs) (λ c. (c.entity ≡ x) × (c.version ≡ cut x) × P c) → Picked cut recs x P
 picked cut [] x P older among = absurd among
 picked cut (q ∷ recs) x P older among = by_test (λ rest. picked cut recs x P (λ i j d lt within. older (suc i) (suc j) d (omega (arith, lt)) (omega (arith, within))) rest) (is_chosen cut x q) refl among
@@ -80,7 +73,7 @@ picked cut (q ∷ recs) x P older among = by_test (λ rest. picked cut recs x P 
     by_test later true test (inr rest) =
         let both = and_parts (q.entity == x) (q.version == cut x) test in
         absurd (no_later q recs x (cut x) P (eqb-true q.entity x both.0) (eqb-true q.version (cut x) both.1) (λ k d lt. older zero (suc k) d (omega arith) (omega (arith, lt))) rest)
-    by_test later false test (inl here) = absurd (false≢true (sym test ∙ both_true (q.entity == x) (q.version == cut x) (eq-eqb q.entity x here.0) (eq-eqb q.version (cut x) here.1)))
+    by_test later false test (inl here) = absurd (false≢true (sym test ∙ and_from (q.entity == x) (q.version == cut x) (eq-eqb q.entity x here.0) (eq-eqb q.version (cut x) here.1)))
     by_test later false test (inr rest) = let l = later rest in record { rec = l.rec; chosen = ap (λ (b : Bool). if b then Some q else chosen_by cut recs x) test ∙ l.chosen; has = l.has }
 
 -- THE LIST of them

@@ -18,11 +18,6 @@ recounted_same l = record { only = refl; same_size = refl }
 pub listed_none : (l : Ledger) (kept : List Logged) → kept ≡ [] → ((n : ℕ) → slice_index l.names n ≡ 0) → AreListed l kept
 listed_none l kept none unnamed = subst (AreListed l) (sym none) (record { placed = λ i d lt. absurd (omega (arith, lt)); counted = unnamed })
 
--- the table of an entity, as it was read
-pub table_at : (tables : List ShadowTable) (at x : ℕ) (t : ShadowTable) → at ≡ x → at < length tables → t ≡ get_or tables at t → t.0 ≡ table_of tables x
-table_at tables at x t same lt is =
-    ap (λ (s : ShadowTable). s.0) is ∙ (sym (get_or-map (λ (s : ShadowTable). s.0) tables at t [] lt) ∙ ap (λ n. table_of tables n) same)
-
 -- one record more
 pub with_more : (tables : List ShadowTable) (recs : List Rec) (i : ℕ) (r : Rec) (kept new : List Logged) (table : List ℕ) → i < length recs → r ≡ get_or recs i r → table ≡ table_of tables r.entity → kept ≡ with_tables tables (take i recs)
     → new ≡ kept ++ record { rec = r; table = table } ∷ [] → new ≡ with_tables tables (take (i + 1) recs)

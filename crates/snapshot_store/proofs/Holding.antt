@@ -14,6 +14,7 @@ use Rattle.page_words.specs.store_model.Books.{Logged, cut_in, free_in, is_used,
 use Rattle.snapshot_store.specs.Shelves.{is_from}
 use Rattle.snapshot_store.specs.State.{IsWhole, State, books}
 use Rattle.snapshot_store.proofs.Wanted.{uses_named}
+use Rattle.std.proofs.lemmas.Bool.{or_parts}
 
 free_by : {D : Type 0} (st : State D) → st.blocks.first ≡ pool_at → ((n : ℕ) → is_named st.blocks n ≡ kept_names (books st) n) → length (unused_blocks st.blocks) ≡ free_in (books st)
 free_by st first named =
@@ -95,14 +96,9 @@ pub marks_of : {E : Type 0} (P : Type 0) (Q : E → Type 0) (r : Result ℕ E) (
 marks_of P Q (Ok n) old new f taken none = (f n, taken)
 marks_of P Q (Err e) old new f taken none = (old.held, none.2)
 
--- a block that is taken is one that neither is held nor named
-fresh_one : (held named : Bool) → (held || named) ≡ false → (held ≡ false) × (named ≡ false)
-fresh_one true named e = absurd (let clash : true ≡ false = e in cc clash)
-fresh_one false named e = (refl, e)
-
 pub fresh_by : {D E : Type 0} (block_count : D → ℕ) (st : State D) → IsWhole block_count st → (r : Result ℕ E) → IfOk r (λ n. (is_held st.blocks n || is_named st.blocks n) ≡ false) → IfOk r (λ n. (st.blocks.first ≤ n) × (n < st.blocks.end))
     → IfOk r (λ n. (is_held st.blocks n ≡ false) × (kept_names (books st) n ≡ false) × (n ≢ 0))
 fresh_by block_count st w (Err e) unused range = tt
 fresh_by block_count st w (Ok n) unused range =
-    let both = fresh_one (is_held st.blocks n) (is_named st.blocks n) unused in
+    let both = or_parts (is_held st.blocks n) (is_named st.blocks n) unused in
     (both.0, sym (named_is block_count st w n) ∙ both.1, λ zero_is. let low = range.0 in let first = w.first in absurd (omega (arith, low, first, zero_is)))

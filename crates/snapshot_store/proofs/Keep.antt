@@ -1,5 +1,5 @@
 -- A store keeps the chosen records alone.
-use Rattle.std.proofs.Common.{◌≡◌, ℕ, zero, suc, ◌<◌, ◌≤◌, Bool, true, false, if◌then◌else◌, List, [], ◌∷◌, length, filter, take, get_or, Some, refl, sym, ap, subst, ◌∙◌, arith}
+use Rattle.std.proofs.Common.{◌≡◌, ℕ, zero, suc, ◌≤◌, Bool, false, if◌then◌else◌, List, [], ◌∷◌, length, filter, take, get_or, Some, refl, sym, ap, subst, ◌∙◌, arith}
 use Rattle.std.specs.Prelude.{All, slice_get, slice_index}
 use Rattle.std.specs.List.{AllPairs}
 use Rattle.std.proofs.lemmas.Bool.{le-leb}
@@ -43,12 +43,6 @@ found_logged reading may_leave block_count st w working s = record {
 pub rows_recs : (tables : List ShadowTable) (recs : List Rec) → logged_recs (with_tables tables recs) ≡ recs
 rows_recs tables [] = refl
 rows_recs tables (r ∷ recs) = ap (λ (l : List Rec). r ∷ l) (rows_recs tables recs)
-
--- all pass a test
-all_pass : (p : Logged → Bool) (ls : List Logged) → ((k : ℕ) (d : Logged) → k < length ls → p (get_or ls k d) ≡ true) → filter p ls ≡ ls
-all_pass p [] each = refl
-all_pass p (l ∷ ls) each =
-    ap (λ (b : Bool). if b then l ∷ filter p ls else filter p ls) (each zero l (omega arith)) ∙ ap (λ (ms : List Logged). l ∷ ms) (all_pass p ls (λ k d lt. each (suc k) d (omega (arith, lt))))
 
 rows_from : (cut : ℕ → ℕ) (tables : List ShadowTable) (recs : List Rec) → ((k : ℕ) (r : Rec) → slice_get recs k ≡ Some r → r.version ≡ cut r.entity) → filter (is_from cut) (with_tables tables recs) ≡ with_tables tables recs
 rows_from cut tables [] each = refl

@@ -70,22 +70,6 @@ module _ (i : ℕ) (old mid : Ledger) (blocks : List ℕ) (t : HasTaken i old mi
             ∙ t.others n (λ k lt same. out k (omega (arith, lt)) (same ∙ sym (before k lt)));
       }
 
--- none yet
-pub taken_none : (old : Ledger) (blocks : List ℕ) → ((i : ℕ) → slice_index blocks i ≡ 0) → HasTaken 0 old old blocks
-taken_none old blocks zeros = record {
-  only = refl;
-  same_size = refl;
-  unused = λ i lt. absurd (omega (arith, lt));
-  range = λ i lt. absurd (omega (arith, lt));
-  different = λ i k lt less. absurd (omega (arith, lt));
-  behind = λ i past. zeros i;
-  held = λ i lt. absurd (omega (arith, lt));
-  others = λ n out. refl;
-}
-
-pub released_none : (old : Ledger) (blocks : List ℕ) → HasReleased 0 old old blocks
-released_none old blocks = record { only = refl; same_size = refl; gone = λ i lt. absurd (omega (arith, lt)); others = λ n out. refl }
-
 -- one that is given back
 module _ (i : ℕ) (old mid : Ledger) (blocks : List ℕ) (r : HasReleased i old mid blocks) (marked : length old.held ≡ old.end) (low : old.first ≤ slice_index blocks i) (high : slice_index blocks i < old.end)
     (different : (k : ℕ) → k < i → slice_index blocks k ≢ slice_index blocks i) (held : is_held old (slice_index blocks i) ≡ true) where

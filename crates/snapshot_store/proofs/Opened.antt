@@ -1,10 +1,10 @@
 -- A store as it is opened: what its memory is, and where its log stands.
-use Rattle.std.proofs.Common.{◌≡◌, ℕ, zero, suc, ◌<◌, ◌≤◌, Bool, true, false, if◌then◌else◌, nat_lt, List, [], ◌∷◌, ◌++◌, filter, length, map, replicate, Some, None, refl, sym, ap, subst, ◌∙◌, arith, append_assoc}
-use Rattle.std.specs.Prelude.{Err, IfErr, IfOk, IsErrAnd, IsErrOf, Ok, Result, slice_get, slice_index, slice_index_or}
+use Rattle.std.proofs.Common.{◌≡◌, ℕ, zero, suc, ◌<◌, ◌≤◌, Bool, true, false, if◌then◌else◌, nat_lt, List, [], ◌∷◌, ◌++◌, filter, length, map, Some, None, refl, sym, ap, subst, ◌∙◌, arith, append_assoc}
+use Rattle.std.specs.Prelude.{Err, IfErr, IfOk, IsErrAnd, IsErrOf, Ok, Result, slice_get, slice_index}
 use Rattle.std.specs.List.{AllByRecursion, AllPairs}
-use Rattle.std.proofs.lemmas.Bool.{false≢true, lt-ltb}
+use Rattle.std.proofs.lemmas.Bool.{lt-ltb}
 use Rattle.std.proofs.lemmas.Bool.Decides.{nat_tests}
-use Rattle.std.proofs.lemmas.List.{get_or_past, length-map, length-replicate, map-append}
+use Rattle.std.proofs.lemmas.List.{get_or_past, map-append}
 use Rattle.cut_finder.specs.Records.{IsAscending}
 use Rattle.cut_finder.specs.cut_laws.Agreeing.{nothing}
 use Rattle.cut_finder.specs.cut_laws.Records.{AgreeInRecs, commits_of}
@@ -17,7 +17,7 @@ use Rattle.hop_base.specs.declared.records.Rec.{Rec}
 use Rattle.page_store.proofs.hop_model_lemmas.Lowering.{greatest_is, greatest_one}
 use Rattle.page_store.specs.hop_model.Choices.{IsGreatest, IsNarrow, greatest}
 use Rattle.log_reading.specs.image_blocks.Checks.{Bad as BadPlace, active_area, active_by, count_in, records_fault}
-use Rattle.log_reading.specs.image_blocks.Layout.{epoch_in, gate_at, header_at, is_open, most_blocks, pool_at, slot_count}
+use Rattle.log_reading.specs.image_blocks.Layout.{epoch_in, gate_at, header_at, is_open}
 use Rattle.log_reading.specs.image_blocks.Logs.{AreFitting, HasFront, HasLog, HasRecords, IsActive, Place}
 use Rattle.log_reading.specs.image_blocks.declared.areas.Area.{Area}
 use Rattle.log_reading.specs.image_blocks.declared.areas.Area.TheVariants.{A, B}
@@ -30,17 +30,18 @@ use Rattle.log_reading.specs.declared.log.ImageLog.{ImageLog}
 use Rattle.page_words.specs.image_meaning.Parts.{cut_of}
 use Rattle.page_words.specs.image_meaning.Stores.{IsHeld, Kept, recs_of}
 use Rattle.disk_tally.specs.declared.Tally.{Tally}
-use Rattle.page_words.specs.log_turn.Standing.{SameAreas, area_of, epoch_of, has_failed, place_of, used_of}
+use Rattle.page_words.specs.log_turn.Standing.{SameAreas, area_of, epoch_of, place_of}
 use Rattle.page_words.specs.log_turn.declared.areas.Areas.{Areas}
 use Rattle.page_shadow.specs.Ledger.{Ledger}
 use Rattle.page_words.specs.store_model.Books.{AreApartFrom, AreTrue, Books, IsBeforePool, Logged, kept_of, logged_recs, recs_in}
-use Rattle.snapshot_store.specs.Keeping.{AreKept, AreListed}
+use Rattle.snapshot_store.specs.Keeping.{AreKept}
 use Rattle.snapshot_store.specs.OpenFaults.{HasOpenCause, why}
-use Rattle.snapshot_store.specs.Opening.{HasStableLog, IsOver, IsSynced, SyncsOnly, fresh_ledger, is_some_rec, unread}
+use Rattle.snapshot_store.specs.Opening.{HasStableLog, IsOver, IsSynced, SyncsOnly, fresh_ledger, unread}
 use Rattle.snapshot_store.specs.Shelves.{is_from}
-use Rattle.snapshot_store.specs.State.{IsWhole, State, books, state_of}
+use Rattle.snapshot_store.specs.State.{State, books, state_of}
 use Rattle.snapshot_store.specs.declared.opening.OpenWhy.{OpenWhy}
 use Rattle.snapshot_store.proofs.Causes.{Rose-before}
+use Rattle.std.proofs.lemmas.Option.{same_Some}
 
 -- the records are those that were put on the shelf
 pub recs_back : (recs : List Rec) → logged_recs (map unread recs) ≡ recs
@@ -96,9 +97,6 @@ active_is image B epoch is =
     ap (λ (t : Bool). active_by (is_open image 2) t (epoch_in image A) (epoch_in image B)) is.gate
     ∙ active_B (is_open image 2) (epoch_in image A) (epoch_in image B) (λ opens. (let low = is.above opens in let same = is.epoch in omega (arith, low, same)))
 
-same_some : (a b : Area) → Some a ≡ Some b → a ≡ b
-same_some a b same = cc
-
 -- what the image has, as the writers of a log see it
 pub record Stands (count : ℕ) (p : Place) (recs : List Rec) (image : Image) : Type 0 where
   pub front : HasFront count p image
@@ -110,7 +108,7 @@ pub log_stands : (recs : List Rec) (blocks : ℕ) (image : Image) (area : Area) 
 log_stands recs blocks image area epoch count whole has is_area is_epoch is_count =
     let back = log_back_law recs blocks image whole has in
     let p : Place = back.0 in
-    let one : p.active ≡ area = same_some p.active has.area (sym (active_is image p.active p.epoch back.2.active) ∙ has.active) ∙ is_area in
+    let one : p.active ≡ area = same_Some p.active has.area (sym (active_is image p.active p.epoch back.2.active) ∙ has.active) ∙ is_area in
     let two : p.epoch ≡ epoch = sym back.2.active.epoch ∙ (ap (epoch_in image) one ∙ sym is_epoch) in
     let same : p ≡ record { active = area; epoch = epoch } = ap (λ (a : Area). record { active = a; epoch = p.epoch }) one ∙ ap (λ (n : ℕ). record { active = area; epoch = n }) two in
     subst (λ (n : ℕ). Stands n (record { active = area; epoch = epoch }) recs image) (sym is_count)

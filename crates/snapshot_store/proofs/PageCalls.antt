@@ -24,7 +24,7 @@ use Rattle.page_words.specs.store_model.Between.{OnlyPages}
 use Rattle.page_words.specs.store_model.Books.{Books, free_in, is_used, kept_in, kept_names, names, words_of_bytes}
 use Rattle.snapshot_store.specs.State.{IsWhole, State, books}
 use Rattle.snapshot_store.proofs.Holding.{with_held}
-use Rattle.snapshot_store.proofs.Paged.{HasPaged, paged_between, with_counts}
+use Rattle.store_commit.proofs.Paged.{HasPaged, paged_between, with_counts}
 
 -- MARKS as functions
 

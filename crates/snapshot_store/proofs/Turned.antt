@@ -31,7 +31,7 @@ use Rattle.snapshot_store.specs.Opening.{HasStableLog}
 use Rattle.snapshot_store.specs.State.{IsWhole, State, books}
 use Rattle.snapshot_store.proofs.Holding.{kept_is}
 use Rattle.snapshot_store.proofs.Keep.{chosen_fit, chosen_in_range, rows_recs}
-use Rattle.snapshot_store.proofs.Paged.{kept_all}
+use Rattle.store_commit.proofs.Paged.{kept_all}
 
 -- THE ROWS' BLOCKS are of the pool
 

@@ -8,6 +8,7 @@ use Rattle.log_reading.proofs.image_blocks_lemmas.Firsts.{ne_test}
 use Rattle.log_reading.specs.image_blocks.Bodies.{blob_blocks}
 use Rattle.page_words.specs.store_model.Books.{Logged, names}
 use Rattle.snapshot_store.specs.Naming.{is_use, times, uses, uses_in}
+use Rattle.std.proofs.Math.Bool.{and-false}
 
 positive_sum : (a b : ℕ) → nat_lt 0 (a + b) ≡ (nat_lt 0 a || nat_lt 0 b)
 positive_sum zero b = ap (nat_lt 0) (let e : 0 + b ≡ b = omega arith in e)
@@ -21,20 +22,16 @@ both_or : (p q r : Bool) → ((p && q) || (p && r)) ≡ (p && (q || r))
 both_or true q r = refl
 both_or false q r = refl
 
-and_none : (p : Bool) → (p && false) ≡ false
-and_none true = refl
-and_none false = refl
-
 use_is : (n m : ℕ) → is_use n m ≡ (not (n == 0) && (m == n))
 use_is n m = elim (cases_eq m n) as (λ _. is_use n m ≡ (not (n == 0) && (m == n))) [
   | inl same ↦ ap (λ (k : ℕ). not (k == 0) && (m == n)) same
   | inr apart ↦
       let no : (m == n) ≡ false = ne_test m n apart in
-      (ap (λ (b : Bool). not (m == 0) && b) no ∙ and_none (not (m == 0))) ∙ sym (ap (λ (b : Bool). not (n == 0) && b) no ∙ and_none (not (n == 0)))
+      (ap (λ (b : Bool). not (m == 0) && b) no ∙ and-false (not (m == 0))) ∙ sym (ap (λ (b : Bool). not (n == 0) && b) no ∙ and-false (not (n == 0)))
 ]
 
 times_named : (n : ℕ) (blocks : List ℕ) → nat_lt 0 (times n blocks) ≡ (not (n == 0) && list_any (λ m. m == n) blocks)
-times_named n [] = sym (and_none (not (n == 0)))
+times_named n [] = sym (and-false (not (n == 0)))
 times_named n (m ∷ blocks) =
     ap (nat_lt 0) (sum_by-cons (λ (k : ℕ). if is_use n k then 1 else 0) m blocks)
     ∙ (positive_sum (if is_use n m then 1 else 0) (times n blocks)

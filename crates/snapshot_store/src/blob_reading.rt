@@ -15,8 +15,8 @@ ghost use Rattle.page_words.specs.store_model.Books.{kept_in};
 
 use crate::StoreFault;
 use crate::store::Store;
-use block_code::Blob;
-use disk_trait::{Disk, DiskFault};
+use block_code::{Blob, MOST_BLOB_BYTES};
+use disk_trait::{BLOCK_BYTES, Disk, DiskFault};
 use hop_base::Rec;
 
 // The place of the first byte that isn't 0.
@@ -39,11 +39,11 @@ fn push_block<D: Disk>(
     most: usize,
     out: &mut Blob,
 ) -> Result<Option<u32>, DiskFault>
-    requires room { length out.old + 1024 ≤ 8192 }
+    requires room { length out.old + BLOCK_BYTES ≤ MOST_BLOB_BYTES }
     requires few { length out.old ≤ most }
     ensures bytes { D.tells → OnOk result (out.new ≡ take most (out.old ++ block_at (D.reading disk.old) at)) }
     ensures rest { D.tells → IfOk result (IsRest (out.old ++ block_at (D.reading disk.old) at) most) }
-    ensures few { (length out.new ≤ length out.old + 1024) × (length out.new ≤ most) }
+    ensures few { (length out.new ≤ length out.old + BLOCK_BYTES) × (length out.new ≤ most) }
     ensures cause { HasCause (D.faults disk.old) (D.faults disk.new) result }
     ensures same { ReadsOnly D.tells D.block_count D.reading D.may_leave D.left_since D.clock D.faults disk.old disk.new }
 {

@@ -12,10 +12,9 @@ use Rattle.sound_states.specs.hop_model.Scripts.{Script}
 use Rattle.sound_states.specs.hop_model.State.{KernelState, Supply}
 use Rattle.sound_states.proofs.hop_model_lemmas.Among.{among_map}
 use Rattle.sound_states.proofs.hop_model_lemmas.Lowering.{greatest_one, rising_cut}
-use Rattle.sound_states.proofs.hop_model_lemmas.StableCuts.{commits_grow}
+use Rattle.sound_states.proofs.hop_model_lemmas.StableCuts.{commits_grow, legal_front, run_append}
 use Rattle.run_rules.proofs.run_laws_lemmas.Cuts.{cut_exists, cut_kept}
 use Rattle.run_rules.proofs.run_laws_lemmas.Places.{cuts_stay}
-use Rattle.run_rules.proofs.run_laws_lemmas.Wishes.{legal_front, run_append}
 use Rattle.sound_states.proofs.sound_runs_lemmas.Standing.{legal_below}
 use Rattle.sound_states.proofs.Empty.{none_beyond}
 use Rattle.run_rules.proofs.Fullness.{due_by, wish_writes}

@@ -1,5 +1,5 @@
 -- A birth of a script's next name leaves a sound state.
-use Rattle.std.proofs.Common.{◌≡◌, ◌≢◌, ℕ, ◌+◌, ◌<◌, ◌≤◌, Bool, true, false, ◌&&◌, if◌then◌else◌, ◌==◌, nat_lt, nat_le, IsTrue, List, [], ◌∷◌, ◌++◌, length, Option, Some, None, is_none, option_and_then, refl, sym, ap, subst, ◌∙◌, arith}
+use Rattle.std.proofs.Common.{◌≡◌, ◌≢◌, ℕ, ◌+◌, ◌<◌, ◌≤◌, Bool, true, false, ◌&&◌, if◌then◌else◌, ◌==◌, nat_lt, IsTrue, List, [], ◌∷◌, ◌++◌, length, Option, Some, None, is_none, option_and_then, refl, sym, ap, subst, ◌∙◌, arith}
 use Rattle.std.specs.List.{All}
 use Rattle.std.proofs.lemmas.Bool.{ltb-true}
 use Rattle.std.proofs.lemmas.Bool.Decides.{nat_tests}
@@ -21,10 +21,12 @@ use Rattle.sound_steps.proofs.RegionLists.{shown}
 use Rattle.std.proofs.lemmas.List.{length_push}
 use Rattle.sound_runs.proofs.Ranges.{AllUnder, ordered_touches}
 use Rattle.sound_steps.specs.hop_model.LocalEvents.{touch_at}
-use Rattle.sound_runs.proofs.Tables.{all_regions, born_container, born_locus, container_named_born}
+use Rattle.sound_runs.proofs.Tables.{all_regions, container_named_born}
 use Rattle.sound_runs.proofs.TableEdges.{model_containers, model_edges, model_loci}
-use Rattle.sound_runs.proofs.Found.{found_container, find_locus, text_same}
+use Rattle.sound_runs.proofs.Found.{found_container, find_locus}
 use Rattle.sound_runs.proofs.Grown.{Joins, joins_by_host, newborn_container, newborn_locus, sound_table_container, sound_table_locus, sound_with_container, sound_with_locus, with_container, with_locus}
+use Rattle.sound_steps.proofs.Growth.{born_container, born_locus}
+use Rattle.sound_steps.proofs.MadeNames.{text_same}
 
 -- NUMBERS
 
@@ -41,9 +43,6 @@ free_locus_number a n free =
       | true ↦ λ is f. (let few = ltb-true _ _ is in let e : length a.loci + 41 ≡ n = cc in (sym e, omega arith))
       | false ↦ λ is f. cc
     ] refl free
-
-off : (a b : ℕ) → a ≢ b → (a == b) ≡ false
-off a b h = grind (arith, nat_tests)
 
 both_tests : (n x : ℕ) → (n == x) ≡ true → (0 == x) ≡ true → 0 < n → ⊥
 both_tests n x p q pos = grind (arith, nat_tests)
@@ -81,7 +80,7 @@ swap_three host n x atlas k there old pos pos_host apart =
 abbrev pub NotLocus : AtlasState → ContainerTable → Type 0
 NotLocus a t = locus_named a t.name ≡ None
 
-other_way : (x y : Text) → text_eq x y ≡ false → text_eq y x ≡ false
+pub other_way : (x y : Text) → text_eq x y ≡ false → text_eq y x ≡ false
 other_way x y other = by_test (text_eq y x) refl
   where
     same_text : (t : Text) → text_eq t t ≡ true
@@ -96,7 +95,7 @@ other_way x y other = by_test (text_eq y x) refl
     by_test false e = e
     by_test true e = absurd (clash (text_eq x y) (ap (text_eq x) (text_same y x e) ∙ same_text x) other)
 
-place_other : (x y : Text) (ts : List Text) (k : ℕ) → text_eq x y ≡ false → place_of x ts k ≡ None → place_of x (ts ++ y ∷ []) k ≡ None
+pub place_other : (x y : Text) (ts : List Text) (k : ℕ) → text_eq x y ≡ false → place_of x ts k ≡ None → place_of x (ts ++ y ∷ []) k ≡ None
 place_other x y [] k other none = ap (λ (b : Bool). if b then Some k else None) other
 place_other x y (t ∷ ts) k other none =
     elim (text_eq x t) as (λ b. (if b then Some k else place_of x ts (k + 1)) ≡ None → (if b then Some k else place_of x (ts ++ y ∷ []) (k + 1)) ≡ None) [

@@ -1,5 +1,5 @@
 -- Tables of a script that are found by name.
-use Rattle.std.proofs.Common.{◌≡◌, ℕ, Bool, true, false, ◌&&◌, ◌||◌, if◌then◌else◌, ◌==◌, nat_le, IsTrue, List, [], ◌∷◌, ◌++◌, length, Option, Some, None, is_some, unwrap_or, refl, sym, ap, subst, ◌∙◌, eqb-true}
+use Rattle.std.proofs.Common.{◌≡◌, ℕ, Bool, true, false, ◌&&◌, ◌||◌, if◌then◌else◌, nat_le, IsTrue, List, [], ◌∷◌, ◌++◌, length, Option, Some, None, is_some, unwrap_or, refl, sym, ap, subst, ◌∙◌}
 use Rattle.std.specs.List.{All, list_all}
 use Rattle.std.proofs.lemmas.List.Elements.{All-cons, All-head, All-nil, All-tail}
 use Rattle.sound_steps.specs.hop_model.Births.{knows_regions, number_or_0}
@@ -9,18 +9,10 @@ use Rattle.sound_steps.specs.hop_model.State.{Text, AtlasState}
 use Rattle.sound_steps.specs.hop_model.Words.{or_else}
 use Rattle.script_form.specs.Rules.{AreContainerTables, AreDifferent, AreLocusTables, IsContainerTable, IsLocusTable, IsScript, container_names, is_among, locus_names}
 use Rattle.sound_runs.proofs.Tables.{container_named_born}
+use Rattle.sound_steps.proofs.MadeNames.{text_same}
+use Rattle.std.proofs.lemmas.Bool.{or_parts}
 
 -- TEXTS
-
-pub text_same : (s t : Text) → text_eq s t ≡ true → s ≡ t
-text_same [] [] e = refl
-text_same [] (y ∷ t) e = cc
-text_same (x ∷ s) [] e = cc
-text_same (x ∷ s) (y ∷ t) e =
-    elim (x == y) as (λ b. (x == y) ≡ b → (b && text_eq s t) ≡ true → x ∷ s ≡ y ∷ t) [
-      | true ↦ λ is h. let head : x ≡ y = eqb-true x y is in let rest = text_same s t h in cc
-      | false ↦ λ _ h. cc
-    ] refl e
 
 -- NAMES OF A SCRIPT
 
@@ -33,15 +25,10 @@ pub record IsEarlier (a : AtlasState) (later : List ContainerTable) (x : Text) :
 abbrev pub AreEarlier : AtlasState → List ContainerTable → List Text → Type 0
 AreEarlier a later earlier = (x : Text) → IsTrue (is_among earlier x) → IsEarlier a later x
 
-or_false : (p q : Bool) → (p || q) ≡ false → (p ≡ false) × (q ≡ false)
-or_false false false e = (refl, refl)
-or_false true q e = cc
-or_false false true e = cc
-
 among_front : (xs ys : List Text) (x : Text) → is_among (xs ++ ys) x ≡ false → is_among xs x ≡ false
 among_front [] ys x e = refl
 among_front (y ∷ xs) ys x e =
-    let h = or_false (text_eq x y) (is_among (xs ++ ys) x) e in
+    let h = or_parts (text_eq x y) (is_among (xs ++ ys) x) e in
     rw (h.0, among_front xs ys x h.1) refl
 
 -- one more stands earlier
@@ -51,7 +38,7 @@ earlier_more a t ts earlier names ranges kind differs before x among =
       | true ↦ λ is _. subst (IsEarlier a ts) (sym (text_same x t.name is)) (record { given = ranges.name; kind = kind; other = among_front (container_names ts) names t.name differs })
       | false ↦ λ _ h.
           let e = before x h in
-          record { given = e.given; kind = e.kind; other = (or_false (text_eq x t.name) (is_among (container_names ts) x) e.other).1 }
+          record { given = e.given; kind = e.kind; other = (or_parts (text_eq x t.name) (is_among (container_names ts) x) e.other).1 }
     ] refl among
 
 -- what is known of a table that is found
@@ -75,7 +62,7 @@ find_container a (u ∷ ts) earlier names name t h differ kinds before is =
             earlier = earlier;
             ranges = h.0;
             named = text_same name u.name same;
-            known = λ x among. let k = before x among in (k.given, k.kind, (or_false (text_eq x u.name) (is_among (container_names ts) x) k.other).0);
+            known = λ x among. let k = before x among in (k.given, k.kind, (or_parts (text_eq x u.name) (is_among (container_names ts) x) k.other).0);
           })
       | false ↦ λ _ e.
           find_container a ts (u.name ∷ earlier) names name t h.1 differ.1 (All-tail (λ (t : ContainerTable). locus_named a t.name ≡ None) u ts kinds)
@@ -86,7 +73,7 @@ find_container a (u ∷ ts) earlier names name t h differ kinds before is =
     same_some u t e = cc
 
 -- a given name is not the atlas's
-not_atlas : (x : Text) → IsTrue (is_given_name x) → text_eq x atlas_name ≡ false
+pub not_atlas : (x : Text) → IsTrue (is_given_name x) → text_eq x atlas_name ≡ false
 not_atlas x h = by_test (text_eq x atlas_name) refl
   where
     by_test : (b : Bool) → text_eq x atlas_name ≡ b → text_eq x atlas_name ≡ false

@@ -15,8 +15,9 @@ use Rattle.sound_steps.specs.hop_model.State.{Supply, Text, AtlasState, Containe
 use Rattle.script_form.specs.Rules.{IsLocusTable}
 use Rattle.sound_steps.proofs.RegionLists.{shown}
 use Rattle.sound_runs.proofs.Found.{IsFound}
-use Rattle.sound_runs.proofs.Tables.{Wider, all_regions, apart_regions, born_container, born_locus, fresh, known_born, length_regions, no_new_circle, pushed_apart, pushed_different, pushed_names, sound_caps, target_born, wider_born, wider_container, wider_container_state, wider_locus_state}
+use Rattle.sound_runs.proofs.Tables.{all_regions, apart_regions, fresh, known_born, length_regions, no_new_circle, pushed_apart, pushed_different, pushed_names, sound_caps, target_born}
 use Rattle.sound_runs.proofs.TableEdges.{not_shown}
+use Rattle.sound_steps.proofs.Growth.{born_container, born_locus, Wider, wider_container, wider_born, wider_container_state, wider_locus_state}
 
 -- ONE MORE CELL
 

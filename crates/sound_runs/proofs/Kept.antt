@@ -13,11 +13,11 @@ use Rattle.sound_steps.specs.hop_model.Soundness.{IsSound}
 use Rattle.sound_steps.specs.hop_model.Steps.{atlas_in}
 use Rattle.sound_steps.specs.hop_model.Vectors.{StampsBelow}
 use Rattle.sound_steps.specs.hop_model.Histories.{Policy, Run, may, May, has_changed, every_of, version_of, commit_of, commits_of, commits_above, goes_on, went_on, IsLegalFrom, IsLegalRun, start_run, run_after}
-use Rattle.sound_steps.proofs.hop_model_lemmas.CommitStamps.{AllCommits}
+use Rattle.sound_steps.proofs.hop_model_lemmas.CommitStamps.{AllCommits, all_append}
 use Rattle.script_form.specs.Rules.{IsScript}
 use Rattle.run_laws.specs.Versions.{OnlyBelow64}
 use Rattle.run_laws.proofs.Cuts.{chosen_same}
-use Rattle.run_laws.proofs.Few.{above_cons, all_append, at_most_five}
+use Rattle.run_laws.proofs.Few.{above_cons, at_most_five}
 use Rattle.sound_runs.proofs.Births.{NotLocus}
 use Rattle.sound_runs.proofs.Counting.{AllLess, found_below, total, total_const, total_less, total_mono, upto_less}
 use Rattle.sound_runs.proofs.Lengths.{IsBudgeted, entry_pays, open_wish, some_wish}

@@ -30,7 +30,7 @@ use Rattle.run_laws.proofs.Few.{found_true, never_less}
 use Rattle.run_laws.proofs.Wishes.{with_asked_at}
 use Rattle.run_laws.proofs.Writing.{IsStep, step_is, step_writes_asked}
 use Rattle.sound_runs.proofs.Births.{NotLocus, names_in}
-use Rattle.sound_runs.proofs.Counting.{one_if, zero_if, how_many, many_mono, many_less, many_or, many_top, many_none, many_written, total, total_mono, total_less, total_const, found_below}
+use Rattle.sound_runs.proofs.Counting.{cond_one, found_below, how_many, many_less, many_mono, many_none, many_or, many_top, many_written, one_if, total, total_const, total_less, total_mono, zero_if}
 use Rattle.sound_runs.proofs.Standing.{IsStanding, made_birth, under_next, actor_range, standing_next}
 
 -- TOUCHES OF A STEP
@@ -158,10 +158,6 @@ ending_calm r calm = ap (λ b. cond b (how_many (has_changed r) 64) 64) calm
 
 ending_most : (r : Run) → how_many (has_changed r) 64 ≤ ending r
 ending_most r = (let top = many_top (has_changed r) 64 in elim r.short as (λ b. how_many (has_changed r) 64 ≤ cond b (how_many (has_changed r) 64) 64) [ true ↦ omega arith | false ↦ top ])
-
-cond_one : (p : Bool) → one_if p ≤ 1
-cond_one true = omega arith
-cond_one false = omega arith
 
 names_few : (w : KernelState) → IsSound (λ x. (w x).cell) → names_in (atlas_in (w 0).cell) ≤ 63
 names_few w sound = subst (λ c. names_in (atlas_in c) ≤ 63) (sym sound.1.atlas) (let p = sound.1.names.few_containers in let q = sound.1.names.few_loci in omega (arith, p, q))

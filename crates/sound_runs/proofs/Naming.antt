@@ -1,5 +1,5 @@
 -- A step takes no name from the atlas, so no birth is owed again.
-use Rattle.std.proofs.Common.{◌≡◌, ℕ, ◌+◌, ◌<◌, Bool, true, false, if◌then◌else◌, ◌==◌, List, [], ◌∷◌, ◌++◌, length, Option, Some, None, is_some, is_none, IfSome, MatchOption, option_map, option_and_then, refl, sym, ap, subst, ◌∙◌, arith, eqb-true, ◌⊎◌, inl, inr}
+use Rattle.std.proofs.Common.{◌≡◌, ℕ, ◌+◌, ◌<◌, Bool, true, false, if◌then◌else◌, ◌==◌, List, [], ◌∷◌, ◌++◌, length, Option, Some, None, is_some, is_none, MatchOption, option_map, option_and_then, refl, sym, ap, subst, ◌∙◌, arith, inl, inr}
 use Rattle.std.proofs.lemmas.Bool.{false≢true}
 use Rattle.std.proofs.lemmas.Bool.Decides.{nat_tests}
 use Rattle.std.proofs.lemmas.List.{append-nil, append_assoc}
@@ -18,22 +18,21 @@ use Rattle.sound_steps.specs.hop_model.Changes.{Change, carried}
 use Rattle.sound_steps.specs.hop_model.Births.{birth_named, next_birth_change, next_birth}
 use Rattle.sound_steps.specs.hop_model.Scripts.{ContainerTable, LocusTable, Script, atlas_name, container_named, locus_named, number_of, next_container_name, next_locus_name, next_name, place_of, text_eq}
 use Rattle.sound_steps.specs.hop_model.Soundness.{IsSound}
-use Rattle.sound_steps.specs.hop_model.Steps.{atlas_in, seen_atlas, seen_other, outcome_in, with_atlas_access, with_other_access, with_newborn_access, accesses_of, change_of, running, numbered_change, step_change, step}
+use Rattle.sound_steps.specs.hop_model.Steps.{atlas_in, seen_atlas, seen_other, outcome_in, accesses_of, change_of, running, numbered_change, step_change, step}
 use Rattle.sound_steps.specs.hop_model.Parts.{is_event, next_of}
 use Rattle.sound_steps.specs.hop_model.Histories.{Policy, Run, may, May, goes_on, event_of, births_owed, IsLegalFrom, IsLegalRun, start_run, run_after}
 use Rattle.sound_steps.proofs.hop_model_lemmas.Basics.{some_of_map}
-use Rattle.sound_steps.proofs.hop_model_lemmas.Faithful.{tally, atlas_of, IsNewborn, wanted_is}
+use Rattle.sound_steps.proofs.hop_model_lemmas.Faithful.{IsNewborn, wanted_is}
 use Rattle.sound_steps.proofs.hop_model_lemmas.LegalRuns.{state_goes_on}
-use Rattle.sound_steps.proofs.hop_model_lemmas.StepTallies.{put_atlas, put_other, put_newborn}
-use Rattle.sound_steps.proofs.hop_model_lemmas.Tallies.{atlas_of_is}
+use Rattle.sound_steps.proofs.hop_model_lemmas.StepTallies.{other_atlas, put_atlas, put_atlas_0, put_newborn, put_other, running_is, step_cell}
 use Rattle.sound_steps.proofs.hop_model_lemmas.Writes.{cell_with, changed_cell}
 use Rattle.script_form.specs.Rules.{IsScript}
-use Rattle.run_laws.proofs.Writing.{running_is}
-use Rattle.run_laws.proofs.Wishes.{run_append, legal_back, legal_front}
+use Rattle.run_laws.proofs.Wishes.{legal_back}
 use Rattle.sound_steps.proofs.Cells.{locus_in}
 use Rattle.std.specs.List.{All}
 use Rattle.sound_runs.proofs.Births.{NotLocus}
 use Rattle.sound_runs.proofs.Standing.{IsStanding, standing_next, standing_over}
+use Rattle.sound_steps.proofs.hop_model_lemmas.StableCuts.{legal_front, run_append}
 
 -- NAMES THAT ARE KEPT
 
@@ -171,32 +170,7 @@ no_next a b script more none = by_containers (next_container_name a script.conta
 
 -- THE ATLAS AFTER A STEP
 
-step_cell : (me : ℕ) (m : LocusState) (b : Bool) (a : AtlasState) (other : Option ℕ) (new : Option Cell) (newborn : Option (ℕ × Cell)) (x : ℕ) (c : Cell)
-    → cell_with (with_atlas_access b a (with_other_access other new (with_newborn_access newborn (record { entity = me; new = Some (LocusCell m) } ∷ [])))) x c
-    ≡ (if me == x then LocusCell m else put_newborn newborn x (put_other other new x (put_atlas b a x c)))
-step_cell me m true a (Some y) new (Some b) x c = refl
-step_cell me m true a (Some y) new None x c = refl
-step_cell me m true a None new (Some b) x c = refl
-step_cell me m true a None new None x c = refl
-step_cell me m false a (Some y) new (Some b) x c = refl
-step_cell me m false a (Some y) new None x c = refl
-step_cell me m false a None new (Some b) x c = refl
-step_cell me m false a None new None x c = refl
-
-other_atlas : (w : KernelState) (other : Option ℕ) (new : Option Cell) (c : Cell) (a b : AtlasState) → IfSome new (λ d. (tally d ≡ tally (seen_other w other)) × (atlas_of d ≡ atlas_of (seen_other w other))) → (w 0).cell ≡ AtlasCell a → c ≡ AtlasCell b
-    → (put_other other new 0 c ≡ AtlasCell b) ⊎ (put_other other new 0 c ≡ AtlasCell a)
-other_atlas w None new c a b f at h = inl h
-other_atlas w (Some y) None c a b f at h = elim (y == 0) as (λ t. ((if t then c else c) ≡ AtlasCell b) ⊎ ((if t then c else c) ≡ AtlasCell a)) [ true ↦ inl h | false ↦ inl h ]
-other_atlas w (Some y) (Some d) c a b f at h = elim (y == 0) as (λ t. (y == 0) ≡ t → ((if t then d else c) ≡ AtlasCell b) ⊎ ((if t then d else c) ≡ AtlasCell a)) [
-  | true ↦ λ is. inr (atlas_of_is d a (f.1 ∙ ap (λ z. atlas_of (w z).cell) (eqb-true y 0 is) ∙ ap atlas_of at))
-  | false ↦ λ is. inl h
-] refl
-
-put_atlas_0 : (b : Bool) (a a' : AtlasState) (c : Cell) → c ≡ AtlasCell a → put_atlas b a' 0 c ≡ AtlasCell (if◌then◌else◌ {A = AtlasState} b a' a)
-put_atlas_0 true a a' c h = refl
-put_atlas_0 false a a' c h = h
-
-above_0 : (n : ℕ) → 0 < n → (n == 0) ≡ false
+pub above_0 : (n : ℕ) → 0 < n → (n == 0) ≡ false
 above_0 n h = grind (arith, nat_tests)
 
 newborn_0 : (newborn : Option (ℕ × Cell)) (c : Cell) → ((b : ℕ × Cell) → newborn ≡ Some b → 0 < b.0) → put_newborn newborn 0 c ≡ c
@@ -212,10 +186,6 @@ module _ (s : Supply) (me : ℕ) (w : KernelState) (a : AtlasState) (there : (w 
       let f : IsNewborn act.atlas act.other seen o.atlas b =
       subst (λ n. MatchOption n (act.atlas ≡ true → length o.atlas.loci ≡ length seen.loci) (λ b. IsNewborn act.atlas act.other seen o.atlas b)) is (wanted_is s me l seen (seen_other w act.other)).bears in
       elim f.3 as (λ _. 0 < b.0) [ inl k ↦ k.0 | inr k ↦ (let e = k.0 in omega arith) ]
-
-  seen_is : (t : Bool) → t ≡ true → seen_atlas w t ≡ a
-  seen_is true e = ap atlas_in there
-  seen_is false e = absurd (false≢true e)
 
   chosen : (t : Bool) (o : Outcome) → (t ≡ true → KeepsNames (seen_atlas w t) o.atlas) → KeepsNames a (if◌then◌else◌ {A = AtlasState} t o.atlas a)
   chosen true o h = subst (λ b. KeepsNames b o.atlas) (ap atlas_in there) (h refl)

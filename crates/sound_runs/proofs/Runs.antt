@@ -14,6 +14,7 @@ use Rattle.sound_steps.specs.hop_model.Histories.{Policy, Run, event_of, by_even
 use Rattle.script_form.specs.Rules.{IsScript}
 use Rattle.sound_steps.proofs.Steps.{step_sound}
 use Rattle.sound_runs.proofs.Births.{NotLocus, birth_leaves}
+use Rattle.std.proofs.lemmas.Bool.{true≢false}
 
 -- WHERE BIRTHS STAND
 
@@ -41,12 +42,6 @@ first_kept f (e ∷ es) h = elim h as (λ _. BirthsFirst (filter f (e ∷ es))) 
   | inr k ↦ first_of_none (filter f (e ∷ es)) (none_kept f (e ∷ es) k)
 ]
 
-never : true ≡ false → ⊥
-never e = cc
-
-some_none : {A : Type 0} (x : A) → Some x ≡ None → ⊥
-some_none x e = cc
-
 step_birth : (ev : Event) → ev ≡ Step → ev ≡ Birth → ⊥
 step_birth ev p q = cc
 
@@ -64,14 +59,14 @@ module _ (s : Supply) (policy : Policy) (script : Script) where
   none_later : (r : Run) (es : List Entry) → r.began ≡ false → IsLegalFrom s policy script r es → NoBirths es
   none_later r [] over legal = tt
   none_later r (e ∷ es) over legal = (
-    λ is. never (sym (subst (may s policy script r e) is legal.0.1).0 ∙ over),
+    λ is. true≢false (sym (subst (may s policy script r e) is legal.0.1).0 ∙ over),
     none_later (goes_on s script r e) es (elim e.event as (λ ev. (went_on s script r e ev).began ≡ false) [ Birth ↦ over | Step ↦ refl | SnapEvent ↦ refl | Stable ↦ refl | Tried ↦ over ]) legal.1,
   )
 
   -- nothing follows a try
   none_tried : (r : Run) (es : List Entry) → is_some r.tried ≡ true → IsLegalFrom s policy script r es → NoBirths es
   none_tried r [] tried legal = tt
-  none_tried r (e ∷ es) tried legal = absurd (never (sym tried ∙ ap is_some legal.0.0))
+  none_tried r (e ∷ es) tried legal = absurd (true≢false (sym tried ∙ ap is_some legal.0.0))
 
   pub legal_first : (r : Run) (es : List Entry) → IsLegalFrom s policy script r es → BirthsFirst es
   legal_first r [] legal = tt

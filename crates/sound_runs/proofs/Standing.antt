@@ -22,7 +22,7 @@ use Rattle.run_laws.proofs.Writing.{IsStep, step_is}
 use Rattle.sound_runs.proofs.Births.{NotLocus, Born, birth_leaves}
 use Rattle.sound_runs.proofs.Ranges.{born_under, ordered_touches, step_under}
 use Rattle.sound_runs.proofs.Runs.{Holds, other_entry, birth_entry}
-use Rattle.sound_runs.proofs.Tables.{born_locus}
+use Rattle.sound_steps.proofs.Growth.{born_locus}
 
 -- a sound state, and while births may be made names that fit
 pub record IsStanding (script : Script) (r : Run) : Type 0 where

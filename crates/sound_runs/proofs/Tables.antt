@@ -1,24 +1,24 @@
 -- Who is born in a sound state, and what stays sound when one more is.
-use Rattle.std.proofs.Common.{◌≡◌, ◌≢◌, ℕ, zero, suc, ◌+◌, ◌<◌, ◌≤◌, ◌⊎◌, inl, inr, ⊎_elim, Bool, true, false, not, ◌&&◌, ◌||◌, if◌then◌else◌, ◌==◌, nat_lt, IsTrue, List, [], ◌∷◌, ◌++◌, length, Option, Some, None, slice_get, unwrap_or, refl, sym, ap, subst, ◌∙◌, arith, eqb-true, eq-eqb}
+use Rattle.std.proofs.Common.{◌≡◌, ◌≢◌, ℕ, zero, suc, ◌+◌, ◌<◌, ◌≤◌, ◌⊎◌, inl, inr, ⊎_elim, Bool, true, false, not, ◌&&◌, if◌then◌else◌, ◌==◌, nat_lt, IsTrue, List, [], ◌∷◌, ◌++◌, length, Option, Some, None, slice_get, unwrap_or, refl, sym, ap, subst, ◌∙◌, arith, eqb-true}
 use Rattle.std.specs.List.{All}
-use Rattle.std.proofs.lemmas.Bool.{cases_lt}
+use Rattle.std.proofs.lemmas.Bool.{cases_lt, or_left}
 use Rattle.std.proofs.lemmas.Bool.Decides.{nat_tests}
 use Rattle.std.proofs.lemmas.List.{length-set, length-replicate}
 use Rattle.std.proofs.lemmas.List.Elements.{All-cons, All-head, All-nil, All-replicate, All-set, All-tail, All-weaker}
 use Rattle.std.proofs.lemmas.Option.{get_or_from_slice_get, slice_get_within}
 use Rattle.hop_base.specs.Edges.{Edges, IsPath}
 use Rattle.hop_base.specs.declared.capabilities.Cap.{Cap}
-use Rattle.hop_base.specs.declared.capabilities.Private.{Private}
 use Rattle.hop_base.specs.declared.capabilities.Region.{Region}
-use Rattle.hop_base.specs.declared.instructions.Call.{Call}
-use Rattle.hop_base.specs.declared.instructions.Walk.{Walk}
 use Rattle.sound_steps.specs.hop_model.Births.{caps_from, number_or_0, region_from, regions_from}
 use Rattle.sound_steps.specs.hop_model.Scripts.{CapTable, RegionTable, atlas_name, container_named, locus_named, number_in, number_of, place_of, text_eq}
-use Rattle.sound_steps.specs.hop_model.Soundness.{AreApart, AreSound, AreSoundCaps, HasNoCircle, IsSoundCall, IsSoundContainer, IsSoundLocus, IsSoundPrivate, IsSoundRegion, are_names_from, is_born, is_born_container, is_born_locus, is_given_name, is_name_of, regions_onto}
-use Rattle.sound_steps.specs.hop_model.State.{Text, AtlasState, ContainerState, LocusState, Cell}
+use Rattle.sound_steps.specs.hop_model.Soundness.{AreApart, AreSound, AreSoundCaps, HasNoCircle, IsSoundRegion, are_names_from, is_born, is_born_container, is_born_locus, is_given_name, is_name_of, regions_onto}
+use Rattle.sound_steps.specs.hop_model.State.{Text, AtlasState, Cell}
 use Rattle.sound_steps.specs.hop_model.Words.{insert_region, or_else}
-use Rattle.sound_steps.proofs.RegionLists.{shown, shown_more}
+use Rattle.sound_steps.proofs.RegionLists.{all_inserted, length_inserted, shown, shown_more}
 use Rattle.script_form.specs.Rules.{AreAllApart, AreApart as AreApartTables, IsRegionTable}
+use Rattle.sound_steps.proofs.Growth.{born_container, born_locus, Wider, wider_born}
+use Rattle.sound_steps.proofs.MadeNames.{pushed_name, same_text}
+use Rattle.sound_steps.proofs.Lists.{NamesBorn}
 
 -- WHO SHOWS, AND WHAT IS SHOWN
 
@@ -81,23 +81,6 @@ locus_named_born a name m is =
     let high : m < 41 + length a.loci = b.1 in
     grind (arith, nat_tests)
 
-or_second : (p q : Bool) → q ≡ true → (p || q) ≡ true
-or_second true q h = refl
-or_second false q h = h
-
-or_first : (p q : Bool) → p ≡ true → (p || q) ≡ true
-or_first true q h = refl
-or_first false q h = absurd (no h)
-  where
-    no : false ≡ true → ⊥
-    no e = cc
-
-pub born_container : (a : AtlasState) (x : ℕ) → IsTrue (is_born_container a x) → IsTrue (is_born a x)
-born_container a x h = or_first (x == 0 || is_born_container a x) (is_born_locus a x) (or_second (x == 0) (is_born_container a x) h)
-
-pub born_locus : (a : AtlasState) (x : ℕ) → IsTrue (is_born_locus a x) → IsTrue (is_born a x)
-born_locus a x h = or_second (x == 0 || is_born_container a x) (is_born_locus a x) h
-
 -- the number of a name, or the atlas's where it has none, is born
 number_born : (a : AtlasState) (name : Text) → IsTrue (is_born a (unwrap_or (number_of a name) 0))
 number_born a name =
@@ -113,61 +96,6 @@ number_born a name =
 
 -- MORE ARE BORN
 
-pub record Wider (a b : AtlasState) : Type 0 where
-  pub containers : length a.containers ≤ length b.containers
-  pub loci : length a.loci ≤ length b.loci
-
-pub wider_container : (a b : AtlasState) (x : ℕ) → Wider a b → IsTrue (is_born_container a x) → IsTrue (is_born_container b x)
-wider_container a b x w h =
-    let le : length a.containers ≤ length b.containers = w.containers in
-    grind (arith, nat_tests)
-
-pub wider_locus : (a b : AtlasState) (x : ℕ) → Wider a b → IsTrue (is_born_locus a x) → IsTrue (is_born_locus b x)
-wider_locus a b x w h =
-    let le : length a.loci ≤ length b.loci = w.loci in
-    grind (arith, nat_tests)
-
-pub wider_born : (a b : AtlasState) (x : ℕ) → Wider a b → IsTrue (is_born a x) → IsTrue (is_born b x)
-wider_born a b x w h =
-    let le : length a.containers ≤ length b.containers = w.containers in
-    let le' : length a.loci ≤ length b.loci = w.loci in
-    grind (arith, nat_tests)
-
-wider_caps : (a b : AtlasState) (caps : List (Option Cap)) → Wider a b → AreSoundCaps a caps → AreSoundCaps b caps
-wider_caps a b caps w h = record { slots = h.slots; each = λ slot cap is. wider_born a b cap.entity w (h.each slot cap is) }
-
-wider_region : (a b : AtlasState) (r : Region) → Wider a b → IsSoundRegion a r → IsSoundRegion b r
-wider_region a b r w h = record { some = h.some; at = h.at; from = h.from; access = h.access; target = wider_container a b r.target w h.target }
-
-pub wider_container_state : (a b : AtlasState) (c : ContainerState) → Wider a b → IsSoundContainer a c → IsSoundContainer b c
-wider_container_state a b c w h = record {
-  some = h.some;
-  size = h.size;
-  entry = h.entry;
-  code = h.code;
-  few = h.few;
-  regions = All-weaker (IsSoundRegion a) (IsSoundRegion b) (λ r s. wider_region a b r w s) c.regions h.regions;
-  inside = h.inside;
-  apart = h.apart;
-  caps = wider_caps a b c.caps w h.caps;
-}
-
-pub wider_locus_state : (a b : AtlasState) (l : LocusState) → Wider a b → IsSoundLocus a l → IsSoundLocus b l
-wider_locus_state a b l w h = record {
-  registers = h.registers;
-  place = h.place;
-  code = h.code;
-  host = wider_container a b l.host w h.host;
-  deep = h.deep;
-  chain = All-weaker (IsSoundCall a) (IsSoundCall b) (λ (k : Call) s. record { container = wider_container a b k.container w s.container; place = s.place }) l.chain h.chain;
-  few = h.few;
-  privates = All-weaker (IsSoundPrivate a) (IsSoundPrivate b) (λ (p : Private) s. record { made = wider_container a b p.made w s.made; region = wider_region a b p.region w s.region }) l.privates h.privates;
-  ordered = h.ordered;
-  caps = wider_caps a b l.caps w h.caps;
-  walk = λ (k : Walk) is. record { at = wider_container a b k.at w (h.walk k is).at; some = (h.walk k is).some; hops = (h.walk k is).hops; looking = (h.walk k is).looking };
-  printed = h.printed;
-}
-
 -- CAPABILITIES AND REGIONS OF A TABLE
 
 -- what a newborn's table may name is born with it
@@ -177,9 +105,6 @@ known_born a b own n name w born =
       | true ↦ born
       | false ↦ wider_born a b (unwrap_or (number_of a name) 0) w (number_born a name)
     ]
-
-abbrev pub NamesBorn : AtlasState → Option Cap → Type 0
-NamesBorn b o = (cap : Cap) → o ≡ Some cap → IsTrue (is_born b cap.entity)
 
 caps_named : (b : AtlasState) (number : Text → Option ℕ) → ((name : Text) → IsTrue (is_born b (number_or_0 number name))) → (i : ℕ) (cs : List CapTable) → All (NamesBorn b) (caps_from number i cs)
 caps_named b number born i [] = All-replicate (NamesBorn b) 32 None (λ cap e. absurd (no cap e))
@@ -203,26 +128,10 @@ sound_caps b number born cs = record {
       subst (NamesBorn b) (get_or_from_slice_get caps slot (Some cap) None is) (caps_named b number born 0 cs slot None (slice_get_within caps slot (Some cap) is)) cap refl;
 }
 
-all_inserted : (P : Region → Type 0) (r : Region) (rs : List Region) → P r → All P rs → All P (insert_region r rs)
-all_inserted P r [] p all = All-cons P r [] p all
-all_inserted P r (s ∷ rs) p all =
-    elim (nat_lt r.at s.at) as (λ b. All P (if b then r ∷ s ∷ rs else s ∷ insert_region r rs)) [
-      | true ↦ All-cons P r (s ∷ rs) p all
-      | false ↦ All-cons P s (insert_region r rs) (All-head P s rs all) (all_inserted P r rs p (All-tail P s rs all))
-    ]
-
 pub all_regions : (P : Region → Type 0) (number : Text → Option ℕ) (ts : List RegionTable) → All (λ (t : RegionTable). P (region_from number t)) ts → All P (regions_from number ts)
 all_regions P number [] all = All-nil P
 all_regions P number (t ∷ ts) all =
     all_inserted P (region_from number t) (regions_from number ts) (All-head (λ (t : RegionTable). P (region_from number t)) t ts all) (all_regions P number ts (All-tail (λ (t : RegionTable). P (region_from number t)) t ts all))
-
-length_inserted : (r : Region) (rs : List Region) → length (insert_region r rs) ≡ suc (length rs)
-length_inserted r [] = refl
-length_inserted r (s ∷ rs) =
-    elim (nat_lt r.at s.at) as (λ b. length (if b then r ∷ s ∷ rs else s ∷ insert_region r rs) ≡ suc (length (s ∷ rs))) [
-      | true ↦ refl
-      | false ↦ ap suc (length_inserted r rs)
-    ]
 
 pub length_regions : (number : Text → Option ℕ) (ts : List RegionTable) → length (regions_from number ts) ≡ length ts
 length_regions number [] = refl
@@ -303,10 +212,6 @@ module _ (old new : Edges) (n : ℕ) (others : (x y : ℕ) → x ≢ n → new x
 
 -- NAMES
 
-same_text : (t : Text) → text_eq t t ≡ true
-same_text [] = refl
-same_text (x ∷ xs) = let e : (x == x) ≡ true = eq-eqb x x refl in rw e (same_text xs)
-
 -- a name that has no place stands nowhere
 pub fresh_place : (name : Text) (ts : List Text) (k i : ℕ) → place_of name ts k ≡ None → slice_get ts i ≡ Some name → ⊥
 fresh_place name [] k i none is = cc
@@ -342,13 +247,6 @@ fresh a name none =
     by_named None (Some m) ec el e = absurd (no m e)
     by_named None None ec el e = record { container = ec; locus = el }
 
--- a name of the longer list is an old one or the new one
-pushed_name : (ts : List Text) (name t : Text) (i : ℕ) → slice_get (ts ++ name ∷ []) i ≡ Some t → (slice_get ts i ≡ Some t) ⊎ ((i ≡ length ts) × (name ≡ t))
-pushed_name [] name t zero is = inr (refl, (let e : name ≡ t = cc in e))
-pushed_name [] name t (suc i) is = inl is
-pushed_name (s ∷ ts) name t zero is = inl is
-pushed_name (s ∷ ts) name t (suc i) is = ⊎_elim {C = (slice_get ts i ≡ Some t) ⊎ ((suc i ≡ suc (length ts)) × (name ≡ t))} (λ h. inl h) (λ h. inr (ap suc h.0, h.1)) (pushed_name ts name t i is)
-
 pub pushed_different : (ts : List Text) (name : Text) (k : ℕ) → place_of name ts k ≡ None → ((i j : ℕ) (t : Text) → slice_get ts i ≡ Some t → slice_get ts j ≡ Some t → i ≡ j)
     → (i j : ℕ) (t : Text) → slice_get (ts ++ name ∷ []) i ≡ Some t → slice_get (ts ++ name ∷ []) j ≡ Some t → i ≡ j
 pushed_different ts name k none differ i j t at at' = by_cases (pushed_name ts name t i at) (pushed_name ts name t j at')
@@ -365,7 +263,7 @@ pushed_apart ts us name k none differ i j t at at' =
     ⊎_elim {C = ⊥} (λ p. differ i j t p at') (λ p. fresh_place name us k j none (at' ∙ ap Some (sym p.1))) (pushed_name ts name t i at)
 
 pub pushed_names : (n : ℕ) (ts : List Text) (name : Text) → IsTrue (is_given_name name) → IsTrue (are_names_from n ts) → IsTrue (are_names_from n (ts ++ name ∷ []))
-pushed_names n [] name given h = both (is_name_of n name) true (or_first _ _ given) refl
+pushed_names n [] name given h = both (is_name_of n name) true (or_left _ _ given) refl
   where
     both : (a b : Bool) → a ≡ true → b ≡ true → (a && b) ≡ true
     both true b e f = f

@@ -17,7 +17,6 @@ use Rattle.sound_runs.proofs.hop_model_lemmas.Basics.{some_of_map}
 use Rattle.sound_runs.proofs.hop_model_lemmas.Carried.{acts_stamped}
 use Rattle.sound_runs.proofs.hop_model_lemmas.Locality.{next_birth_local, step_local}
 use Rattle.sound_runs.specs.script_form.Rules.{IsScript}
-use Rattle.sound_runs.proofs.run_laws_lemmas.Writing.{running_is}
 use Rattle.sound_runs.proofs.sound_steps_lemmas.Cells.{fits_in, locus_in}
 use Rattle.sound_runs.proofs.sound_steps_lemmas.Growth.{born_container}
 use Rattle.sound_runs.proofs.sound_steps_lemmas.Steps.{step_sound}
@@ -29,6 +28,7 @@ use Rattle.sound_states.proofs.Births.{birth_good}
 use Rattle.sound_states.proofs.Cells.{AreGood, IsGoodCell, changed_good}
 use Rattle.sound_states.proofs.Stamps.{event_below, event_own}
 use Rattle.sound_states.proofs.Steps.{step_good}
+use Rattle.sound_runs.proofs.hop_model_lemmas.StepTallies.{running_is}
 
 -- A BORN ENTITY'S CELL
 
@@ -38,7 +38,7 @@ good_cell s (AtlasCell a) born words = tt
 good_cell s (ContainerCell c) born words = words c refl
 good_cell s (LocusCell l) born words = tt
 
-not_unborn : (s : Supply) (cell : Cell) → IsGoodCell s cell → cell ≡ NotBorn → ⊥
+pub not_unborn : (s : Supply) (cell : Cell) → IsGoodCell s cell → cell ≡ NotBorn → ⊥
 not_unborn s NotBorn good e = good
 not_unborn s (AtlasCell a) good e = cc
 not_unborn s (ContainerCell c) good e = cc

@@ -10,6 +10,7 @@ use Rattle.hop_model.specs.Words.{is_container, is_locus}
 use Rattle.circle_law.specs.Containers.{IsAmongContainers}
 use Rattle.sound_steps.proofs.Growth.{Wider, born_container, born_locus, wider_container, wider_container_state, wider_locus, wider_locus_state}
 use Rattle.sound_steps.proofs.RegionLists.{shown, shown_more}
+use Rattle.std.proofs.lemmas.Bool.{true≢false}
 
 -- what may stand at x in a sound state
 abbrev pub Fits : AtlasState → ℕ → Cell → Type 0
@@ -17,9 +18,6 @@ Fits a x NotBorn = is_born a x ≡ false
 Fits a x (AtlasCell b) = (x ≡ 0) × (b ≡ a)
 Fits a x (ContainerCell c) = IsTrue (is_born_container a x) × IsSoundContainer a c
 Fits a x (LocusCell l) = IsTrue (is_born_locus a x) × IsSoundLocus a l
-
-never : true ≡ false → ⊥
-never e = cc
 
 -- SOUND STATES ARE THOSE WHOSE CELLS FIT
 
@@ -43,28 +41,28 @@ zero_locus a x e l = grind (arith, nat_tests)
 
 module _ (a : AtlasState) (names : IsSoundAtlas a) where
   atlas_at : (k : Cell) → Fits a 0 k → k ≡ AtlasCell a
-  atlas_at NotBorn f = absurd (never f)
+  atlas_at NotBorn f = absurd (true≢false f)
   atlas_at (AtlasCell b) f = ap AtlasCell f.1
   atlas_at (ContainerCell c) f = absurd (zero_container a 0 refl f.0)
   atlas_at (LocusCell l) f = absurd (zero_locus a 0 refl f.0)
 
   container_at : (x : ℕ) (k : Cell) → IsTrue (is_born_container a x) → Fits a x k → (c : ContainerState) × (k ≡ ContainerCell c) × IsSoundContainer a c
-  container_at x NotBorn born f = absurd (never (sym (born_container a x born) ∙ f))
+  container_at x NotBorn born f = absurd (true≢false (sym (born_container a x born) ∙ f))
   container_at x (AtlasCell b) born f = absurd (zero_container a x f.0 born)
   container_at x (ContainerCell c) born f = (c, refl, f.1)
   container_at x (LocusCell l) born f = absurd (both_born a x names.few_containers born f.0)
 
   locus_at : (x : ℕ) (k : Cell) → IsTrue (is_born_locus a x) → Fits a x k → (l : LocusState) × (k ≡ LocusCell l) × IsSoundLocus a l
-  locus_at x NotBorn born f = absurd (never (sym (born_locus a x born) ∙ f))
+  locus_at x NotBorn born f = absurd (true≢false (sym (born_locus a x born) ∙ f))
   locus_at x (AtlasCell b) born f = absurd (zero_locus a x f.0 born)
   locus_at x (ContainerCell c) born f = absurd (both_born a x names.few_containers f.0 born)
   locus_at x (LocusCell l) born f = (l, refl, f.1)
 
   nothing_at : (x : ℕ) (k : Cell) → is_born a x ≡ false → Fits a x k → k ≡ NotBorn
   nothing_at x NotBorn out f = refl
-  nothing_at x (AtlasCell b) out f = absurd (never (subst (λ y. is_born a y ≡ false) f.0 out))
-  nothing_at x (ContainerCell c) out f = absurd (never (sym (born_container a x f.0) ∙ out))
-  nothing_at x (LocusCell l) out f = absurd (never (sym (born_locus a x f.0) ∙ out))
+  nothing_at x (AtlasCell b) out f = absurd (true≢false (subst (λ y. is_born a y ≡ false) f.0 out))
+  nothing_at x (ContainerCell c) out f = absurd (true≢false (sym (born_container a x f.0) ∙ out))
+  nothing_at x (LocusCell l) out f = absurd (true≢false (sym (born_locus a x f.0) ∙ out))
 
   pub sound_of : (cells : ℕ → Cell) → ((x : ℕ) → Fits a x (cells x)) → ((x y : ℕ) → a.edges x y ≡ regions_onto (cells x) y) → AreSound a cells
   sound_of cells fits edges = record {
@@ -119,7 +117,7 @@ module _ (a b : AtlasState) (cells : ℕ → Cell) (n : ℕ) (k : Cell) (h : Are
     (edges : (x y : ℕ) → (n == x) ≡ false → b.edges x y ≡ a.edges x y) (here : (y : ℕ) → b.edges n y ≡ regions_onto k y) where
   others_fit : (x : ℕ) (c : Cell) → (n == x) ≡ false → (0 == x) ≡ false → Fits a x c → Fits b x c
   others_fit x NotBorn other over f = unborn x other f
-  others_fit x (AtlasCell e) other over f = absurd (never (sym (ap (λ y. 0 == y) f.0) ∙ over))
+  others_fit x (AtlasCell e) other over f = absurd (true≢false (sym (ap (λ y. 0 == y) f.0) ∙ over))
   others_fit x (ContainerCell c) other over f = (wider_container a b x wider f.0, wider_container_state a b c wider f.1)
   others_fit x (LocusCell l) other over f = (wider_locus a b x wider f.0, wider_locus_state a b l wider f.1)
 

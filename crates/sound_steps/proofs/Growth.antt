@@ -34,7 +34,7 @@ wider_born a b x w h =
 pub wider_caps : (a b : AtlasState) (caps : List (Option Cap)) → Wider a b → AreSoundCaps a caps → AreSoundCaps b caps
 wider_caps a b caps w h = record { slots = h.slots; each = λ slot cap is. wider_born a b cap.entity w (h.each slot cap is) }
 
-wider_region : (a b : AtlasState) (r : Region) → Wider a b → IsSoundRegion a r → IsSoundRegion b r
+pub wider_region : (a b : AtlasState) (r : Region) → Wider a b → IsSoundRegion a r → IsSoundRegion b r
 wider_region a b r w h = record { some = h.some; at = h.at; from = h.from; access = h.access; target = wider_container a b r.target w h.target }
 
 pub wider_container_state : (a b : AtlasState) (c : ContainerState) → Wider a b → IsSoundContainer a c → IsSoundContainer b c

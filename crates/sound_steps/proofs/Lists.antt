@@ -1,5 +1,5 @@
 -- Lists of capabilities and of private regions, options and tests.
-use Rattle.std.proofs.Common.{◌≡◌, ℕ, suc, ◌+◌, ◌≤◌, Bool, true, false, not, ◌&&◌, ◌||◌, if◌then◌else◌, ◌==◌, nat_lt, IsTrue, List, [], ◌∷◌, length, filter, find, replicate, Option, Some, None, slice_get, slice_set, refl, sym, ap, subst, ◌∙◌, arith}
+use Rattle.std.proofs.Common.{◌≡◌, ℕ, suc, ◌+◌, ◌≤◌, Bool, true, false, ◌&&◌, ◌||◌, if◌then◌else◌, ◌==◌, nat_lt, IsTrue, List, [], ◌∷◌, length, filter, find, replicate, Option, Some, None, slice_get, slice_set, refl, ap, subst, ◌∙◌, arith}
 use Rattle.std.specs.List.{All, list_any}
 use Rattle.std.specs.Option.{ForSome}
 use Rattle.std.proofs.lemmas.Bool.Decides.{nat_tests}
@@ -26,10 +26,6 @@ first_passes (Some x) rest h = cc
 pub test_passes : (test : Bool) (r : Reply) → unless test r ≡ None → test ≡ true
 test_passes true r h = refl
 test_passes false r h = cc
-
-pub not_true : (b : Bool) → not b ≡ true → b ≡ false
-not_true true h = sym h
-not_true false h = refl
 
 -- what holds of each holds of the one that is found
 pub find_all : {X : Type 0} (P : X → Type 0) (test : X → Bool) (xs : List X) → All P xs → ForSome (find test xs) P
@@ -129,7 +125,7 @@ none_first : (p q : Bool) → (p || q) ≡ false → p ≡ false
 none_first true q h = h
 none_first false q h = refl
 
-none_second : (p q : Bool) → (p || q) ≡ false → q ≡ false
+pub none_second : (p q : Bool) → (p || q) ≡ false → q ≡ false
 none_second true q h = cc
 none_second false q h = h
 

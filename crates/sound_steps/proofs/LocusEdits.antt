@@ -4,7 +4,7 @@ use Rattle.std.specs.List.{All}
 use Rattle.std.proofs.lemmas.Bool.Decides.{nat_tests}
 use Rattle.std.proofs.lemmas.List.{length-append, length-set}
 use Rattle.std.proofs.lemmas.List.Elements.{All-append, All-cons, All-filter, All-nil, All-weaker}
-use Rattle.std.proofs.lemmas.Option.{get_or_from_slice_get, slice_get_within}
+use Rattle.std.proofs.lemmas.Option.{get_or_from_slice_get, none-some, slice_get_within}
 use Rattle.hop_base.specs.Instructions.{IsInstruction}
 use Rattle.hop_base.specs.declared.capabilities.Cap.{Cap}
 use Rattle.hop_base.specs.declared.capabilities.Private.{Private}
@@ -20,9 +20,6 @@ use Rattle.hop_model.specs.Outcomes.{enter, finish, hop_to, holding, insert_priv
 use Rattle.hop_model.specs.Refusals.{instr_at, overlaps_private}
 use Rattle.hop_model.specs.Soundness.{AreOrdered, AreSoundCaps, IsSoundCall, IsSoundCode, IsSoundLocus, IsSoundPrivate, IsSoundRegion, IsSoundWalk, is_born, is_born_container, looks}
 use Rattle.sound_steps.proofs.Lists.{all_private, caps_put, fewer_kept, length_private, one_named, ordered_kept, ordered_private}
-
-no_walk : (w : Walk) → None ≡ Some w → ⊥
-no_walk w e = cc
 
 module _ (a : AtlasState) (l : LocusState) (h : IsSoundLocus a l) where
   -- the locus's instruction keeps the ranges of operands
@@ -54,7 +51,7 @@ module _ (a : AtlasState) (l : LocusState) (h : IsSoundLocus a l) where
     privates = h.privates;
     ordered = h.ordered;
     caps = h.caps;
-    walk = λ w is. absurd (no_walk w is);
+    walk = λ w is. absurd (none-some w is);
     printed = h.printed;
   }
 
@@ -213,7 +210,7 @@ module _ (a : AtlasState) (l : LocusState) (h : IsSoundLocus a l) where
     privates = h.privates;
     ordered = h.ordered;
     caps = h.caps;
-    walk = λ w is. absurd (no_walk w is);
+    walk = λ w is. absurd (none-some w is);
     printed = h.printed;
   }
 
@@ -239,7 +236,7 @@ module _ (a : AtlasState) (l : LocusState) (h : IsSoundLocus a l) where
     privates = All-nil (IsSoundPrivate a);
     ordered = tt;
     caps = h.caps;
-    walk = λ w is. absurd (no_walk w is);
+    walk = λ w is. absurd (none-some w is);
     printed = omega arith;
   }
 

@@ -8,11 +8,11 @@ use Rattle.hop_model.specs.Scripts.{text_eq}
 use Rattle.hop_model.specs.Soundness.{are_names_from, is_given_name, is_name_of}
 use Rattle.hop_model.proofs.Basics.{and_left, and_right, both, or_right}
 
-same_text : (t : Text) → text_eq t t ≡ true
+pub same_text : (t : Text) → text_eq t t ≡ true
 same_text [] = refl
 same_text (x ∷ xs) = let e : (x == x) ≡ true = eq-eqb x x refl in rw e (same_text xs)
 
-text_same : (s t : Text) → text_eq s t ≡ true → s ≡ t
+pub text_same : (s t : Text) → text_eq s t ≡ true → s ≡ t
 text_same [] [] h = refl
 text_same [] (y ∷ ys) h = cc
 text_same (x ∷ xs) [] h = cc
@@ -56,7 +56,7 @@ names_with_made n (t ∷ ts) h =
     (subst (λ m. are_names_from (n + 1) (ts ++ made_name m ∷ []) ≡ true) e (names_with_made (n + 1) ts (and_right (is_name_of n t) (are_names_from (n + 1) ts) h)))
 
 -- a name of the longer list is an old one or the new one
-pushed_name : (ts : List Text) (name t : Text) (i : ℕ) → slice_get (ts ++ name ∷ []) i ≡ Some t → (slice_get ts i ≡ Some t) ⊎ ((i ≡ length ts) × (name ≡ t))
+pub pushed_name : (ts : List Text) (name t : Text) (i : ℕ) → slice_get (ts ++ name ∷ []) i ≡ Some t → (slice_get ts i ≡ Some t) ⊎ ((i ≡ length ts) × (name ≡ t))
 pushed_name [] name t zero is = inr (refl, (let e : name ≡ t = cc in e))
 pushed_name [] name t (suc i) is = inl is
 pushed_name (s ∷ ts) name t zero is = inl is

@@ -16,9 +16,10 @@ use Rattle.sound_steps.proofs.Cells.{changed_sound, edges_among, locus_sound, pu
 use Rattle.sound_steps.proofs.Circles.{fewer_no_circle, more_no_circle}
 use Rattle.sound_steps.proofs.Growth.{Wider, wider_container_state, wider_locus_state}
 use Rattle.sound_steps.proofs.Leaving.{Leaves}
-use Rattle.sound_steps.proofs.Lists.{first_passes, not_true, test_passes}
+use Rattle.sound_steps.proofs.Lists.{first_passes, test_passes}
 use Rattle.sound_steps.proofs.LocusEdits.{finish_sound}
 use Rattle.sound_steps.proofs.RegionLists.{all_inserted, apart_inserted, apart_without, fewer_without, length_inserted, shown, shown_inserted, shown_without, without}
+use Rattle.std.proofs.lemmas.Bool.{not-true}
 
 -- ONE EDGE
 
@@ -129,8 +130,8 @@ module _ (a : AtlasState) (cells : ℕ → Cell) (h : AreSound a cells) (me : �
       let circle = first_passes (unless (not (leads 40 a.edges r.target x)) _) _ clear.1 in
       let few = first_passes (unless (nat_lt (length c.regions) 16) _) _ circle.1 in
       let inside : nat_le (r.at + r.count) c.pages ≡ true = test_passes _ _ page.0 in
-      let apart : list_any (overlaps r) c.regions ≡ false = not_true _ (test_passes _ _ clear.0) in
-      let fails : leads 40 a.edges r.target x ≡ false = not_true _ (test_passes _ _ circle.0) in
+      let apart : list_any (overlaps r) c.regions ≡ false = not-true _ (test_passes _ _ clear.0) in
+      let fails : leads 40 a.edges r.target x ≡ false = not-true _ (test_passes _ _ circle.0) in
       let lt : nat_lt (length c.regions) 16 ≡ true = test_passes _ _ few.0 in
       let n = a.edges x r.target + 1 in
       let here : (z : ℕ) → (edge_put a x r.target n).edges x z ≡ shown (insert_region r c.regions) z = λ z.

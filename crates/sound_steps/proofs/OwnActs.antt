@@ -15,8 +15,9 @@ use Rattle.hop_model.specs.Soundness.{IsSoundLocus, IsSoundRegion, is_born, is_b
 use Rattle.hop_model.specs.Words.{is_container, unless}
 use Rattle.hop_model.proofs.Basics.{and_left, and_right}
 use Rattle.sound_steps.proofs.Cells.{container_born}
-use Rattle.sound_steps.proofs.Lists.{cap_born, caps_put, first_passes, none_named, not_true, test_passes}
+use Rattle.sound_steps.proofs.Lists.{cap_born, caps_put, first_passes, none_named, test_passes}
 use Rattle.sound_steps.proofs.LocusEdits.{caps_sound, condition_sound, finish_sound, inside, instruction, place_sound, printed_sound, register_sound, with_private_sound, without_private_sound}
+use Rattle.std.proofs.lemmas.Bool.{not-true}
 
 module _ (a : AtlasState) (l : LocusState) (h : IsSoundLocus a l) where
   -- what a register's capability names is born; where there is none, the atlas is
@@ -77,7 +78,7 @@ module _ (a : AtlasState) (l : LocusState) (h : IsSoundLocus a l) where
       let page = first_passes (no_page l d b n) _ held.1 in
       let clear = first_passes (unless (not (overlaps_private l (new_region l d c b n rights))) _) _ page.1 in
       let few = first_passes (unless (nat_lt (length l.privates) 16) _) _ clear.1 in
-      let apart : overlaps_private l (new_region l d c b n rights) ≡ false = not_true _ (test_passes _ _ clear.0) in
+      let apart : overlaps_private l (new_region l d c b n rights) ≡ false = not-true _ (test_passes _ _ clear.0) in
       let lt : nat_lt (length l.privates) 16 ≡ true = test_passes _ _ few.0 in
       let range = subst IsInstruction is (instruction a l h) in
       let region = region_sound d c b n rights container.0 page.0 range.4 in

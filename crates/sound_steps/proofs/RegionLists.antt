@@ -7,6 +7,7 @@ use Rattle.std.proofs.lemmas.List.Sums.{count_by-le-length, length-filter, sum_b
 use Rattle.hop_base.specs.declared.capabilities.Region.{Region}
 use Rattle.hop_model.specs.Soundness.{AreApart}
 use Rattle.hop_model.specs.Words.{insert_region, overlaps}
+use Rattle.sound_steps.proofs.Lists.{none_second}
 
 -- how many of the regions show y
 abbrev pub shown : List Region → ℕ → ℕ
@@ -48,10 +49,6 @@ length_inserted r (s ∷ rs) =
 none_first : (p q : Bool) → (p || q) ≡ false → p ≡ false
 none_first true q h = h
 none_first false q h = refl
-
-none_second : (p q : Bool) → (p || q) ≡ false → q ≡ false
-none_second true q h = cc
-none_second false q h = h
 
 pub apart_inserted : (r : Region) (rs : List Region) → 1 ≤ r.count → All (λ (s : Region). 1 ≤ s.count) rs → list_any (overlaps r) rs ≡ false → AreApart rs → AreApart (insert_region r rs)
 apart_inserted r [] one all clear h = (All-nil (λ (s : Region). r.at + r.count ≤ s.at), tt)

@@ -7,7 +7,6 @@ use Rattle.hop_base.specs.declared.entities.Kind.TheVariants.{Container, Locus}
 use Rattle.hop_base.specs.declared.histories.Entry.{Entry}
 use Rattle.hop_base.specs.declared.histories.Event.TheVariants.{Step}
 use Rattle.hop_base.specs.declared.instructions.Condition.{Condition}
-use Rattle.hop_base.specs.declared.instructions.Condition.TheVariants.{Running, Stopped, Halted}
 use Rattle.hop_base.specs.declared.instructions.Instr.{Instr}
 use Rattle.hop_base.specs.declared.instructions.Instr.TheVariants.{Set, Copy, Add, Sub, Jump, Jz, Load, Store, Invoke, Leave, Return, Map, Unmap, Lmap, Lunmap, Take, Give, Drop, Make, Spawn, Stop, Go, Snap, Stabilise, Print, Halt}
 use Rattle.hop_base.specs.declared.instructions.Reply.{Reply}
@@ -18,7 +17,7 @@ use Rattle.hop_model.specs.Changes.{Change, carried, changed, ordered}
 use Rattle.hop_model.specs.Outcomes.{Outcome, going, given_cap, local_act, look_address, on_cell, outcome, own_reply, stopped, with_newborn, with_other}
 use Rattle.hop_model.specs.Refusals.{entity_of, instr_at, lacks, new_region, no_container, no_locus, no_page, no_slot, refusal, reg}
 use Rattle.hop_model.specs.Soundness.{AreSound, IsSound, IsSoundContainer, IsSoundLocus, is_born_container, is_born_locus, looks, regions_onto}
-use Rattle.hop_model.specs.Steps.{accesses_of, atlas_in, change_of, if_running, numbered_change, outcome_in, running, seen_atlas, seen_other, step, step_change, with_newborn_access, with_other_access}
+use Rattle.hop_model.specs.Steps.{accesses_of, atlas_in, change_of, numbered_change, outcome_in, running, seen_atlas, seen_other, step, step_change, with_newborn_access, with_other_access}
 use Rattle.hop_model.specs.Words.{is_locus, unless}
 use Rattle.hop_model.proofs.Basics.{and_left, and_right, some_of_map}
 use Rattle.hop_model.proofs.Writes.{cell_with, changed_cell}
@@ -31,6 +30,7 @@ use Rattle.sound_steps.proofs.Mappings.{map_leaves, unmap_leaves}
 use Rattle.sound_steps.proofs.Newborns.{make_leaves, spawn_leaves}
 use Rattle.sound_steps.proofs.OwnActs.{container_named, entity_born, own_sound, region_sound}
 use Rattle.sound_steps.proofs.RegionLists.{shown}
+use Rattle.hop_model.proofs.StepTallies.{running_is}
 
 module _ (a : AtlasState) (cells : ℕ → Cell) (h : AreSound a cells) (me : ℕ) (l : LocusState) (known : IsTrue (is_born_locus a me)) (sound : IsSoundLocus a l) where
   -- the locus alone is written
@@ -231,18 +231,6 @@ module _ (s : Supply) (w : KernelState) (a : AtlasState) (h : AreSound a (λ x. 
   pub wanted_leaves : ActLeaves (wanted me l)
   unfolding wanted
   wanted_leaves = by_refusal (refusal l (instr_at l)) refl
-
--- the locus of a running cell
-running_is : (c : Cell) (l : LocusState) → running c ≡ Some l → c ≡ LocusCell l
-running_is NotBorn l e = cc
-running_is (AtlasCell a) l e = cc
-running_is (ContainerCell c) l e = cc
-running_is (LocusCell m) l e = by_condition m.condition e
-  where
-    by_condition : (k : Condition) → if_running m k ≡ Some l → LocusCell m ≡ LocusCell l
-    by_condition Running e = cc
-    by_condition Stopped e = cc
-    by_condition Halted e = cc
 
 -- the change of a running locus leaves a sound state
 change_sound : (s : Supply) (me : ℕ) (w : KernelState) (l : LocusState) → IsSound (λ x. (w x).cell) → (w me).cell ≡ LocusCell l → IsSound (λ x. (changed w (ordered (change_of s w me l).accesses) x).cell)

@@ -8,18 +8,13 @@ use Rattle.look_steps.specs.kernel_cells.declared.cells.Part.{Part}
 use Rattle.look_steps.specs.kernel_cells.declared.cells.Part.TheVariants as part
 use Rattle.step_plans.specs.beside_steps.Besides.{KeepsMemory, head_of, memory_of}
 use Rattle.look_steps.specs.Looking.{MayLook}
+use Rattle.std.proofs.lemmas.Option.{same_Some}
 
 tags : Option Head → Option ℕ
 tags o = option_map (λ (h : Head). h.tag) o
 
 counts : Option Head → Option ℕ
 counts o = option_map (λ (h : Head). h.pages) o
-
-same_number : (n k : ℕ) → Some n ≡ Some k → n ≡ k
-same_number n k e = cc
-
-same_memory : (m k : PagedMemory) → Some m ≡ Some k → m ≡ k
-same_memory m k e = cc
 
 pub looks_again : (s : Supply) (tells : Type 0) (held : ℕ → Bool) (words : ℕ → List ℕ) (p q : Part) → KeepsMemory p q → MayLook s tells held words p → MayLook s tells held words q
 unfolding tags counts
@@ -31,8 +26,8 @@ looks_again s tells held words p q keeps may = by q (keeps.memory ∙ ap memory_
       memory = m;
       is = refl;
       of = record {
-        tag = ap (λ (m : PagedMemory). m.tag) same ∙ may.of.tag ∙ sym (same_number k.tag may.head.tag tag);
-        pages = ap (λ (m : PagedMemory). m.pages) same ∙ may.of.pages ∙ sym (same_number k.pages may.head.pages pages);
+        tag = ap (λ (m : PagedMemory). m.tag) same ∙ may.of.tag ∙ sym (same_Some k.tag may.head.tag tag);
+        pages = ap (λ (m : PagedMemory). m.pages) same ∙ may.of.pages ∙ sym (same_Some k.pages may.head.pages pages);
       };
       table = subst (IsSoundTable held) (sym same) may.table;
       clean = λ told. subst (AreCleanTrue s words) (sym same) (may.clean told);
@@ -40,6 +35,6 @@ looks_again s tells held words p q keeps may = by q (keeps.memory ∙ ap memory_
     by_head m None same tag pages = cc
 
     by : (q : Part) → memory_of q ≡ Some may.memory → tags (head_of q) ≡ Some may.head.tag → counts (head_of q) ≡ Some may.head.pages → MayLook s tells held words q
-    by (part.Container b) memory tag pages = by_head b.memory b.head (same_memory b.memory may.memory memory) tag pages
+    by (part.Container b) memory tag pages = by_head b.memory b.head (same_Some b.memory may.memory memory) tag pages
     by (part.Atlas d) memory tag pages = cc
     by (part.Locus l) memory tag pages = cc

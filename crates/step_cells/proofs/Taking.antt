@@ -19,11 +19,9 @@ use Rattle.look_steps.specs.kernel_cells.Steps.{Steps}
 use Rattle.look_steps.specs.kernel_cells.Wishes.{HasWish}
 use Rattle.look_steps.specs.Looking.{HasCellWith, StepsSomehow, part_with}
 use Rattle.step_cells.specs.Advances.{AdvancesSomehow, StepsCells, TakesIn}
+use Rattle.std.proofs.lemmas.Option.{same_Some}
 
 -- WHO STEPS
-
-some_same : (x y : ℕ) → Some x ≡ Some y → x ≡ y
-some_same x y e = cc
 
 -- the entry of a step names the locus
 pub stepped_by : (s : Supply) (me : ℕ) (w : KernelState) (e : Entry) (v : KernelState) → step s me w ≡ Some (e, v) → e.actor ≡ me
@@ -31,7 +29,7 @@ unfolding step_change
 stepped_by s me w e v = by (running (w me).cell)
   where
     by : (o : Option LocusState) → option_map (λ c. carried w Step c.0 c.1) (option_map (numbered_change s me w) o) ≡ Some (e, v) → e.actor ≡ me
-    by (Some l) is = sym (some_same me e.actor (ap (λ (o : Option (Entry × KernelState)). option_map (λ (r : Entry × KernelState). r.0.actor) o) is))
+    by (Some l) is = sym (same_Some me e.actor (ap (λ (o : Option (Entry × KernelState)). option_map (λ (r : Entry × KernelState). r.0.actor) o) is))
     by None is = cc
 
 -- A STATE THAT HAS CELLS
@@ -97,10 +95,10 @@ wish_kept s words steps r v e named me p old c d h same here names has =
       left = ap (λ x. r.steps x + c.left) same.entity ∙ ap (λ n. r.steps old.clock.entity + n) same.left ∙ has.left;
     })
 
-no_supply : Supply
+pub no_supply : Supply
 no_supply page at word = 0
 
-no_words : ℕ → List ℕ
+pub no_words : ℕ → List ℕ
 no_words n = []
 
 -- TWO CELLS

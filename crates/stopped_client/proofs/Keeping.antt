@@ -1,11 +1,11 @@
 -- The promise, from what the three calls leave and what a stop may leave.
 use Rattle.std.proofs.Common.{◌≡◌, ◌≤◌, ◌<◌, ◌+◌, ◌-◌, ◌^◌, ℕ, [], inl, inr, min, sym, ap, subst, ◌∙◌, arith, false}
 use Rattle.std.proofs.lemmas.Bool.{cases_lt}
-use Rattle.hopper_top.specs.command_parts.Ends.{IsEmpty}
-use Rattle.hopper_top.specs.command_parts.Seen.{Call, SeenDisk, gave}
-use Rattle.hopper_top.specs.command_parts.Statuses.{Ending, Stopped, Unput, Whole, Wrong, ending}
-use Rattle.hopper_top.specs.command_parts.declared.statuses.Status.{Status}
-use Rattle.hopper_top.specs.command_parts.declared.faults.Fault.TheVariants.{Blocks, Disk, Foreign as BadImage, Memory, Script, Source, Usage}
+use Rattle.client_calls.specs.hopper_top.command_parts.Ends.{IsEmpty}
+use Rattle.client_calls.specs.hopper_top.command_parts.Seen.{Call, SeenDisk, gave}
+use Rattle.client_calls.specs.hopper_top.command_parts.Statuses.{Ending, Stopped, Unput, Whole, Wrong, ending}
+use Rattle.client_calls.specs.hopper_top.command_parts.declared.statuses.Status.{Status}
+use Rattle.client_calls.specs.hopper_top.command_parts.declared.faults.Fault.TheVariants.{Blocks, Disk, Foreign as BadImage, Memory, Script, Source, Usage}
 use Rattle.command_words.specs.declared.Command.TheVariants.{Run, Show}
 use Rattle.disk_trait.specs.Image.{Image}
 use Rattle.disk_trait.specs.Kept.{IsTorn, MayLeave}
@@ -13,23 +13,22 @@ use Rattle.disk_trait.specs.KeptLaws.{MayLeave-since_now}
 use Rattle.disk_trait.specs.MemoryDisk.{left_since_of, may_leave_of, moments_of, reading_of, stood_at}
 use Rattle.disk_trait.specs.declared.calls.Torn.{Torn}
 use Rattle.disk_trait.specs.declared.memory.MemoryDisk.{MemoryDisk}
-use Rattle.hopper_top.specs.hop_model.Output.{output_of}
-use Rattle.hopper_top.specs.hop_model.State.{KernelState, Supply, Text, empty_state}
-use Rattle.hopper_top.proofs.image_meaning_lemmas.Firsts.{not_both}
-use Rattle.hopper_top.proofs.image_meaning_lemmas.Ones.{one_meaning}
-use Rattle.hopper_top.specs.image_meaning.Meaning.{Means}
-use Rattle.hopper_top.specs.kernel_model.Beginnings.{Beginning}
-use Rattle.hopper_top.specs.Starts.{HasLowNumbers}
+use Rattle.client_calls.specs.hopper_top.hop_model.Output.{output_of}
+use Rattle.client_calls.specs.hopper_top.hop_model.State.{KernelState, Text, empty_state}
+use Rattle.client_calls.proofs.hopper_top_lemmas.image_meaning_lemmas.Firsts.{not_both}
+use Rattle.client_calls.specs.hopper_top.image_meaning.Meaning.{Means}
+use Rattle.client_calls.specs.hopper_top.kernel_model.Beginnings.{Beginning}
 use Rattle.manager_gate.specs.Managers.{counted_word}
-use Rattle.hopper_top.specs.RunLeaving.{OfRun, RunLeaves}
-use Rattle.hopper_top.specs.Openings.{HasFailedSync, IsKeptImage, KeepsMeaning, run_from}
-use Rattle.hopper_top.specs.run_outcomes.Runs.{IsRun, IsServed}
+use Rattle.client_calls.specs.hopper_top.RunLeaving.{OfRun, RunLeaves}
+use Rattle.client_calls.specs.hopper_top.Openings.{HasFailedSync, IsKeptImage, KeepsMeaning, run_from}
+use Rattle.client_calls.specs.hopper_top.run_outcomes.Runs.{IsRun, IsServed}
 use Rattle.watched_disk.specs.Handing.{next_moment}
-use Rattle.stopped_client.specs.Calls.{IsCalled, managers, seen_call, seen_memory}
+use Rattle.client_calls.specs.Calls.{IsCalled, managers, seen_by, seen_memory}
 use Rattle.stopped_client.specs.Promise.{IsShownAs, KeepsBy, KeepsCut, KeepsNothing, KeepsPromise, answering}
-use Rattle.stopped_client.specs.declared.calling.Called.{Called}
+use Rattle.client_calls.specs.declared.calling.Called.{Called}
 use Rattle.stopped_client.specs.declared.stopping.Shown.{Shown}
-use Rattle.stopped_client.proofs.Fresh.{HasNewImage, low_numbers, turn_left}
+use Rattle.client_calls.specs.Images.{HasNewImage}
+use Rattle.client_calls.proofs.Fresh.{means_nothing, run_holds, turn_left}
 use Rattle.stopped_client.proofs.Reading.{no_bad_place, shown_text}
 
 -- MOMENTS
@@ -79,32 +78,20 @@ module _ (source : Text) (torn : Torn) (after : ℕ) (formatted ran showed : Cal
   disk = seen_memory old ran.outcome.disk
 
   abbrev seen : Call
-  seen = seen_call source runs.source runs.sink old ran.outcome.disk
+  seen = seen_by source old ran
 
   -- the image that the stop left is one of those at its moment
   left_then : left_since_of ran.outcome.disk t (reading_of left)
   left_then = (t, omega arith, omega (arith, stops), may)
-
-  means_nothing : (supply : Supply) → Means supply (reading_of old) empty_state
-  means_nothing supply = fresh.means supply (reading_of old) old.tape.readable
 
   shown_as : (w : KernelState) → Means counted_word (reading_of left) w → IsShownAs s w
   shown_as w means = record { text = shown_text [] left showed w shows means; accepted = no_bad_place [] left showed w shows means }
 
   -- A RUN
 
-  -- what holds of the run while the image's numbers are low holds of it
-  run_holds : (P : Beginning → Type 0) (o : OfRun managers seen P) → P (run_from (answering o.brought) o.script empty_state (moments_of old))
-  run_holds P o =
-      let opened = o.opened tt in
-      let supply = (answering o.brought).supply in
-      let same : opened.state ≡ empty_state = one_meaning supply (reading_of old) opened.state empty_state opened.means (means_nothing supply) in
-      let low : HasLowNumbers (reading_of old) opened.state = subst (λ (v : KernelState). HasLowNumbers (reading_of old) v) (sym same) (low_numbers 4096 (reading_of old) fresh.formatted) in
-      subst (λ (v : KernelState). P (run_from (answering o.brought) o.script v (moments_of old))) same (opened.run low)
-
   keeps_cut : (P : Beginning → Type 0) (o : OfRun managers seen P) → ((b : Beginning) → P b → IsRun b disk (gave ran.outcome)) → KeepsCut source torn s
   keeps_cut P o runs_so =
-      let run = runs_so (run_from (answering o.brought) o.script empty_state (moments_of old)) (run_holds P o) in
+      let run = runs_so (run_from (answering o.brought) o.script empty_state (moments_of old)) (run_holds source old ran fresh P o) in
       let cut = run.kept.moments t (reading_of left) (stop_reaches (moments_of old) after (moments_of ran.outcome.disk) t stops some run.kept.begun) left_then in
       record {
         script = o.script;
@@ -150,10 +137,10 @@ module _ (source : Text) (torn : Torn) (after : ℕ) (formatted ran showed : Cal
   -- the image means what it meant
   means_kept : KeepsMeaning disk → Means counted_word (reading_of left) empty_state
   means_kept keeps = elim (cases_lt (moments_of old) t) [
-    | inl behind ↦ keeps.since t (reading_of left) (next_reached (moments_of old) t behind) left_then counted_word empty_state (means_nothing counted_word)
+    | inl behind ↦ keeps.since t (reading_of left) (next_reached (moments_of old) t behind) left_then counted_word empty_state (means_nothing old fresh counted_word)
     | inr before ↦ (let later = keeps.later in let here : t ≡ moments_of old = omega (arith, stops, before, later) in elim (keeps.earlier t (reading_of left) before left_then) [
       | inl was ↦ fresh.means counted_word (reading_of left) (leaves_at_now old (reading_of left) (subst (λ (n : ℕ). left_since_of old n (reading_of left)) here was))
-      | inr same ↦ same counted_word empty_state (means_nothing counted_word)
+      | inr same ↦ same counted_word empty_state (means_nothing old fresh counted_word)
     ])
   ]
 
@@ -164,7 +151,7 @@ module _ (source : Text) (torn : Torn) (after : ℕ) (formatted ran showed : Cal
   keeps_by : (ending : Ending) → RunLeaves output_of managers seen (gave ran.outcome) ending → KeepsBy source torn s ending
   unfolding keeps_cut
   keeps_by Whole o =
-      let served = run_holds (λ b. IsServed output_of b disk (gave ran.outcome) _) o in
+      let served = run_holds source old ran fresh (λ b. IsServed output_of b disk (gave ran.outcome) _) o in
       record { keeps = keeps_cut _ o (λ b served. served.run); whole = served.whole; lines = runs.put ∙ served.output }
   keeps_by Unput o = keeps_cut _ o.0 (λ b served. served.run)
   keeps_by (Stopped (Blocks n)) o = keeps_cut _ o (λ b short. short.cut.run)
@@ -178,7 +165,7 @@ module _ (source : Text) (torn : Torn) (after : ℕ) (formatted ran showed : Cal
   keeps_by (Stopped Source) stopped = keeps_nothing stopped.1.empty (means_same stopped.2)
   keeps_by (Stopped Memory) (unrun, inl same) = keeps_nothing unrun.empty (means_same same)
   keeps_by (Stopped Memory) (unrun, inr behind) = keeps_nothing unrun.empty (means_kept_image behind.1)
-  keeps_by (Stopped (BadImage block place)) stopped = not_both (reading_of old) (record { block = block; place = place }) (means_nothing counted_word).accepted (stopped.2 tt).0
+  keeps_by (Stopped (BadImage block place)) stopped = not_both (reading_of old) (record { block = block; place = place }) (means_nothing old fresh counted_word).accepted (stopped.2 tt).0
   keeps_by (Stopped Usage) stopped = stopped
   keeps_by (Wrong line want) stopped = stopped
 

@@ -1,4 +1,2 @@
-pub mod Carried
-pub mod Fresh
 pub mod Keeping
 pub mod Reading

@@ -1,29 +1,29 @@
 -- What `show` tells of an image whose meaning is known.
 use Rattle.std.proofs.Common.{◌≡◌, ℕ, sym, ap, subst, ◌∙◌}
-use Rattle.hopper_top.specs.command_parts.Seen.{gave}
-use Rattle.hopper_top.specs.command_parts.Statuses.{ending}
-use Rattle.hopper_top.specs.command_parts.declared.statuses.Status.{Status}
-use Rattle.hopper_top.specs.command_parts.declared.statuses.Status.TheVariants.{Done, Foreign}
+use Rattle.client_calls.specs.hopper_top.command_parts.Seen.{gave}
+use Rattle.client_calls.specs.hopper_top.command_parts.Statuses.{ending}
+use Rattle.client_calls.specs.hopper_top.command_parts.declared.statuses.Status.{Status}
+use Rattle.client_calls.specs.hopper_top.command_parts.declared.statuses.Status.TheVariants.{Done, Foreign}
 use Rattle.command_words.specs.declared.Command.TheVariants.{Show}
 use Rattle.disk_trait.specs.MemoryDisk.{reading_of}
 use Rattle.disk_trait.specs.declared.memory.MemoryDisk.{MemoryDisk}
-use Rattle.hopper_top.specs.hop_model.State.{KernelState, Text}
-use Rattle.hopper_top.proofs.image_meaning_lemmas.Firsts.{not_both}
-use Rattle.hopper_top.proofs.image_meaning_lemmas.Ones.{one_meaning}
-use Rattle.hopper_top.specs.image_meaning.Meaning.{Means}
+use Rattle.client_calls.specs.hopper_top.hop_model.State.{KernelState, Text}
+use Rattle.client_calls.proofs.hopper_top_lemmas.image_meaning_lemmas.Firsts.{not_both}
+use Rattle.client_calls.proofs.hopper_top_lemmas.image_meaning_lemmas.Ones.{one_meaning}
+use Rattle.client_calls.specs.hopper_top.image_meaning.Meaning.{Means}
 use Rattle.manager_gate.specs.Managers.{counted_word}
-use Rattle.hopper_top.specs.plain_show.Show.{shown}
-use Rattle.hopper_top.specs.reading_commands.Shows.{ShowLeaves}
-use Rattle.stopped_client.specs.Calls.{IsCalled, new_sink, seen_lines, seen_memory}
-use Rattle.stopped_client.specs.declared.calling.Called.{Called}
-use Rattle.stopped_client.proofs.Carried.{HadMemory, command_leaves}
+use Rattle.client_calls.specs.hopper_top.plain_show.Show.{shown}
+use Rattle.client_calls.specs.hopper_top.reading_commands.Shows.{ShowLeaves}
+use Rattle.client_calls.specs.Calls.{IsCalled, new_sink, seen_lines, seen_memory}
+use Rattle.client_calls.specs.declared.calling.Called.{Called}
+use Rattle.client_calls.proofs.Carried.{HadMemory, command_leaves}
 
 module _ (text : Text) (old : MemoryDisk) (called : Called) (w : KernelState) (is : IsCalled Show text old called) (means : Means counted_word (reading_of old) w) where
   -- what it leaves, by its status
   leaves_by : (status : Status) → HadMemory status → called.outcome.status ≡ status
-      → ShowLeaves counted_word (seen_memory old called.outcome.disk) (seen_lines new_sink is.sink) (gave called.outcome) (ending status)
+      → ShowLeaves counted_word (seen_memory old called.outcome.disk) (seen_lines new_sink called.sink) (gave called.outcome) (ending status)
   leaves_by status had e =
-      subst (λ (s : Status). ShowLeaves counted_word (seen_memory old called.outcome.disk) (seen_lines new_sink is.sink) (gave called.outcome) (ending s)) e
+      subst (λ (s : Status). ShowLeaves counted_word (seen_memory old called.outcome.disk) (seen_lines new_sink called.sink) (gave called.outcome) (ending s)) e
       (command_leaves Show text old called is (subst (λ (s : Status). HadMemory s) (sym e) had)).1
 
   pub shown_text : called.outcome.status ≡ Done → called.text.items ≡ shown counted_word (λ x. (w x).cell)

@@ -4,23 +4,23 @@ use Rattle.disk_trait.specs.Image.{Image}
 use Rattle.disk_trait.specs.Kept.{IsTorn}
 use Rattle.disk_trait.specs.MemoryDisk.{moments_of, stood_at}
 use Rattle.disk_trait.specs.declared.calls.Torn.{Torn}
-use Rattle.hopper_top.specs.hop_model.Scripts.{Script as Tables}
-use Rattle.hopper_top.specs.hop_model.State.{KernelState, Text, empty_state}
-use Rattle.hopper_top.specs.image_meaning.Meaning.{Means}
-use Rattle.hopper_top.specs.kernel_model.Beginnings.{Beginning, IsLegal}
-use Rattle.hopper_top.specs.kernel_model.Left.{IsCutImage}
+use Rattle.client_calls.specs.hopper_top.hop_model.Scripts.{Script as Tables}
+use Rattle.client_calls.specs.hopper_top.hop_model.State.{KernelState, Text, empty_state}
+use Rattle.client_calls.specs.hopper_top.image_meaning.Meaning.{Means}
+use Rattle.client_calls.specs.hopper_top.kernel_model.Beginnings.{Beginning, IsLegal}
+use Rattle.client_calls.specs.hopper_top.kernel_model.Left.{IsCutImage}
 use Rattle.manager_form.specs.Managing.{ManagerTables}
 use Rattle.manager_gate.specs.Managers.{counted_word}
-use Rattle.hopper_top.specs.plain_show.Show.{shown}
-use Rattle.hopper_top.specs.Booked.{over}
-use Rattle.hopper_top.specs.Openings.{Managers, run_from}
-use Rattle.hopper_top.specs.run_outcomes.Runs.{printed}
-use Rattle.hopper_top.specs.script_source.Sources.{IsAccepted}
-use Rattle.hopper_top.specs.serial_runs.Serial.{IsWhole}
-use Rattle.hopper_top.specs.command_parts.Statuses.{Ending, Stopped, Unput, Whole, Wrong, ending}
-use Rattle.hopper_top.specs.command_parts.declared.faults.Fault.TheVariants.{Blocks, Disk, Foreign as BadImage, Memory, Script, Source, Usage}
-use Rattle.hopper_top.specs.command_parts.declared.statuses.Status.TheVariants.{Done, Foreign}
-use Rattle.stopped_client.specs.Calls.{managers}
+use Rattle.client_calls.specs.hopper_top.plain_show.Show.{shown}
+use Rattle.client_calls.specs.hopper_top.Booked.{over}
+use Rattle.client_calls.specs.hopper_top.Openings.{Managers, run_from}
+use Rattle.client_calls.specs.hopper_top.run_outcomes.Runs.{printed}
+use Rattle.client_calls.specs.hopper_top.script_source.Sources.{IsAccepted}
+use Rattle.client_calls.specs.hopper_top.serial_runs.Serial.{IsWhole}
+use Rattle.client_calls.specs.hopper_top.command_parts.Statuses.{Ending, Stopped, Unput, Whole, Wrong, ending}
+use Rattle.client_calls.specs.hopper_top.command_parts.declared.faults.Fault.TheVariants.{Blocks, Disk, Foreign as BadImage, Memory, Script, Source, Usage}
+use Rattle.client_calls.specs.hopper_top.command_parts.declared.statuses.Status.TheVariants.{Done, Foreign}
+use Rattle.client_calls.specs.Calls.{managers}
 use Rattle.stopped_client.specs.declared.stopping.Shown.{Shown}
 
 -- THE STATE WAS SHOWN: where `show` came to its end, its text is that of this state; and it found no bad place

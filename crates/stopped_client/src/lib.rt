@@ -2,7 +2,6 @@
 //! stops, and what the image then means is shown. Its contract says what is kept, and follows from the contract of the call.
 #![tactic(auto)]
 
-mod calling;
 mod stopping;
 
 pub use stopping::{Shown, run_and_stop};

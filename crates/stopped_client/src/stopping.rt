@@ -3,17 +3,11 @@ ghost use Rattle.std.specs.Prelude.{◌≡◌, ◌<◌, ◌+◌, IfOk, min};
 ghost use Rattle.disk_trait.specs.MemoryDisk.{moments_of};
 ghost use Rattle.stopped_client.specs.Promise.{KeepsPromise};
 
-use crate::calling::{Called, call, one_word, two_words};
+use client_calls::hopper_top::command_parts::Status;
+use client_calls::{Called, call, new_image, one_word};
 use disk_trait::{MemoryDisk, Torn};
 use hop_base::Entry;
-use hopper_top::command_parts::Status;
 use std::alloc::{AllocError, Global};
-
-/// How many blocks the disk has, all of which the image takes.
-const BLOCKS: u32 = 4096;
-
-/// How many writes and syncs the disk keeps; those beyond fail.
-const ROOM: u32 = 4096;
 
 /// What became of a script on a machine that stopped.
 #[derive(Drop)]
@@ -54,22 +48,28 @@ pub fn run_and_stop(
     ensures stopped { IfOk result (λ s. s.stopped ≡ min (s.since + after) (moments_of s.disk)) }
     ensures kept { IfOk result (λ s. s.formatted ≡ Status.Done → 0 < after → KeepsPromise script.now torn s) }
 {
-    let new = MemoryDisk::new(alloc, BLOCKS, ROOM, Vec::new(alloc))?;
     let Called {
         outcome: formatted,
         ..
-    } = call(alloc, &two_words(alloc, "format", "4096")?, "", new)?;
+    } = new_image(alloc)?;
     let since = formatted.disk.moments();
     let Called {
         outcome: ran,
         text: lines,
-    } = call(alloc, &one_word(alloc, "run")?, script, formatted.disk)?;
+        ..
+    } = call(
+        alloc,
+        &one_word(alloc, "run")?,
+        script.as_bytes(),
+        formatted.disk,
+    )?;
     let stopped = stop_at(since, after, ran.disk.moments());
     let left = ran.disk.crash(stopped, torn)?;
     let Called {
         outcome: showed,
         text,
-    } = call(alloc, &one_word(alloc, "show")?, "", left)?;
+        ..
+    } = call(alloc, &one_word(alloc, "show")?, "".as_bytes(), left)?;
     Ok(Shown {
         formatted: formatted.status,
         ran: ran.status,

@@ -1,8 +1,6 @@
 -- How many records are kept, and which are newer.
-use Rattle.std.proofs.Common.{◌≡◌, ℕ, ◌+◌, ◌<◌, Bool, cond, count_by, fold, List, [], ◌∷◌, length, get_or, nat_le, inl, inr, refl, sym, ap, ◌∙◌, arith}
+use Rattle.std.proofs.Common.{◌≡◌, ℕ, ◌+◌, Bool, cond, count_by, fold, List, [], ◌∷◌, length, nat_le, refl, sym, ap, ◌∙◌}
 use Rattle.std.specs.Prelude.{slice_index}
-use Rattle.std.proofs.lemmas.Bool.{cases_lt}
-use Rattle.std.proofs.lemmas.List.{get_or_default}
 use Rattle.std.proofs.lemmas.List.Sums.{length-filter}
 use Rattle.hop_base.specs.declared.records.Rec.{Rec}
 use Rattle.snapshot_store.specs.store_model.Books.{Books, Logged, cut_in, kept_in, logged_recs, recs_in}
@@ -20,14 +18,3 @@ kept_many b cut recs n is same count =
     length-filter (λ (l : Logged). p l.rec) b.logged
     ∙ (sym (count_recs p 0 b.logged)
     ∙ (ap (λ (t : Rec → Bool). count_by t (recs_in b)) (sym tests) ∙ (ap (λ (rs : List Rec). count_by q rs) (sym is) ∙ sym count)))
-
--- one record more, of those before which all are older
-pub newer_more : (recs : List Rec) (i x v : ℕ) (r : Rec) → ((k : ℕ) (d : Rec) → k < i → (get_or recs k d).entity ≡ x → (get_or recs k d).version < v) → i < length recs → r ≡ get_or recs i r → (r.entity ≡ x → r.version < v)
-    → (k : ℕ) (d : Rec) → k < i + 1 → (get_or recs k d).entity ≡ x → (get_or recs k d).version < v
-newer_more recs i x v r before lt is here k d low = elim (cases_lt k i) as (λ _. (get_or recs k d).entity ≡ x → (get_or recs k d).version < v) [
-  | inl below ↦ before k d below
-  | inr past ↦
-      let at : k ≡ i = omega (arith, low, past) in
-      let same : get_or recs k d ≡ r = ap (λ j. get_or recs j d) at ∙ (get_or_default recs i d r lt ∙ sym is) in
-      λ e. (let less = here (sym (ap (λ (q : Rec). q.entity) same) ∙ e) in let v2 = ap (λ (q : Rec). q.version) same in omega (arith, less, v2))
-]

@@ -1,7 +1,7 @@
 -- What is stored behind a commit are the kept records of its books.
-use Rattle.std.proofs.Common.{◌≡◌, ℕ, ◌≤◌, Bool, true, false, ◌&&◌, ◌==◌, nat_le, nat_lt, if◌then◌else◌, List, [], ◌∷◌, ◌++◌, map, filter, refl, sym, ap, subst, ◌∙◌, arith}
+use Rattle.std.proofs.Common.{◌≡◌, ℕ, ◌≤◌, Bool, true, false, ◌==◌, nat_lt, if◌then◌else◌, List, [], ◌∷◌, ◌++◌, map, filter, refl, sym, ap, subst, ◌∙◌, arith}
 use Rattle.std.specs.List.{AllByRecursion, flat_map}
-use Rattle.std.proofs.lemmas.Bool.{le-leb, leb-true}
+use Rattle.std.proofs.lemmas.Bool.{and_parts, le-leb, leb-true}
 use Rattle.std.proofs.lemmas.List.{map-append}
 use Rattle.disk_trait.specs.Disk.{Only}
 use Rattle.disk_trait.specs.Image.{Image, block_at}
@@ -17,7 +17,7 @@ use Rattle.store_model.specs.image_meaning.Stores.{IsFound, IsHeld, Page}
 use Rattle.store_model.specs.log_turn.Standing.{SameAreas, epoch_of, place_of, used_of}
 use Rattle.store_model.specs.log_turn.declared.areas.Areas.{Areas}
 use Rattle.store_model.specs.Books.{AreSmall, AreStored, Books, IsApart, IsBeforePool, Logged, cut_in, is_small, kept_for, kept_in, kept_of, logged_recs, page_for, recs_in}
-use Rattle.store_model.proofs.Keeping.{kept_agree}
+use Rattle.store_model.proofs.Keeping.{at_or_above, kept_agree}
 use Rattle.store_commit.specs.Ready.{AreAt, TrueAfterLaw, books_after, next_in, roomy_logged}
 use Rattle.store_commit.specs.Storing.{HasLogged, new_of, roomy_log}
 use Rattle.store_commit.proofs.Agreeing.{greatest_kept}
@@ -99,9 +99,6 @@ all_both : (image new : Image) (ls : List Logged) → AllByRecursion (λ l. IsAp
 all_both image new [] apart held = tt
 all_both image new (l ∷ ls) apart held = (safe_now image new l apart.0 held.0, all_both image new ls apart.1 held.1)
 
-abbrev at_or_above : (ℕ → ℕ) → Logged → Bool
-at_or_above cut l = nat_le (cut l.rec.entity) l.rec.version
-
 raised : (cut p : ℕ → ℕ) → IsBelow cut p → (l : Logged) → at_or_above p l ≡ true → at_or_above cut l ≡ true
 raised cut p below l h = le-leb (cut l.rec.entity) l.rec.version (let a : p l.rec.entity ≤ l.rec.version = leb-true (p l.rec.entity) l.rec.version h in let b : cut l.rec.entity ≤ p l.rec.entity = below l.rec.entity in omega (arith, a, b))
 
@@ -158,10 +155,6 @@ module _ {D : Type 0} (reading : D → Image) (may_leave : D → Image → Type 
         (map_holds (IsHeld (reading new)) (kept_for (reading new)) (kept_in (books_after b areas after r table small)) (all_weaker (IsSafe (reading new)) (λ l. IsHeld (reading new) (kept_for (reading new) l)) (kept_in (books_after b areas after r table small)) (λ l safe. safe.held) now_safe));
   }
 
-two_pass : (a b : Bool) → (a && b) ≡ true → (a ≡ true) × (b ≡ true)
-two_pass true b e = (refl, e)
-two_pass false b e = absurd (let clash : false ≡ true = e in cc clash)
-
 -- true books stay true
 pub true_after : {D : Type 0} (reading : D → Image) (may_leave : D → Image → Type 0) → ((d : D) → may_leave d (reading d)) → TrueAfterLaw reading may_leave
 true_after reading may_leave reads_now b areas after old new r blob bytes table at can done =
@@ -170,7 +163,7 @@ true_after reading may_leave reads_now b areas after old new r blob bytes table 
       log = λ working. subst (λ (rs : List Rec). HasLog (place_of after) rs (reading new)) (sym same) done.stands.log;
       left = λ working c may. subst (λ (rs : List Rec). HasLog (place_of after) rs c × SameAreas (reading new) c) (sym same) (done.stands.left c may);
       stored = λ are_small working.
-          let both = two_pass b.small (is_small r) are_small.recs in
+          let both = and_parts b.small (is_small r) are_small.recs in
           let low = are_small.epoch in
           let place : epoch_of areas ≡ b.place.epoch = ap (λ (p : Place). p.epoch) at.place in
           let before : AreSmall b = record { recs = both.0; epoch = (let le = done.epoch in omega (arith, low, le, place)) } in

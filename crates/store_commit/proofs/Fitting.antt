@@ -2,7 +2,7 @@
 use Rattle.std.proofs.Common.{◌≡◌, ℕ, suc, zero, ◌≤◌, ◌<◌, Bool, true, false, ◌&&◌, ◌||◌, ◌==◌, nat_lt, if◌then◌else◌, List, [], ◌∷◌, ◌++◌, take, Option, Some, None, refl, sym, ap, subst, ◌∙◌, arith, append_assoc, eqb-true, eq-eqb, length, ◌+◌, ◌*◌}
 use Rattle.std.specs.Prelude.{filter, slice_get}
 use Rattle.std.specs.List.{list_any}
-use Rattle.std.proofs.lemmas.Bool.{false≢true}
+use Rattle.std.proofs.lemmas.Bool.{false≢true, or_parts}
 use Rattle.std.proofs.lemmas.Option.{none-some}
 use Rattle.std.proofs.lemmas.List.{append-nil}
 use Rattle.std.proofs.lemmas.List.Elements.{filter-append}
@@ -20,6 +20,7 @@ use Rattle.store_model.specs.image_blocks.Checks.{is_epoch, last_version, unless
 use Rattle.store_model.specs.image_blocks.Logs.{IsFitting, AreFitting}
 use Rattle.store_model.proofs.image_blocks_lemmas.LastVersions.{last_version-more}
 use Rattle.store_commit.specs.Agreed.{KeptFitLaw}
+use Rattle.std.proofs.Math.Bool.{or-false}
 
 -- ONE TEST of a list that fails nowhere
 first_third : (a b : Option ℕ) (t u : Bool) (rest : List (Option ℕ)) → first (a ∷ b ∷ unless_at t 8 ∷ rest) ≡ None → (t ≡ true → u ≡ true) → first (a ∷ b ∷ unless_at u 8 ∷ rest) ≡ None
@@ -52,14 +53,10 @@ has x rs = list_any (λ (s : Rec). s.entity == x) rs
 abbrev value : Bool → Bool → ℕ → ℕ → ℕ
 value a b m v = if a then m else if b then v else 0
 
-none_or : (a b : Bool) → (a || b) ≡ false → (a ≡ false) × (b ≡ false)
-none_or true b is = absurd (false≢true (sym is))
-none_or false b is = (refl, is)
-
 last_none : (rs : List Rec) (x : ℕ) → has x rs ≡ false → last_version rs x ≡ 0
 last_none [] x none = refl
 last_none (r ∷ rs) x none =
-    let two = none_or (r.entity == x) (has x rs) none in
+    let two = or_parts (r.entity == x) (has x rs) none in
     ap (λ (b : Bool). value b (r.entity == x) (last_version rs x) r.version) two.1 ∙ ap (λ (b : Bool). value false b (last_version rs x) r.version) two.0
 
 module _ (test : Rec → Bool) where
@@ -69,7 +66,7 @@ module _ (test : Rec → Bool) where
 
   none_left : (rs : List Rec) (x : ℕ) → has x rs ≡ false → has x (filter test rs) ≡ false
   none_left [] x none = refl
-  none_left (r ∷ rs) x none = (let two = none_or (r.entity == x) (has x rs) none in none_one r rs x (test r) two.0 (none_left rs x two.1))
+  none_left (r ∷ rs) x none = (let two = or_parts (r.entity == x) (has x rs) none in none_one r rs x (test r) two.0 (none_left rs x two.1))
 
 -- versions of one entity rise
 abbrev pub AreRising : List Rec → Type 0
@@ -106,12 +103,8 @@ module _ (test : Rec → Bool) where
 
 -- ONE RECORD MORE
 
-or_false : (b : Bool) → (b || false) ≡ b
-or_false true = refl
-or_false false = refl
-
 has_more : (rs : List Rec) (r : Rec) (x : ℕ) → has x (rs ++ r ∷ []) ≡ (has x rs || (r.entity == x))
-has_more rs r x = list_any-append (λ (s : Rec). s.entity == x) rs (r ∷ []) ∙ ap (λ (b : Bool). has x rs || b) (or_false (r.entity == x))
+has_more rs r x = list_any-append (λ (s : Rec). s.entity == x) rs (r ∷ []) ∙ ap (λ (b : Bool). has x rs || b) (or-false (r.entity == x))
 
 value_high : (a e : Bool) (m v n : ℕ) → (a ≡ false → m ≡ 0) → value a e m v < n → m < n
 value_high true e m v n none lt = lt
@@ -130,7 +123,7 @@ still_rises q r rs rise lt true e there =
     first_high (has q.entity rs) (last_version rs q.entity) q.version r.version rise
     (subst (λ (b : Bool). value (has q.entity rs) b (last_version rs q.entity) q.version < r.version) (eq-eqb q.entity q.entity refl) at)
 still_rises q r rs rise lt false e there =
-    rise (sym (or_false (has q.entity rs)) ∙ (sym (ap (λ (b : Bool). has q.entity rs || b) e) ∙ (sym (has_more rs r q.entity) ∙ there)))
+    rise (sym (or-false (has q.entity rs)) ∙ (sym (ap (λ (b : Bool). has q.entity rs || b) e) ∙ (sym (has_more rs r q.entity) ∙ there)))
 
 pub rising_more : (rs : List Rec) (r : Rec) → AreRising rs → last_version rs r.entity < r.version → AreRising (rs ++ r ∷ [])
 rising_more [] r rising lt = (λ there. absurd (false≢true there), tt)

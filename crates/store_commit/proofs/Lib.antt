@@ -9,3 +9,5 @@ pub mod Unused
 pub mod Readying
 pub mod After
 mod Chunks
+pub mod Paged
+pub mod SameMeaning

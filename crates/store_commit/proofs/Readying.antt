@@ -25,6 +25,7 @@ use Rattle.store_commit.proofs.Agreeing.{are_agreed}
 use Rattle.store_commit.proofs.Choosing.{cut_rises}
 use Rattle.store_commit.proofs.Fitting.{fit_more, fits_kept, kept_fit, narrow_fit}
 use Rattle.store_commit.proofs.Unused.{apart_unnamed, pages_all}
+use Rattle.std.proofs.lemmas.Bool.{or_parts}
 
 recs_logged : (image : Image) (ls : List Logged) → recs_of (map (kept_for image) ls) ≡ logged_recs ls
 recs_logged image [] = refl
@@ -33,10 +34,6 @@ recs_logged image (l ∷ ls) = ap (λ (rs : List Rec). l.rec ∷ rs) (recs_logge
 -- the kept records of the books
 pub logged_is : (image : Image) (b : Books) → logged_recs (kept_in b) ≡ recs_from (cut_in b) (recs_in b)
 logged_is image b = sym (recs_logged image (kept_in b)) ∙ kept_recs image b
-
-one_unused : (held named : Bool) → (held || named) ≡ false → (held ≡ false) × (named ≡ false)
-one_unused true named e = absurd (let clash : true ≡ false = e in cc clash)
-one_unused false named e = (refl, e)
 
 module _ {D : Type 0} (reading : D → Image) (may_leave : D → Image → Type 0) (b : Books) (areas : Areas) (disk : D) (has : AreAt reading may_leave b areas disk) (small : AreSmall b) (r : Rec) (blob : List (List ℕ)) (bytes table : List ℕ) (can : CanCommit b r blob bytes table) where
   stored : AreStored reading may_leave b.count b.place (recs_in b) (kept_of (reading disk) b) disk
@@ -87,7 +84,7 @@ module _ {D : Type 0} (reading : D → Image) (may_leave : D → Image → Type 
 
   free : AreApartFrom (IsBlobBlock r (length blob)) (kept_of (reading disk) b)
   free = apart_unnamed (reading disk) (IsBlobBlock r (length blob)) (kept_in b) (λ n here zero_is. let low = from_pool n here in absurd (omega (arith, low, zero_is)))
-      (λ n here. unnamed_by n b.found (list_any (names n) (kept_in b)) (one_unused (b.held n) (kept_names b n) (unused n here)).1)
+      (λ n here. unnamed_by n b.found (list_any (names n) (kept_in b)) (or_parts (b.held n) (kept_names b n) (unused n here)).1)
 
   page_held : (n : ℕ) → n ≢ 0 → Contains table n → b.held n ≡ true
   page_held n some (i, lt, is) =
@@ -96,7 +93,7 @@ module _ {D : Type 0} (reading : D → Image) (may_leave : D → Image → Type 
 
   page_apart : (n : ℕ) → n ≢ 0 → Contains table n → IsCommitBlock r (length blob) n → ⊥
   page_apart n some there (inl low) = absurd (let from = can.held n (page_held n some there) in omega (arith, from, low))
-  page_apart n some there (inr here) = (let clash : true ≡ false = sym (page_held n some there) ∙ (one_unused (b.held n) (kept_names b n) (unused n here)).0 in cc clash)
+  page_apart n some there (inr here) = (let clash : true ≡ false = sym (page_held n some there) ∙ (or_parts (b.held n) (kept_names b n) (unused n here)).0 in cc clash)
 
   next : IsNext b.count (recs_in b) (logged_recs (kept_in b)) (record { rec = r; blob = bytes; pages = flat_map (page_for (reading disk)) table }) blob (kept_of (reading disk) b) (reading disk)
   next = record {

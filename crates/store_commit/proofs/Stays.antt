@@ -14,8 +14,8 @@ use Rattle.store_model.specs.image_blocks.Logs.{HasFront, HasLog, IsNextSlot, Is
 use Rattle.store_model.specs.image_blocks.declared.areas.Area.{Area}
 use Rattle.store_model.specs.image_blocks.declared.areas.Area.TheVariants.{A, B}
 use Rattle.store_model.specs.image_meaning.Stores.{IsFound, IsHeld, Kept, Page}
-use Rattle.store_model.proofs.log_turn_lemmas.Slots.{same_gate}
 use Rattle.store_model.specs.Books.{AreApartFrom, IsApart, IsBeforePool}
+use Rattle.store_model.proofs.log_turn_lemmas.commit_log_lemmas.Through.{same_gate}
 
 -- WHAT IS HELD
 

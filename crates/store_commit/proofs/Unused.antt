@@ -1,34 +1,23 @@
 -- Blocks that no kept record names, and the pages of a table.
-use Rattle.std.proofs.Common.{◌≡◌, ◌≢◌, ℕ, zero, suc, Bool, true, false, not, ◌&&◌, ◌||◌, ◌==◌, if◌then◌else◌, List, [], ◌∷◌, ◌++◌, map, Contains, refl, sym, ap, ◌∙◌, eq-eqb, arith}
+use Rattle.std.proofs.Common.{◌≡◌, ◌≢◌, ℕ, zero, suc, Bool, true, false, not, ◌==◌, if◌then◌else◌, List, [], ◌∷◌, ◌++◌, map, Contains, refl, sym, ap, ◌∙◌, eq-eqb, arith}
 use Rattle.std.specs.List.{AllByRecursion, flat_map, list_any}
 use Rattle.disk_trait.specs.Image.{Image, block_at}
 use Rattle.store_model.specs.image_blocks.Bodies.{blob_blocks}
 use Rattle.store_model.proofs.image_blocks_lemmas.Firsts.{ne_test}
 use Rattle.store_model.specs.image_meaning.Stores.{Page}
 use Rattle.store_model.specs.Books.{AreApartFrom, Logged, kept_for, names, page_for}
+use Rattle.std.proofs.lemmas.Bool.{and_from, or_left, or_right}
 
 -- what holds of each item
 pub all_of : {X : Type 0} (P : X → Type 0) (xs : List X) → ((x : X) → Contains xs x → P x) → AllByRecursion P xs
 all_of P [] each = tt
 all_of P (x ∷ xs) each = (each x (0, omega arith, refl), all_of P xs (λ y (i, lt, is). each y (suc i, omega (arith, lt), is)))
 
-first_passes : (a b : Bool) → a ≡ true → (a || b) ≡ true
-first_passes true b e = refl
-first_passes false b e = absurd (let clash : false ≡ true = e in cc clash)
-
-second_passes : (a b : Bool) → b ≡ true → (a || b) ≡ true
-second_passes true b e = refl
-second_passes false b e = e
-
 -- an item that passes is found
 pub any_in : {X : Type 0} (test : X → Bool) (xs : List X) (x : X) → Contains xs x → test x ≡ true → list_any test xs ≡ true
 any_in test [] x (i, lt, is) e = absurd (omega (arith, lt))
-any_in test (y ∷ xs) x (zero, lt, is) e = first_passes (test y) (list_any test xs) (ap test is ∙ e)
-any_in test (y ∷ xs) x (suc i, lt, is) e = second_passes (test y) (list_any test xs) (any_in test xs x (i, omega (arith, lt), is) e)
-
-both_pass : (a b : Bool) → a ≡ true → b ≡ true → (a && b) ≡ true
-both_pass true b e f = f
-both_pass false b e f = e
+any_in test (y ∷ xs) x (zero, lt, is) e = or_left (test y) (list_any test xs) (ap test is ∙ e)
+any_in test (y ∷ xs) x (suc i, lt, is) e = or_right (test y) (list_any test xs) (any_in test xs x (i, omega (arith, lt), is) e)
 
 not_zero : (n : ℕ) → n ≢ 0 → not (n == 0) ≡ true
 not_zero n some = ap not (ne_test n 0 some)
@@ -37,10 +26,10 @@ item_test : (xs : List ℕ) (n : ℕ) → Contains xs n → list_any (λ m. m ==
 item_test xs n there = any_in (λ m. m == n) xs n there (eq-eqb n n refl)
 
 pub names_blob : (l : Logged) (n : ℕ) → n ≢ 0 → Contains (blob_blocks l.rec) n → names n l ≡ true
-names_blob l n some there = both_pass (not (n == 0)) _ (not_zero n some) (first_passes (list_any (λ m. m == n) (blob_blocks l.rec)) (list_any (λ m. m == n) l.table) (item_test (blob_blocks l.rec) n there))
+names_blob l n some there = and_from (not (n == 0)) _ (not_zero n some) (or_left (list_any (λ m. m == n) (blob_blocks l.rec)) (list_any (λ m. m == n) l.table) (item_test (blob_blocks l.rec) n there))
 
 pub names_page : (l : Logged) (n : ℕ) → n ≢ 0 → Contains l.table n → names n l ≡ true
-names_page l n some there = both_pass (not (n == 0)) _ (not_zero n some) (second_passes (list_any (λ m. m == n) (blob_blocks l.rec)) (list_any (λ m. m == n) l.table) (item_test l.table n there))
+names_page l n some there = and_from (not (n == 0)) _ (not_zero n some) (or_right (list_any (λ m. m == n) (blob_blocks l.rec)) (list_any (λ m. m == n) l.table) (item_test l.table n there))
 
 -- the pages of a table
 page_by : (P : Page → Type 0) (image : Image) (n : ℕ) (rest : List Page) (zero_is : Bool) → (n == 0) ≡ zero_is → (n ≢ 0 → P (record { block = n; bytes = block_at image n })) → AllByRecursion P rest

@@ -4,10 +4,12 @@ ghost use Rattle.store_model.specs.image_blocks.Bodies.{blocks_for};
 ghost use Rattle.store_model.specs.image_blocks.Layout.{most_length};
 ghost use Rattle.store_commit.specs.BlobBytes.{HoldsBytes};
 
+use disk_trait::BLOCK_BYTES;
+
 // The bytes as a block, filled up with zeros.
 fn filled_up(bytes: &[u8]) -> [u8; 1024]
-    requires { length bytes.now ≤ 1024 }
-    ensures { result ≡ bytes.now ++ replicate (1024 - length bytes.now) 0 }
+    requires { length bytes.now ≤ BLOCK_BYTES }
+    ensures { result ≡ bytes.now ++ replicate (BLOCK_BYTES - length bytes.now) 0 }
 {
     let mut block = [0; 1024];
     block[..bytes.len()].copy_from_slice(bytes);

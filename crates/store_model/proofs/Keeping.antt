@@ -12,7 +12,7 @@ use Rattle.image_meaning.specs.cut_laws.Records.{AgreeInRecs, commits_of, is_rec
 use Rattle.image_meaning.specs.Stores.{recs_of}
 use Rattle.store_model.specs.Books.{Books, HaveComponents, Logged, cut_in, kept_for, kept_of, logged_recs, recs_in}
 
-abbrev at_or_above : (ℕ → ℕ) → Logged → Bool
+abbrev pub at_or_above : (ℕ → ℕ) → Logged → Bool
 at_or_above cut l = nat_le (cut l.rec.entity) l.rec.version
 
 one_more : (image : Image) (l : Logged) (ls : List Logged) (rs : List Rec) (b : Bool) → recs_of (map (kept_for image) ls) ≡ rs

@@ -1,5 +1,5 @@
 pub mod Keeping
-mod Owners
+pub mod Owners
 pub use Rattle.image_meaning.proofs.cut_laws_lemmas
 pub use Rattle.image_meaning.proofs.hop_model_lemmas
 pub use Rattle.image_meaning.proofs.image_blocks_lemmas

@@ -14,23 +14,20 @@ use Rattle.image_meaning.proofs.Firsts.{clash}
 use Rattle.image_meaning.proofs.Resting.{one_of}
 use Rattle.store_model.specs.Books.{Books, Logged, kept_for, kept_in, kept_of}
 use Rattle.store_model.specs.Owning.{NamesPage, OwnedLaw}
+use Rattle.image_blocks.proofs.Ranges.{rec_or}
 
-abbrev rec_or : Rec → Option Rec → Rec
-rec_or d None = d
-rec_or d (Some r) = r
-
-abbrev number_or : Option ℕ → ℕ
+abbrev pub number_or : Option ℕ → ℕ
 number_or None = 0
 number_or (Some n) = n
 
 -- an item at a place
-item_at : (xs : List ℕ) (i n : ℕ) → slice_get xs i ≡ Some n → slice_index xs i ≡ n
+pub item_at : (xs : List ℕ) (i n : ℕ) → slice_get xs i ≡ Some n → slice_index xs i ≡ n
 item_at xs i n is =
     let lt = slice_get_within xs i n is in
     ap number_or (sym (slice_get-get_or xs i 0 lt) ∙ is)
 
 -- the place of an item
-place_in : (xs : List ℕ) (n : ℕ) → Contains xs n → (i : ℕ) × (slice_index xs i ≡ n)
+pub place_in : (xs : List ℕ) (n : ℕ) → Contains xs n → (i : ℕ) × (slice_index xs i ≡ n)
 place_in xs n (i, lt, is) = (i, get_or_default xs i 0 n lt ∙ is)
 
 -- what is chosen is a kept record

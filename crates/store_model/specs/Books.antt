@@ -127,11 +127,6 @@ AreHeldPages held table = (page : ℕ) → slice_index table page ≢ 0 → held
 abbrev pub AreApart : List ℕ → Type 0
 AreApart table = (p q : ℕ) → slice_index table p ≢ 0 → slice_index table p ≡ slice_index table q → p ≡ q
 
--- the version of the entity's newest record, 0 for none
-abbrev pub newest_in : List Rec → ℕ → ℕ
-newest_in [] x = 0
-newest_in (r ∷ rs) x = if list_any (λ (s : Rec). s.entity == x) rs then newest_in rs x else if r.entity == x then r.version else 0
-
 -- WHAT A COMMIT LEAVES
 pub record Commits (entity version : ℕ) (stamp blob table : List ℕ) (reading : Image) (old new : Books) : Type 0 where
   pub rec : Rec

@@ -1,1 +1,2 @@
 mod Stepping
+pub use Rattle.kernel_views.proofs.cell_table_lemmas

@@ -1,6 +1,6 @@
 -- What a step over the table says in the words of a running kernel.
 use Rattle.std.proofs.Common.{◌≡◌, ◌↔◌, inl, inr, ℕ, ◌+◌, ◌<◌, ◌≤◌, ◌==◌, if◌then◌else◌, Bool, true, false, List, length, slice_get, Option, Some, None, Result, Ok, Err, IfOk, IsErrOf, OnOk, refl, sym, ap, subst, ◌∙◌, arith, eq-eqb}
-use Rattle.std.proofs.lemmas.Option.{slice_get_cases, slice_get_within}
+use Rattle.std.proofs.lemmas.Option.{same_Some, slice_get_cases, slice_get_within}
 use Rattle.disk_trait.specs.Image.{Image}
 use Rattle.hop_base.specs.declared.histories.Entry.{Entry}
 use Rattle.table_steps.specs.hop_model.Histories.{Run}
@@ -24,9 +24,6 @@ use Rattle.table_steps.specs.declared.stepping.StepFault.TheVariants.{Idle, Pagi
 use Rattle.kernel_views.specs.kernel_model.Beginnings.{Beginning}
 use Rattle.kernel_views.specs.Events.{StepsOver, StopsOver}
 use Rattle.store_steps.specs.Leaving.{LeavesInOrder}
-
-some_cell : (c d : Cell) → Some c ≡ Some d → c ≡ d
-some_cell c d e = cc
 
 no_fault : (e : Entry) (f : StepFault) → IsErrOf {T = Entry} {E = StepFault} (Ok e) f → ⊥
 no_fault e f is = cc
@@ -141,7 +138,7 @@ module _ {D : Type 0} (tells : Type 0) (clock faults : D → ℕ) (reading : D �
   versions_by (Ok e) enters still faulted x c d was is = enters.versions x c d was is
   versions_by (Err (Idle why)) enters still faulted x c d was is =
       let same = ap (λ (ks : List Cell). slice_get ks x) (still why refl).0 in
-      same_version c d (ap (λ (k : Cell). k.clock) (some_cell d c (sym is ∙ same ∙ was)))
+      same_version c d (ap (λ (k : Cell). k.clock) (same_Some d c (sym is ∙ same ∙ was)))
   versions_by (Err (Paging f)) enters still faulted x c d was is = same_version c d ((faulted f refl).same x c d was is).0
 
   pub leaves : (r : Result Entry StepFault) → IfOk r (EntersStep me cs cs') → ((why : AnIdle) → IsErrOf r (Idle why) → Still) → ((f : PageFault) → IsErrOf r (Paging f) → Stays)

@@ -3,16 +3,13 @@ ghost use Rattle.std.specs.Prelude.{◌≡◌, []};
 ghost use Rattle.disk_trait.specs.Disk.{HasCause, Ticks};
 
 use crate::standard::{read_some, write_whole};
-use disk_trait::{Disk, DiskFault};
+use disk_trait::{BLOCK_BYTES, Disk, DiskFault};
 use std::fs::File;
 use std::io;
 use std::io::{Seek, SeekFrom};
 
 /// How many blocks a file shows.
-const BLOCKS: u32 = 65_536;
-
-/// Bytes in a block.
-const BLOCK: u64 = 1024;
+const FILE_BLOCKS: u32 = 65_536;
 
 /// A file as a disk of 65,536 blocks, each at 1,024 times its number. What lies past the file's end reads as zeros. It
 /// tells nothing of its content: what a file holds, and what a stop of the machine leaves of it, is trusted to the system.
@@ -71,7 +68,7 @@ impl Disk for FileDisk {
     ghost whole = { λ d t c told left. absurd told };
 
     fn blocks(&self) -> u32 {
-        BLOCKS
+        FILE_BLOCKS
     }
 
     fn read(&mut self, at: u32, out: &mut [u8; 1024]) -> Result<(), DiskFault> {
@@ -113,7 +110,7 @@ impl FileDisk {
 
 /// Where a block begins in the file.
 fn start_of(at: u32) -> SeekFrom {
-    SeekFrom::Start(u64::from(at) * BLOCK)
+    SeekFrom::Start(u64::from(at) * BLOCK_BYTES as u64)
 }
 
 /// Reads a block; what lies past the file's end is zeros.

@@ -1,8 +1,8 @@
 //! Sources and sinks that fail.
-use crate::calls::{formatted, put_failing};
-use crate::scripts::{FIVE, PAST_THE_PAGE};
-use hopper_top::command_parts::Status;
 use std::test::Fail;
+use system_calls::hopper_top::command_parts::Status;
+use system_calls::scripts::{FIVE, PAST_THE_PAGE};
+use system_calls::{formatted, put_failing};
 
 #[test]
 fn a_source_that_fails_gives_its_own_status(rt: HostRuntime) -> Result<(), Fail> {

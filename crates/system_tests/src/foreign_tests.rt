@@ -1,10 +1,10 @@
 //! Disks that hold no image, and images of which a byte is another.
-use crate::calls::{copy_of, disk_of, put, run};
-use crate::scripts::FIVE;
 use disk_trait::{Disk, MemoryDisk};
-use hopper_top::command_parts::Status;
 use std::alloc::Global;
 use std::test::Fail;
+use system_calls::hopper_top::command_parts::Status;
+use system_calls::scripts::FIVE;
+use system_calls::{copy_of, disk_of, put, run};
 
 #[test]
 fn a_disk_of_zeros_is_foreign(rt: HostRuntime) -> Result<(), Fail> {

@@ -1,15 +1,14 @@
 //! Images that runs leave.
 ghost use Rattle.std.specs.Prelude.{◌≡◌, IfOk};
 
-use crate::calls::{FORMAT_CALLS, formatted, put, run, shown, small};
-use crate::scripts::{
+use hop_base::{Entity, Event, Touch, Touched};
+use std::test::Fail;
+use system_calls::hopper_top::command_parts::Status;
+use system_calls::scripts::{
     ALL_PAGES, ALWAYS_STABLE, BORN_WISHED, COUNTS_ON, FIVE, STABILISES, STABLE, WISHED,
     WISHED_BY_TWO, WISHED_BY_TWO_KEPT, WISHES, WISHES_KEPT,
 };
-use disk_trait::MemoryDisk;
-use hop_base::{Entity, Event, Touch, Touched};
-use hopper_top::command_parts::Status;
-use std::test::Fail;
+use system_calls::{FORMAT_CALLS, formatted, formatted_with, put, run, shown, small};
 
 #[test]
 fn a_state_is_shown_as_it_was_made_stable(rt: HostRuntime) -> Result<(), Fail> {
@@ -89,9 +88,8 @@ cut 41 1
 #[test]
 fn a_full_log_is_turned(rt: HostRuntime) -> Result<(), Fail> {
     let alloc = rt.alloc();
-    let disk = MemoryDisk::new(alloc, 4096, 6000, Vec::new(alloc))?;
-    let (_, outcome) = put(alloc, &["format", "4096"], b"", disk)?;
-    let (_, outcome) = put(alloc, &["run"], ALWAYS_STABLE, outcome.disk)?;
+    let disk = formatted_with(alloc, 4096, 6000)?;
+    let (_, outcome) = put(alloc, &["run"], ALWAYS_STABLE, disk)?;
     assert_eq!(rt; outcome.marks.len(), 701);
     let (text, _) = put(alloc, &["report"], b"", outcome.disk)?;
     let front = "area A epoch 3 used 66

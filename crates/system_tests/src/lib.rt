@@ -2,8 +2,6 @@
 #![tactic(auto)]
 
 #[cfg(test)]
-mod calls;
-#[cfg(test)]
 mod edge_tests;
 #[cfg(test)]
 mod foreign_tests;
@@ -17,7 +15,5 @@ mod manager_tests;
 mod refusal_tests;
 #[cfg(test)]
 mod run_tests;
-#[cfg(test)]
-mod scripts;
 #[cfg(test)]
 mod stop_tests;

@@ -1,10 +1,10 @@
 //! The line of each fault.
 use disk_trait::NoBlocks;
-use hopper_top::command_parts::{Fault, put_fault};
-use hopper_top::script_form::{Refusal, Why};
-use hopper_top::stream_edge::{MemorySink, SinkFault};
 use std::alloc::{AllocError, Global};
 use std::test::Fail;
+use system_calls::hopper_top::command_parts::{Fault, put_fault};
+use system_calls::hopper_top::script_form::{Refusal, Why};
+use system_calls::hopper_top::stream_edge::{MemorySink, SinkFault};
 
 fn refused(alloc: Global, why: Why, key: &str) -> Result<Fault, AllocError> {
     Ok(Fault::Script(Refusal {

@@ -1,10 +1,10 @@
 //! Managers that a script brings.
-use crate::calls::{put, run, shown};
-use crate::scripts::{
+use std::test::Fail;
+use system_calls::hopper_top::command_parts::Status;
+use system_calls::scripts::{
     BORN_WISHED_BY_PROGRAM, NEVER_HALTS, PAGE_AND_PLACE, PRINTS, WISHED, WISHED_BY_PROGRAM,
 };
-use hopper_top::command_parts::Status;
-use std::test::Fail;
+use system_calls::{put, run, shown};
 
 #[test]
 fn a_program_makes_the_words_of_its_tag(rt: HostRuntime) -> Result<(), Fail> {

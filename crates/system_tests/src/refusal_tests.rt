@@ -1,9 +1,9 @@
 //! Words and scripts that are refused.
-use crate::calls::{disk_of, formatted, put, run};
-use crate::scripts::FIVE;
 use disk_trait::Disk;
-use hopper_top::command_parts::Status;
 use std::test::Fail;
+use system_calls::hopper_top::command_parts::Status;
+use system_calls::scripts::FIVE;
+use system_calls::{disk_of, formatted, put, run};
 
 #[test]
 fn other_words_are_refused(rt: HostRuntime) -> Result<(), Fail> {

@@ -1,15 +1,15 @@
 //! What runs print, and their histories.
 ghost use Rattle.std.specs.Prelude.{◌≡◌, IfOk};
 
-use crate::calls::run;
-use crate::scripts::{
+use hop_base::{Answer, Entity, Entry, Event, Reply, Touch, Touched};
+use std::test::Fail;
+use system_calls::hopper_top::command_parts::Status;
+use system_calls::run;
+use system_calls::scripts::{
     ALL_PAGES, CIRCLES, COUNTS_ON, DENIED_OVER_A_MAPPING, FIVE, FULL_CHAIN, LAST_NUMBER, NO_ENTRY,
     NO_SNAP, ORDERED, PAST_THE_PAGE, PRIVATE_FIRST, PRIVATE_IN_ONE_HOST, SNAP, STOPS_ITSELF,
     TAGGED, TAKES, UNSTABLE, WISHED, WISHES,
 };
-use hop_base::{Answer, Entity, Entry, Event, Reply, Touch, Touched};
-use hopper_top::command_parts::Status;
-use std::test::Fail;
 
 #[test]
 fn a_run_prints_its_lines_and_ends(rt: HostRuntime) -> Result<(), Fail> {

@@ -1,12 +1,12 @@
 //! Stops at each moment of a run, and calls of the disk that fail.
-use crate::calls::{FORMAT_CALLS, copy_of, formatted, put, shown, small};
-use crate::scripts::{
-    BORN_WITH_A_RIGHT, BORN_WITH_WISHES, FIVE, STABILISES, STABLE, WISHES, WISHES_KEPT,
-};
 use disk_trait::{MemoryDisk, Torn};
 use hop_base::{Entry, Event};
 use std::alloc::Global;
 use std::test::Fail;
+use system_calls::scripts::{
+    BORN_WITH_A_RIGHT, BORN_WITH_WISHES, FIVE, STABILISES, STABLE, WISHES, WISHES_KEPT,
+};
+use system_calls::{FORMAT_CALLS, copy_of, formatted, put, shown, small};
 
 // Every way in which a block that was not synced may be torn here.
 const TORN: [Torn; 3] = [Torn::Old, Torn::New, Torn::Fill(1)];

@@ -27,12 +27,13 @@ use Rattle.cell_births.proofs.Readiness.{next_named}
 use Rattle.table_steps.specs.cell_table.Lending.{ForPairs, IsApart, Lends}
 use Rattle.table_steps.specs.cell_table.Quiet.{GoesQuietly}
 use Rattle.table_steps.specs.cell_table.Tables.{AreNumbered, HasKind, HasTableWishes, IsOrderly, entity_in, state_in}
-use Rattle.table_steps.proofs.cell_table_lemmas.Having.{each_has, is_entity, no_supply, no_words, some_cell, state_has_all}
+use Rattle.table_steps.proofs.cell_table_lemmas.Having.{each_has, is_entity, no_supply, no_words, state_has_all}
 use Rattle.table_steps.proofs.cell_table_lemmas.Kept.{clean_after, orderly_with, tables_same}
 use Rattle.table_steps.proofs.cell_table_lemmas.Lent.{spot}
 use Rattle.table_steps.proofs.cell_table_lemmas.PartKinds.{born_kind}
 use Rattle.table_births.specs.Births.{BearsQuietly, atlas_state_in, count_born}
 use Rattle.table_births.proofs.AtlasStates.{same_atlas}
+use Rattle.std.proofs.lemmas.Option.{same_Some}
 
 -- the cell takes the entry's birth in
 abbrev pub TakesIn : Entry → Cell → Cell → Type 0
@@ -105,7 +106,7 @@ module _ (script : Script) (name : Text) (cs cs' old new : List Cell) (e : Entry
     -- WISHES
     wishes_after : (count : ℕ) (r : Run) → HasTableWishes count r cs → HasTableWishes count (goes_on s script r e) cs'
     wishes_after count r has x d is = elim (spot (TakesIn e) cs cs' x old new lent.lends lent.takes) as (λ _. HasWish count (goes_on s script r e) d) [
-      | inl k ↦ subst (HasWish count (goes_on s script r e)) (some_cell k.after d (sym k.is ∙ is)) (birth_wish s script r e count k.before k.after lent.event (has x k.before k.was) k.holds)
+      | inl k ↦ subst (HasWish count (goes_on s script r e)) (same_Some k.after d (sym k.is ∙ is)) (birth_wish s script r e count k.before k.after lent.event (has x k.before k.was) k.holds)
       | inr k ↦ (
           let here = sym k.same ∙ is in
           birth_wish s script r e count d d lent.event (has x d here) (unwritten (writes e d.clock.entity) d (ap (writes e) (numbers.each x d here) ∙ lent.apart x k.apart)))
@@ -141,8 +142,8 @@ module _ (script : Script) (name : Text) (cs cs' old new : List Cell) (e : Entry
   takes_in : (x : ℕ) (c d : Cell) → slice_get cs x ≡ Some c → slice_get cs' x ≡ Some d → TakesBirth (writes e x) c d
   takes_in x c d was is = elim (spot (TakesIn e) cs cs' x old new lent.lends lent.takes) as (λ _. TakesBirth (writes e x) c d) [
     | inl k ↦ subst (λ n. TakesBirth (writes e n) c d) k.at_before
-        (subst (λ b. TakesBirth (writes e k.before.clock.entity) b d) (some_cell k.before c (sym k.was ∙ was)) (subst (TakesBirth (writes e k.before.clock.entity) k.before) (some_cell k.after d (sym k.is ∙ is)) k.holds))
-    | inr k ↦ subst (TakesBirth (writes e x) c) (some_cell c d (sym was ∙ sym k.same ∙ is)) (unwritten (writes e x) c (lent.apart x k.apart))
+        (subst (λ b. TakesBirth (writes e k.before.clock.entity) b d) (same_Some k.before c (sym k.was ∙ was)) (subst (TakesBirth (writes e k.before.clock.entity) k.before) (same_Some k.after d (sym k.is ∙ is)) k.holds))
+    | inr k ↦ subst (TakesBirth (writes e x) c) (same_Some c d (sym was ∙ sym k.same ∙ is)) (unwritten (writes e x) c (lent.apart x k.apart))
   ]
 
   founded_after : ((x : ℕ) (c : Cell) → slice_get cs x ≡ Some c → IsFoundedCell c) → (x : ℕ) (d : Cell) → slice_get cs' x ≡ Some d → IsFoundedCell d

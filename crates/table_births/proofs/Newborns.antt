@@ -20,10 +20,10 @@ use Rattle.table_steps.specs.cell_table.Quiet.{GoesQuietly}
 use Rattle.table_steps.specs.cell_table.Steps.{HasDirectory}
 use Rattle.table_steps.specs.cell_table.Tables.{AreFewWrites, HasKind, IsOrderly}
 use Rattle.table_steps.proofs.cell_table_lemmas.PartKinds.{high_keeps}
-use Rattle.table_steps.proofs.FacingAtlas.{directory_is, newborn_unborn}
-use Rattle.table_steps.proofs.Pairs.{lends_low}
-use Rattle.table_steps.proofs.Places.{read_back, read_first, read_front, read_middle, set_three, set_two, write_three, write_two}
-use Rattle.table_steps.proofs.Triples.{lends_three, made_goes}
+use Rattle.table_steps.proofs.cell_table_lemmas.FacingAtlas.{directory_is, newborn_unborn}
+use Rattle.table_steps.proofs.cell_table_lemmas.Pairs.{lends_low}
+use Rattle.table_steps.proofs.cell_table_lemmas.Places.{read_back, read_first, read_front, read_middle, set_three, set_two, write_three, write_two}
+use Rattle.table_steps.proofs.cell_table_lemmas.Triples.{lends_three, made_goes}
 use Rattle.table_births.specs.Births.{BearsQuietly, atlas_state_in}
 use Rattle.table_births.proofs.LentBirths.{LentBirth, atlas_kind, bears_quietly, written_kind}
 

@@ -16,15 +16,15 @@ use Rattle.cell_births.specs.kernel_cells.declared.cells.Cell.{Cell}
 use Rattle.cell_births.specs.script_against.NextTables.{AreBornBefore, IsNextContainer, IsNextLocus, IsNextTable}
 use Rattle.cell_births.specs.script_against.declared.tables.NextTable.{NextTable}
 use Rattle.cell_births.specs.script_against.declared.tables.Progress.{Progress}
-use Rattle.cell_births.proofs.script_against_lemmas.ByKind.{container_number}
+use Rattle.table_steps.proofs.directory_laws_lemmas.ByKind.{container_number}
 use Rattle.cell_births.proofs.script_against_lemmas.Staying.{progress_stays}
 use Rattle.cell_births.specs.Bearing.{MayBearContainer, MayBearLocus}
 use Rattle.cell_births.proofs.Readiness.{may_bear_container, may_bear_locus}
 use Rattle.table_steps.specs.cell_table.Steps.{HasDirectory}
 use Rattle.table_steps.specs.cell_table.Tables.{IsOrderly, state_in}
 use Rattle.table_steps.proofs.cell_table_lemmas.Having.{no_supply, no_words}
-use Rattle.table_steps.proofs.Facing.{cells}
-use Rattle.table_steps.proofs.FacingAtlas.{directory_sound}
+use Rattle.table_steps.proofs.cell_table_lemmas.Facing.{cells}
+use Rattle.table_steps.proofs.cell_table_lemmas.FacingAtlas.{directory_sound}
 use Rattle.table_births.specs.Births.{BearsQuietly, NoBirthLeft, atlas_state_in}
 use Rattle.table_births.proofs.AtlasStates.{has_atlas, same_atlas}
 

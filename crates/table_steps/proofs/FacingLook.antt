@@ -1,21 +1,21 @@
 -- What a table in order says of the container at which a step looks.
 use Rattle.std.proofs.Common.{◌≡◌, ℕ, ◌<◌, ◌^◌, Bool, List, slice_get, Some, sym, ap, ◌∙◌, subst, arith}
-use Rattle.plan_laws.specs.hop_model.State.{Supply}
-use Rattle.plan_laws.specs.hop_model.Steps.{step}
-use Rattle.plan_laws.specs.locus_machine.Loci.{locus_of}
-use Rattle.plan_laws.specs.kernel_cells.declared.cells.Cell.{Cell}
-use Rattle.plan_laws.specs.beside_steps.Besides.{memory_of}
+use Rattle.cell_table.specs.hop_model.State.{Supply}
+use Rattle.cell_table.specs.hop_model.Steps.{step}
+use Rattle.cell_table.specs.locus_machine.Loci.{locus_of}
+use Rattle.cell_table.specs.kernel_cells.declared.cells.Cell.{Cell}
+use Rattle.cell_table.specs.beside_steps.Besides.{memory_of}
 use Rattle.cell_table.specs.cell_laws.Memories.{HasOwnMemory}
 use Rattle.cell_table.specs.look_steps.Looking.{LooksAtWord, MayLook}
-use Rattle.plan_laws.proofs.SoundParts.{look_part}
-use Rattle.plan_laws.proofs.SoundPlans.{look_here}
-use Rattle.plan_laws.specs.step_plans.Plans.{IsPlanned}
-use Rattle.plan_laws.specs.step_plans.declared.plans.Plan.TheVariants as plan
+use Rattle.cell_table.proofs.plan_laws_lemmas.SoundParts.{look_part}
+use Rattle.cell_table.proofs.plan_laws_lemmas.SoundPlans.{look_here}
+use Rattle.cell_table.specs.step_plans.Plans.{IsPlanned}
+use Rattle.cell_table.specs.step_plans.declared.plans.Plan.TheVariants as plan
 use Rattle.cell_table.specs.Steps.{IsPlannedAt}
 use Rattle.cell_table.specs.Tables.{AreClean, AreFewWrites, IsOrderly, memory_at, state_in}
 use Rattle.cell_table.proofs.Having.{state_has}
 use Rattle.table_steps.specs.Wanting.{WantsWord}
-use Rattle.table_steps.proofs.Facing.{are_sound, atlas, cells, locus_at, no_supply, no_words, part_here, plan_of}
+use Rattle.cell_table.proofs.Facing.{are_sound, atlas, cells, locus_at, no_supply, no_words, part_here, plan_of}
 
 module _ (held : ℕ → Bool) (cs : List Cell) (orderly : IsOrderly held cs) where
   pub look_below : (me y : ℕ) → IsPlannedAt cs me (plan.Look y) → (0 < y) × (y < me)

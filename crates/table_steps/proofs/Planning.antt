@@ -1,11 +1,11 @@
 -- What a plan of one cell says of the table.
 use Rattle.std.proofs.Common.{◌≡◌, ℕ, List, slice_get, Some, None, Result, Ok, Err, IfErr, IfOk, ap, ◌∙◌}
-use Rattle.plan_laws.specs.hop_model.State.{Supply}
-use Rattle.plan_laws.specs.kernel_cells.declared.cells.Cell.{Cell}
-use Rattle.plan_laws.specs.kernel_cells.Cells.{part_of}
-use Rattle.plan_laws.specs.step_plans.Plans.{IsPlanned, idle_of}
-use Rattle.plan_laws.specs.step_plans.declared.idle.Idle.{Idle}
-use Rattle.plan_laws.specs.step_plans.declared.plans.Plan.{Plan}
+use Rattle.cell_table.specs.hop_model.State.{Supply}
+use Rattle.cell_table.specs.kernel_cells.declared.cells.Cell.{Cell}
+use Rattle.cell_table.specs.kernel_cells.Cells.{part_of}
+use Rattle.cell_table.specs.step_plans.Plans.{IsPlanned, idle_of}
+use Rattle.cell_table.specs.step_plans.declared.idle.Idle.{Idle}
+use Rattle.cell_table.specs.step_plans.declared.plans.Plan.{Plan}
 use Rattle.cell_table.specs.Steps.{IsPlannedAt}
 use Rattle.cell_table.specs.Tables.{entity_in, left_of, state_in}
 

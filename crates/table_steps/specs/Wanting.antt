@@ -1,9 +1,9 @@
 -- What the next step of a locus over the table wants.
 use Rattle.std.specs.Prelude.{◌≡◌, ℕ, List, Some}
 use Rattle.hop_base.specs.declared.histories.Entry.{Entry}
-use Rattle.plan_laws.specs.hop_model.State.{KernelState, Supply}
-use Rattle.plan_laws.specs.hop_model.Steps.{step}
-use Rattle.plan_laws.specs.kernel_cells.declared.cells.Cell.{Cell}
+use Rattle.cell_table.specs.hop_model.State.{KernelState, Supply}
+use Rattle.cell_table.specs.hop_model.Steps.{step}
+use Rattle.cell_table.specs.kernel_cells.declared.cells.Cell.{Cell}
 use Rattle.cell_table.specs.look_steps.Looking.{IsWordStep}
 use Rattle.cell_table.specs.Tables.{state_in}
 

@@ -1,14 +1,13 @@
 // Steps of a locus over the table that write the atlas.
 ghost use Rattle.std.specs.Prelude.{◌≡◌, ◌+◌, ◌<◌, ◌≤◌, ◌⊎◌, length};
 ghost use Rattle.atlas_dir.specs.Directory.{Directory, number_born};
-ghost use Rattle.plan_laws.specs.step_plans.declared.plans.Plan.TheVariants as plan;
+ghost use Rattle.cell_table.specs.step_plans.declared.plans.Plan.TheVariants as plan;
 ghost use Rattle.cell_table.specs.Steps.{HasDirectory, IsInOrder, IsPlannedAt, StepsQuietly};
 ghost use Rattle.cell_table.specs.Tables.{AreFewWrites};
 
-use atlas_dir::{CONTAINERS, LOCI};
+use cell_table::kernel_cells::{Cell, Part};
 use cell_table::step_cells::{advance_barren, advance_making, advance_mapping, advance_spawning};
-use hop_base::{Entity, Entry, Instr, Kind};
-use plan_laws::kernel_cells::{Cell, Part};
+use hop_base::{Entity, Entry, Instr, Kind, MOST_CONTAINERS, MOST_LOCI};
 
 /// A step that maps pages into a container, or unmaps them.
 pub(crate) fn go_mapping(cells: &mut [Cell], me: Entity, other: Entity, instr: Instr) -> Entry
@@ -79,7 +78,7 @@ pub(crate) fn go_making(cells: &mut [Cell], me: Entity) -> Entry
     ensures { StepsQuietly me cells.old cells.new result }
 {
     let born = born_of(cells, Kind::Container) as usize;
-    if born < CONTAINERS {
+    if born < MOST_CONTAINERS {
         return go_making_at(cells, me, born + 1);
     }
     go_barren(cells, me)
@@ -93,7 +92,7 @@ pub(crate) fn go_spawning(cells: &mut [Cell], me: Entity) -> Entry
     ensures { StepsQuietly me cells.old cells.new result }
 {
     let born = born_of(cells, Kind::Locus) as usize;
-    if born < LOCI {
+    if born < MOST_LOCI {
         return go_spawning_at(cells, me, born + 41);
     }
     go_barren(cells, me)

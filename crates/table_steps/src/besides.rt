@@ -1,12 +1,12 @@
 // Steps of a locus over the table that touch it alone, or it and one other entity without a look.
 ghost use Rattle.std.specs.Prelude.{◌<◌};
-ghost use Rattle.plan_laws.specs.step_plans.declared.plans.Plan.TheVariants as plan;
+ghost use Rattle.cell_table.specs.step_plans.declared.plans.Plan.TheVariants as plan;
 ghost use Rattle.cell_table.specs.Steps.{IsInOrder, IsPlannedAt, StepsQuietly};
 ghost use Rattle.cell_table.specs.Tables.{AreFewWrites};
 
+use cell_table::kernel_cells::Cell;
 use cell_table::step_cells::{advance_alone, advance_beside};
 use hop_base::{Entity, Entry, Instr};
-use plan_laws::kernel_cells::Cell;
 
 /// A step that touches the locus alone.
 pub(crate) fn go_alone(cells: &mut [Cell], me: Entity) -> Entry

@@ -7,6 +7,7 @@ mod besides;
 mod looks;
 mod stepping;
 
-pub use cell_table::{cell_blobs, script_form};
-pub use plan_laws::{kernel_cells, locus_machine, step_plans, wanted_act};
+pub use cell_table::{
+    cell_blobs, kernel_cells, locus_machine, script_form, step_plans, wanted_act,
+};
 pub use stepping::{StepFault, advance};

@@ -1,17 +1,17 @@
 // The step of a locus over the table that looks at a container.
 ghost use Rattle.std.specs.Prelude.{◌≡◌, ◌≤◌, ◌+◌, IfErr, IfOk, OnErr, OnOk};
-ghost use Rattle.plan_laws.specs.fault_paging.Calls.{IsCausedBy};
-ghost use Rattle.plan_laws.specs.step_plans.declared.plans.Plan.TheVariants as plan;
+ghost use Rattle.cell_table.specs.fault_paging.Calls.{IsCausedBy};
+ghost use Rattle.cell_table.specs.step_plans.declared.plans.Plan.TheVariants as plan;
 ghost use Rattle.cell_table.specs.Steps.{EntersStep, GoesOn, IsPlannedAt, StaysAtFault};
 ghost use Rattle.cell_table.specs.Tables.{tables_in, AreClean, AreFewWrites, HasNews, IsOrderly};
 ghost use Rattle.table_steps.specs.Wanting.{WantsWord};
 
+use cell_table::fault_paging::PageFault;
+use cell_table::kernel_cells::Cell;
+use cell_table::page_store::PageStore;
 use cell_table::step_cells::advance_looking;
 use hop_base::{Entity, Entry};
 use manager_gate::{Gate, Policy, Supplier};
-use plan_laws::fault_paging::PageFault;
-use plan_laws::kernel_cells::Cell;
-use plan_laws::page_store::PageStore;
 
 /// A step that makes one look of a load or a store at a container.
 pub(crate) fn go_look<B: PageStore, S: Supplier, P: Policy>(

@@ -1,10 +1,10 @@
 // The step of a locus over the table.
 ghost use Rattle.std.specs.Prelude.{◌≡◌, ◌≤◌, ◌+◌, ◌↔◌, ℕ, List, None, Some, IfErr, IfOk, IsErrOf, OnErr, OnOk, slice_get};
-ghost use Rattle.plan_laws.specs.hop_model.State.{Supply};
-ghost use Rattle.plan_laws.specs.page_store.declared.faults.PageFault.{PageFault as AFault};
-ghost use Rattle.plan_laws.specs.fault_paging.Calls.{IsCausedBy};
-ghost use Rattle.plan_laws.specs.step_plans.Plans.{idle_of};
-ghost use Rattle.plan_laws.specs.step_plans.declared.idle.Idle.{Idle as AnIdle};
+ghost use Rattle.cell_table.specs.hop_model.State.{Supply};
+ghost use Rattle.cell_table.specs.page_store.declared.faults.PageFault.{PageFault as AFault};
+ghost use Rattle.cell_table.specs.fault_paging.Calls.{IsCausedBy};
+ghost use Rattle.cell_table.specs.step_plans.Plans.{idle_of};
+ghost use Rattle.cell_table.specs.step_plans.declared.idle.Idle.{Idle as AnIdle};
 ghost use Rattle.cell_table.specs.Steps.{EntersStep, GoesOn, IsInOrder, IsPlannedAt, StaysAtFault};
 ghost use Rattle.cell_table.specs.Tables.{left_of, state_in, tables_in, AreClean, AreFewWrites, HasNews, IsOrderly};
 ghost use Rattle.table_steps.specs.Wanting.{WantsWord};
@@ -12,12 +12,12 @@ ghost use Rattle.table_steps.specs.Wanting.{WantsWord};
 use crate::bearings::{go_making, go_mapping, go_spawning};
 use crate::besides::{go_alone, go_beside};
 use crate::looks::go_look;
+use cell_table::fault_paging::PageFault;
+use cell_table::kernel_cells::Cell;
+use cell_table::page_store::PageStore;
+use cell_table::step_plans::{Idle, Plan, next_plan};
 use hop_base::{Entity, Entry};
 use manager_gate::{Gate, Policy, Supplier};
-use plan_laws::fault_paging::PageFault;
-use plan_laws::kernel_cells::Cell;
-use plan_laws::page_store::PageStore;
-use plan_laws::step_plans::{Idle, Plan, next_plan};
 
 /// Why a locus made no step.
 #[derive(Clone, Copy, PartialEq, Eq, Debug)]

@@ -21,7 +21,7 @@ use Rattle.wish_laws.specs.event_clocks.Clocks.{HasClock}
 use Rattle.wish_laws.specs.kernel_cells.declared.cells.Cell.{Cell}
 use Rattle.wish_laws.specs.kernel_cells.Wishes.{HasWish}
 use Rattle.wish_laws.specs.Founded.{IsFounded, IsFoundedCell, IsFoundedIn}
-use Rattle.wish_laws.proofs.Founding.{same_founded}
+use Rattle.wish_laws.proofs.Founding.{same_founded, written_founded}
 use Rattle.touch_laws.specs.Touching.{IsNoted, run_with}
 
 module _ (s : Supply) (me : ℕ) (w v : KernelState) (e : Entry) (is : step s me w ≡ Some (e, v)) where
@@ -52,9 +52,6 @@ module _ (s : Supply) (me : ℕ) (w v : KernelState) (e : Entry) (is : step s me
       let same : f.0 ≡ x = sym (at_entity e.touched f.0 f.1 f.2) ∙ eqb-true _ _ (and_left _ _ f.3) in
       let q = (step_local s me).writes w (e, v) is f.0 f.1 f.2 (and_right _ _ f.3) in
       subst (λ z. (v z).version ≡ (w z).version + 1) same (q.0 ∙ sym q.1)
-
-written_founded : (n v v' : ℕ) (b b' : Bool) → v' ≡ v + 1 → IsFounded n v b → IsFounded n v' b'
-written_founded n v v' b b' rises f = record { past = omega (arith, f.past); changed = λ _. omega (arith, f.past) }
 
 pub founded_after : (s : Supply) (r : Run) (me : ℕ) (v : KernelState) (e : Entry) (x : ℕ) → step s me r.state ≡ Some (e, v) → IsFoundedIn r x → IsFoundedIn (after_step r e (locus_in (r.state me).cell) v) x
 founded_after s r me v e x is f =

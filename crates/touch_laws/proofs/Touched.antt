@@ -5,7 +5,7 @@ use Rattle.hop_base.specs.declared.histories.Entry.{Entry}
 use Rattle.hop_base.specs.declared.histories.Touch.{Touch}
 use Rattle.hop_base.specs.declared.instructions.Instr.{Instr}
 use Rattle.hop_base.specs.declared.instructions.Instr.TheVariants.{Map, Unmap, Make, Spawn, Stop, Go, Snap}
-use Rattle.sound_runs.specs.hop_model.Acts.{Act, allowed, alone, beside, beside_or_self, wanted}
+use Rattle.sound_runs.specs.hop_model.Acts.{Act, allowed, wanted}
 use Rattle.sound_runs.specs.hop_model.Changes.{Access, insert_access, merged, ordered, touches_of}
 use Rattle.sound_runs.specs.hop_model.Histories.{writes}
 use Rattle.sound_runs.specs.hop_model.Outcomes.{Outcome, free_container, free_locus, make, make_at, outcome, spawn, spawn_at}
@@ -21,7 +21,7 @@ use Rattle.wish_laws.proofs.kernel_calls_lemmas.BirthLemmas.{birth_instr, make_m
 use Rattle.wish_laws.proofs.run_laws_lemmas.Writing.{IsStep}
 use Rattle.wish_laws.proofs.kernel_cells_lemmas.Stepping.{alone_bears}
 use Rattle.step_plans.specs.beside_steps.Besides.{calls_container}
-use Rattle.step_plans.proofs.beside_steps_lemmas.Wants.{wanted_apart}
+use Rattle.step_plans.proofs.beside_steps_lemmas.Wants.{self_leaves, wanted_apart}
 use Rattle.birth_steps.proofs.BirthSteps.{make_touches, spawn_touches}
 use Rattle.look_steps.proofs.LookSteps.{look_touches}
 use Rattle.step_plans.proofs.map_steps_lemmas.MapSteps.{mapping_touches}
@@ -29,9 +29,8 @@ use Rattle.step_plans.specs.Plans.{IsCallBeside, PlansFor}
 use Rattle.step_plans.specs.declared.plans.Plan.{Plan}
 use Rattle.step_plans.specs.declared.plans.Plan.TheVariants as plan
 use Rattle.touch_laws.specs.Touching.{IsTouchedBy}
-
-yes_no : true ≡ false → ⊥
-yes_no e = cc
+use Rattle.std.proofs.lemmas.Bool.{true≢false}
+use Rattle.look_steps.proofs.Somehow.{same_locus}
 
 -- ACCESSES
 
@@ -114,9 +113,6 @@ one_accessed me act o x h =
       ]
     ]
 
-same_locus : (l m : LocusState) → LocusCell l ≡ LocusCell m → l ≡ m
-same_locus l m e = cc
-
 -- what the step of a locus writes
 step_accessed : (s : Supply) (me : ℕ) (w : KernelState) (e : Entry) (x : ℕ) (k : IsStep s me w e) → writes e x ≡ true
     → IsOneOf me (wanted me k.locus).atlas (wanted me k.locus).other (outcome_in s k.locus (wanted me k.locus) w).newborn x
@@ -173,9 +169,6 @@ module _ (s : Supply) (me : ℕ) (l : LocusState) (a : AtlasState) (cell : Cell)
 
 -- CALLS
 
-self_leaves : (me e : ℕ) (i : Instr) → (beside_or_self me i e).atlas ≡ false
-self_leaves me e i = elim (e == me) as (λ b. (if b then alone i None else beside i e).atlas ≡ false) [ true ↦ refl | false ↦ refl ]
-
 calls_leave : (me : ℕ) (l : LocusState) (i : Instr) → (calls_container i || may_name_itself i) ≡ true → (allowed me l i).atlas ≡ false
 unfolding allowed
 calls_leave me l (Stop c) h = self_leaves me (entity_of l c) (Stop c)
@@ -207,13 +200,13 @@ written_as me x atlas b other o newborn n is_atlas is_other is_newborn h =
     subst (λ n. IsOneOf me b o n x) is_newborn (subst (λ o. IsOneOf me b o newborn x) is_other (subst (λ b. IsOneOf me b other newborn x) is_atlas h))
 
 only_own : (me x : ℕ) → IsOneOf me false None None x → (x ≡ me) ⊎ ⊥
-only_own me x (inl k) = absurd (yes_no (sym k.0))
+only_own me x (inl k) = absurd (true≢false (sym k.0))
 only_own me x (inr (inl k)) = absurd k
 only_own me x (inr (inr (inl k))) = absurd k
 only_own me x (inr (inr (inr e))) = inl e
 
 own_or_other : (me x y : ℕ) → IsOneOf me false (Some y) None x → (x ≡ me) ⊎ (x ≡ y)
-own_or_other me x y (inl k) = absurd (yes_no (sym k.0))
+own_or_other me x y (inl k) = absurd (true≢false (sym k.0))
 own_or_other me x y (inr (inl e)) = inr e
 own_or_other me x y (inr (inr (inl k))) = absurd k
 own_or_other me x y (inr (inr (inr e))) = inl e

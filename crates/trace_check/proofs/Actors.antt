@@ -1,12 +1,13 @@
 -- The names of the actors of entries that may be next.
-use Rattle.std.proofs.Common.{◌≡◌, ℕ, ◌<◌, true, IsTrue, List, [], ◌∷◌, ◌++◌, is_some, refl, sym, ap, subst, ◌∙◌, arith}
+use Rattle.std.proofs.Common.{◌≡◌, ℕ, ◌<◌, true, IsTrue, List, [], ◌∷◌, ◌++◌, is_some, refl, sym, ap, subst, ◌∙◌}
 use Rattle.std.proofs.lemmas.Bool.{false≢true}
 use Rattle.hop_base.specs.declared.histories.Entry.{Entry}
 use Rattle.hop_base.specs.declared.histories.Event.{Event}
 use Rattle.hop_base.specs.declared.histories.Event.TheVariants.{Birth, Step, Snap, Stable, Tried}
-use Rattle.actor_laws.proofs.Knowing.{IsKnown, actor_born, known_run, names_left, newborn_born}
+use Rattle.actor_laws.proofs.Knowing.{IsKnown, actor_born, actor_left, known_run, names_left, newborn_born}
 use Rattle.entry_laws.proofs.Splits.{Lacks, Lacks-name}
 use Rattle.entry_laws.specs.entry_lines.Entries.{event_word}
+use Rattle.actor_laws.proofs.Spots.{name_kept}
 use Rattle.actor_laws.proofs.history_model_lemmas.PlainBirths.{sound_here}
 use Rattle.actor_laws.specs.history_model.Plains.{atlas_of}
 use Rattle.text_lines.specs.hop_model.Histories.{May, Policy, Run, start_run}
@@ -14,18 +15,19 @@ use Rattle.text_lines.specs.hop_model.Scripts.{Script}
 use Rattle.text_lines.specs.hop_model.Soundness.{IsSoundAtlas, is_born}
 use Rattle.text_lines.specs.hop_model.State.{AtlasState, KernelState, Supply, Text}
 use Rattle.text_lines.specs.hop_model.Steps.{atlas_in}
-use Rattle.trace_steps.proofs.run_laws_lemmas.Wishes.{run_append}
 use Rattle.actor_laws.proofs.sound_runs_lemmas.Ranges.{born_under}
 use Rattle.actor_laws.proofs.sound_runs_lemmas.Standing.{IsStanding, standing_next}
 use Rattle.text_lines.specs.Lines.{name_in, word}
 use Rattle.trace_steps.specs.Standing.{Follows, Stands, run_of}
 use Rattle.trace_steps.specs.declared.checker.Checker.{Checker}
-use Rattle.trace_steps.proofs.Single.{one_birth, one_entry}
+use Rattle.trace_steps.proofs.run_rules_lemmas.Single.{one_birth, one_entry}
 use Rattle.trace_words.specs.Traces.{BeginsWith, names_after}
 use Rattle.trace_check.specs.Reading.{NamesBirthAt, Wants, named_words}
 use Rattle.trace_check.specs.Words.{IsNamed, first_word, rest_words}
-use Rattle.trace_check.proofs.Names.{IsWord, name_kept, one_named, word_of}
+use Rattle.trace_check.proofs.Names.{IsWord, one_named, word_of}
 use Rattle.trace_check.proofs.Parsing.{Parsed, compose, parse}
+use Rattle.trace_steps.proofs.plain_run_lemmas.hop_model_lemmas.StableCuts.{run_append}
+use Rattle.entry_laws.proofs.Told.{event_same}
 
 -- EVENTS
 
@@ -38,48 +40,6 @@ event_lacks b h k l m n Tried = n
 
 pub no_blank : (v : Event) → Lacks 32 (event_word v)
 no_blank = event_lacks 32 (Lacks-name 32 (event_word Birth) refl refl) (Lacks-name 32 (event_word Step) refl refl) (Lacks-name 32 (event_word Snap) refl refl) (Lacks-name 32 (event_word Stable) refl refl) (Lacks-name 32 (event_word Tried) refl refl)
-
-abbrev second_of : Text → ℕ
-second_of [] = 0
-second_of (c ∷ []) = 0
-second_of (c ∷ d ∷ cs) = d
-
-abbrev third_of : Text → ℕ
-third_of [] = 0
-third_of (c ∷ []) = 0
-third_of (c ∷ d ∷ []) = 0
-third_of (c ∷ d ∷ e ∷ cs) = e
-
-differ : {A : Type 0} (v w : Event) (f : Text → ℕ) (m n : ℕ) → f (event_word v) ≡ m → f (event_word w) ≡ n → (m ≡ n → ⊥) → event_word v ≡ event_word w → A
-differ v w f m n hv hw apart e = absurd (apart (sym hv ∙ ap f e ∙ hw))
-
--- each event has a word of its own
-pub one_event : (v w : Event) → event_word v ≡ event_word w → v ≡ w
-one_event Birth Birth e = refl
-one_event Step Step e = refl
-one_event Snap Snap e = refl
-one_event Stable Stable e = refl
-one_event Tried Tried e = refl
-one_event Birth Step e = differ Birth Step second_of 105 116 refl refl (λ h. omega (arith, h)) e
-one_event Birth Snap e = differ Birth Snap second_of 105 110 refl refl (λ h. omega (arith, h)) e
-one_event Birth Stable e = differ Birth Stable second_of 105 116 refl refl (λ h. omega (arith, h)) e
-one_event Birth Tried e = differ Birth Tried second_of 105 114 refl refl (λ h. omega (arith, h)) e
-one_event Step Birth e = differ Step Birth second_of 116 105 refl refl (λ h. omega (arith, h)) e
-one_event Step Snap e = differ Step Snap second_of 116 110 refl refl (λ h. omega (arith, h)) e
-one_event Step Stable e = differ Step Stable third_of 101 97 refl refl (λ h. omega (arith, h)) e
-one_event Step Tried e = differ Step Tried second_of 116 114 refl refl (λ h. omega (arith, h)) e
-one_event Snap Birth e = differ Snap Birth second_of 110 105 refl refl (λ h. omega (arith, h)) e
-one_event Snap Step e = differ Snap Step second_of 110 116 refl refl (λ h. omega (arith, h)) e
-one_event Snap Stable e = differ Snap Stable second_of 110 116 refl refl (λ h. omega (arith, h)) e
-one_event Snap Tried e = differ Snap Tried second_of 110 114 refl refl (λ h. omega (arith, h)) e
-one_event Stable Birth e = differ Stable Birth second_of 116 105 refl refl (λ h. omega (arith, h)) e
-one_event Stable Step e = differ Stable Step third_of 97 101 refl refl (λ h. omega (arith, h)) e
-one_event Stable Snap e = differ Stable Snap second_of 116 110 refl refl (λ h. omega (arith, h)) e
-one_event Stable Tried e = differ Stable Tried second_of 116 114 refl refl (λ h. omega (arith, h)) e
-one_event Tried Birth e = differ Tried Birth second_of 114 105 refl refl (λ h. omega (arith, h)) e
-one_event Tried Step e = differ Tried Step second_of 114 116 refl refl (λ h. omega (arith, h)) e
-one_event Tried Snap e = differ Tried Snap second_of 114 110 refl refl (λ h. omega (arith, h)) e
-one_event Tried Stable e = differ Tried Stable second_of 114 116 refl refl (λ h. omega (arith, h)) e
 
 -- WHERE THE CHECKER STANDS
 
@@ -105,37 +65,15 @@ module _ (s : Supply) (policy : Policy) (script : Script) (w : KernelState) (es 
 
   pub same_name : (f : Entry) → May s policy script here f → (f.event ≡ Birth → ⊥) → name_in (names_after s script here f) f.actor ≡ name_in names f.actor
   same_name f m other =
-      let keeps = subst (λ (a : AtlasState). Rattle.actor_laws.specs.history_model.Lists.KeepsNames a (names_after s script here f)) names_are (names_left s policy script h.run.rules here f known.0 m other) in
+      let keeps = subst (λ (a : AtlasState). Rattle.actor_laws.specs.history_model.Lists.KeepsNames a (names_after s script here f)) names_are (names_left s policy script h.run.rules here f known.0 m) in
       name_kept names sound_names (names_after s script here f) f.actor keeps (actor_here f m other)
 
   -- the name of the actor of what may be next is a word
   pub is_word : (f : Entry) → May s policy script here f → IsWord (name_in (names_after s script here f) f.actor)
-  is_word f m = elim f.event as (λ ev. f.event ≡ ev → IsWord (name_in (names_after s script here f) f.actor)) [
-    | Birth ↦ λ is.
-        let next = standing_next s policy script h.run.rules here f m known.0 in
-        let sound : IsSoundAtlas (names_after s script here f) = subst IsSoundAtlas (sym (ap atlas_in next.sound.1.atlas)) next.sound.1.names in
-        let k = word_of (names_after s script here f) sound f.actor (newborn_born s policy script h.run.rules here f is m) in
-        k
-    | Step ↦ λ is. of_old (λ b. apart_step (sym is ∙ b))
-    | Snap ↦ λ is. of_old (λ b. apart_snap (sym is ∙ b))
-    | Stable ↦ λ is. of_old (λ b. apart_stable (sym is ∙ b))
-    | Tried ↦ λ is. of_old (λ b. apart_tried (sym is ∙ b))
-  ] refl
-    where
-      of_old : (f.event ≡ Birth → ⊥) → IsWord (name_in (names_after s script here f) f.actor)
-      of_old other = subst IsWord (sym (same_name f m other)) (word_of names sound_names f.actor (actor_here f m other))
-
-      apart_step : Step ≡ Birth → ⊥
-      apart_step e = cc
-
-      apart_snap : Snap ≡ Birth → ⊥
-      apart_snap e = cc
-
-      apart_stable : Stable ≡ Birth → ⊥
-      apart_stable e = cc
-
-      apart_tried : Tried ≡ Birth → ⊥
-      apart_tried e = cc
+  is_word f m =
+      let next = standing_next s policy script h.run.rules here f m known.0 in
+      let sound : IsSoundAtlas (names_after s script here f) = subst IsSoundAtlas (sym (ap atlas_in next.sound.1.atlas)) next.sound.1.names in
+      word_of (names_after s script here f) sound f.actor (actor_left s policy script h.run.rules here f known.0 known.1 m)
 
   -- a line that begins with the words of an entry that may be next has that event and that name
   pub parsed : (line : Text) (f : Entry) → May s policy script here f → BeginsWith line (named_words s script here f) → Parsed line (event_word f.event) (name_in (names_after s script here f) f.actor)
@@ -171,7 +109,7 @@ module _ (s : Supply) (policy : Policy) (script : Script) (w : KernelState) (es 
     name = first_word (rest_words line)
 
     same_event : (v : Event) → first_word line ≡ event_word v → (f : Entry) → May s policy script here f → BeginsWith line (named_words s script here f) → f.event ≡ v
-    same_event v first f m front = one_event f.event v (sym (parsed line f m front).first ∙ first)
+    same_event v first f m front = event_same f.event v (sym (parsed line f m front).first ∙ first)
 
     -- the first word is none of an event
     pub no_event : ((v : Event) → event_word v ≡ first_word line → ⊥) → (f : Entry) → May s policy script here f → BeginsWith line (named_words s script here f) → ⊥

@@ -3,4 +3,6 @@ pub mod Parsing
 pub mod Actors
 pub mod Lining
 pub mod Alike
+pub use Rattle.actor_laws.proofs as actor_laws_lemmas
+pub use Rattle.entry_laws.proofs as entry_laws_lemmas
 pub use Rattle.trace_steps.proofs.plain_run_lemmas

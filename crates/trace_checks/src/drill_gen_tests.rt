@@ -2,7 +2,29 @@ use drill_gen::drill_script;
 use hop_base::{Instr, Rights};
 use std::test::Fail;
 
-// The values are those of a PCG generator written apart, which gives the reference's words.
+// The values are those of a PCG generator (XSH RR 64/32) written apart, which gives the reference's words for state 42 on stream 54:
+// 0xa15c02b7, 0x7b47f409, 0xba1d3330. With state 1 it begins with 2607537577, 204602440, 3466066159, 2183922644, 2487127282.
+
+// The first container's pages, tag and interval are these words modulo 16, 1,000 and 40. It shows no other, and draws none.
+#[test]
+fn first_words_of_the_first_drill(rt: HostRuntime) -> Result<(), Fail> {
+    let script = drill_script(rt.alloc(), 1)?;
+    let table = script.containers.first().ok_or("no container")?;
+    assert_eq!(rt; table.pages, 10);
+    assert_eq!(rt; table.tag, 440);
+    assert_eq!(rt; table.every, 39);
+    assert!(rt; table.regions.is_empty());
+    let code = [
+        Instr::Set(6, 3),
+        Instr::Print(4),
+        Instr::Print(2),
+        Instr::Invoke(6),
+        Instr::Snap(6),
+    ];
+    assert!(rt; table.code.as_slice().starts_with(&code));
+    assert_eq!(rt; table.code.get(39), Some(&Instr::Jump(0)));
+    Ok(())
+}
 
 #[test]
 fn last_container_of_the_first_drill(rt: HostRuntime) -> Result<(), Fail> {

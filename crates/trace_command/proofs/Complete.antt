@@ -6,13 +6,12 @@ use Rattle.trace_check.specs.hop_model.State.{KernelState, Text}
 use Rattle.trace_check.specs.hop_model.Steps.{atlas_in}
 use Rattle.image_tools.proofs.image_meaning_lemmas.Firsts.{not_both}
 use Rattle.image_tools.proofs.image_meaning_lemmas.Ones.{one_meaning}
-use Rattle.trace_check.specs.plain_run.Fitting.{Fits, IsMisfit}
 use Rattle.script_source.specs.script_form.declared.refusals.Refusal.{Refusal}
 use Rattle.script_source.specs.script_form.declared.refusals.ScriptFault.TheVariants.{Refused}
 use Rattle.script_source.specs.script_read.Reading.{Reading, refused}
 use Rattle.trace_check.specs.Reading.{SpellsNone}
 use Rattle.trace_check.specs.trace_steps.Standing.{Managers}
-use Rattle.trace_check.specs.trace_words.Traces.{GoesWrong}
+use Rattle.trace_check.specs.trace_words.Traces.{GoesWrong, Spells}
 use Rattle.script_source.specs.command_parts.Seen.{Call, Gave}
 use Rattle.script_source.specs.command_parts.Statuses.{IsComplete, ending}
 use Rattle.script_source.specs.command_parts.declared.statuses.Status.{Status}
@@ -20,7 +19,9 @@ use Rattle.script_source.specs.command_parts.declared.statuses.Status.TheVariant
 use Rattle.trace_command.specs.Booked.{over}
 use Rattle.trace_command.specs.Leaving.{CanCheck, IsRefused, TraceLeaves}
 use Rattle.trace_command.specs.Sources.{MeansTraced, OfSource, Traced, from_source, traced_meaning}
-use Rattle.trace_command.specs.Traces.{HasMisfit, IsWrong, OfState}
+use Rattle.trace_command.specs.Traces.{HasMisfit, IsLegal, IsWrong, OfState}
+use Rattle.trace_check.specs.plain_run.fitting_births.Fitting.{Fits}
+use Rattle.trace_check.specs.plain_run.fitting_births.Misfits.{IsMisfit}
 
 -- what holds of bytes that may be known holds of the known ones
 of_known : (left : Option Text) (bytes : Text) (P : Text → Type 0) → left ≡ Some bytes → IfSome left P → P bytes
@@ -60,19 +61,51 @@ module _ (m : Managers) (call : Call) (can : CanCheck m call) where
       × SpellsNone (over t.brought m).word (over t.brought m).wish w t.script t.trace) said).2
       can.lines can.legal
 
-  pub complete : (gave : Gave) (s : Status) → TraceLeaves m (from_source call.source) call.sink call.disk gave (ending s) → (call.source.rose → ⊥) → (call.disk.rose → ⊥) → (call.sink.rose → ⊥) → IsComplete s
-  complete gave status.Done leaves source disk sink = inl refl
-  complete gave status.Memory leaves source disk sink = inr refl
-  complete gave status.SinkFault leaves source disk sink = absurd (sink leaves.ends.1)
-  complete gave status.DiskFault leaves source disk sink = absurd (disk leaves.ends.1.holds)
-  complete gave status.SourceFault leaves source disk sink = absurd (source leaves.ends.1)
-  complete gave (status.Script refusal) leaves source disk sink = by_why leaves.ends.1
+  -- how it may end: whole, for want of memory, or with a fault whose count rose
+  abbrev pub MayEnd : Status → Type 0
+  MayEnd status.Done = Unit {0}
+  MayEnd status.Memory = Unit {0}
+  MayEnd status.SinkFault = call.sink.rose
+  MayEnd status.DiskFault = call.disk.rose
+  MayEnd status.SourceFault = call.source.rose
+  MayEnd (status.Script refusal) = ⊥
+  MayEnd (status.Foreign block place) = ⊥
+  MayEnd (status.TraceWrong number want) = ⊥
+  MayEnd status.Usage = ⊥
+  MayEnd (status.BlocksFull n) = ⊥
+
+  pub may_end : (gave : Gave) (s : Status) → TraceLeaves m (from_source call.source) call.sink call.disk gave (ending s) → MayEnd s
+  may_end gave status.Done leaves = tt
+  may_end gave status.Memory leaves = tt
+  may_end gave status.SinkFault leaves = leaves.ends.1
+  may_end gave status.DiskFault leaves = leaves.ends.1.holds
+  may_end gave status.SourceFault leaves = leaves.ends.1
+  may_end gave (status.Script refusal) leaves = by_why leaves.ends.1
     where
-      by_why : IsRefused m (from_source call.source) call.sink call.disk gave refusal → IsComplete (status.Script refusal)
+      by_why : IsRefused m (from_source call.source) call.sink call.disk gave refusal → ⊥
       by_why (inl (refuses, same)) =
-          absurd (not_refused can.bytes can.traced refusal can.read (of_known call.source.before can.bytes (λ bytes. traced_meaning bytes ≡ refused refusal.why (string_bytes refusal.key)) can.known refuses))
-      by_why (inr misfit) = absurd (not_misfit refusal misfit)
-  complete gave (status.Foreign block place) leaves source disk sink = absurd (not_both call.disk.before.reading _ can.means.accepted (leaves.ends.1.holds can.told))
-  complete gave (status.TraceWrong number want) leaves source disk sink = absurd (not_wrong number want leaves.ends.text leaves.ends.wrong)
-  complete gave status.Usage leaves source disk sink = absurd leaves.ends
-  complete gave (status.BlocksFull n) leaves source disk sink = absurd leaves.ends
+          not_refused can.bytes can.traced refusal can.read (of_known call.source.before can.bytes (λ bytes. traced_meaning bytes ≡ refused refusal.why (string_bytes refusal.key)) can.known refuses)
+      by_why (inr misfit) = not_misfit refusal misfit
+  may_end gave (status.Foreign block place) leaves = not_both call.disk.before.reading _ can.means.accepted (leaves.ends.1.holds can.told)
+  may_end gave (status.TraceWrong number want) leaves = not_wrong number want leaves.ends.text leaves.ends.wrong
+  may_end gave status.Usage leaves = leaves.ends
+  may_end gave (status.BlocksFull n) leaves = leaves.ends
+
+  -- and what it tells then of the trace holds of this state
+  pub legal_here : (lines : ℕ) → OfSource call.source (λ t. IsLegal (over t.brought m) t.script call.disk t.trace lines) → Spells (over can.traced.brought m).word (over can.traced.brought m).wish can.state can.traced.script can.traced.trace lines
+  legal_here lines said = (of_these (λ t w. Fits (atlas_in (w 0).cell) t.script × Spells (over t.brought m).word (over t.brought m).wish w t.script t.trace lines) said).1
+
+  pub complete : (gave : Gave) (s : Status) → TraceLeaves m (from_source call.source) call.sink call.disk gave (ending s) → (call.source.rose → ⊥) → (call.disk.rose → ⊥) → (call.sink.rose → ⊥) → IsComplete s
+  complete gave s leaves source disk sink = by_end s (may_end gave s leaves)
+    where
+      by_end : (s : Status) → MayEnd s → IsComplete s
+      by_end status.Done h = inl refl
+      by_end status.Memory h = inr refl
+      by_end status.SinkFault h = absurd (sink h)
+      by_end status.DiskFault h = absurd (disk h)
+      by_end status.SourceFault h = absurd (source h)
+      by_end (status.Script refusal) h = absurd h
+      by_end (status.Foreign block place) h = absurd h
+      by_end (status.TraceWrong number want) h = absurd h
+      by_end status.Usage h = absurd h
+      by_end (status.BlocksFull n) h = absurd h

@@ -13,7 +13,6 @@ use Rattle.image_tools.specs.Facts.{MeansState}
 use Rattle.script_source.specs.log_reading.declared.faults.ReadingFault.{ReadingFault}
 use Rattle.script_source.specs.log_reading.declared.faults.ReadingFault.TheVariants as reading
 use Rattle.image_tools.proofs.meant_states_lemmas.Meant.{meant_state}
-use Rattle.trace_check.specs.plain_run.Fitting.{Fits, IsMisfit}
 use Rattle.script_source.specs.script_form.declared.refusals.ScriptFault.{ScriptFault}
 use Rattle.script_source.specs.script_form.declared.refusals.ScriptFault.TheVariants as refusal
 use Rattle.trace_check.specs.trace_steps.Standing.{Managers}
@@ -28,6 +27,8 @@ use Rattle.script_source.specs.command_parts.declared.faults.Fault.TheVariants.{
 use Rattle.trace_command.specs.Verdicts.{IsFitFault, IsJudged, IsVerdict, StopsJudging, verdict_of}
 use Rattle.trace_command.specs.declared.judging.Verdict.{Verdict}
 use Rattle.trace_command.specs.declared.judging.Verdict.TheVariants.{Legal, Wrong, Stopped}
+use Rattle.trace_check.specs.plain_run.fitting_births.Fitting.{Fits}
+use Rattle.trace_check.specs.plain_run.fitting_births.Misfits.{IsMisfit}
 
 -- the atlas of a state with these cells
 pub same_atlas : (m : Managers) (plain : Plain) (versions : List ℕ) (w : KernelState) → Begins w (cells_of m.word plain) versions → atlas_in (w 0).cell ≡ atlas_of plain.atlas

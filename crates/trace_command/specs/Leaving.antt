@@ -7,7 +7,6 @@ use Rattle.trace_check.specs.hop_model.State.{KernelState, Text}
 use Rattle.trace_check.specs.hop_model.Steps.{atlas_in}
 use Rattle.image_tools.specs.image_meaning.Foreign.{IsForeign}
 use Rattle.image_tools.specs.image_meaning.Meaning.{Means}
-use Rattle.trace_check.specs.plain_run.Fitting.{Fits}
 use Rattle.script_source.specs.script_form.declared.refusals.Refusal.{Refusal}
 use Rattle.trace_check.specs.trace_steps.Standing.{Managers}
 use Rattle.trace_check.specs.trace_words.Traces.{Spells}
@@ -20,6 +19,7 @@ use Rattle.script_source.specs.command_parts.declared.faults.Fault.TheVariants.{
 use Rattle.trace_command.specs.Booked.{over}
 use Rattle.trace_command.specs.Sources.{MeansTraced, ReadFrom, Traced}
 use Rattle.trace_command.specs.Traces.{HasMisfit, IsLegal, IsWrong}
+use Rattle.trace_check.specs.plain_run.fitting_births.Fitting.{Fits}
 
 -- the line of a trace that is that of a legal history: how many lines it has
 abbrev pub ok_line : ℕ → Text

@@ -5,13 +5,14 @@ use Rattle.trace_check.specs.hop_model.Scripts.{Script as Tables}
 use Rattle.trace_check.specs.hop_model.State.{KernelState, Text}
 use Rattle.trace_check.specs.hop_model.Steps.{atlas_in}
 use Rattle.image_tools.specs.image_meaning.Meaning.{Means}
-use Rattle.trace_check.specs.plain_run.Fitting.{Fits, IsMisfit}
 use Rattle.script_source.specs.script_form.declared.refusals.Refusal.{Refusal}
 use Rattle.script_source.specs.script_form.declared.refusals.ScriptFault.TheVariants.{Refused}
 use Rattle.trace_check.specs.Reading.{SpellsNone}
 use Rattle.trace_check.specs.trace_steps.Standing.{Managers}
 use Rattle.trace_check.specs.trace_words.Traces.{GoesWrong, Spells}
 use Rattle.script_source.specs.command_parts.Seen.{SeenDisk}
+use Rattle.trace_check.specs.plain_run.fitting_births.Fitting.{Fits}
+use Rattle.trace_check.specs.plain_run.fitting_births.Misfits.{IsMisfit}
 
 module _ (m : Managers) (script : Tables) (disk : SeenDisk) where
   -- the image means this state, of which this holds

@@ -4,7 +4,6 @@ use Rattle.trace_check.specs.hop_model.Scripts.{Script as Tables}
 use Rattle.trace_check.specs.hop_model.State.{KernelState, Text}
 use Rattle.trace_check.specs.hop_model.Steps.{atlas_in}
 use Rattle.image_tools.specs.image_meaning.Foreign.{IsForeign}
-use Rattle.trace_check.specs.plain_run.Fitting.{Fits, IsMisfit}
 use Rattle.script_source.specs.script_form.declared.refusals.ScriptFault.TheVariants.{Refused}
 use Rattle.trace_check.specs.Reading.{SpellsNone}
 use Rattle.trace_check.specs.declared.faults.TraceFault.{TraceFault}
@@ -22,6 +21,8 @@ use Rattle.trace_command.specs.Leaving.{ok_line}
 use Rattle.trace_command.specs.Traces.{HasMisfit, IsLegal, IsWrong}
 use Rattle.trace_command.specs.declared.judging.Verdict.{Verdict}
 use Rattle.trace_command.specs.declared.judging.Verdict.TheVariants.{Legal, Wrong, Stopped}
+use Rattle.trace_check.specs.plain_run.fitting_births.Fitting.{Fits}
+use Rattle.trace_check.specs.plain_run.fitting_births.Misfits.{IsMisfit}
 
 -- what a check comes to
 abbrev pub verdict_of : Result ℕ TraceFault → Verdict

@@ -1,6 +1,5 @@
 -- A birth: the entry may follow, and the checker stands behind it.
 use Rattle.std.proofs.Common.{◌≡◌, ℕ, ◌<◌, Bool, true, false, not, ◌&&◌, ◌||◌, if◌then◌else◌, List, [], ◌∷◌, ◌++◌, Option, Some, None, is_some, option_map, option_and_then, sym, ap, subst, ◌∙◌}
-use Rattle.std.proofs.lemmas.Bool.{false≢true}
 use Rattle.hop_base.specs.declared.histories.Entry.{Entry}
 use Rattle.hop_base.specs.declared.histories.Event.{Event}
 use Rattle.hop_base.specs.declared.histories.Event.TheVariants.{Birth}
@@ -18,8 +17,7 @@ use Rattle.plain_run.specs.history_model.Events.{Bears, Has}
 use Rattle.plain_run.specs.history_model.Plains.{atlas_of, cells_of}
 use Rattle.plain_run.specs.history_model.declared.plain.Plain.{Plain}
 use Rattle.plain_run.proofs.Goings.{state_is}
-use Rattle.plain_run.proofs.Growing.{born_atlas, kinds_after}
-use Rattle.plain_run.proofs.KnownNames.{next_name_is}
+use Rattle.plain_run.proofs.Growing.{born_atlas}
 use Rattle.plain_run.proofs.Openings.{birth_event, borne, goes_on_birth, next_is_birth}
 use Rattle.plain_run.proofs.sound_runs_lemmas.Standing.{under_next}
 use Rattle.trace_parts.specs.Clocks.{clock_at, joined_in}
@@ -33,9 +31,9 @@ use Rattle.trace_steps.proofs.Marking.{none_of}
 use Rattle.trace_steps.proofs.Running.{stands_on}
 use Rattle.trace_steps.proofs.Stepping.{sound_standing}
 use Rattle.trace_steps.proofs.Wishing.{birth_wishes}
-
-apart : (e : Entry) → None ≡ Some e → ⊥
-apart e h = cc
+use Rattle.plain_run.proofs.fitting_births_lemmas.Growing.{kinds_after}
+use Rattle.plain_run.proofs.fitting_births_lemmas.KnownNames.{next_name_is}
+use Rattle.std.proofs.lemmas.Option.{none-some}
 
 module _ (s : Supply) (policy : Policy) (script : Script) (w : KernelState) (es : List Entry) (old : Checker) (h : Stands s policy script w old es) (untried : old.tried ≡ false) where
   -- NO BIRTH
@@ -48,7 +46,7 @@ module _ (s : Supply) (policy : Policy) (script : Script) (w : KernelState) (es 
       (sym h.keeps.marks.began ∙ k.0, k.1)
 
   undefined_refuses : next_birth s script (run_of s script w es).state ≡ None → (e : Entry) → e.event ≡ Birth → May s policy script (run_of s script w es) e → ⊥
-  undefined_refuses none e ev m = apart e (sym (ap (option_map (λ (q : Entry × KernelState). q.0)) none) ∙ (bears_next e ev m).1)
+  undefined_refuses none e ev m = none-some e (sym (ap (option_map (λ (q : Entry × KernelState). q.0)) none) ∙ (bears_next e ev m).1)
 
   -- all names are born
   pub all_born_refuses : next_name (atlas_of old.state.atlas) script ≡ None → (e : Entry) → e.event ≡ Birth → May s policy script (run_of s script w es) e → ⊥

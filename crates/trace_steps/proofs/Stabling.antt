@@ -6,7 +6,7 @@ use Rattle.hop_base.specs.declared.histories.Entry.{Entry}
 use Rattle.hop_base.specs.declared.histories.Event.TheVariants.{Stable}
 use Rattle.hop_base.specs.declared.records.Rec.{Rec}
 use Rattle.plain_run.specs.hop_model.Choices.{IsGreatest}
-use Rattle.plain_run.specs.hop_model.Histories.{May, Policy, Run, after_stable, commits_of, goes_on, has_changed, is_full, mark, may as may_be}
+use Rattle.plain_run.specs.hop_model.Histories.{May, Policy, after_stable, commits_of, goes_on, has_changed, is_full, mark}
 use Rattle.plain_run.specs.hop_model.Scripts.{Script}
 use Rattle.plain_run.specs.hop_model.State.{KernelState, Supply}
 use Rattle.trace_parts.specs.cut_finder.Records.{IsAscending, choice}
@@ -23,12 +23,6 @@ use Rattle.trace_steps.proofs.Marking.{none_of}
 use Rattle.trace_steps.proofs.Recording.{changed_same, few_new}
 use Rattle.trace_steps.proofs.Running.{ascending_next, cuts_next, few_kept, full_of, stands_on}
 use Rattle.trace_steps.proofs.Wishing.{stable_wishes}
-
--- what may follow as a Stable is owed and whole
-pub stable_owed : (s : Supply) (policy : Policy) (script : Script) (r : Run) (e : Entry) (x : ℕ) → e.event ≡ Stable → e.actor ≡ x → May s policy script r e → (r.owed ≡ Some x) × (r.short ≡ false)
-stable_owed s policy script r e x ev by m =
-    let k = subst (may_be s policy script r e) ev m.1 in
-    (k.0 ∙ ap (λ n. Some n) by, k.1)
 
 module _ (s : Supply) (policy : Policy) (script : Script) (w : KernelState) (es : List Entry) (old : Checker) (h : Stands s policy script w old es) (untried : old.tried ≡ false) (actor : ℕ) (owed : old.owed ≡ Some actor) (whole : old.short ≡ false) where
   abbrev stabled : Entry

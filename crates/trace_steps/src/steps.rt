@@ -8,7 +8,7 @@ ghost use Rattle.trace_steps.specs.Standing.{CanStep, GoesOn, IsStanding, Manage
 use crate::checker::Checker;
 use crate::wants::{asked_at, intervals, is_any_due, owed_at, where_ok};
 use hop_base::{Entity, Entry, FIRST_LOCUS};
-use plain_run::history_model::plain_step;
+use plain_run::plain_steps::plain_step;
 use plain_run::script_form::Script;
 use std::alloc::AllocError;
 

@@ -1,1 +1,2 @@
 pub mod Traces
+pub use Rattle.entry_lines.specs as entry_lines

@@ -5,7 +5,7 @@ use Rattle.hop_base.specs.declared.instructions.Instr.TheVariants.{Set, Copy, Ad
 use Rattle.hop_base.specs.declared.instructions.Reply.{Reply}
 use Rattle.hop_model.specs.State.{Supply, AtlasState, LocusState, Cell}
 use Rattle.hop_model.specs.Acts.{Act, act_by, allowed, wanted}
-use Rattle.hop_model.specs.Outcomes.{outcome, by_refused, by_other, on_cell, with_newborn}
+use Rattle.hop_model.specs.Outcomes.{outcome, by_refused, by_other, on_cell}
 use Rattle.hop_model.specs.Refusals.{instr_at, refusal}
 use Rattle.wanted_act.specs.Views.{may_name_itself}
 
@@ -52,9 +52,3 @@ pub made_beside : (s : Supply) (l : LocusState) (act : Act) (a : AtlasState) (x 
 unfolding outcome
 made_beside s l act a x i cell none other is =
     ap (λ r. by_refused s l a act.instr r act.other cell) none ∙ ap (λ o. by_other s l a act.instr o cell) other ∙ ap (λ j. on_cell s l a x j cell) is
-
--- the outcome is by what is born
-pub made_bearing : (s : Supply) (l : LocusState) (act : Act) (a : AtlasState) (i : Instr) (cell : Cell) → act.refused ≡ None → act.other ≡ None → act.instr ≡ i → outcome s l act a cell ≡ with_newborn s l a i
-unfolding outcome
-made_bearing s l act a i cell none other is =
-    ap (λ r. by_refused s l a act.instr r act.other cell) none ∙ ap (λ o. by_other s l a act.instr o cell) other ∙ ap (λ j. with_newborn s l a j) is

@@ -8,6 +8,7 @@ use Rattle.hop_model.specs.State.{LocusState}
 use Rattle.hop_model.specs.Refusals.{private_at}
 use Rattle.hop_model.specs.Words.{covers}
 use Rattle.wanted_act.specs.Views.{IsInside, ShowsPage}
+use Rattle.hop_model.proofs.Basics.{and_right}
 
 -- what is found passes the test, and what holds of each holds of it
 pub found_passes : {X : Type 0} (test : X → Bool) (P : X → Type 0) (xs : List X) (x : X) → All P xs → find test xs ≡ Some x → (test x ≡ true) × P x
@@ -18,13 +19,6 @@ found_passes test P (y ∷ ys) x all h =
       | false ↦ λ is e. found_passes test P ys x (All-tail P y ys all) e
     ] refl h
 
-both_hold : (a b : Bool) → (a && b) ≡ true → b ≡ true
-both_hold true b e = e
-both_hold false b e = absurd (no e)
-  where
-    no : false ≡ true → ⊥
-    no e = cc
-
 pub shows : (r : Region) (page : ℕ) → covers r page ≡ true → IsInside r → ShowsPage r page
 shows r page e inside = record { at = grind (arith, nat_tests); count = grind (arith, nat_tests); inside = inside }
 
@@ -32,4 +26,4 @@ shows r page e inside = record { at = grind (arith, nat_tests); count = grind (a
 pub private_shows : (l : LocusState) (page : ℕ) (p : Private) → All (λ (p : Private). IsInside p.region) l.privates → private_at l page ≡ Some p → ShowsPage p.region page
 private_shows l page p all is =
     let found = found_passes (λ (p : Private). p.made == l.host && covers p.region page) (λ (p : Private). IsInside p.region) l.privates p all is in
-    shows p.region page (both_hold (p.made == l.host) (covers p.region page) found.0) found.1
+    shows p.region page (and_right (p.made == l.host) (covers p.region page) found.0) found.1

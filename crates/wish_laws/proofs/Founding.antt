@@ -17,7 +17,7 @@ use Rattle.kernel_cells.specs.Wishes.{HasWish}
 use Rattle.wish_laws.specs.Founded.{IsFounded, IsFoundedCell, IsFoundedIn}
 
 -- what is written once more has changed
-written_founded : (n v v' : ℕ) (b b' : Bool) → v' ≡ v + 1 → IsFounded n v b → IsFounded n v' b'
+pub written_founded : (n v v' : ℕ) (b b' : Bool) → v' ≡ v + 1 → IsFounded n v b → IsFounded n v' b'
 written_founded n v v' b b' rises f = record { past = omega (arith, f.past); changed = λ _. omega (arith, f.past) }
 
 -- along equal numbers and marks

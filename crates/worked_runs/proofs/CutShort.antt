@@ -15,6 +15,7 @@ use Rattle.worked_runs.specs.Snapshots.{no_tables, no_words, version_at, wrote}
 use Rattle.worked_runs.specs.CutShort.{behind_record, behind_stabilise, behind_store, first, first_record, reached_by_both, saver, second, second_tried, stabilises, stopped, stores, third, with_first_record}
 use Rattle.worked_runs.proofs.Choosing.{all_below, at_start, other_way, zero_below, only_version}
 use Rattle.worked_runs.proofs.Stepwise.{entry_in, one_calm, one_more, run_more, step_on, two_calm}
+use Rattle.worked_runs.proofs.Snapshots.{joint}
 
 -- THE STEPS
 
@@ -75,10 +76,6 @@ pub no_stable : May no_words never no_tables behind_record (mark Stable 41 0) �
 no_stable m = false≢true (sym m.1.1)
 
 -- THE RECORDS
-
--- the clock that the store leaves, and the locus's behind the stabilise
-abbrev joint : ℕ → ℕ
-joint y = max (max (if 1 == y then 1 else 0) (if 1 == y then 2 else 0)) (max (max (if 41 == y then 1 else 0) (if 41 == y then 2 else 0)) 0)
 
 abbrev later : ℕ → ℕ
 later y = max (max (joint y) (if 41 == y then 3 else 0)) 0

@@ -1,12 +1,12 @@
 -- The run of a container that gets full.
-use Rattle.std.proofs.Common.{◌≡◌, ℕ, zero, suc, ◌+◌, ◌≤◌, Bool, true, false, not, ◌&&◌, ◌||◌, ◌==◌, cond, nat_le, if◌then◌else◌, inl, inr, List, [], ◌∷◌, Some, lit<, lit≤, max, option_map, refl, sym, ap, subst, ◌∙◌, arith}
-use Rattle.std.proofs.lemmas.Bool.{false≢true}
+use Rattle.std.proofs.Common.{◌≡◌, ℕ, zero, suc, ◌+◌, ◌≤◌, Bool, true, false, not, ◌&&◌, ◌==◌, cond, nat_le, if◌then◌else◌, inl, inr, List, [], ◌∷◌, Some, lit<, lit≤, max, option_map, refl, sym, ap, subst, ◌∙◌, arith}
+use Rattle.std.proofs.lemmas.Bool.{false≢true, or_right}
 use Rattle.std.proofs.lemmas.Bool.Decides.{nat_tests}
 use Rattle.hop_base.specs.declared.histories.Entry.{Entry}
 use Rattle.run_laws.specs.hop_model.Acts.{allowed, wanted}
 use Rattle.run_laws.specs.hop_model.Changes.{changed}
 use Rattle.run_laws.specs.hop_model.Choices.{Commit, IsGreatest, IsNarrow, greatest}
-use Rattle.run_laws.specs.hop_model.Histories.{IsLegalRun, May, Run, commits_above, commits_in, goes_on, has_wish, is_due, is_full, run_after, start_run, version_of}
+use Rattle.run_laws.specs.hop_model.Histories.{IsLegalRun, May, Run, commits_above, commits_in, goes_on, has_wish, is_due, is_full, run_after}
 use Rattle.run_laws.specs.hop_model.Outcomes.{local_act, on_cell, outcome, store, with_newborn}
 use Rattle.run_laws.specs.hop_model.Refusals.{refusal}
 use Rattle.run_laws.specs.hop_model.Steps.{change_of, step, step_change}
@@ -179,10 +179,6 @@ not_full r x few = by_count (commits_above r.commits r.cut x) (let le = few_abov
 full_with : (r : Run) → r.commits ≡ six → r.cut ≡ version_at → is_full r 1 ≡ true
 full_with r cs cut = λ i. nat_le 4 (commits_above (cs i) (cut i) 1)
 
-noted : (w f : Bool) → f ≡ true → (w || f) ≡ true
-noted true f e = refl
-noted false f e = e
-
 pub full_6 : is_full place_6 1 ≡ true
 full_6 = full_with place_6 six_are (ap (greatest version_at) six_are ∙ cut_is)
 
@@ -201,7 +197,7 @@ met_full policy r x is = ap (λ b. has_wish policy r x && not b) is ∙ none (ha
     none false = refl
 
 was_full_7 : place_7.was_full 1 ≡ true
-was_full_7 = noted (not true && place_6.was_full 1) (is_full place_7 1) full_7
+was_full_7 = or_right (not true && place_6.was_full 1) (is_full place_7 1) full_7
 
 pub not_due_7 : is_due each_so_many place_7 1 ≡ false
 not_due_7 = met_full each_so_many place_7 1 was_full_7

@@ -1,7 +1,7 @@
 -- The run of a snapshot that counts only with a second one.
 use Rattle.std.proofs.Common.{◌≡◌, ℕ, ◌+◌, ◌≤◌, Bool, true, false, not, ◌&&◌, ◌==◌, cond, nat_le, if◌then◌else◌, ◌⊎◌, inl, inr, List, [], ◌∷◌, lit<, lit≤, max, refl, sym, ap, subst, ◌∙◌, arith, eqb-true}
 use Rattle.std.proofs.lemmas.Bool.Decides.{nat_tests}
-use Rattle.run_laws.specs.hop_model.Choices.{Among, Commit, IsBelow, IsGreatest}
+use Rattle.run_laws.specs.hop_model.Choices.{Among, Commit, IsGreatest}
 use Rattle.run_laws.specs.hop_model.Histories.{IsLegalRun, commits_above, commits_in, run_after, start_run}
 use Rattle.run_laws.specs.hop_model.Refusals.{refusal}
 use Rattle.run_laws.specs.hop_model.Acts.{allowed, wanted}
@@ -10,6 +10,7 @@ use Rattle.run_laws.specs.hop_model.Changes.{changed}
 use Rattle.run_laws.specs.hop_model.Steps.{change_of, step_change}
 use Rattle.run_laws.proofs.Few.{above_cons}
 use Rattle.worked_runs.specs.Snapshots.{always, both_snapshots, no_tables, no_words, one_snapshot, reached, recorded, version_at}
+use Rattle.run_laws.proofs.cut_laws_lemmas.Joins.{Takes}
 
 -- THE COMMITS
 
@@ -65,9 +66,6 @@ legal = (
 )
 
 -- THE FIRST RECORD ALONE
-
-abbrev pub Takes : (ℕ → ℕ) → ℕ → Commit → Type 0
-Takes q x c = (c.entity ≡ x) × (c.version ≡ q x) × IsBelow c.stamp q
 
 keeper_stays : (q : ℕ → ℕ) (a b c d : Commit) → a.entity ≡ 0 → b.entity ≡ 1 → c.version ≡ 1 → d.entity ≡ 1 → Among (a ∷ b ∷ c ∷ d ∷ []) (Takes q 41) → q 41 ≡ 1
 keeper_stays q a b c d ea eb vc ed (inl k) = (let e = k.0 in absurd (omega (arith, e, ea)))

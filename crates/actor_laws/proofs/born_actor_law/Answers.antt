@@ -8,9 +8,9 @@ returns-clause-born c s policy script w es e rules kinds sound legal m other =
     actor_born s policy script rules (run_after s script (start_run w) es) e k.0 k.1 m other
 
 pub returns-clause-names : goal.returns-clause-names
-returns-clause-names c s policy script w es e rules kinds sound legal m other =
+returns-clause-names c s policy script w es e rules kinds sound legal m =
     let k = known_run s policy script rules w es kinds sound legal in
-    names_left s policy script rules (run_after s script (start_run w) es) e k.0 m other
+    names_left s policy script rules (run_after s script (start_run w) es) e k.0 m
 
 pub returns-clause-newborn : goal.returns-clause-newborn
 returns-clause-newborn c s policy script w es e rules m is = newborn_born s policy script rules (run_after s script (start_run w) es) e is m

@@ -1,7 +1,8 @@
 use Rattle.std.proofs.Common.{◌≡◌, ◌*◌, ◌<◌, length, subst, arith, ◌∙◌}
 use Rattle.block_code.specs.Fields.{number_at}
-use Rattle.page_words.proofs.Words.{all_numbers, put_more}
+use Rattle.page_words.proofs.Words.{put_more}
 use Rattle.page_words.proofs.block_with.Goals as goal
+use Rattle.store_model.proofs.image_blocks_lemmas.Spelling.{numbers_are}
 
 pub loop-i-preserved : goal.loop-i-preserved
 loop-i-preserved c = put_more c.args.words.now c.loop-i.i _ _ c.loop-i.invariant c.put_word.ensures.here c.put_word.ensures.others
@@ -10,4 +11,4 @@ pub returns : goal.returns
 returns c =
     let last : c.loop-i.i ≡ 128 = (let a = c.loop-i-test.false in let b = c.loop-i.auto.i-end in omega (arith, a, b)) in
     let len : length c.args.words.now ≡ 128 = omega arith in
-    all_numbers (λ k. number_at (8 * k) 8 c.loop-i.block) c.args.words.now 128 len (λ k lt. c.loop-i.invariant k (omega (arith, lt, last)))
+    numbers_are (λ k. number_at (8 * k) 8 c.loop-i.block) c.args.words.now 128 len (λ k lt. c.loop-i.invariant k (omega (arith, lt, last)))

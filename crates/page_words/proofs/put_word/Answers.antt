@@ -1,4 +1,4 @@
-use Rattle.store_model.proofs.image_blocks_lemmas.Filling.{ok_gives}
+use Rattle.block_code.proofs.Filling.{ok_gives}
 use Rattle.page_words.proofs.Words.{put_here, put_others}
 use Rattle.page_words.proofs.put_word.Goals as goal
 

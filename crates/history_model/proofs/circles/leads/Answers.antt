@@ -1,6 +1,6 @@
 use Rattle.std.proofs.Common.{◌≡◌, true, false, find, None, replicate, set, sym, subst, ap, ◌∙◌, arith, length-set, get_or-set_same}
 use Rattle.hop_base.specs.Edges.{IsPath}
-use Rattle.history_model.specs.AtlasActs.{is_marked, leads_out}
+use Rattle.history_model.specs.EdgeLists.{is_marked, leads_out}
 use Rattle.history_model.specs.Plains.{edges_of}
 use Rattle.history_model.proofs.MarkLemmas.{marks_tell, none_by, one_marked, still_marked, way_fewer, way_found, way_marks}
 use Rattle.history_model.proofs.circles.leads.Goals as goal

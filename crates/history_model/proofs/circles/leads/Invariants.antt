@@ -1,5 +1,5 @@
 use Rattle.std.proofs.Common.{◌≡◌, true, length}
-use Rattle.history_model.specs.AtlasActs.{is_marked}
+use Rattle.history_model.specs.EdgeLists.{is_marked}
 use Rattle.history_model.specs.Plains.{edges_of}
 use Rattle.history_model.proofs.MarkLemmas.{AllReached, unmarked}
 use Rattle.history_model.proofs.circles.leads.Given as goal

@@ -1,6 +1,6 @@
 use Rattle.std.proofs.Common.{◌≡◌, ℕ, ◌<◌, List, sym, ap, subst, ◌∙◌, arith}
 use Rattle.std.specs.List.{position_or_len}
-use Rattle.history_model.specs.AtlasActs.{edge_less, is_edge}
+use Rattle.history_model.specs.EdgeLists.{edge_less, is_edge}
 use Rattle.history_model.specs.Born.{AreEdges}
 use Rattle.history_model.specs.declared.plain.Edge.{Edge}
 use Rattle.history_model.proofs.CountLemmas.{less_edges, less_gone_at, less_none_at, less_there_at, same_read}

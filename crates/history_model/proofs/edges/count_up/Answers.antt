@@ -1,6 +1,6 @@
 use Rattle.std.proofs.Common.{◌≡◌, ◌<◌, true, false, set, ◌+◌, sym, ap, subst, ◌∙◌, arith}
 use Rattle.std.specs.List.{position_or_len}
-use Rattle.history_model.specs.AtlasActs.{edge_more, is_edge, is_reached}
+use Rattle.history_model.specs.EdgeLists.{edge_more, is_edge, is_reached}
 use Rattle.history_model.specs.Born.{AreEdges}
 use Rattle.history_model.specs.Plains.{edges_of}
 use Rattle.history_model.specs.declared.plain.Edge.{Edge}

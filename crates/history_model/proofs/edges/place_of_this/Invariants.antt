@@ -1,6 +1,6 @@
 use Rattle.std.proofs.Common.{◌≡◌, ◌+◌, drop}
 use Rattle.std.specs.List.{position_or_len}
-use Rattle.history_model.specs.AtlasActs.{is_edge}
+use Rattle.history_model.specs.EdgeLists.{is_edge}
 use Rattle.history_model.proofs.edges.place_of_this.Given as goal
 
 abbrev pub invariant-loop-place : goal.invariant-loop-place

@@ -11,8 +11,9 @@ use Rattle.opened_cells.specs.part_checks.Chosen.{parts_of}
 use Rattle.kernel_views.specs.snapshot_store.State.{books}
 use Rattle.kernel_views.specs.snapshot_store.declared.opening.OpenWhy.TheVariants as why
 use Rattle.image_opening.specs.Images.{HasBegun, HasImageCause, HasKeepCause, HasTurnLeft, HoldsImage, MeansSame, MeansSince, StopsShort, WasRefused}
-use Rattle.image_opening.proofs.Clauses.{begins_behind, both, err_weaker, foreign_not_failed, keep_cause, keep_not_foreign, match_weaker, open_not_foreign, settled, since_sync}
+use Rattle.image_opening.proofs.Clauses.{begins_behind, both, foreign_not_failed, keep_cause, keep_not_foreign, match_weaker, open_not_foreign, settled, since_sync}
 use Rattle.image_opening.proofs.keeping.keep_image.Goals as goal
+use Rattle.kernel_views.proofs.snapshot_store_lemmas.Holding.{err_weaker}
 
 pub kept-requires-clause-accepted : goal.kept-requires-clause-accepted
 kept-requires-clause-accepted g c t =

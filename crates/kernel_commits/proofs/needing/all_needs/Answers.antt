@@ -2,7 +2,7 @@ use Rattle.std.proofs.Common.{Some, sym, ap, ◌∙◌, arith, refl}
 use Rattle.std.proofs.lemmas.Option.{slice_get-get_or}
 use Rattle.cell_books.specs.snapshot_store.State.{books}
 use Rattle.cell_books.specs.store_model.Books.{kept_names}
-use Rattle.kernel_commits.proofs.Needs.{formed_at, next_need}
+use Rattle.table_steps.proofs.cell_table_lemmas.Needs.{formed_at, next_need}
 use Rattle.kernel_commits.proofs.needing.all_needs.Goals as goal
 
 pub loop-cell-init : goal.loop-cell-init

@@ -5,11 +5,11 @@ use Rattle.cell_books.specs.snapshot_store.State.{books}
 use Rattle.cell_books.specs.record_laws.Cells.{words_on}
 use Rattle.cell_books.specs.kernel_model.Beginnings.{run_of}
 use Rattle.kernel_commits.specs.Parts.{Parts}
-use Rattle.kernel_commits.proofs.Committing.{some_is}
 use Rattle.kernel_commits.proofs.Steadying.{can_record}
 use Rattle.kernel_commits.proofs.Wishing.{few_is, has, noted_open, snapped_by, test_is, test_unwished, wish}
 use Rattle.table_steps.proofs.cell_table_lemmas.Having.{no_supply, no_words}
 use Rattle.kernel_commits.proofs.snapping.wants_snap.Goals as goal
+use Rattle.std.proofs.lemmas.Option.{same_Some}
 
 pub returns-then-not-wishes_among-clause-there : goal.returns-then-not-wishes_among-clause-there
 returns-then-not-wishes_among-clause-there g c =
@@ -61,7 +61,7 @@ returns-clause-can g c = λ is.
     record {
       record_may = can_record g.D.Disk.tells g.D.Disk.clock g.D.Disk.faults g.D.Disk.reading g.D.Disk.may_leave g.D.Disk.left_since old c.requires.steady c.args.entity a at by;
       few = few_is c.kept_count.result (records_of c.args.entity (kept_in (books c.args.core.now.store))) is count;
-      noted = λ k at_k. subst (λ z. (z.wish.by_step || z.wish.asked) ≡ true) (some_is a k (sym at ∙ at_k)) by;
+      noted = λ k at_k. subst (λ z. (z.wish.by_step || z.wish.asked) ≡ true) (same_Some a k (sym at ∙ at_k)) by;
     }
 
 pub returns-clause-run : goal.returns-clause-run

@@ -3,7 +3,7 @@ use Rattle.std.proofs.lemmas.Option.{slice_get-get_or}
 use Rattle.hop_base.specs.declared.histories.Answer.TheVariants.{Reply as Replied}
 use Rattle.hop_base.specs.declared.instructions.Reply.TheVariants.{Ok as OkReply}
 use Rattle.kernel_commits.specs.hop_model.Histories.{owed_by}
-use Rattle.kernel_commits.proofs.table_steps_lemmas.Facing.{ready_at}
+use Rattle.store_steps.proofs.cell_table_lemmas.Facing.{ready_at}
 use Rattle.kernel_core.proofs.StableOwed.{cell_at_is}
 use Rattle.kernel_core.proofs.owing.stabilises_at.Goals as goal
 

@@ -2,9 +2,10 @@ use Rattle.std.proofs.Common.{◌<◌, ◌≤◌, length, sym, ◌∙◌, subst,
 use Rattle.part_checks.specs.Chosen.{part_of}
 use Rattle.part_checks.specs.Fits.{IsFitBy}
 use Rattle.part_checks.specs.declared.chosen.ChosenEntity.{ChosenEntity}
-use Rattle.part_checks.proofs.Choices.{first_here, fit_all, fit_more, some_entity}
+use Rattle.part_checks.proofs.Choices.{first_here, fit_all, fit_more}
 use Rattle.part_checks.proofs.fits.first_unfit_by.Goals as goal
 use Rattle.part_checks.proofs.fits.first_unfit_by.Goals.{in-Some+else-not-fits, in_default}
+use Rattle.std.proofs.lemmas.Option.{same_Some}
 
 pub returns-then-not-fits-clause-found : goal.returns-then-not-fits-clause-found
 returns-then-not-fits-clause-found c =
@@ -21,7 +22,7 @@ loop-number-preserved c =
     let within : n < length es = let lt = c.loop-number-test.true in let all = c.requires in omega (arith, lt, all) in
     elim c.match-entities-number.branch [
       | in-Some+else-not-fits w ↦ fit_more uses es n o within c.index-entities-number.is
-          (λ e is. let same = some_entity w.in-Some.entity e (sym w.in-Some.is ∙ is) in
+          (λ e is. let same = same_Some w.in-Some.entity e (sym w.in-Some.is ∙ is) in
           subst (λ (f : ChosenEntity). IsFitBy uses es n (part_of f.part)) same
           (subst (λ z. IsFitBy uses es z (part_of w.in-Some.entity.part)) w.of-x.ensures (w.fits.ensures.0 w.if-not-fits.false)))
           c.loop-number.invariant

@@ -3,9 +3,10 @@ use Rattle.std.specs.Prelude.{string_bytes}
 use Rattle.std.proofs.lemmas.List.{map-append}
 use Rattle.atlas_dir.specs.Directory.{Directory, name_of}
 use Rattle.plain_parts.specs.Names.{AreNames}
-use Rattle.plain_parts.proofs.Naming.{names_more, none_is, some_is, told_name}
+use Rattle.plain_parts.proofs.Naming.{names_more, none_is, told_name}
 use Rattle.plain_parts.proofs.atlases.names_from.Goals as goal
 use Rattle.plain_parts.proofs.atlases.names_from.Goals.{in-Some+in_ok-name-in-Some, in-None}
+use Rattle.std.proofs.lemmas.Option.{same_Some}
 
 pub loop-place-preserved : goal.loop-place-preserved
 loop-place-preserved c =
@@ -16,7 +17,7 @@ loop-place-preserved c =
     let told = told_name (λ text. text.bytes) c.name.result a c.of.result (c.args.first + n) name c.name.ensures c.of.ensures is in
     elim c.match-name.branch [
       | in-Some+in_ok-name-in-Some w ↦ ap string_bytes w.name-is ∙ (w.in_ok-name-in-Some.ensures.ok ∙ (w.as_str.ensures.value
-          ∙ some_is w.in-Some.name.bytes name (subst (λ (o : Option _). option_map (λ text. text.bytes) o ≡ Some name) w.in-Some.is told)))
+          ∙ same_Some w.in-Some.name.bytes name (subst (λ (o : Option _). option_map (λ text. text.bytes) o ≡ Some name) w.in-Some.is told)))
       | in-None w ↦ none_is name (subst (λ (o : Option _). option_map (λ text. text.bytes) o ≡ Some name) w.in-None.is told)
     ] in
     subst (AreNames a c.args.first (n + 1)) (sym (ap (map string_bytes) c.in_ok-push.ensures.items ∙ map-append string_bytes c.loop-place.names.items (c.match-name.name ∷ [])))

@@ -4,8 +4,9 @@ use Rattle.history_model.proofs.PlainBirths.{sound_here}
 use Rattle.history_model.specs.Plains.{atlas_of, cells_of}
 use Rattle.history_model.specs.script_form.Scripts.{tables_of}
 use Rattle.plain_run.proofs.Growing.{birth_defined}
-use Rattle.plain_run.proofs.KnownNames.{next_known, next_name_is}
+use Rattle.plain_run.proofs.KnownNames.{next_known}
 use Rattle.plain_run.proofs.newborns.bear.Goals as goal
+use Rattle.serial_turns.proofs.fitting_births_lemmas.KnownNames.{next_name_is}
 
 -- any supplier
 nothing : Supply

@@ -3,7 +3,7 @@ use Rattle.std.proofs.Common.{◌*◌, ◌<◌, ℕ, Option, subst, arith}
 use Rattle.history_model.specs.Plains.{container_of}
 use Rattle.stream_edge.specs.Streams.{AppendsPart}
 use Rattle.plain_show.specs.Show.{word_line, word_line_by}
-use Rattle.plain_show.proofs.Puts.{AppendsPart-upto, Puts-cut}
+use Rattle.text_lines.proofs.Puts.{AppendsPart-upto, Puts-cut}
 use Rattle.plain_show.proofs.containers.put_words.Goals as goal
 
 pub returns-in_err-put_word_line-clause-bytes : goal.returns-in_err-put_word_line-clause-bytes

@@ -6,7 +6,7 @@ use Rattle.history_model.specs.hop_model.Words.{cap_at, flat}
 use Rattle.stream_edge.specs.Streams.{AppendsPart}
 use Rattle.std.specs.Io.KnownBytes.{Appends}
 use Rattle.plain_show.specs.Show.{cap_line}
-use Rattle.plain_show.proofs.Puts.{Appends-upto, AppendsPart-upto, Puts-cut}
+use Rattle.text_lines.proofs.Puts.{Appends-upto, AppendsPart-upto, Puts-cut}
 use Rattle.plain_show.proofs.lines.put_caps.Goals as goal
 
 slot_at : (caps : List (Option Cap)) (i : ℕ) (cap : Option Cap) → i < length caps → cap ≡ get_or caps i cap → cap ≡ cap_at caps i

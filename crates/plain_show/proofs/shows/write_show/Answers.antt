@@ -2,7 +2,7 @@
 use Rattle.std.proofs.Common.{string_bytes}
 use Rattle.std.proofs.lemmas.List.{length-map}
 use Rattle.stream_edge.proofs.Streams.{AppendsPart-more}
-use Rattle.plain_show.proofs.Puts.{Puts-cut, Puts-then}
+use Rattle.text_lines.proofs.Puts.{Puts-cut, Puts-then}
 use Rattle.plain_show.proofs.shows.write_show.Goals as goal
 
 pub returns-in_err-put_containers-clause-bytes : goal.returns-in_err-put_containers-clause-bytes

@@ -3,8 +3,8 @@ use Rattle.std.proofs.lemmas.Result.{err_from_is_err_and}
 use Rattle.directory_laws.specs.kernel_calls.Calls.{atlas_state}
 use Rattle.fitting_births.specs.script_form.Scripts.{tables_of}
 use Rattle.fitting_births.specs.script_form.declared.refusals.ScriptFault.{ScriptFault}
-use Rattle.script_against.specs.Misfits.{IsMisfit}
-use Rattle.script_against.proofs.Reasons.{clash_is, fits_where, room_is}
+use Rattle.fitting_births.specs.Misfits.{IsMisfit}
+use Rattle.fitting_births.proofs.Reasons.{clash_is, fits_where, room_is}
 use Rattle.script_against.proofs.fitting.against.Goals as goal
 
 ok_by : {A E P Q : Type 0} (r : Result A E) → (P → Q) → OnOk r P → OnOk r Q

@@ -1,7 +1,7 @@
 use Rattle.std.proofs.Common.{◌≡◌, drop, map}
 use Rattle.directory_laws.specs.kernel_calls.Calls.{atlas_state}
 use Rattle.fitting_births.specs.script_form.Scripts.{container_of}
-use Rattle.script_against.specs.Misfits.{container_clash}
+use Rattle.fitting_births.specs.Misfits.{container_clash}
 use Rattle.script_against.proofs.fitting.container_clash.Given as goal
 
 -- no name before this table's clashes

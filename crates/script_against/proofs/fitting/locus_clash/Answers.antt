@@ -2,8 +2,8 @@ use Rattle.std.proofs.Common.{◌≡◌, true, false, is_some, map, string_bytes
 use Rattle.fitting_births.specs.hop_model.Scripts.{container_named}
 use Rattle.directory_laws.specs.kernel_calls.Calls.{atlas_state}
 use Rattle.fitting_births.specs.script_form.Scripts.{locus_of}
-use Rattle.script_against.specs.Misfits.{locus_clash}
-use Rattle.script_against.proofs.Clashing.{locus_here, locus_passed}
+use Rattle.fitting_births.specs.Misfits.{locus_clash}
+use Rattle.fitting_births.proofs.Clashing.{locus_here, locus_passed}
 use Rattle.std.proofs.lemmas.List.{drop_all}
 use Rattle.script_against.proofs.fitting.locus_clash.Goals as goal
 

@@ -1,7 +1,7 @@
 use Rattle.std.proofs.Common.{◌≡◌, drop, map}
 use Rattle.directory_laws.specs.kernel_calls.Calls.{atlas_state}
 use Rattle.fitting_births.specs.script_form.Scripts.{locus_of}
-use Rattle.script_against.specs.Misfits.{locus_clash}
+use Rattle.fitting_births.specs.Misfits.{locus_clash}
 use Rattle.script_against.proofs.fitting.locus_clash.Given as goal
 
 -- no name before this table's clashes

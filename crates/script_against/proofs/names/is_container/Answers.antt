@@ -3,7 +3,7 @@ use Rattle.std.proofs.lemmas.Bool.Decides.{nat_tests}
 use Rattle.fitting_births.specs.hop_model.Scripts.{number_of}
 use Rattle.directory_laws.specs.kernel_calls.Calls.{atlas_state}
 use Rattle.directory_laws.proofs.NameLaws.{numbers_same}
-use Rattle.script_against.proofs.ByKind.{container_test, no_container}
+use Rattle.directory_laws.proofs.ByKind.{container_test, no_container}
 use Rattle.script_against.proofs.names.is_container.Goals as goal
 
 some_test : (n : ℕ) → 1 ≤ n → nat_le 1 n ≡ true

@@ -2,7 +2,7 @@ use Rattle.std.proofs.Common.{◌≡◌, Some, sym, ap, ◌∙◌}
 use Rattle.fitting_births.specs.hop_model.Scripts.{number_of}
 use Rattle.directory_laws.specs.kernel_calls.Calls.{atlas_state}
 use Rattle.directory_laws.proofs.NameLaws.{numbers_same}
-use Rattle.script_against.proofs.ByKind.{locus_test, no_locus}
+use Rattle.directory_laws.proofs.ByKind.{locus_test, no_locus}
 use Rattle.script_against.proofs.names.is_locus.Goals as goal
 
 pub returns-in-Some : goal.returns-in-Some

@@ -4,7 +4,7 @@ use Rattle.std.proofs.lemmas.Option.{slice_get-map}
 use Rattle.fitting_births.specs.hop_model.Scripts.{number_of}
 use Rattle.fitting_births.specs.script_form.Scripts.{container_of}
 use Rattle.directory_laws.specs.kernel_calls.Calls.{atlas_state}
-use Rattle.script_against.proofs.Ahead.{container_more}
+use Rattle.fitting_births.proofs.Ahead.{container_more}
 use Rattle.script_against.proofs.tables.next_container.Goals as goal
 
 pub loop-i-preserved : goal.loop-i-preserved

@@ -7,7 +7,7 @@ use Rattle.fitting_births.specs.hop_model.Scripts.{next_container_name, next_loc
 use Rattle.fitting_births.specs.hop_model.Words.{or_else}
 use Rattle.fitting_births.specs.script_form.Scripts.{container_of, locus_of, tables_of}
 use Rattle.directory_laws.specs.kernel_calls.Calls.{atlas_state}
-use Rattle.script_against.proofs.Ahead.{container_all, container_first, locus_first, new_is, no_container}
+use Rattle.fitting_births.proofs.Ahead.{container_all, container_first, locus_first, new_is, no_container}
 use Rattle.script_against.proofs.tables.next_table.Goals as goal
 
 pub returns-in-Some-clause-some : goal.returns-in-Some-clause-some

@@ -6,7 +6,7 @@ use Rattle.blob_grammar.specs.Spelling.{caps_bytes, container_blob, instr_bytes,
 use Rattle.kernel_calls.specs.locus_machine.Loci.{container_with}
 use Rattle.kernel_calls.specs.locus_machine.declared.loci.Head.{Head}
 use Rattle.snapshot_form.specs.Pieces.{head_front}
-use Rattle.snapshot_form.proofs.Lengths.{blocks_most}
+use Rattle.blob_grammar.proofs.Lengths.{blocks_most}
 use Rattle.snapshot_form.proofs.Room.{five_joined}
 use Rattle.snapshot_form.proofs.containers.write_container.Goals as goal
 

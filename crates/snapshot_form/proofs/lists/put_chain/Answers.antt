@@ -1,7 +1,7 @@
 use Rattle.std.proofs.Common.{arith}
 use Rattle.blob_grammar.specs.Spelling.{call_bytes}
 use Rattle.snapshot_form.proofs.Items.{listed_fit, listed_most}
-use Rattle.snapshot_form.proofs.Lengths.{calls_most}
+use Rattle.blob_grammar.proofs.Lengths.{calls_most}
 use Rattle.snapshot_form.proofs.lists.put_chain.Goals as goal
 
 pub put_call-requires : goal.put_call-requires

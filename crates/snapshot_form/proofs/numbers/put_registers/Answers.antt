@@ -1,7 +1,7 @@
 use Rattle.std.proofs.Common.{◌≡◌, length, arith, rules}
 use Rattle.byteorder.specs.Endian.{little_bytes}
 use Rattle.snapshot_form.proofs.Items.{items_fit, items_most}
-use Rattle.snapshot_form.proofs.Lengths.{words_long}
+use Rattle.blob_grammar.proofs.Lengths.{words_long}
 use Rattle.snapshot_form.proofs.numbers.put_registers.Goals as goal
 
 pub put_u64-requires : goal.put_u64-requires

@@ -1,7 +1,8 @@
 use Rattle.std.proofs.Common.{sym, ap, ◌∙◌, ◌||◌}
 use Rattle.address_resolve.specs.Looks.{is_look}
 use Rattle.map_steps.specs.kernel_calls.Calls.{is_map, is_unmap}
-use Rattle.step_plans.proofs.Planned.{itself_alone, call_beside}
+use Rattle.step_plans.proofs.Planned.{call_beside}
+use Rattle.map_steps.proofs.beside_steps_lemmas.Touching.{itself_alone}
 use Rattle.step_plans.proofs.plans.plan_beside.Goals as goal
 
 pub returns-then-is_itself : goal.returns-then-is_itself

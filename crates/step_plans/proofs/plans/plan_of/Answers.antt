@@ -3,7 +3,7 @@ use Rattle.address_resolve.specs.hop_model.Acts.{Act}
 use Rattle.address_resolve.specs.locus_machine.Loci.{locus_of}
 use Rattle.address_resolve.proofs.locus_machine_lemmas.Alone.{seen_same}
 use Rattle.address_resolve.specs.wanted_act.Views.{act_of}
-use Rattle.step_plans.proofs.Planned.{refused_alone, not_refused}
+use Rattle.map_steps.proofs.beside_steps_lemmas.Touching.{refused_alone, not_refused}
 use Rattle.step_plans.proofs.plans.plan_of.Goals as goal
 
 pub returns-then-is_some : goal.returns-then-is_some

@@ -1,10 +1,10 @@
 use Rattle.std.proofs.Common.{◌≡◌, ◌+◌, ℕ, [], ◌∷◌, map, min, subst, sym, ◌∙◌, rules, false}
 use Rattle.std.specs.Prelude.{codes, string_bytes}
-use Rattle.command_words.specs.declared.Command.TheVariants.{Format, Run, Show}
+use Rattle.command_words.specs.declared.Command.TheVariants.{Run, Show}
 use Rattle.disk_trait.specs.MemoryDisk.{moments_of}
+use Rattle.client_calls.specs.Calls.{IsCalled}
+use Rattle.client_calls.specs.hopper_top.hop_model.State.{Text}
 use Rattle.stopped_client.specs.Promise.{KeepsPromise}
-use Rattle.stopped_client.proofs.Carried.{format_words}
-use Rattle.stopped_client.proofs.Fresh.{fresh}
 use Rattle.stopped_client.proofs.Keeping.{keeps, shown_from}
 use Rattle.stopped_client.proofs.stopping.run_and_stop.Goals as goal
 
@@ -14,13 +14,16 @@ returns-clause-kept c done some =
     let ran = c.in_ok-ran.field-0 in
     let showed = c.in_ok-showed.field-0 in
     let t = c.stop_at-stopped.result in
-    let formats : map string_bytes c.deref.result.now ≡ codes "format" ∷ codes "4096" ∷ [] = search rules in
-    let runs : map string_bytes c.deref-2.result.now ≡ codes "run" ∷ [] = search rules in
-    let shows : map string_bytes c.deref-3.result.now ≡ codes "show" ∷ [] = search rules in
+    let words : map string_bytes c.deref.result.now ≡ codes "run" ∷ [] = search rules in
+    let text : c.as_bytes.result.now ≡ c.args.script.now = search rules in
+    let runs = subst (λ (t : Text). IsCalled (Run false) t formatted.outcome.disk ran) text (c.in_ok-ran.ensures (Run false) words) in
+    let show_words : map string_bytes c.deref-2.result.now ≡ codes "show" ∷ [] = search rules in
+    let no_text : c.as_bytes-2.result.now ≡ [] = search rules in
+    let shows = subst (λ (t : Text). IsCalled Show t c.in_ok-left.left showed) no_text (c.in_ok-showed.ensures Show show_words) in
     let since : c.moments-since.result ≡ moments_of formatted.outcome.disk = c.moments-since.ensures in
     let now : c.moments.result ≡ moments_of ran.outcome.disk = c.moments.ensures in
     let stops : t ≡ min (moments_of formatted.outcome.disk + c.args.after) (moments_of ran.outcome.disk) = c.stop_at-stopped.ensures ∙ (λ i. min (since i + c.args.after) (now i)) in
-    let new = fresh _ c.in_ok-new.new formatted (c.in_ok-formatted.ensures (Format 4096) (format_words _ formats)) done in
+    let new = c.in_ok-formatted.ensures done in
     subst (λ (n : ℕ). KeepsPromise c.args.script.now c.args.torn (shown_from formatted ran showed n t)) (sym since)
-    (keeps c.args.script.now c.args.torn c.args.after formatted ran showed formatted.outcome.disk c.in_ok-left.left t new (c.in_ok-ran.ensures (Run false) runs) (c.in_ok-showed.ensures Show shows) stops some
+    (keeps c.args.script.now c.args.torn c.args.after formatted ran showed formatted.outcome.disk c.in_ok-left.left t new runs shows stops some
     c.in_ok-left.ensures.torn c.in_ok-left.ensures.may)

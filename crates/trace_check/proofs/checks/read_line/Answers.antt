@@ -3,7 +3,7 @@ use Rattle.actor_laws.proofs.history_model_lemmas.PlainBirths.{sound_here}
 use Rattle.actor_laws.specs.history_model.Plains.{atlas_of}
 use Rattle.text_lines.specs.hop_model.State.{Text}
 use Rattle.actor_laws.specs.script_form.Scripts.{tables_of}
-use Rattle.trace_steps.proofs.Single.{where_none}
+use Rattle.trace_steps.proofs.run_rules_lemmas.Single.{where_none}
 use Rattle.trace_check.specs.Reading.{NamesAlone, NamesNone, WantsFrom}
 use Rattle.trace_check.proofs.Lining.{reads_on, some_of, unwanted_stop, wrong_stop}
 use Rattle.trace_check.proofs.Names.{short_names}

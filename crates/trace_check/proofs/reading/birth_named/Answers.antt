@@ -5,7 +5,7 @@ use Rattle.trace_steps.proofs.plain_run_lemmas.Answering.{few_names_of}
 use Rattle.actor_laws.specs.script_form.Scripts.{tables_of}
 use Rattle.text_lines.specs.Lines.{name_in}
 use Rattle.trace_steps.specs.Standing.{run_of}
-use Rattle.trace_steps.proofs.Single.{one_birth, where_none}
+use Rattle.trace_steps.proofs.run_rules_lemmas.Single.{one_birth, where_none}
 use Rattle.trace_words.specs.Traces.{names_after}
 use Rattle.trace_check.proofs.Actors.{newborn_here, tried_refuses}
 use Rattle.trace_check.proofs.reading.birth_named.Goals as goal

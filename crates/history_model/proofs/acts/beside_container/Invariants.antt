@@ -1,4 +1,0 @@
-use Rattle.history_model.proofs.acts.beside_container.Given as goal
-
-abbrev pub ghost-load : goal.ghost-load
-ghost-load g a = g.s

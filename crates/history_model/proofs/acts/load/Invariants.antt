@@ -1,4 +1,0 @@
-use Rattle.history_model.proofs.acts.load.Given as goal
-
-abbrev pub ghost-word : goal.ghost-word
-ghost-word g a = g.s

@@ -1,7 +1,0 @@
-use Rattle.std.proofs.Common.{◌≡◌, ◌+◌, drop}
-use Rattle.std.specs.List.{position_or_len}
-use Rattle.history_model.specs.Readiness.{stands_before}
-use Rattle.history_model.proofs.local_acts.place_of_private.Given as goal
-
-abbrev pub invariant-loop-place : goal.invariant-loop-place
-invariant-loop-place l = l.place + position_or_len (stands_before l.p) (drop l.place l.privates) ≡ position_or_len (stands_before l.p) l.privates

@@ -1,7 +1,0 @@
-use Rattle.std.proofs.Common.{rules, not, ◌&&◌, ◌==◌}
-use Rattle.std.proofs.lemmas.Fn.{filter_same}
-use Rattle.hop_base.specs.declared.capabilities.Private.{Private}
-use Rattle.history_model.proofs.local_acts.remove_private.Goals as goal
-
-pub returns : goal.returns
-returns c = filter_same _ (λ (p : Private). not (p.made == c.args.host && p.region.at == c.args.page)) _ (λ x b q k. search rules) _ _ c.retain.ensures.filtered

@@ -1,4 +1,0 @@
-use Rattle.history_model.proofs.steps.plain_step.Given as goal
-
-abbrev pub ghost-carry_out : goal.ghost-carry_out
-ghost-carry_out g a = g.s

@@ -1,0 +1,1 @@
+pub use Rattle.trace_check.specs as trace_check
