@@ -174,7 +174,7 @@ pub fn step_both(
     let Some(answer) = answer else {
         return Ok(Seen::Apart(act.instr));
     };
-    assert_eq!(rt; entry.answer, answer);
+    assert!(rt; entry.answer == answer);
     assert!(rt; is_locus(state, me, &locus));
     assert!(rt; is_around(state, act, me, &around));
     assert!(rt; are_newborns(state, &around));

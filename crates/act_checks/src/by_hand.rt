@@ -81,8 +81,8 @@ fn called(
 /// Where the locus is after a call that was answered Ok.
 fn gone_to(rt: &impl Abort, locus: &mut Locus, head: Head) -> Option<(Entity, u8, usize)> {
     let (answer, _) = called(rt, locus, &mut Atlas::new(), head)?;
-    assert_eq!(rt; answer, Answer::Reply(Reply::Ok));
-    assert_eq!(rt; locus.registers[7], 0);
+    assert!(rt; answer == Answer::Reply(Reply::Ok));
+    assert!(rt; locus.registers[7] == 0);
     Some((locus.host, locus.place, locus.code.as_slice().len()))
 }
 
@@ -90,37 +90,31 @@ fn gone_to(rt: &impl Abort, locus: &mut Locus, head: Head) -> Option<(Entity, u8
 fn a_locus_goes_into_a_container_and_back(rt: HostRuntime) {
     let calls = [Instr::Invoke(2), Instr::Leave(2)];
     let mut locus = caller(&calls);
-    assert_eq!(rt;
-        gone_to(&rt, &mut locus, target_head()),
-        Some((target(), 1, 3))
-    );
+    assert!(rt; gone_to(&rt, &mut locus, target_head()) == Some((target(), 1, 3)));
     let way_back = Call {
         container: home(),
         place: 1,
     };
-    assert_eq!(rt; locus.chain.as_slice(), [way_back].as_slice());
+    assert!(rt; locus.chain.as_slice() == [way_back].as_slice());
     let home_head = Head::new(1, 0, 0, None, &calls);
-    assert_eq!(rt; gone_to(&rt, &mut locus, home_head), Some((home(), 1, 2)));
+    assert!(rt; gone_to(&rt, &mut locus, home_head) == Some((home(), 1, 2)));
     assert!(rt; locus.chain.as_slice().is_empty());
-    assert_eq!(rt;
-        gone_to(&rt, &mut locus, target_head()),
-        Some((target(), 1, 3))
-    );
+    assert!(rt; gone_to(&rt, &mut locus, target_head()) == Some((target(), 1, 3)));
     assert!(rt; locus.chain.as_slice().is_empty());
 }
 
 /// The head that a call beside it leaves, which was answered Ok.
 fn changed(rt: &impl Abort, locus: &mut Locus, atlas: &mut Atlas, head: Head) -> Option<Head> {
     let (answer, around) = called(rt, locus, atlas, head)?;
-    assert_eq!(rt; answer, Answer::Reply(Reply::Ok));
+    assert!(rt; answer == Answer::Reply(Reply::Ok));
     around.head
 }
 
 #[test]
 fn a_region_is_mapped_and_unmapped(rt: HostRuntime) {
     let mut atlas = Atlas::new();
-    assert_eq!(rt; atlas.birth(None, Kind::Container), Ok(home()));
-    assert_eq!(rt; atlas.birth(None, Kind::Container), Ok(target()));
+    assert!(rt; atlas.birth(None, Kind::Container) == Ok(home()));
+    assert!(rt; atlas.birth(None, Kind::Container) == Ok(target()));
     let mut locus = caller(&[Instr::Map(0, 1, 2, 3, 4, Rights(3)), Instr::Unmap(0, 1)]);
     let head = Head::new(8, 0, 0, None, &[]);
     let head = changed(&rt, &mut locus, &mut atlas, head).expect(&rt, "a call");
@@ -131,10 +125,10 @@ fn a_region_is_mapped_and_unmapped(rt: HostRuntime) {
         from: 5,
         rights: Rights(3),
     };
-    assert_eq!(rt; head.regions.as_slice(), [region].as_slice());
-    assert_eq!(rt; atlas.count(home(), target()), 1);
+    assert!(rt; head.regions.as_slice() == [region].as_slice());
+    assert!(rt; atlas.count(home(), target()) == 1);
     let head = changed(&rt, &mut locus, &mut atlas, head).expect(&rt, "a call");
     assert!(rt; head.regions.as_slice().is_empty());
-    assert_eq!(rt; atlas.count(home(), target()), 0);
-    assert_eq!(rt; locus.place, 2);
+    assert!(rt; atlas.count(home(), target()) == 0);
+    assert!(rt; locus.place == 2);
 }

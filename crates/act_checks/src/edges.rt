@@ -1,6 +1,6 @@
 ghost use Rattle.std.specs.Prelude.{◌≡◌, ◌↔◌, ℕ, IsTrue, ◌==◌, ◌<◌, ◌≤◌, if◌then◌else◌, count_by, All};
 ghost use Rattle.hop_base.specs.declared.capabilities.Region.{Region as AnyRegion};
-ghost use Rattle.atlas_dir.specs.Directory.{edges_of, IsBornContainer};
+ghost use Rattle.atlas_dir.specs.directory_form.Directory.{edges_of, IsBornContainer};
 
 use atlas_dir::Atlas;
 use hop_base::{Entity, Region};

@@ -7,19 +7,41 @@ use locus_machine::Locus;
 use std::test::Fail;
 
 /// The answer of a step that touches the locus alone. None of one that doesn't, or of a locus that halted.
-fn step(l: &mut Locus) -> Option<Answer>
-    requires { IsReadyLocus (locus_of l.old) }
-    ensures { IsReadyLocus (locus_of l.new) }
+fn step(locus: &mut Locus) -> Option<Answer>
+    requires { IsReadyLocus (locus_of locus.old) }
+    ensures { IsReadyLocus (locus_of locus.new) }
 {
-    if l.condition != Condition::Running {
+    if locus.condition != Condition::Running {
         return None;
     }
-    let act = l.wants();
+    let act = locus.wants();
     if act.atlas || act.other.is_some() || act.newborn.is_some() {
         return None;
     }
-    Some(l.local())
+    Some(locus.local())
 }
+
+/// Whether the next steps of a locus answer this.
+fn answers(locus: &mut Locus, wanted: &[Answer]) -> bool
+    requires { IsReadyLocus (locus_of locus.old) }
+    ensures { IsReadyLocus (locus_of locus.new) }
+{
+    for answer in wanted {
+        if step(locus) != Some(*answer) {
+            return false;
+        }
+    }
+    true
+}
+
+const SUMS: [Answer; 6] = [
+    Answer::Quiet,
+    Answer::Quiet,
+    Answer::Print(18_446_744_073_709_551_611),
+    Answer::Reply(Reply::NoSlot),
+    Answer::Print(1),
+    Answer::Quiet,
+];
 
 #[test]
 fn sums_wrap_and_refusals_are_answered_in_register_7(rt: HostRuntime) -> Result<(), Fail> {
@@ -31,26 +53,22 @@ fn sums_wrap_and_refusals_are_answered_in_register_7(rt: HostRuntime) -> Result<
         Instr::Drop(0),
         Instr::Print(7),
     ];
-    let mut l = Locus::new(host, 0, 0, &code);
-    assert_eq!(rt; step(&mut l), Some(Answer::Quiet));
-    assert_eq!(rt; step(&mut l), Some(Answer::Quiet));
-    assert_eq!(rt;
-        step(&mut l),
-        Some(Answer::Print(18_446_744_073_709_551_611))
-    );
-    assert_eq!(rt; step(&mut l), Some(Answer::Reply(Reply::NoSlot)));
-    assert_eq!(rt; step(&mut l), Some(Answer::Print(1)));
-    assert_eq!(rt; step(&mut l), Some(Answer::Quiet));
-    assert_eq!(rt; l.printed, 2);
-    assert_eq!(rt; l.place, 5);
-    assert_eq!(rt; l.condition, Condition::Halted);
+    let mut locus = Locus::new(host, 0, 0, &code);
+    assert!(rt; answers(&mut locus, &SUMS));
+    assert!(rt; (locus.printed, locus.place) == (2, 5));
+    assert!(rt; locus.condition == Condition::Halted);
     Ok(())
 }
+
+const MAPPED: [Answer; 2] = [Answer::Quiet, Answer::Reply(Reply::Ok)];
+
+const UNMAPPED: [Answer; 2] = [Answer::Reply(Reply::Overlap), Answer::Reply(Reply::Ok)];
+
+const DROPPED: [Answer; 2] = [Answer::Reply(Reply::NoRegion), Answer::Reply(Reply::Ok)];
 
 #[test]
 fn private_regions_are_made_and_taken_out(rt: HostRuntime) -> Result<(), Fail> {
     let host = Entity::new(1).ok_or("a host")?;
-    let other = Entity::new(2).ok_or("a container")?;
     let map = Instr::Lmap(0, 0, 0, 1, Rights(3));
     let code = [
         Instr::Set(1, 2),
@@ -60,22 +78,15 @@ fn private_regions_are_made_and_taken_out(rt: HostRuntime) -> Result<(), Fail> {
         Instr::Lunmap(0),
         Instr::Drop(0),
     ];
-    let mut l = Locus::new(host, 0, 0, &code);
-    assert_eq!(rt;
-        l.caps.put(Cap {
-            entity: other,
-            rights: Rights(3)
-        }),
-        Ok(0)
-    );
-    assert_eq!(rt; step(&mut l), Some(Answer::Quiet));
-    assert_eq!(rt; step(&mut l), Some(Answer::Reply(Reply::Ok)));
-    assert_eq!(rt; l.privates.as_slice().len(), 1);
-    assert_eq!(rt; step(&mut l), Some(Answer::Reply(Reply::Overlap)));
-    assert_eq!(rt; step(&mut l), Some(Answer::Reply(Reply::Ok)));
-    assert_eq!(rt; l.privates.as_slice().len(), 0);
-    assert_eq!(rt; step(&mut l), Some(Answer::Reply(Reply::NoRegion)));
-    assert_eq!(rt; step(&mut l), Some(Answer::Reply(Reply::Ok)));
-    assert_eq!(rt; l.caps.at(0), Err(Reply::NoSlot));
+    let mut locus = Locus::new(host, 0, 0, &code);
+    let cap = Cap {
+        entity: Entity::new(2).ok_or("a container")?,
+        rights: Rights(3),
+    };
+    assert!(rt; locus.caps.put(cap) == Ok(0));
+    assert!(rt; answers(&mut locus, &MAPPED) && locus.privates.as_slice().len() == 1);
+    assert!(rt; answers(&mut locus, &UNMAPPED) && locus.privates.as_slice().is_empty());
+    assert!(rt; answers(&mut locus, &DROPPED));
+    assert!(rt; locus.caps.at(0) == Err(Reply::NoSlot));
     Ok(())
 }

@@ -9,12 +9,12 @@ const SUM: [Instr; 3] = [Instr::Copy(3, 2), Instr::Add(3, 1), Instr::Halt];
 
 #[test]
 fn a_program_answers_register_three(rt: HostRuntime) {
-    assert_eq!(rt; run_manager(&SUM, [7, 1, 2, 0, 0, 0, 0, 0]), 3);
+    assert!(rt; run_manager(&SUM, [7, 1, 2, 0, 0, 0, 0, 0]) == 3);
     let forever = [Instr::Jump(0)];
-    assert_eq!(rt; run_manager(&forever, [7, 1, 2, 0, 0, 0, 0, 0]), 0);
+    assert!(rt; run_manager(&forever, [7, 1, 2, 0, 0, 0, 0, 0]) == 0);
     // two acts a round: 1,000 acts are 500 sums
     let counting = [Instr::Add(3, 4), Instr::Jump(0)];
-    assert_eq!(rt; run_manager(&counting, [0, 0, 0, 0, 1, 0, 0, 0]), 500);
+    assert!(rt; run_manager(&counting, [0, 0, 0, 0, 1, 0, 0, 0]) == 500);
 }
 
 #[test]
@@ -41,8 +41,8 @@ fn a_book_asks_its_programs_first(rt: HostRuntime) {
     let gate = Gate::new(&book, &book);
     let mut page = [0; 128];
     gate.page(7, 1, &mut page);
-    assert_eq!(rt; page[2], 3);
-    assert_eq!(rt; book.word(5, 1, 2), 135);
+    assert!(rt; page[2] == 3);
+    assert!(rt; book.word(5, 1, 2) == 135);
     assert!(rt; gate.wishes(5, 0));
     assert!(rt; !gate.wishes(4, 3));
 }

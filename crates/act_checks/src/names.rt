@@ -1,7 +1,7 @@
 ghost use Rattle.std.specs.Prelude.{◌≡◌, ◌↔◌, IsTrue, Some};
 ghost use Rattle.hop_base.specs.declared.capabilities.Cap.{Cap as AnyCap};
 ghost use Rattle.history_model.specs.hop_model.Words.{is_container};
-ghost use Rattle.atlas_dir.specs.Directory.{IsBornContainer};
+ghost use Rattle.atlas_dir.specs.directory_form.Directory.{IsBornContainer};
 ghost use Rattle.kernel_calls.specs.Calls.{NamesBorn};
 
 use atlas_dir::Atlas;

@@ -14,12 +14,12 @@ use Rattle.history_model.specs.hop_model.LocalEvents.{touch_at}
 use Rattle.history_model.specs.hop_model.Outcomes.{free_container}
 use Rattle.history_model.specs.hop_model.Scripts.{ContainerTable, LocusTable, Script, container_named, container_table, locus_table, next_name, number_of}
 use Rattle.history_model.specs.hop_model.Soundness.{AreSound, IsSound, is_born, is_born_container, is_born_locus}
-use Rattle.history_model.specs.hop_model.State.{AtlasState, AtlasCell, Cell, ContainerCell, EntityState, KernelState, LocusCell, NotBorn, Supply, Text}
+use Rattle.history_model.specs.hop_model.State.{AtlasState, AtlasCell, Cell, EntityState, KernelState, Supply, Text}
 use Rattle.history_model.specs.hop_model.Steps.{accesses_of, atlas_in, change_of, numbered_change, outcome_in, running, seen_atlas, seen_other, step, step_change, with_atlas_access, with_newborn_access, with_other_access}
 use Rattle.history_model.proofs.hop_model_lemmas.Basics.{some_of_map}
 use Rattle.history_model.proofs.hop_model_lemmas.Faithful.{IsNewborn, free_locus_is, wanted_is}
 use Rattle.history_model.proofs.hop_model_lemmas.Locality.{next_birth_local, step_local}
-use Rattle.history_model.specs.Lists.{IsFront, KeepsNames}
+use Rattle.history_model.specs.sound_runs.Names.{IsFront, KeepsNames}
 use Rattle.fitting_births.proofs.Growing.{ByContainer, ByLocus, Grew, born_atlas, container_change, locus_change}
 use Rattle.fitting_births.proofs.KnownNames.{NextName, OfContainer, OfLocus, next_name_is}
 use Rattle.history_model.specs.script_form.Rules.{IsScript}
@@ -30,7 +30,7 @@ use Rattle.sound_states.proofs.Steps.{step_good}
 use Rattle.history_model.proofs.sound_steps_lemmas.Cells.{locus_in}
 use Rattle.history_model.proofs.sound_steps_lemmas.Growth.{Wider, born_container, born_locus, wider_born}
 use Rattle.history_model.proofs.sound_steps_lemmas.Steps.{step_sound}
-use Rattle.actor_laws.proofs.Naming.{step_names}
+use Rattle.history_model.proofs.sound_runs_lemmas.Naming.{step_keeps}
 use Rattle.sound_states.proofs.hop_model_lemmas.StepTallies.{running_is}
 use Rattle.std.proofs.lemmas.Option.{same_Some}
 use Rattle.sound_states.proofs.States.{not_unborn}
@@ -156,7 +156,7 @@ step_touched s me w r sound is x t touch =
     let b = atlas_in (r.1 0).cell in
     let after = step_sound s me w r sound is in
     let after_b : AreSound b (λ x. (r.1 x).cell) = subst (λ (k : AtlasState). AreSound k (λ x. (r.1 x).cell)) (sym (ap atlas_in after.1.atlas)) after.1 in
-    let wide : Wider sound.0 b = subst (λ (k : AtlasState). Wider k b) (ap atlas_in sound.1.atlas) (wider (atlas_in (w 0).cell) b (step_names s me w r sound is)) in
+    let wide : Wider sound.0 b = subst (λ (k : AtlasState). Wider k b) (ap atlas_in sound.1.atlas) (wider (atlas_in (w 0).cell) b (step_keeps s me w r sound is)) in
     let with_newborn : (n : ℕ × Cell) → o.newborn ≡ Some n → IsTrue (is_born b x) = λ n e.
     let f : IsNewborn act.atlas act.other (seen_atlas w act.atlas) o.atlas n =
     subst (λ k. MatchOption k (act.atlas ≡ true → length o.atlas.loci ≡ length (seen_atlas w act.atlas).loci) (λ n. IsNewborn act.atlas act.other (seen_atlas w act.atlas) o.atlas n)) e (wanted_is s me l (seen_atlas w act.atlas) (seen_other w act.other)).bears in
@@ -189,7 +189,7 @@ pub stays_or_born : (w : KernelState) (e : Entry) (v : KernelState) (x : ℕ) �
 stays_or_born w e v x wide = elim (touch_at e.touched x) as (λ k. touch_at e.touched x ≡ k → StaysOrBorn w v x) [ None ↦ λ is. inl (wide.stays x is) | Some t ↦ λ is. inr (wide.touched x t is) ] refl
 
 pub step_widens : (s : Supply) (me : ℕ) (w : KernelState) (r : Entry × KernelState) → IsSound (λ x. (w x).cell) → step s me w ≡ Some r → IsWidened w r.0 r.1
-step_widens s me w r sound is = record { names = step_names s me w r sound is; touched = step_touched s me w r sound is; stays = (step_local s me).stays w r is }
+step_widens s me w r sound is = record { names = step_keeps s me w r sound is; touched = step_touched s me w r sound is; stays = (step_local s me).stays w r is }
 
 -- A BIRTH
 

@@ -18,16 +18,16 @@ use Rattle.history_model.specs.hop_model.Steps.{atlas_in, step}
 use Rattle.history_model.specs.hop_model.Words.{put}
 use Rattle.history_model.proofs.hop_model_lemmas.Basics.{some_of_map}
 use Rattle.history_model.proofs.hop_model_lemmas.LegalRuns.{next_legal, state_goes_on}
-use Rattle.history_model.specs.Lists.{KeepsNames}
+use Rattle.history_model.specs.sound_runs.Names.{KeepsNames}
 use Rattle.history_model.proofs.run_laws_lemmas.Tellings.{written_rises}
+use Rattle.history_model.proofs.run_laws_lemmas.Wishes.{asked_or}
 use Rattle.history_model.proofs.run_laws_lemmas.Writing.{step_is, step_writes_asked}
 use Rattle.history_model.specs.script_form.Rules.{IsScript}
 use Rattle.history_model.proofs.sound_runs_lemmas.Births.{NotLocus}
-use Rattle.history_model.proofs.sound_runs_lemmas.Standing.{IsStanding, standing_next}
+use Rattle.history_model.proofs.sound_runs_lemmas.Standing.{IsStanding, apart_snap, apart_stable, apart_step, apart_tried, standing_next}
 use Rattle.history_model.proofs.sound_steps_lemmas.Cells.{locus_in}
 use Rattle.actor_laws.proofs.Changing.{Bears, IsWidened, birth_widens, each_born, stays_born, stays_or_born, step_widens}
-use Rattle.actor_laws.proofs.Naming.{keeps_same}
-use Rattle.history_model.proofs.sound_steps_lemmas.Growth.{wider_born}
+use Rattle.history_model.proofs.sound_runs_lemmas.Naming.{keeps_same}
 use Rattle.sound_states.proofs.sound_steps_lemmas.Growth.{born_locus}
 use Rattle.std.proofs.lemmas.Option.{same_Some}
 
@@ -51,14 +51,6 @@ none_some {A} {B} x e = absurd (apart x e)
 kept_mark : (b c : Bool) → (not b && c) ≡ true → c ≡ true
 kept_mark true c e = absurd (false≢true e)
 kept_mark false c e = e
-
--- who is asked now was asked, or is by this step
-asked_now : (o : Option ℕ) (f : ℕ → Bool) (x : ℕ) → with_asked o f x ≡ true → (o ≡ Some x) ⊎ (f x ≡ true)
-asked_now None f x e = inr e
-asked_now (Some k) f x e = elim (x == k) as (λ b. (x == k) ≡ b → (if b then true else f x) ≡ true → (Some k ≡ Some x) ⊎ (f x ≡ true)) [
-  | true ↦ λ is e. inl (ap (λ (n : ℕ). Some n) (sym (eqb-true x k is)))
-  | false ↦ λ is e. inr e
-] refl e
 
 owes_zero : (b : Bool) (x : ℕ) → (if b then None else Some 0) ≡ Some x → x ≡ 0
 owes_zero true x e = none_some x e
@@ -157,7 +149,7 @@ module _ (s : Supply) (policy : Policy) (script : Script) (rules : IsScript scri
                 | true ↦ λ wrote g. writer x wrote
                 | false ↦ λ none g. stays_born (atlas_of r) (atlas_of q) x wide.names (known.by_step x g)
               ] refl (ap (λ (f : ℕ → Bool). f x) (sym by_step) ∙ f);
-              asked = λ x f. elim (asked_now (asked_by e.answer (locus_of (r.state e.actor).cell)) r.asked x (ap (λ (f : ℕ → Bool). f x) (sym asked) ∙ f)) as (λ _. IsTrue (is_born (atlas_of q) x)) [
+              asked = λ x f. elim (asked_or (asked_by e.answer (locus_of (r.state e.actor).cell)) r.asked x (ap (λ (f : ℕ → Bool). f x) (sym asked) ∙ f)) as (λ _. IsTrue (is_born (atlas_of q) x)) [
                 | inl by ↦ writer x (step_writes_asked s e.actor r.state e x made by)
                 | inr was ↦ stays_born (atlas_of r) (atlas_of q) x wide.names (known.asked x was)
               ];
@@ -241,18 +233,6 @@ module _ (s : Supply) (policy : Policy) (script : Script) (rules : IsScript scri
     where
       old : (e.event ≡ Birth → ⊥) → IsTrue (is_born (atlas_of (goes_on s script r e)) e.actor)
       old other = stays_born (atlas_of r) (atlas_of (goes_on s script r e)) e.actor (names_left r e h m) (actor_born r e h known m other)
-
-      apart_step : Step ≡ Birth → ⊥
-      apart_step e = cc
-
-      apart_snap : SnapEvent ≡ Birth → ⊥
-      apart_snap e = cc
-
-      apart_stable : Stable ≡ Birth → ⊥
-      apart_stable e = cc
-
-      apart_tried : Tried ≡ Birth → ⊥
-      apart_tried e = cc
 
   -- and what it touches is born then
   pub touched_left : (r : Run) (e : Entry) → IsStanding script r → May s policy script r e → All (λ (t : Touch). IsTrue (is_born (atlas_of (goes_on s script r e)) t.entity)) e.touched

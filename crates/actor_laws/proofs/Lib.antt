@@ -1,4 +1,3 @@
-pub mod Naming
 pub mod Changing
 pub mod Knowing
 pub mod Spots

@@ -7,7 +7,7 @@ use Rattle.history_model.specs.hop_model.Scripts.{atlas_name}
 use Rattle.history_model.specs.hop_model.Soundness.{IsSoundAtlas, is_born, is_born_container, is_born_locus}
 use Rattle.history_model.specs.hop_model.State.{AtlasState, Text}
 use Rattle.history_model.proofs.hop_model_lemmas.Basics.{and_left, and_right}
-use Rattle.history_model.specs.Lists.{KeepsNames}
+use Rattle.history_model.specs.sound_runs.Names.{KeepsNames}
 use Rattle.text_lines.specs.Lines.{name_in}
 
 -- the name at a place of a list is that of its number

@@ -9,7 +9,7 @@ ghost use Rattle.history_model.specs.hop_model.Histories.{Policy, IsLegalRun, Ma
 ghost use Rattle.history_model.specs.hop_model.Scripts.{Script};
 ghost use Rattle.history_model.specs.hop_model.Soundness.{IsSound, is_born};
 ghost use Rattle.history_model.specs.hop_model.Steps.{atlas_in, step};
-ghost use Rattle.history_model.specs.Lists.{KeepsNames};
+ghost use Rattle.history_model.specs.sound_runs.Names.{KeepsNames};
 ghost use Rattle.history_model.specs.script_form.Rules.{IsScript};
 ghost use Rattle.history_model.specs.sound_runs.Kinds.{NamesNoLocus};
 

@@ -13,7 +13,7 @@ use Rattle.fault_paging.specs.hop_model.Words.{covers, denied}
 use Rattle.region_map.specs.Regions.{AreRegions}
 use Rattle.invocation.specs.wanted_act.Views.{IsReadyLocus, ShowsPage}
 use Rattle.invocation.proofs.wanted_act_lemmas.Shown.{shows}
-use Rattle.invocation.proofs.locus_machine_lemmas.Kept.{ready_finish}
+use Rattle.invocation.proofs.wanted_laws_lemmas.Kept.{ready_finish}
 use Rattle.address_resolve.specs.Looks.{Looked, Shows}
 
 -- the region that covers the page shows it

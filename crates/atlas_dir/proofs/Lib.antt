@@ -1,4 +1,1 @@
-pub mod Paths
-pub mod Naming
-pub mod Digits
-pub mod Pigeons
+pub use Rattle.directory_form.proofs as directory_form_lemmas

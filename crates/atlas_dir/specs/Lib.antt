@@ -1,2 +1,1 @@
-pub mod Directory
-pub mod Reached
+pub use Rattle.directory_form.specs as directory_form

@@ -8,8 +8,8 @@ ghost use Rattle.std.specs.Option.{ForSome};
 ghost use Rattle.std.specs.Option.{option_map};
 ghost use Rattle.hop_base.specs.Edges.{ClosesCircle};
 ghost use Rattle.circle_law.specs.Containers.{IsAmongContainers};
-ghost use Rattle.atlas_dir.specs.Reached.{FindsCircles, with_edge};
-ghost use Rattle.atlas_dir.specs.Directory.{edges_of, with_count, name_of, is_born, entity_named, number_born, free_number, given_or_made, with_entity, IsName, IsDirectory, IsBornContainer};
+ghost use Rattle.directory_form.specs.Reached.{FindsCircles, with_edge};
+ghost use Rattle.directory_form.specs.Directory.{edges_of, with_count, name_of, is_born, entity_named, number_born, free_number, given_or_made, with_entity, IsName, IsDirectory, IsBornContainer};
 
 mod names;
 mod reached;
@@ -32,16 +32,16 @@ pub struct Atlas {
 }
 
 impl Model for Atlas {
-    ghost use Rattle.atlas_dir.specs.Directory.{Directory};
+    ghost use Rattle.directory_form.specs.Directory.{Directory};
 
     ghost Value = { Directory };
 
     ghost use Rattle.circle_law.specs.Containers.{IsAmongContainers};
-    ghost use Rattle.atlas_dir.specs.Reached.{edges_in};
+    ghost use Rattle.directory_form.specs.Reached.{edges_in};
 
     ghost view = { λ a. record { containers = a.containers.items; loci = a.loci.items; edges = a.edges } };
 
-    ghost use Rattle.atlas_dir.specs.Directory.{IsDirectory};
+    ghost use Rattle.directory_form.specs.Directory.{IsDirectory};
 
     ghost invariant = { λ a. IsAmongContainers (edges_in a.edges)
         × IsDirectory (record { containers = a.containers.items; loci = a.loci.items; edges = a.edges }) };

@@ -3,7 +3,7 @@ ghost use Rattle.std.specs.Prelude.{◌≡◌, ◌↔◌, ◌+◌, ◌-◌, ◌<
 ghost use Rattle.std.specs.List.{list_all};
 ghost use Rattle.std.specs.Fmt.{decimal};
 ghost use Rattle.std.specs.Str.{bytes_eq};
-ghost use Rattle.atlas_dir.specs.Directory.{made_name, number_from, is_letter, is_name_byte, IsName};
+ghost use Rattle.directory_form.specs.Directory.{made_name, number_from, is_letter, is_name_byte, IsName};
 
 use arrayvec::ArrayString;
 use std::marker::Model;

@@ -2,7 +2,8 @@
 ghost use Rattle.std.specs.Prelude.{◌≡◌, ℕ, ◌<◌, true, false, length, slice_index, IfSome, IfNone, List};
 ghost use Rattle.std.specs.Bool.{OnTrue, OnFalse};
 ghost use Rattle.hop_base.specs.Edges.{IsPath};
-ghost use Rattle.atlas_dir.specs.Reached.{edges_in, is_marked, IsClosed};
+ghost use Rattle.circle_law.specs.Marks.{is_marked, IsClosed};
+ghost use Rattle.directory_form.specs.Reached.{edges_in};
 
 /// One more than the greatest number of a container.
 pub const SIDE: usize = 41;
@@ -26,7 +27,7 @@ fn new_in_row(row: &[u8], marks: &[bool]) -> Option<usize>
 fn new_number(edges: &[[u8; SIDE]; SIDE], marks: &[bool; SIDE]) -> Option<usize>
     ensures some { IfSome result (λ y. (y < SIDE) × (is_marked marks.now y ≡ false)
         × ((x : ℕ) × (is_marked marks.now x ≡ true) × (0 < edges_in edges.now x y))) }
-    ensures none { IfNone result (IsClosed edges.now marks.now) }
+    ensures none { IfNone result (IsClosed (edges_in edges.now) marks.now) }
 {
     for x in 0..SIDE {
         if marks[x] {

@@ -1,13 +1,1 @@
-pub mod EdgeFields
-pub mod EdgeOrder
-pub mod EdgeLists
-pub mod EdgesRead
-pub mod NameFronts
-pub mod TextsRead
-pub mod NameTests
-pub mod ShortNames
-pub mod NameFields
-pub mod NamesRead
-pub mod AtlasWalk
-pub mod AtlasFields
-pub mod AtlasRead
+pub use Rattle.snapshot_reading.proofs.blob_fields_lemmas

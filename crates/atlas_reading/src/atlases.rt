@@ -1,9 +1,9 @@
 //! Atlases.
 ghost use Rattle.std.specs.Prelude.{IfOk, IfErr};
 ghost use Rattle.hop_base.specs.declared.entities.Kind.TheVariants.{Atlas as AtlasKind};
-ghost use Rattle.atlas_reading.specs.Atlases.{IsAtlasSpelled};
+ghost use Rattle.snapshot_reading.specs.blob_fields.Atlases.{IsAtlasSpelled};
 ghost use Rattle.snapshot_reading.specs.blob_grammar.Forms.{IsSpelling};
-ghost use Rattle.snapshot_reading.specs.Fields.{IsFound, IsRefused};
+ghost use Rattle.snapshot_reading.specs.blob_fields.Fields.{IsFound, IsRefused};
 ghost use Rattle.snapshot_reading.specs.Places.{IsBadBlob};
 
 use crate::edges::read_edges;

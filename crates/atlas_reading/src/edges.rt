@@ -1,8 +1,9 @@
 //! Edges between containers, each of a pair behind the one before it.
 ghost use Rattle.std.specs.Prelude.{◌≡◌, ◌+◌, ◌≤◌, ◌<◌, ℕ, IfOk, IfErr};
-ghost use Rattle.atlas_dir.specs.Directory.{edges_of};
-ghost use Rattle.atlas_reading.specs.Edges.{AreEdgesSpelled, IsEdgeIn, counted_as, least_column as least_column_of, most_column as most_column_of, pair_of, row_of};
-ghost use Rattle.snapshot_reading.specs.Fields.{IsFound, IsRefused, Spells};
+ghost use Rattle.atlas_dir.specs.directory_form.Directory.{edges_of};
+ghost use Rattle.snapshot_reading.specs.blob_fields.Edges.{AreEdgesSpelled, IsEdgeIn, least_column as least_column_of, most_column as most_column_of, pair_of, row_of};
+ghost use Rattle.atlas_reading.specs.Edges.{counted_as};
+ghost use Rattle.snapshot_reading.specs.blob_fields.Fields.{IsFound, IsRefused, Spells};
 
 use atlas_dir::Atlas;
 use hop_base::{Entity, MOST_CONTAINERS, MOST_REGIONS};

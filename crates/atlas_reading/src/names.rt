@@ -2,10 +2,10 @@
 ghost use Rattle.std.specs.Prelude.{◌≡◌, ◌≢◌, ◌↔◌, ◌+◌, ◌<◌, ◌≤◌, [], ◌∷◌, ◌++◌, length, None, IsTrue, IfSome, IfNone, IfOk, IfErr};
 ghost use Rattle.std.specs.Bool.{OnTrue, OnFalse};
 ghost use Rattle.std.specs.List.{list_all};
-ghost use Rattle.atlas_dir.specs.Directory.{IsDirectory, IsNameOf, entity_named, is_name_byte, name_of, with_entity};
-ghost use Rattle.atlas_reading.specs.Names.{AreNamesSpelled, GoesOn, HasShortName, IsGivenFront, IsGivenSo, IsMadeSo, IsNameIn, IsSize, IsSizeSpelled, IsTextIn, IsTextSpelled, most_names, names_in, next_number as next_number_of, with_names};
+ghost use Rattle.atlas_dir.specs.directory_form.Directory.{IsDirectory, IsNameOf, entity_named, is_name_byte, name_of, with_entity};
+ghost use Rattle.snapshot_reading.specs.blob_fields.Names.{AreNamesSpelled, GoesOn, HasShortName, IsGivenFront, IsGivenSo, IsMadeSo, IsNameIn, IsSize, IsSizeSpelled, IsTextIn, IsTextSpelled, most_names, names_in, next_number as next_number_of, with_names};
 ghost use Rattle.snapshot_reading.specs.blob_grammar.Places.{Begins};
-ghost use Rattle.snapshot_reading.specs.Fields.{IsFound, IsRefused, Spells};
+ghost use Rattle.snapshot_reading.specs.blob_fields.Fields.{IsFound, IsRefused, Spells};
 
 use arrayvec::ArrayString;
 use atlas_dir::{Atlas, NAME_LENGTH, is_letter, is_name_byte, made_name};

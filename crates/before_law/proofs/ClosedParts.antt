@@ -9,13 +9,13 @@ use Rattle.hop_model.specs.Scripts.{Script}
 use Rattle.hop_model.specs.LocalEvents.{IsLocal}
 use Rattle.hop_model.specs.Vectors.{IsStamped}
 use Rattle.hop_model.specs.Parts.{IsClosed, IsNext, IsPlayed, after_entry, all_within, is_event, some_within, within, writes_within}
-use Rattle.hop_model.specs.Histories.{Policy, IsLegalRun, event_of, start_run, writes}
+use Rattle.hop_model.specs.Histories.{IsLegalRun, Policy, event_of, start_run, touches, writes}
 use Rattle.hop_model.proofs.Basics.{and_left, and_right, both}
 use Rattle.hop_model.proofs.Covering.{Is_next, found, is_next}
 use Rattle.hop_model.proofs.LegalRuns.{event_of_local, event_of_stamped, legal_played}
 use Rattle.hop_model.proofs.Replay.{all_at, any_at, at_entity, no_write_within, weaker}
 use Rattle.hop_model.proofs.StableCuts.{versions_rise}
-use Rattle.before_law.specs.Before.{IsAt, IsBefore, IsChain, touches}
+use Rattle.before_law.specs.Before.{IsAt, IsBefore, IsChain}
 
 -- one entry stands at a place
 pub one_at : (es : List Entry) (i : ℕ) (d e : Entry) → IsAt es i d → IsAt es i e → d ≡ e

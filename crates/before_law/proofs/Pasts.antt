@@ -3,11 +3,12 @@ use Rattle.std.proofs.Common.{◌≡◌, ℕ, zero, suc, ◌≤◌, ◌<◌, Boo
 use Rattle.std.specs.List.{list_any}
 use Rattle.std.proofs.lemmas.Bool.{cases_lt, false≢true, or_cases}
 use Rattle.hop_base.specs.declared.histories.Entry.{Entry}
-use Rattle.hop_model.specs.Histories.{writes}
+use Rattle.hop_model.specs.Histories.{touches, writes}
 use Rattle.hop_model.specs.Pasts.{entities, has, past, sources, writes_one}
 use Rattle.hop_model.proofs.Basics.{or_left, or_right}
-use Rattle.before_law.specs.Before.{IsAt, IsBefore, IsChain, IsDirectlyBefore, IsInPast, picked, touches}
-use Rattle.before_law.proofs.Touching.{has_append, has_entities, one_written, written_one, written_touched}
+use Rattle.before_law.specs.Before.{IsAt, IsBefore, IsChain, IsDirectlyBefore, IsInPast, picked}
+use Rattle.hop_model.proofs.Lists.{written_touched}
+use Rattle.before_law.proofs.Touching.{has_append, has_entities, one_written, written_one}
 
 -- whether the entry at the place is in the past of these entities
 abbrev pub in_past : List Entry → List ℕ → ℕ → Bool

@@ -34,12 +34,3 @@ written_one (t ∷ ts) zs some =
       | inl here ↦ (t.entity, or_left (t.entity == t.entity && t.wrote) _ (both _ _ (eq-eqb t.entity t.entity refl) (and_left _ _ here)), and_right t.wrote _ here)
       | inr later ↦ (let k = written_one ts zs later in (k.0, or_right (t.entity == k.0 && t.wrote) _ k.1, k.2))
     ]
-
--- what is written is touched
-pub written_touched : (ts : List Touch) (x : ℕ) → list_any (λ t. t.entity == x && t.wrote) ts ≡ true → list_any (λ t. t.entity == x) ts ≡ true
-written_touched [] x wrote = wrote
-written_touched (t ∷ ts) x wrote =
-    elim (or_cases (t.entity == x && t.wrote) _ wrote) as (λ _. ((t.entity == x) || list_any (λ t. t.entity == x) ts) ≡ true) [
-      | inl here ↦ or_left (t.entity == x) _ (and_left _ _ here)
-      | inr later ↦ or_right (t.entity == x) _ (written_touched ts x later)
-    ]

@@ -1,17 +1,13 @@
 -- What is before what in a history (Lamport, 1978). A place is the number of entries before it.
-use Rattle.std.specs.Prelude.{◌≡◌, ◌<◌, ◌≤◌, ◌==◌, ◌⊎◌, [], ◌∷◌, ℕ, Bool, List, if◌then◌else◌, suc, true, zero}
-use Rattle.std.specs.List.{list_any}
+use Rattle.std.specs.Prelude.{◌≡◌, ◌<◌, ◌≤◌, ◌⊎◌, [], ◌∷◌, ℕ, Bool, List, if◌then◌else◌, suc, true, zero}
 use Rattle.hop_base.specs.declared.histories.Entry.{Entry}
-use Rattle.hop_model.specs.Histories.{writes}
+use Rattle.hop_model.specs.Histories.{touches, writes}
 
 -- the entry stands at the place
 abbrev pub IsAt : List Entry → ℕ → Entry → Type 0
 IsAt [] i e = ⊥
 IsAt (f ∷ fs) zero e = f ≡ e
 IsAt (f ∷ fs) (suc i) e = IsAt fs i e
-
-abbrev pub touches : Entry → ℕ → Bool
-touches e x = list_any (λ t. t.entity == x) e.touched
 
 -- the entry at the one place comes earlier, and writes an entity that the entry at the other touches
 pub record IsDirectlyBefore (es : List Entry) (i j : ℕ) : Type 0 where

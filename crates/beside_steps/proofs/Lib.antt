@@ -7,3 +7,4 @@ pub use Rattle.kernel_cells.proofs.event_clocks_lemmas
 pub use Rattle.kernel_cells.proofs as kernel_cells_lemmas
 pub use Rattle.kernel_cells.proofs.locus_machine_lemmas
 pub use Rattle.kernel_cells.proofs.wanted_act_lemmas
+pub use Rattle.kernel_cells.proofs.wanted_laws_lemmas

@@ -8,8 +8,8 @@ use Rattle.kernel_cells.specs.hop_model.Acts.{Act, act_by, allowed, alone, besid
 use Rattle.kernel_cells.specs.hop_model.Refusals.{entity_of, instr_at, refusal}
 use Rattle.kernel_cells.specs.hop_model.State.{LocusState}
 use Rattle.kernel_cells.specs.wanted_act.Views.{may_name_itself}
-use Rattle.kernel_cells.specs.locus_machine.Loci.{IsAlone}
-use Rattle.kernel_cells.proofs.locus_machine_lemmas.Alone.{wanted_allowed, wanted_says}
+use Rattle.kernel_cells.specs.wanted_laws.Loci.{IsAlone}
+use Rattle.kernel_cells.proofs.wanted_laws_lemmas.Alone.{wanted_allowed, wanted_says}
 use Rattle.beside_steps.specs.Besides.{WantsOther, calls_container}
 
 some_none : {A : Type 0} {x : A} → Some x ≡ None → ⊥

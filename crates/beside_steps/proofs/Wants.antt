@@ -10,7 +10,7 @@ use Rattle.kernel_cells.specs.hop_model.Refusals.{entity_of, instr_at, refusal}
 use Rattle.kernel_cells.specs.hop_model.State.{Supply, AtlasState, LocusState, Cell}
 use Rattle.kernel_cells.specs.wanted_act.Views.{IsReadyLocus, may_name_itself}
 use Rattle.kernel_cells.proofs.wanted_act_lemmas.Beside.{made_beside, wanted_same}
-use Rattle.kernel_cells.proofs.locus_machine_lemmas.Alone.{place_within, wanted_allowed, wanted_says}
+use Rattle.kernel_cells.proofs.wanted_laws_lemmas.Alone.{place_within, wanted_allowed, wanted_says}
 use Rattle.kernel_cells.specs.kernel_calls.Calls.{CallMade}
 use Rattle.kernel_cells.specs.declared.cells.Part.{Part}
 use Rattle.kernel_cells.specs.declared.cells.Part.TheVariants as part

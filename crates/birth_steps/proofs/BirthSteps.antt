@@ -14,7 +14,7 @@ use Rattle.kernel_cells.specs.hop_model.Outcomes.{Outcome, outcome}
 use Rattle.kernel_cells.specs.hop_model.Refusals.{instr_at}
 use Rattle.kernel_cells.specs.hop_model.State.{Supply, AtlasState, LocusState, Cell as ModelCell, NotBorn, AtlasCell, LocusCell, KernelState}
 use Rattle.kernel_cells.specs.hop_model.Steps.{accesses_of, atlas_in, outcome_in, seen_atlas, seen_other, step, with_atlas_access, with_newborn_access, with_other_access}
-use Rattle.kernel_cells.proofs.locus_machine_lemmas.Alone.{wanted_allowed}
+use Rattle.kernel_cells.proofs.wanted_laws_lemmas.Alone.{wanted_allowed}
 use Rattle.kernel_cells.specs.kernel_calls.Calls.{WantsBirth, is_make, is_spawn}
 use Rattle.kernel_cells.proofs.kernel_calls_lemmas.BirthLemmas.{birth_allowed, birth_instr}
 use Rattle.kernel_cells.specs.event_clocks.Clocks.{writing, CarriesThree}

@@ -16,9 +16,9 @@ use Rattle.kernel_cells.specs.hop_model.Outcomes.{Outcome, finish, make, make_at
 use Rattle.kernel_cells.specs.hop_model.Refusals.{instr_at, reg}
 use Rattle.kernel_cells.specs.hop_model.State.{Supply, AtlasState, LocusState, Cell as ModelCell, NotBorn, AtlasCell, LocusCell, KernelState}
 use Rattle.kernel_cells.specs.hop_model.Steps.{accesses_of, step, with_atlas_access, with_newborn_access, with_other_access}
-use Rattle.atlas_dir.specs.Directory.{Directory}
+use Rattle.atlas_dir.specs.directory_form.Directory.{Directory}
 use Rattle.kernel_cells.specs.wanted_act.Views.{IsReadyLocus}
-use Rattle.kernel_cells.proofs.locus_machine_lemmas.Alone.{place_within}
+use Rattle.kernel_cells.proofs.wanted_laws_lemmas.Alone.{place_within}
 use Rattle.kernel_cells.specs.kernel_calls.Calls.{WantsBirth, atlas_state, is_make, is_spawn}
 use Rattle.kernel_cells.proofs.kernel_calls_lemmas.BirthLemmas.{birth_instr, make_made, spawn_made}
 use Rattle.kernel_cells.specs.event_clocks.Clocks.{writing, CarriesTwo}

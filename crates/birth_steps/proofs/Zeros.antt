@@ -4,7 +4,7 @@ use Rattle.kernel_cells.specs.hop_model.Outcomes.{supplied}
 use Rattle.kernel_cells.specs.hop_model.State.{Supply}
 use Rattle.kernel_cells.specs.fault_paging.declared.paged.PagedMemory.{PagedMemory}
 use Rattle.kernel_cells.specs.fault_paging.Words.{AreHeldBlocks, stored_word, words_of}
-use Rattle.atlas_dir.proofs.Paths.{zeros}
+use Rattle.atlas_dir.proofs.directory_form_lemmas.Naming.{zeros}
 
 -- it has no block for any page
 pub zero_at : (table : List ℕ) → table ≡ replicate 256 0 → (page : ℕ) → slice_index table page ≡ 0

@@ -3,7 +3,7 @@ use Rattle.std.specs.Prelude.{◌≡◌, ◌⊎◌, ◌≤◌, ℕ, Bool, List, 
 use Rattle.hop_base.specs.declared.histories.Answer.{Answer}
 use Rattle.kernel_cells.specs.hop_model.Outcomes.{Outcome}
 use Rattle.kernel_cells.specs.hop_model.State.{Supply, LocusState, Cell, AtlasCell, LocusCell}
-use Rattle.atlas_dir.specs.Directory.{Directory}
+use Rattle.atlas_dir.specs.directory_form.Directory.{Directory}
 use Rattle.kernel_cells.specs.locus_machine.declared.loci.Head.{Head}
 use Rattle.kernel_cells.specs.kernel_calls.Calls.{WantsBirth, is_make, is_spawn}
 use Rattle.kernel_cells.specs.fault_paging.declared.paged.PagedMemory.{PagedMemory}

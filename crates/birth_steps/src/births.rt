@@ -1,6 +1,6 @@
 // The step of a locus that gives birth.
 ghost use Rattle.std.specs.Prelude.{◌≡◌, ◌<◌, ◌+◌, ◌^◌, ℕ, List, length};
-ghost use Rattle.atlas_dir.specs.Directory.{Directory};
+ghost use Rattle.atlas_dir.specs.directory_form.Directory.{Directory};
 ghost use Rattle.kernel_cells.specs.hop_model.State.{KernelState, Supply};
 ghost use Rattle.kernel_cells.specs.locus_machine.Loci.{locus_of};
 ghost use Rattle.kernel_cells.specs.locus_machine.declared.loci.Locus.{Locus as ALocus};

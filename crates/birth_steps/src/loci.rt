@@ -3,7 +3,7 @@ ghost use Rattle.std.specs.Prelude.{◌≡◌, ◌<◌, ◌+◌, ℕ, List, Some
 ghost use Rattle.kernel_cells.specs.hop_model.Acts.{wanted};
 ghost use Rattle.kernel_cells.specs.hop_model.Outcomes.{outcome};
 ghost use Rattle.kernel_cells.specs.hop_model.State.{AtlasState, AtlasCell, LocusCell, LocusState, NotBorn, Supply};
-ghost use Rattle.atlas_dir.specs.Directory.{Directory};
+ghost use Rattle.atlas_dir.specs.directory_form.Directory.{Directory};
 ghost use Rattle.kernel_cells.specs.wanted_act.Views.{IsReadyLocus};
 ghost use Rattle.kernel_cells.specs.locus_machine.Loci.{locus_of};
 ghost use Rattle.kernel_cells.specs.locus_machine.declared.loci.Locus.{Locus as ALocus};

@@ -1,6 +1,6 @@
 // The step of a locus that would give birth where no number is free.
 ghost use Rattle.std.specs.Prelude.{◌≡◌, ◌<◌, ◌^◌, ℕ, List};
-ghost use Rattle.atlas_dir.specs.Directory.{Directory};
+ghost use Rattle.atlas_dir.specs.directory_form.Directory.{Directory};
 ghost use Rattle.kernel_cells.specs.hop_model.Acts.{wanted};
 ghost use Rattle.kernel_cells.specs.hop_model.Outcomes.{outcome};
 ghost use Rattle.kernel_cells.specs.hop_model.State.{AtlasCell, KernelState, LocusCell, LocusState, NotBorn, Supply};

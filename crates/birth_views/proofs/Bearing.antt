@@ -10,7 +10,7 @@ use Rattle.kernel_views.proofs.fitting_births_lemmas.Ends.{born_state}
 use Rattle.kernel_views.specs.run_cuts.Marks.{is_completing}
 use Rattle.kernel_views.specs.serial_runs.Serial.{IsNew}
 use Rattle.kernel_views.proofs.serial_runs_lemmas.Openings.{birth_event, birth_may}
-use Rattle.kernel_views.specs.snapshot_store.State.{State, books}
+use Rattle.kernel_views.specs.store_laws.State.{State, books}
 use Rattle.kernel_views.specs.kernel_cells.declared.cells.Cell.{Cell}
 use Rattle.kernel_views.specs.kernel_cells.Wishes.{HasWish}
 use Rattle.kernel_views.specs.cell_table.Tables.{AreClean, state_in, tables_in}

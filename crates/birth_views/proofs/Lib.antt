@@ -8,3 +8,4 @@ pub use Rattle.kernel_views.proofs.serial_runs_lemmas
 pub use Rattle.kernel_views.proofs.snapshot_store_lemmas
 pub use Rattle.kernel_views.proofs.sound_runs_lemmas
 pub use Rattle.table_births.proofs as table_births_lemmas
+pub use Rattle.kernel_views.proofs.store_laws_lemmas

@@ -3,7 +3,7 @@ use Rattle.std.specs.Prelude.{◌≡◌, ℕ, List, [], ◌∷◌, ◌++◌, Non
 use Rattle.disk_trait.specs.Image.{Image}
 use Rattle.hop_base.specs.declared.histories.Entry.{Entry}
 use Rattle.kernel_views.specs.serial_runs.Serial.{IsNew}
-use Rattle.kernel_views.specs.snapshot_store.State.{State, books}
+use Rattle.kernel_views.specs.store_laws.State.{State, books}
 use Rattle.kernel_views.specs.kernel_cells.declared.cells.Cell.{Cell}
 use Rattle.kernel_views.specs.cell_table.Tables.{AreClean, IsOrderly, tables_in}
 use Rattle.kernel_views.specs.record_laws.Cells.{words_on}

@@ -18,3 +18,4 @@ pub use Rattle.kernel_views.specs.snapshot_store
 pub use Rattle.kernel_views.specs.store_model
 pub use Rattle.table_births.specs as table_births
 pub use Rattle.kernel_views.specs.wish_laws
+pub use Rattle.kernel_views.specs.store_laws

@@ -1,17 +1,15 @@
 -- How long the spelling of an atlas is, and that of an atlas of a sound state.
-use Rattle.std.proofs.Common.{◌≡◌, ◌<◌, ◌≤◌, ℕ, zero, suc, ◌+◌, ◌*◌, ◌==◌, ◌&&◌, ◌||◌, Bool, true, false, cond, if◌then◌else◌, List, [], ◌∷◌, ◌++◌, length, nat_le, nat_lt, refl, sym, ap, ◌∙◌, arith, eqb-true, length-append}
-use Rattle.std.proofs.lemmas.Bool.{false≢true, leb-true}
+use Rattle.std.proofs.Common.{◌≡◌, ◌≤◌, ℕ, zero, suc, ◌+◌, ◌*◌, ◌==◌, ◌||◌, Bool, true, false, cond, if◌then◌else◌, List, [], ◌∷◌, ◌++◌, length, nat_lt, refl, sym, ap, ◌∙◌, arith, eqb-true, length-append}
+use Rattle.std.proofs.lemmas.Bool.{false≢true}
 use Rattle.std.proofs.lemmas.Bool.Decides.{nat_tests}
-use Rattle.std.proofs.lemmas.Fmt.{length-decimal-le}
 use Rattle.std.proofs.lemmas.List.Sums.{count_by-le-length, sum_by-cons}
-use Rattle.std.specs.Prelude.{count_by, decimal}
-use Rattle.std.specs.List.{flat_map, list_all}
+use Rattle.std.specs.Prelude.{count_by}
+use Rattle.std.specs.List.{flat_map}
 use Rattle.hop_base.specs.Edges.{Edges, upto}
 use Rattle.hop_base.specs.declared.capabilities.Region.{Region}
 use Rattle.hop_model.proofs.Basics.{and_left, and_right}
-use Rattle.hop_model.specs.Outcomes.{made_name}
-use Rattle.hop_model.specs.Scripts.{text_eq}
-use Rattle.hop_model.specs.Soundness.{AreSound, are_names_from, begins_with_letter, is_born, is_born_container, is_born_locus, is_given_name, is_name_byte, is_name_of, regions_onto}
+use Rattle.hop_model.proofs.Names.{name_short}
+use Rattle.hop_model.specs.Soundness.{AreSound, are_names_from, is_born, is_born_container, is_born_locus, is_name_of, regions_onto}
 use Rattle.hop_model.specs.State.{AtlasState, Cell, Text}
 use Rattle.blob_grammar.specs.Forms.{IsAtlasForm}
 use Rattle.blob_grammar.specs.Spelling.{Counted, atlas_blob, counted, counted_edges, edge_bytes, edges_bytes, listed, text_bytes}
@@ -19,26 +17,6 @@ use Rattle.blob_grammar.proofs.Edges.{few_edges, few_over, length_next, row_none
 use Rattle.blob_grammar.proofs.Sizes.{same_items}
 
 -- NAMES
-
-pub same_len : (s t : Text) → text_eq s t ≡ true → length s ≡ length t
-same_len [] [] h = refl
-same_len [] (y ∷ ys) h = absurd (false≢true h)
-same_len (x ∷ xs) [] h = absurd (false≢true h)
-same_len (x ∷ xs) (y ∷ ys) h = let rest = same_len xs ys (and_right (x == y) (text_eq xs ys) h) in omega (arith, rest)
-
-pub given_short : (name : Text) → is_given_name name ≡ true → length name ≤ 24
-given_short name h =
-    leb-true (length name) 24 (and_right (begins_with_letter name && list_all is_name_byte name) (nat_le (length name) 24) (and_left (begins_with_letter name && list_all is_name_byte name && nat_le (length name) 24) _ h))
-
-pub name_by : (n : ℕ) (name : Text) (b : Bool) → is_given_name name ≡ b → n < 100 → (b || text_eq name (made_name n)) ≡ true → length name ≤ 24
-name_by n name true e small h = given_short name e
-name_by n name false e small h =
-    let same : length name ≡ length (made_name n) = same_len name (made_name n) h in
-    let short : length (decimal n) ≤ 2 = length-decimal-le 2 n (omega arith) (omega (arith, small)) (omega (arith, small)) in
-    omega (arith, same, short)
-
-name_short : (n : ℕ) (name : Text) → n < 100 → is_name_of n name ≡ true → length name ≤ 24
-name_short n name small h = name_by n name (is_given_name name) refl small h
 
 names_len : (n : ℕ) (names : List Text) → n + length names ≤ 100 → are_names_from n names ≡ true → length (flat_map text_bytes names) ≤ length names * 25
 names_len n [] small h = omega arith

@@ -2,9 +2,9 @@
 ghost use Rattle.std.specs.Prelude.{◌≡◌, ◌≤◌, ◌<◌, All, IfOk, IfErr, length};
 ghost use Rattle.disk_trait.specs.Disk.{HasCause};
 ghost use Rattle.disk_trait.specs.Image.{Image};
-ghost use Rattle.log_reading.specs.image_blocks.Bodies.{blob_blocks, blob_room, blocks_for};
+ghost use Rattle.log_reading.specs.image_form.Bodies.{blob_blocks, blob_room, blocks_for};
 ghost use Rattle.part_checks.specs.image_meaning.Parts.{IsFormed, IsSpelt};
-ghost use Rattle.log_reading.specs.Reads.{ReadsOnly};
+ghost use Rattle.log_reading.specs.log_laws.Reads.{ReadsOnly};
 ghost use Rattle.part_checks.specs.Chosen.{part_of};
 ghost use Rattle.blob_loading.specs.Loading.{IsBadRecord};
 

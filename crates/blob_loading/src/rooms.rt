@@ -4,7 +4,7 @@ ghost use Rattle.std.specs.List.{concat};
 ghost use Rattle.block_code.specs.Blobs.{HasRoom};
 ghost use Rattle.disk_trait.specs.Disk.{HasCause};
 ghost use Rattle.disk_trait.specs.Image.{block_at};
-ghost use Rattle.log_reading.specs.Reads.{ReadsOnly};
+ghost use Rattle.log_reading.specs.log_laws.Reads.{ReadsOnly};
 
 use block_code::Blob;
 use disk_trait::{BLOCK_BYTES, Disk, DiskFault};

@@ -18,12 +18,13 @@ pub struct Blob {
 
 impl Model for Blob {
     ghost use Rattle.std.specs.Prelude.{◌≡◌, ◌≤◌, List, ℕ, length, take};
+    ghost use Rattle.block_code.specs.declared.blob.TheConstants.{MOST_BLOB_BYTES};
 
     ghost Value = { List ℕ };
 
     ghost view = { λ blob. take blob.len blob.bytes.items };
 
-    ghost invariant = { λ blob. (length blob.bytes.items ≡ 8192) × (blob.len ≤ 8192) };
+    ghost invariant = { λ blob. (length blob.bytes.items ≡ MOST_BLOB_BYTES) × (blob.len ≤ MOST_BLOB_BYTES) };
 }
 
 impl Blob {

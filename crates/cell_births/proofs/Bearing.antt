@@ -20,7 +20,7 @@ use Rattle.wish_laws.proofs.event_clocks_lemmas.Changing.{access_first, access_s
 use Rattle.wish_laws.specs.kernel_cells.declared.cells.Cell.{Cell}
 use Rattle.wish_laws.specs.kernel_cells.Cells.{HasCell, part_of}
 use Rattle.wish_laws.proofs.kernel_cells_lemmas.Stepping.{written_cell}
-use Rattle.atlas_dir.specs.Directory.{Directory}
+use Rattle.atlas_dir.specs.directory_form.Directory.{Directory}
 use Rattle.wish_laws.specs.kernel_calls.Calls.{atlas_state}
 use Rattle.cell_births.specs.Bearing.{Bears, IsBirthEntry, MayBearContainer, MayBearLocus}
 use Rattle.std.proofs.Math.Bool.{or-true}

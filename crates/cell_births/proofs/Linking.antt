@@ -14,8 +14,8 @@ use Rattle.wish_laws.specs.hop_model.State.{Text}
 use Rattle.script_against.proofs.sound_steps_lemmas.RegionLists.{shown}
 use Rattle.script_against.proofs.sound_runs_lemmas.Tables.{all_regions}
 use Rattle.script_against.proofs.sound_runs_lemmas.TableEdges.{model_containers, model_edges, model_loci}
-use Rattle.atlas_dir.specs.Directory.{Directory, edges_of}
-use Rattle.atlas_dir.specs.Reached.{with_edge}
+use Rattle.atlas_dir.specs.directory_form.Directory.{Directory, edges_of}
+use Rattle.atlas_dir.specs.directory_form.Reached.{with_edge}
 use Rattle.wish_laws.specs.kernel_calls.Calls.{atlas_state}
 
 shown_next : (rs : List Region) (i : ℕ) (r : Region) (y : ℕ) → i < length rs → r ≡ get_or rs i r → shown (take (i + 1) rs) y ≡ shown (take i rs) y + (if r.target == y then 1 else 0)

@@ -16,7 +16,7 @@ use Rattle.script_against.specs.fitting_births.Fitting.{Fits}
 use Rattle.script_against.proofs.fitting_births_lemmas.KnownNames.{KnowsContainer, KnowsLocus, NextName, OfContainer, OfLocus, next_name_is}
 use Rattle.script_against.proofs.fitting_births_lemmas.Growing.{locus_change, named_defined}
 use Rattle.script_against.proofs.fitting_births_lemmas.Ends.{some_is}
-use Rattle.atlas_dir.specs.Directory.{Directory}
+use Rattle.atlas_dir.specs.directory_form.Directory.{Directory}
 use Rattle.wish_laws.specs.kernel_calls.Calls.{atlas_state}
 use Rattle.script_against.specs.NextTables.{IsNextContainer, IsNextLocus}
 use Rattle.cell_births.specs.Bearing.{MayBearContainer, MayBearLocus}

@@ -9,7 +9,7 @@ use Rattle.wish_laws.specs.hop_model.Scripts.{ContainerTable, LocusTable, Region
 use Rattle.wish_laws.specs.hop_model.Soundness.{is_born_container}
 use Rattle.wish_laws.specs.hop_model.State.{KernelState, Supply, Text}
 use Rattle.script_against.specs.script_form.Rules.{IsContainerTable, IsLocusTable}
-use Rattle.atlas_dir.specs.Directory.{Directory, edges_of}
+use Rattle.atlas_dir.specs.directory_form.Directory.{Directory, edges_of}
 use Rattle.wish_laws.specs.kernel_calls.Calls.{atlas_state}
 
 -- THE BIRTH OF THE NAME in the state: this entry, and a state that differs at most where the entry writes, of which P holds

@@ -4,7 +4,7 @@ ghost use Rattle.wish_laws.specs.hop_model.Histories.{writes};
 ghost use Rattle.wish_laws.specs.hop_model.Scripts.{Script, container_table, locus_table};
 ghost use Rattle.wish_laws.specs.hop_model.State.{KernelState, Supply};
 ghost use Rattle.script_against.specs.script_form.Scripts.{container_of, locus_of};
-ghost use Rattle.atlas_dir.specs.Directory.{Directory};
+ghost use Rattle.atlas_dir.specs.directory_form.Directory.{Directory};
 ghost use Rattle.wish_laws.specs.kernel_cells.Cells.{HasCell};
 ghost use Rattle.wish_laws.specs.Founded.{TakesBirth};
 ghost use Rattle.birth_steps.specs.Bearing.{IsNewContainer, IsUnbornContainer};

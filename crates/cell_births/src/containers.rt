@@ -8,7 +8,7 @@ ghost use Rattle.wish_laws.specs.hop_model.Soundness.{is_born_container, is_give
 ghost use Rattle.wish_laws.specs.hop_model.State.{AtlasState, AtlasCell, ContainerCell, Supply, Text};
 ghost use Rattle.script_against.specs.script_form.Rules.{IsContainerTable};
 ghost use Rattle.script_against.specs.script_form.Scripts.{container_of as table_of};
-ghost use Rattle.atlas_dir.specs.Directory.{Directory, edges_of};
+ghost use Rattle.atlas_dir.specs.directory_form.Directory.{Directory, edges_of};
 ghost use Rattle.wish_laws.specs.locus_machine.Loci.{container_with};
 ghost use Rattle.wish_laws.specs.kernel_calls.Calls.{atlas_state};
 ghost use Rattle.wish_laws.specs.kernel_cells.Cells.{part_of};

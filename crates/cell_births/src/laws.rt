@@ -8,7 +8,7 @@ ghost use Rattle.wish_laws.specs.hop_model.State.{Cell as ModelCell, KernelState
 ghost use Rattle.wish_laws.specs.hop_model.Steps.{atlas_in};
 ghost use Rattle.script_against.specs.script_form.Rules.{IsScript};
 ghost use Rattle.script_against.specs.fitting_births.Fitting.{Fits};
-ghost use Rattle.atlas_dir.specs.Directory.{Directory};
+ghost use Rattle.atlas_dir.specs.directory_form.Directory.{Directory};
 ghost use Rattle.wish_laws.specs.kernel_calls.Calls.{atlas_state};
 ghost use Rattle.script_against.specs.NextTables.{IsNextContainer, IsNextLocus};
 ghost use Rattle.cell_births.specs.Bearing.{MayBearContainer, MayBearLocus};

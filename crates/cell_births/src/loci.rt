@@ -5,7 +5,7 @@ ghost use Rattle.wish_laws.specs.hop_model.Scripts.{number_in, number_of};
 ghost use Rattle.wish_laws.specs.hop_model.Soundness.{is_given_name};
 ghost use Rattle.wish_laws.specs.hop_model.State.{AtlasState, AtlasCell, LocusCell, Supply};
 ghost use Rattle.script_against.specs.script_form.Scripts.{locus_of as table_of};
-ghost use Rattle.atlas_dir.specs.Directory.{Directory};
+ghost use Rattle.atlas_dir.specs.directory_form.Directory.{Directory};
 ghost use Rattle.wish_laws.specs.locus_machine.Loci.{locus_of};
 ghost use Rattle.wish_laws.specs.kernel_calls.Calls.{atlas_state};
 ghost use Rattle.wish_laws.specs.kernel_cells.Cells.{part_of};

@@ -11,7 +11,7 @@ use Rattle.image_meaning.specs.blob_grammar.Shapes.{IsContainerOver, IsLocusOver
 use Rattle.image_meaning.specs.blob_grammar.Spelling.{atlas_blob, call_bytes, caps_bytes, container_blob, instr_bytes, is_short, listed, locus_blob, locus_front, locus_rest, private_bytes, region_bytes, walk_bytes}
 use Rattle.image_meaning.proofs.blob_grammar_lemmas.KindSizes.{most}
 use Rattle.image_meaning.proofs.blob_grammar_lemmas.Sizes.{caps_len, code_len, numbers_len, same_items}
-use Rattle.image_meaning.specs.image_blocks.Bodies.{blocks_for}
+use Rattle.image_meaning.specs.image_form.Bodies.{blocks_for}
 use Rattle.address_resolve.specs.locus_machine.declared.loci.Head.{Head}
 use Rattle.address_resolve.specs.locus_machine.declared.loci.Locus.{Locus}
 use Rattle.address_resolve.specs.locus_machine.Loci.{container_with, locus_of}

@@ -10,7 +10,7 @@ use Rattle.address_resolve.specs.Looks.{IsMemoryOf}
 use Rattle.snapshot_form.specs.blob_grammar.Forms.{IsAtlasForm, IsNumber}
 use Rattle.snapshot_form.specs.blob_grammar.Shapes.{IsContainerOver, IsLocusOver}
 use Rattle.snapshot_form.specs.blob_grammar.Spelling.{atlas_blob, container_blob, locus_blob}
-use Rattle.image_meaning.specs.image_blocks.Bodies.{blocks_for}
+use Rattle.image_meaning.specs.image_form.Bodies.{blocks_for}
 use Rattle.image_meaning.specs.Parts.{Part as Spelt, AtlasPart, ContainerPart, LocusPart}
 use Rattle.kernel_cells.specs.declared.cells.Cell.{Cell}
 use Rattle.kernel_cells.specs.declared.cells.Part.{Part}

@@ -11,9 +11,9 @@ use Rattle.kernel_views.specs.cell_table.Lending.{Lends}
 use Rattle.kernel_views.specs.cell_table.Tables.{IsOrderly}
 use Rattle.kernel_views.specs.record_laws.Cells.{table_of}
 use Rattle.kernel_views.specs.wish_laws.Founded.{IsFoundedCell}
-use Rattle.kernel_views.specs.snapshot_store.Committed.{HasNewRecord}
-use Rattle.kernel_views.specs.snapshot_store.Shelves.{records_of}
-use Rattle.kernel_views.specs.snapshot_store.State.{State, books}
+use Rattle.kernel_views.specs.store_laws.Committed.{HasNewRecord}
+use Rattle.kernel_views.specs.store_laws.Shelves.{records_of}
+use Rattle.kernel_views.specs.store_laws.State.{State, books}
 use Rattle.kernel_views.specs.store_model.Books.{Books, Logged, kept_in, recs_in, logged_recs}
 use Rattle.kernel_views.specs.kernel_records.Committing.{HasCommitted, HasNotCommitted, LeavesCell}
 use Rattle.kernel_views.specs.kernel_records.Keeping.{HasNewest}

@@ -10,3 +10,4 @@ pub use Rattle.kernel_views.specs.record_laws
 pub use Rattle.kernel_views.specs.snapshot_store
 pub use Rattle.kernel_views.specs.store_model
 pub use Rattle.kernel_views.specs.wish_laws
+pub use Rattle.kernel_views.specs.store_laws

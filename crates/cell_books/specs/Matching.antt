@@ -5,7 +5,7 @@ use Rattle.kernel_views.specs.cell_table.Tables.{IsOrderly}
 use Rattle.kernel_views.specs.kernel_cells.declared.cells.Cell.{Cell}
 use Rattle.kernel_views.specs.kernel_records.Keeping.{HasNewest}
 use Rattle.kernel_views.specs.Views.{newest_at}
-use Rattle.kernel_views.specs.snapshot_store.Shelves.{records_of}
+use Rattle.kernel_views.specs.store_laws.Shelves.{records_of}
 use Rattle.kernel_views.specs.store_model.Books.{Books, kept_in, recs_in}
 
 abbrev pub version_at : Option Cell → ℕ

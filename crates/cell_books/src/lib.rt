@@ -9,7 +9,7 @@ ghost use Rattle.kernel_views.specs.cell_table.Lending.{Lends};
 ghost use Rattle.kernel_views.specs.cell_table.Tables.{IsOrderly};
 ghost use Rattle.kernel_views.specs.kernel_cells.declared.cells.Cell.{Cell as ACell};
 ghost use Rattle.kernel_views.specs.kernel_records.Committing.{HasCommitted, HasNotCommitted, MayCommit};
-ghost use Rattle.kernel_views.specs.snapshot_store.State.{State, books};
+ghost use Rattle.kernel_views.specs.store_laws.State.{State, books};
 ghost use Rattle.kernel_views.specs.store_model.Between.{OnlyPages};
 ghost use Rattle.kernel_views.specs.store_model.Books.{Books};
 

@@ -1,6 +1,6 @@
 -- The cells of a birth for which no number is free.
 use Rattle.std.proofs.Common.{◌≡◌, ◌⊎◌, inl, inr, ℕ, ◌<◌, ◌≤◌, ◌^◌, Bool, List, length, slice_get, Some, arith}
-use Rattle.atlas_dir.specs.Directory.{Directory}
+use Rattle.atlas_dir.specs.directory_form.Directory.{Directory}
 use Rattle.touch_laws.specs.locus_machine.Loci.{locus_of}
 use Rattle.touch_laws.specs.locus_machine.declared.loci.Locus.{Locus}
 use Rattle.touch_laws.specs.kernel_cells.declared.cells.Cell.{Cell}

@@ -3,7 +3,7 @@ use Rattle.std.proofs.Common.{◌≡◌, ℕ, ◌+◌, ◌<◌, ◌≤◌, ◌^�
 use Rattle.hop_base.specs.declared.instructions.Instr.{Instr}
 use Rattle.sound_states.specs.hop_model.Soundness.{AreSound}
 use Rattle.sound_states.specs.hop_model.State.{AtlasState, NotBorn, AtlasCell}
-use Rattle.atlas_dir.specs.Directory.{Directory}
+use Rattle.atlas_dir.specs.directory_form.Directory.{Directory}
 use Rattle.plan_laws.specs.kernel_calls.Calls.{atlas_state}
 use Rattle.touch_laws.specs.locus_machine.Loci.{locus_of}
 use Rattle.touch_laws.specs.locus_machine.declared.loci.Head.{Head}

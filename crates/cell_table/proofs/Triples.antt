@@ -2,7 +2,7 @@
 use Rattle.std.proofs.Common.{◌≡◌, ◌≢◌, inl, inr, ℕ, ◌+◌, ◌<◌, ◌≤◌, Bool, List, [], ◌∷◌, length, slice_get, Some, sym, ap, ◌∙◌, subst, arith}
 use Rattle.hop_base.specs.declared.histories.Entry.{Entry}
 use Rattle.sound_states.specs.hop_model.State.{Supply}
-use Rattle.atlas_dir.specs.Directory.{Directory}
+use Rattle.atlas_dir.specs.directory_form.Directory.{Directory}
 use Rattle.plan_laws.specs.kernel_calls.Calls.{atlas_state}
 use Rattle.touch_laws.specs.locus_machine.Loci.{locus_of}
 use Rattle.touch_laws.specs.kernel_cells.declared.cells.Cell.{Cell}

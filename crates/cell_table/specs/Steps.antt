@@ -7,7 +7,7 @@ use Rattle.cell_laws.specs.hop_model.Histories.{Run, goes_on}
 use Rattle.cell_laws.specs.hop_model.Scripts.{Script}
 use Rattle.cell_laws.specs.hop_model.State.{Supply}
 use Rattle.cell_laws.specs.hop_model.Steps.{step}
-use Rattle.atlas_dir.specs.Directory.{Directory}
+use Rattle.atlas_dir.specs.directory_form.Directory.{Directory}
 use Rattle.touch_laws.specs.kernel_cells.declared.cells.Cell.{Cell}
 use Rattle.touch_laws.specs.kernel_cells.declared.cells.Part.TheVariants as Part
 use Rattle.touch_laws.specs.step_plans.Plans.{IsPlanned}

@@ -1,7 +1,6 @@
 //! Entries of a kernel's history in a chronicle: an entry touches at most three entities, whose shares are lent one by one.
 ghost use Rattle.std.specs.Prelude.{◌≡◌, ◌+◌, ◌<◌, ◌++◌, ◌∷◌, [], length, map};
-ghost use Rattle.hop_model.specs.Histories.{writes};
-ghost use Rattle.chronicle.specs.Entries.{touches};
+ghost use Rattle.hop_model.specs.Histories.{touches, writes};
 ghost use Rattle.chronicle.specs.Given.{AllGrew, AllHave, AreThoseOf, came, knowing, left};
 
 use crate::chronicles::{Chronicle, Run, Share};

@@ -19,8 +19,8 @@ pub trait Item: Drop {
 
 /// An entry of a history concerns the entities that it writes.
 impl Item for Entry {
-    ghost use Rattle.hop_model.specs.Histories.{writes};
-    ghost use Rattle.chronicle.specs.Entries.{touches, touches_written};
+    ghost use Rattle.hop_model.specs.Histories.{touches, writes};
+    ghost use Rattle.chronicle.specs.Entries.{touches_written};
 
     ghost touches = { touches };
 

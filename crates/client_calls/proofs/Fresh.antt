@@ -21,11 +21,12 @@ use Rattle.hopper_top.specs.hop_model.Steps.{atlas_in}
 use Rattle.hopper_top.specs.kernel_model.Beginnings.{Beginning}
 use Rattle.hopper_top.specs.run_outcomes.fitting_births.Fitting.{Fits}
 use Rattle.hopper_top.specs.image_blocks.Checks.{active_area, active_by}
-use Rattle.hopper_top.specs.image_blocks.Layout.{epoch_in, first_number, header_block}
+use Rattle.hopper_top.specs.image_blocks.Layout.{epoch_in}
+use Rattle.hopper_top.specs.image_form.Layout.{first_number, header_block}
 use Rattle.hopper_top.specs.image_blocks.declared.areas.Area.{Area}
 use Rattle.hopper_top.specs.image_blocks.declared.areas.Area.TheVariants.{A, B}
 use Rattle.hopper_top.specs.image_meaning.Empty.{IsFormatted}
-use Rattle.hopper_top.specs.image_opening.Images.{HasLowEpoch, HasTurnLeft}
+use Rattle.hopper_top.specs.opening_laws.Images.{HasLowEpoch, HasTurnLeft}
 use Rattle.hopper_top.specs.image_meaning.Meaning.{Means}
 use Rattle.hopper_top.specs.Starts.{HasLowNumbers}
 use Rattle.client_calls.specs.Images.{HasNewImage}

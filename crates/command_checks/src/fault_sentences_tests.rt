@@ -84,12 +84,12 @@ fn numbers_stand_in_their_sentences(rt: HostRuntime) -> Result<(), Fail> {
 fn an_unopened_file_is_told_by_its_path(rt: HostRuntime) -> Result<(), Fail> {
     let alloc = rt.alloc();
     let mut sink = MemorySink::new(alloc, 400, Vec::new(alloc))?;
-    assert_eq!(rt; put_unopened(&mut sink, "/no/where"), Ok(()));
+    assert!(rt; put_unopened(&mut sink, "/no/where") == Ok(()));
     let sentence =
         b"disk fault: /no/where can't be opened or made as a file to read and write\n".as_slice();
     assert!(rt; sink.held() == sentence);
     let mut sink = MemorySink::new(alloc, 14, Vec::new(alloc))?;
-    assert_eq!(rt; put_unopened(&mut sink, "/no/where"), Err(SinkFault));
+    assert!(rt; put_unopened(&mut sink, "/no/where") == Err(SinkFault));
     assert!(rt; sink.held() == b"disk fault: ".as_slice());
     Ok(())
 }

@@ -97,9 +97,9 @@ fn report(alloc: Global, sink: &mut MemorySink, disk: MemoryDisk) -> Outcome<Mem
 fn an_empty_image_shows_nothing(rt: HostRuntime) -> Result<(), Fail> {
     let mut sink = MemorySink::new(rt.alloc(), 100, Vec::new(rt.alloc()))?;
     let outcome = show(rt.alloc(), &mut sink, image(rt.alloc(), &[])?);
-    assert_eq!(rt; outcome.status.number(), 0);
+    assert!(rt; outcome.status.number() == 0);
     assert!(rt; sink.held() == b"".as_slice());
-    assert_eq!(rt; outcome.disk.moments(), 3);
+    assert!(rt; outcome.disk.moments() == 3);
     Ok(())
 }
 
@@ -107,9 +107,9 @@ fn an_empty_image_shows_nothing(rt: HostRuntime) -> Result<(), Fail> {
 fn an_empty_image_is_reported(rt: HostRuntime) -> Result<(), Fail> {
     let mut sink = MemorySink::new(rt.alloc(), 100, Vec::new(rt.alloc()))?;
     let outcome = report(rt.alloc(), &mut sink, image(rt.alloc(), &[])?);
-    assert_eq!(rt; outcome.status.number(), 0);
+    assert!(rt; outcome.status.number() == 0);
     assert!(rt; sink.held() == b"area A epoch 1 used 0\n".as_slice());
-    assert_eq!(rt; outcome.disk.moments(), 3);
+    assert!(rt; outcome.disk.moments() == 3);
     Ok(())
 }
 
@@ -117,7 +117,7 @@ fn an_empty_image_is_reported(rt: HostRuntime) -> Result<(), Fail> {
 fn what_a_first_run_left_is_shown(rt: HostRuntime) -> Result<(), Fail> {
     let mut sink = MemorySink::new(rt.alloc(), 200, Vec::new(rt.alloc()))?;
     let outcome = show(rt.alloc(), &mut sink, image_of_births(rt.alloc())?);
-    assert_eq!(rt; outcome.status.number(), 0);
+    assert!(rt; outcome.status.number() == 0);
     let text =
         b"container a 1 0 0 -\nword a 3 5\nlocus l a 0 running 0 0 0 0 0 0 0 0 0\n".as_slice();
     assert!(rt; sink.held() == text);
@@ -128,7 +128,7 @@ fn what_a_first_run_left_is_shown(rt: HostRuntime) -> Result<(), Fail> {
 fn the_log_of_a_first_run_is_reported(rt: HostRuntime) -> Result<(), Fail> {
     let mut sink = MemorySink::new(rt.alloc(), 200, Vec::new(rt.alloc()))?;
     let outcome = report(rt.alloc(), &mut sink, image_of_births(rt.alloc())?);
-    assert_eq!(rt; outcome.status.number(), 0);
+    assert!(rt; outcome.status.number() == 0);
     let text =
         b"area B epoch 2 used 3\nrec 0 0 2 chosen\nrec 1 1 2 chosen\nrec 2 41 1 chosen\ncut 0 2\ncut 1 2\ncut 41 1\n".as_slice();
     assert!(rt; sink.held() == text);
@@ -140,9 +140,9 @@ fn a_disk_without_an_image_is_foreign(rt: HostRuntime) -> Result<(), Fail> {
     let mut sink = MemorySink::new(rt.alloc(), 100, Vec::new(rt.alloc()))?;
     let disk = MemoryDisk::new(rt.alloc(), 2600, 40, Vec::new(rt.alloc()))?;
     let outcome = show(rt.alloc(), &mut sink, disk);
-    assert_eq!(rt; outcome.status.number(), 4);
+    assert!(rt; outcome.status.number() == 4);
     let outcome = report(rt.alloc(), &mut sink, outcome.disk);
-    assert_eq!(rt; outcome.status.number(), 4);
+    assert!(rt; outcome.status.number() == 4);
     assert!(rt; sink.held() == b"fault 4 0 0\nfault 4 0 0\n".as_slice());
     Ok(())
 }
@@ -151,7 +151,7 @@ fn a_disk_without_an_image_is_foreign(rt: HostRuntime) -> Result<(), Fail> {
 fn a_read_that_fails_is_told(rt: HostRuntime) -> Result<(), Fail> {
     let mut sink = MemorySink::new(rt.alloc(), 100, Vec::new(rt.alloc()))?;
     let outcome = show(rt.alloc(), &mut sink, image(rt.alloc(), &[4])?);
-    assert_eq!(rt; outcome.status.number(), 5);
+    assert!(rt; outcome.status.number() == 5);
     assert!(rt; sink.held() == b"fault 5 disk\n".as_slice());
     Ok(())
 }
@@ -162,7 +162,7 @@ fn a_put_that_fails_leaves_the_lines_before_it(rt: HostRuntime) -> Result<(), Fa
     fails.push(3)?;
     let mut sink = MemorySink::new(rt.alloc(), 200, fails)?;
     let outcome = report(rt.alloc(), &mut sink, image_of_births(rt.alloc())?);
-    assert_eq!(rt; outcome.status.number(), 7);
+    assert!(rt; outcome.status.number() == 7);
     assert!(rt; sink.held() == b"area B epoch 2 used 3\nrec 0 0 2 chosen\n".as_slice());
     Ok(())
 }

@@ -33,6 +33,6 @@ fn a_disk_of_too_few_blocks_is_left_alone(rt: HostRuntime) -> Result<(), Fail> {
         free: 3000,
     };
     assert!(rt; fault.why == FormatWhy::Small(small));
-    assert_eq!(rt; fault.disk.moments(), 0);
+    assert!(rt; fault.disk.moments() == 0);
     Ok(())
 }

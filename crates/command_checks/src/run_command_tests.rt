@@ -95,14 +95,14 @@ fn run_for(
 #[test]
 fn a_second_run_goes_on_where_the_first_ended(rt: HostRuntime) -> Result<(), Fail> {
     let (lines, first) = run(rt.alloc(), COUNT, (&[], &[]), formatted(rt.alloc(), &[])?)?;
-    assert_eq!(rt; lines.as_str(), "counter 1\n");
-    assert_eq!(rt; first.status.number(), 0);
+    assert!(rt; lines.as_str() == "counter 1\n");
+    assert!(rt; first.status.number() == 0);
     // The births with their Stable, and six steps with one.
-    assert_eq!(rt; first.history.len(), 10);
-    assert_eq!(rt; first.marks.len(), 2);
+    assert!(rt; first.history.len() == 10);
+    assert!(rt; first.marks.len() == 2);
     let (lines, second) = run(rt.alloc(), COUNT, (&[], &[]), first.disk)?;
-    assert_eq!(rt; lines.as_str(), "counter 2\n");
-    assert_eq!(rt; second.status.number(), 0);
+    assert!(rt; lines.as_str() == "counter 2\n");
+    assert!(rt; second.status.number() == 0);
     Ok(())
 }
 
@@ -110,8 +110,8 @@ fn a_second_run_goes_on_where_the_first_ended(rt: HostRuntime) -> Result<(), Fai
 fn a_traced_run_has_a_line_for_each_entry(rt: HostRuntime) -> Result<(), Fail> {
     let disk = formatted(rt.alloc(), &[])?;
     let (lines, traced) = run_for(rt.alloc(), STORED, Lines::Entries, (&[], &[]), disk)?;
-    assert_eq!(rt; lines.as_str(), STORED_TRACE);
-    assert_eq!(rt; traced.status.number(), 0);
+    assert!(rt; lines.as_str() == STORED_TRACE);
+    assert!(rt; traced.status.number() == 0);
     Ok(())
 }
 
@@ -130,9 +130,9 @@ fn drilled(alloc: Global, number: u64) -> Result<(String, Status), Fail> {
 fn a_drill_has_the_same_line_on_each_new_image(rt: HostRuntime) -> Result<(), Fail> {
     let (line, first) = drilled(rt.alloc(), 1)?;
     let (again, second) = drilled(rt.alloc(), 1)?;
-    assert_eq!(rt; (first.number(), second.number()), (0, 0), "{line}");
+    assert!(rt; (first.number(), second.number()) == (0, 0), "{line}");
     assert!(rt; line.starts_with("entries ") && line.as_str().lines().count() == 1);
-    assert_eq!(rt; line.as_str(), again.as_str());
+    assert!(rt; line.as_str() == again.as_str());
     Ok(())
 }
 
@@ -142,38 +142,35 @@ fn what_stops_first_decides(rt: HostRuntime) -> Result<(), Fail> {
     let (calls, moments) = (disk.calls(), disk.moments());
     // A source that isn't read, and one that is refused, stop before the disk.
     let (lines, unread) = run(rt.alloc(), COUNT, (&[1], &[]), disk)?;
-    assert_eq!(rt; lines.as_str(), "fault 6 source\n");
+    assert!(rt; lines.as_str() == "fault 6 source\n");
     let (lines, refused) = run(rt.alloc(), b"steps = 0", (&[], &[]), unread.disk)?;
-    assert_eq!(rt; lines.as_str(), "fault 3 6 steps\n");
-    assert_eq!(rt;
-        (refused.disk.calls(), refused.disk.moments()),
-        (calls, moments)
-    );
+    assert!(rt; lines.as_str() == "fault 3 6 steps\n");
+    assert!(rt; (refused.disk.calls(), refused.disk.moments()) == (calls, moments));
     // A script that doesn't fit is told behind the opening.
     let (_, first) = run(rt.alloc(), COUNT, (&[], &[]), refused.disk)?;
     let (lines, misfit) = run(rt.alloc(), CLASH, (&[], &[]), first.disk)?;
-    assert_eq!(rt; lines.as_str(), "fault 3 11 locus.0.name\n");
+    assert!(rt; lines.as_str() == "fault 3 11 locus.0.name\n");
     assert!(rt; matches!(&misfit.status, Status::Script(refusal) if refusal.why == Why::Clash));
-    assert_eq!(rt; misfit.history.len(), 0);
+    assert!(rt; misfit.history.len() == 0);
     Ok(())
 }
 
 #[test]
 fn a_sink_that_fails_is_told(rt: HostRuntime) -> Result<(), Fail> {
     let (lines, outcome) = run(rt.alloc(), COUNT, (&[], &[1]), formatted(rt.alloc(), &[])?)?;
-    assert_eq!(rt; lines.as_str(), "");
-    assert_eq!(rt; outcome.status.number(), 7);
-    assert_eq!(rt; outcome.history.len(), 10);
+    assert!(rt; lines.as_str() == "");
+    assert!(rt; outcome.status.number() == 7);
+    assert!(rt; outcome.history.len() == 10);
     let (lines, next) = run(rt.alloc(), COUNT, (&[], &[]), outcome.disk)?;
-    assert_eq!(rt; lines.as_str(), "counter 2\n");
-    assert_eq!(rt; next.status.number(), 0);
+    assert!(rt; lines.as_str() == "counter 2\n");
+    assert!(rt; next.status.number() == 0);
     Ok(())
 }
 
 #[test]
 fn too_few_blocks_are_told_behind_the_lines(rt: HostRuntime) -> Result<(), Fail> {
     let (lines, outcome) = run(rt.alloc(), WIDE, (&[], &[]), formatted(rt.alloc(), &[])?)?;
-    assert_eq!(rt; lines.as_str(), "l 128\nfault 9 1 0\n");
+    assert!(rt; lines.as_str() == "l 128\nfault 9 1 0\n");
     assert!(rt;
         matches!(
             outcome.status,
@@ -195,12 +192,12 @@ fn each_call_of_the_disk_that_fails_is_told(rt: HostRuntime) -> Result<(), Fail>
     let (_, whole) = run(rt.alloc(), COUNT, (&[], &[]), formatted(rt.alloc(), &[])?)?;
     for failing in 11..=whole.disk.calls() {
         let (number, lines, next, more) = twice(rt.alloc(), failing)?;
-        assert_eq!(rt; number, 5, "call {failing}");
+        assert!(rt; number == 5, "call {failing}");
         assert!(rt;
             lines.as_str() == "fault 5 disk\n" || lines.as_str() == "counter 1\nfault 5 disk\n",
             "call {failing}"
         );
-        assert_eq!(rt; next, 0, "call {failing}");
+        assert!(rt; next == 0, "call {failing}");
         // What was counted stands from the second Stable's record of it on.
         assert!(rt;
             more.as_str() == "counter 1\n" || (lines.len() > 13 && more.as_str() == "counter 2\n"),

@@ -48,12 +48,12 @@ fn a_source_is_read_to_its_end(rt: HostRuntime) -> Result<(), Fail> {
         return Err(Fail::from("no script"));
     };
     let script = &read.script;
-    assert_eq!(rt; (script.steps, script.frames), (7, 2));
+    assert!(rt; (script.steps, script.frames) == (7, 2));
     assert!(rt; script.containers.len() == 1 && script.loci.len() == 1 && script.order.is_empty());
     assert!(rt; read.managers.supply.len() == 1 && read.managers.policy.is_empty());
     let (a, l) = (&script.containers[0], &script.loci[0]);
-    assert_eq!(rt; (a.pages, a.every, a.code.len()), (3, 5, 1));
-    assert_eq!(rt; (l.name.as_str(), l.host.as_str(), l.at), ("l", "a", 9));
+    assert!(rt; (a.pages, a.every, a.code.len()) == (3, 5, 1));
+    assert!(rt; (l.name.as_str(), l.host.as_str(), l.at) == ("l", "a", 9));
     let mut piece = [0u8; 1];
     assert!(rt; matches!(source.take(&mut piece), Ok(0)));
     Ok(())

@@ -2,7 +2,7 @@
 use Rattle.std.proofs.Common.{◌⊎◌, ℕ, inl, inr}
 use Rattle.disk_trait.specs.Image.{Image}
 use Rattle.disk_trait.specs.Moments.{LeavesOnly}
-use Rattle.log_reading.specs.Reads.{ReadsOnly}
+use Rattle.log_reading.specs.log_laws.Reads.{ReadsOnly}
 use Rattle.command_parts.specs.Seen.{IsOnlyRead, LeavesImages, seen_disk}
 
 module _ {D : Type 0} (tells : Type 0) (block_count : D → ℕ) (reading : D → Image) (may_leave : D → Image → Type 0) (left_since : D → ℕ → Image → Type 0) (clock faults : D → ℕ) (old new : D) where

@@ -1,6 +1,6 @@
 -- Which answer of an append comes when.
 use Rattle.std.specs.Prelude.{◌≡◌, ℕ, Bool, true, false, Result, IsErrOf}
-use Rattle.image_blocks.specs.Layout.{slot_count}
+use Rattle.image_blocks.specs.image_form.Layout.{slot_count}
 use Rattle.commit_log.specs.declared.log.LogFault.{LogFault}
 use Rattle.commit_log.specs.declared.log.LogFault.TheVariants.{SlotsFull, WriteFault, Shut}
 

@@ -1,4 +1,5 @@
 pub mod Answers
 pub mod Standing
-pub mod Bodies
 pub use Rattle.image_blocks.specs as image_blocks
+pub use Rattle.image_blocks.specs.image_form
+pub use Rattle.log_laws.specs as log_laws

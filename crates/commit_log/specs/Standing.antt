@@ -1,8 +1,7 @@
 -- What a log of one area stands for on a disk.
-use Rattle.std.specs.Prelude.{◌≡◌, ℕ, ◌+◌, ◌<◌, Bool, true, false, List, length, Result, OnOk, OnErr, IsErrOf}
-use Rattle.disk_trait.specs.Image.{Image, block_at}
+use Rattle.std.specs.Prelude.{◌≡◌, ℕ, ◌+◌, Bool, true, false, List, length, Result, OnOk, OnErr, IsErrOf}
+use Rattle.disk_trait.specs.Image.{Image}
 use Rattle.hop_base.specs.declared.records.Rec.{Rec}
-use Rattle.image_blocks.specs.Layout.{closed_gate, open_gate, slot_count, slot_gate_at}
 use Rattle.image_blocks.specs.Logs.{HasSlots}
 use Rattle.image_blocks.specs.declared.areas.Area.{Area}
 use Rattle.commit_log.specs.declared.log.Log.{Log}
@@ -27,11 +26,6 @@ pub record Stands {D : Type 0} (reading : D → Image) (may_leave : D → Image 
   pub used : length recs ≡ used_of log
   pub slots : HasSlots (area_of log) recs (reading disk)
   pub left : (c : Image) → may_leave disk c → HasSlots (area_of log) recs c
-
--- the gates that an append into this slot writes: the slot's own has the bytes of an open one, and the next slot's, where there is one, those of a closed one
-pub record HasGates (area : Area) (slot : ℕ) (image : Image) : Type 0 where
-  pub own : block_at image (slot_gate_at area slot) ≡ open_gate
-  pub next : slot + 1 < slot_count → block_at image (slot_gate_at area (slot + 1)) ≡ closed_gate
 
 -- what an append leaves of the log itself: one slot more is used, or as many as before
 pub record HasAppended {T : Type 0} (result : Result T LogFault) (old new : Log) : Type 0 where

@@ -6,7 +6,7 @@ ghost use Rattle.disk_trait.specs.Moments.{LeavesOnly};
 ghost use Rattle.hop_base.specs.declared.records.Rec.{Rec as Record};
 ghost use Rattle.disk_tally.specs.Counts.{Begins, shown};
 ghost use Rattle.disk_trait.specs.Counts.{Rose};
-ghost use Rattle.image_blocks.specs.Layout.{pool_at, slot_count};
+ghost use Rattle.image_blocks.specs.image_form.Layout.{pool_at, slot_count};
 ghost use Rattle.image_blocks.specs.Logs.{IsAppending, IsNextSlot};
 
 use crate::slots::{open_slot, write_body};
@@ -47,7 +47,8 @@ pub struct Log {
 
 impl Log {
     ghost use Rattle.commit_log.specs.Answers.{AppendAnswers};
-    ghost use Rattle.commit_log.specs.Standing.{HasAppended, HasGates, Stands, area_of, has_failed, used_of};
+    ghost use Rattle.commit_log.specs.Standing.{HasAppended, Stands, area_of, has_failed, used_of};
+    ghost use Rattle.log_laws.specs.Gates.{HasGates};
 
     /// The log of an area with so many slots used, up to 640.
     pub fn new(area: Area, used: u16) -> Log

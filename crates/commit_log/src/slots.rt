@@ -4,8 +4,9 @@ ghost use Rattle.disk_trait.specs.Disk.{HasCause, Only};
 ghost use Rattle.disk_trait.specs.Image.{SameOutside, block_at};
 ghost use Rattle.disk_trait.specs.Moments.{LeavesOnly, Quiet};
 ghost use Rattle.disk_tally.specs.Counts.{CountsOn};
-ghost use Rattle.image_blocks.specs.Layout.{body_at, closed_gate as closed_block, open_gate as open_block, pool_at, slot_count, slot_gate_at};
-ghost use Rattle.commit_log.specs.Bodies.{IsBodyBlock, IsOpening};
+ghost use Rattle.image_blocks.specs.Layout.{body_at, slot_gate_at};
+ghost use Rattle.image_blocks.specs.image_form.Layout.{closed_gate as closed_block, open_gate as open_block, pool_at, slot_count};
+ghost use Rattle.log_laws.specs.Bodies.{IsBodyBlock, IsOpening};
 
 use disk_tally::Tally;
 use disk_trait::{Disk, DiskFault};

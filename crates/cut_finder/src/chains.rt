@@ -1,6 +1,6 @@
 ghost use Rattle.std.specs.Prelude.{◌≡◌, ℕ, ◌<◌, ◌≤◌, length};
-ghost use Rattle.cut_finder.specs.Records.{choice};
-ghost use Rattle.cut_finder.specs.Searches.{place_at, entity_at, IsLastOf, IsChain};
+ghost use Rattle.cut_searches.specs.Records.{choice};
+ghost use Rattle.cut_searches.specs.Searches.{place_at, entity_at, IsLastOf, IsChain};
 
 use crate::MOST_RECORDS;
 use hop_base::{Cut, Rec};

@@ -6,7 +6,7 @@ ghost use Rattle.std.specs.Prelude.{◌≤◌, ◌↔◌, length, IsTrue};
 ghost use Rattle.cut_laws.specs.hop_model.Choices.{IsClosedChoice, IsGreatest};
 ghost use Rattle.cut_laws.specs.Agreeing.{nothing};
 ghost use Rattle.cut_laws.specs.Records.{commits_of};
-ghost use Rattle.cut_finder.specs.Records.{choice, IsAscending};
+ghost use Rattle.cut_searches.specs.Records.{choice, IsAscending};
 
 mod chains;
 mod search;

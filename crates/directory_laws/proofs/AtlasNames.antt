@@ -6,10 +6,10 @@ use Rattle.std.specs.Prelude.{IfSome}
 use Rattle.kernel_calls.specs.hop_model.Scripts.{text_eq}
 use Rattle.kernel_calls.specs.hop_model.Soundness.{are_names_from, is_given_name, is_name_of}
 use Rattle.kernel_calls.proofs.hop_model_lemmas.Basics.{and_left, and_right}
-use Rattle.atlas_dir.specs.Directory.{Directory, IsDirectory, IsNameOf, entity_named, made_name, name_of}
-use Rattle.atlas_dir.proofs.Naming.{container_name, locus_name}
+use Rattle.atlas_dir.specs.directory_form.Directory.{Directory, IsDirectory, IsNameOf, entity_named, made_name, name_of}
+use Rattle.atlas_dir.proofs.directory_form_lemmas.Naming.{container_name, locus_name}
 use Rattle.directory_laws.proofs.NameLaws.{given_names_same}
-use Rattle.atlas_dir.proofs.Pigeons.{some_of}
+use Rattle.atlas_dir.proofs.directory_form_lemmas.Pigeons.{some_of}
 
 -- TEXTS
 same_text : (t : List ℕ) → text_eq t t ≡ true

@@ -7,7 +7,7 @@ use borrow.Author.Tests.{eqb-true, ne_eqb, lt-ltb}
 use Rattle.kernel_calls.specs.hop_model.State.{ContainerState, LocusState, Cell, NotBorn, AtlasCell, ContainerCell, LocusCell}
 use Rattle.kernel_calls.specs.hop_model.Words.{is_container}
 use Rattle.kernel_calls.specs.hop_model.Soundness.{is_born, is_born_container, is_born_locus, AreSound, regions_onto}
-use Rattle.atlas_dir.specs.Directory.{Directory, name_of, IsBornContainer}
+use Rattle.atlas_dir.specs.directory_form.Directory.{Directory, name_of, IsBornContainer}
 use Rattle.kernel_calls.specs.Calls.{atlas_state, NamesBorn}
 use Rattle.directory_laws.specs.Mapping.{MeetsMapping}
 

@@ -6,7 +6,7 @@ use Rattle.kernel_calls.specs.hop_model.Scripts.{atlas_name, container_named, lo
 use Rattle.kernel_calls.specs.hop_model.State.{Text}
 use Rattle.kernel_calls.specs.hop_model.Words.{or_else}
 use Rattle.directory_laws.proofs.AtlasNames.{text_same}
-use Rattle.atlas_dir.specs.Directory.{Directory, IsDirectory, entity_named, name_of}
+use Rattle.atlas_dir.specs.directory_form.Directory.{Directory, IsDirectory, entity_named, name_of}
 use Rattle.directory_laws.proofs.NameLaws.{numbers_same}
 use Rattle.kernel_calls.specs.Calls.{atlas_state}
 

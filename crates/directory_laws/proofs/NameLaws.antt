@@ -10,7 +10,7 @@ use Rattle.std.proofs.lemmas.Slice.Eq.{bytes_eq-Decides, compares_Decides}
 use Rattle.kernel_calls.specs.hop_model.Scripts.{text_eq, place_of, atlas_name, number_of}
 use Rattle.kernel_calls.specs.hop_model.Words.{or_else as model_or_else}
 use Rattle.kernel_calls.specs.hop_model.Soundness.{is_letter as model_letter, is_name_byte as model_name_byte, begins_with_letter, is_given_name}
-use Rattle.atlas_dir.specs.Directory.{Directory, entity_named, number_from, or_else, is_letter, is_name_byte, IsName}
+use Rattle.atlas_dir.specs.directory_form.Directory.{Directory, entity_named, number_from, or_else, is_letter, is_name_byte, IsName}
 use Rattle.kernel_calls.specs.Calls.{atlas_state}
 
 text_decides : (a b : List ℕ) → Decides (text_eq a b) (a ≡ b)

@@ -1,7 +1,7 @@
 -- What the calls on regions of a container ask of the state in which they are made.
 use Rattle.std.specs.Prelude.{◌≡◌, ℕ, ◌==◌, count_by}
 use Rattle.kernel_calls.specs.hop_model.State.{ContainerState, LocusState, Cell, ContainerCell, LocusCell}
-use Rattle.atlas_dir.specs.Directory.{Directory, edges_of, IsBornContainer}
+use Rattle.atlas_dir.specs.directory_form.Directory.{Directory, edges_of, IsBornContainer}
 use Rattle.kernel_calls.specs.Calls.{NamesBorn}
 
 -- the containers that a locus's capabilities name are born, each container is, and the directory counts its regions

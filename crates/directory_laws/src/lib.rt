@@ -5,9 +5,12 @@ ghost use Rattle.std.specs.Prelude.{◌≡◌, ◌↔◌, ℕ, ◌≤◌, List, 
 ghost use Rattle.kernel_calls.specs.hop_model.State.{Cell as ModelCell};
 ghost use Rattle.kernel_calls.specs.hop_model.Scripts.{number_of};
 ghost use Rattle.kernel_calls.specs.hop_model.Soundness.{is_given_name, is_born_container, AreSound};
-ghost use Rattle.atlas_dir.specs.Directory.{Directory, entity_named, IsName, IsBornContainer};
+ghost use Rattle.atlas_dir.specs.directory_form.Directory.{Directory, entity_named, IsName, IsBornContainer};
 ghost use Rattle.kernel_calls.specs.Calls.{atlas_state};
 ghost use Rattle.directory_laws.specs.Mapping.{MeetsMapping};
+
+pub use kernel_calls;
+pub use kernel_calls::locus_machine;
 
 /// The directory and the model take the same texts for names that may be given.
 pub fn given_names_are_the_models()

@@ -15,9 +15,10 @@ use Rattle.script_form.specs.hop_model.State.{Text}
 use Rattle.script_form.specs.hop_model.Scripts.{RegionTable, CapTable, ContainerTable, LocusTable, text_eq, atlas_name}
 use Rattle.script_form.specs.hop_model.Soundness.{is_given_name, IsSoundCode}
 use Rattle.script_form.specs.Rules.{is_among, AreDifferent, IsRegionTable, AreAllApart, IsCapTable, IsContainerTable, IsLocusTable, container_names, locus_names, AreContainerTables, AreLocusTables, IsScript}
+use Rattle.script_form.proofs.Tables.{containers_more, loci_more}
 use Rattle.drill_gen.specs.Draws.{Words, Drawn, rest, each}
 use Rattle.drill_gen.specs.Drill.{container_name, locus_name, of_kind, instruction, program, region_onto, regions, container, cap_on, locus, drill_of}
-use Rattle.std.proofs.Math.Bool.{or-false, or-true}
+use Rattle.std.proofs.Math.Bool.{or-true}
 
 -- THINGS THAT ARE DRAWN ONE AFTER ANOTHER
 
@@ -50,12 +51,6 @@ each_shows {B = B} f shown one (suc n) ws h =
 same_text : (t : Text) → text_eq t t ≡ true
 same_text [] = refl
 same_text (x ∷ xs) = (let e : (x == x) ≡ true = eq-eqb x x refl in rw e (same_text xs))
-
-or_moved : (a b c : Bool) → (a || (b || c)) ≡ (b || a || c)
-or_moved true true c = refl
-or_moved true false c = refl
-or_moved false true c = refl
-or_moved false false c = refl
 
 -- of the numbers below n, what holds of all holds of each
 below_all : (p : ℕ → Bool) (n k : ℕ) → list_all p (upto n) ≡ true → k < n → p k ≡ true
@@ -193,14 +188,6 @@ container_named c ws = refl
 names_of_containers : (n : ℕ) (ws : Words) → container_names (each container n ws).0 ≡ map container_name (upto n)
 names_of_containers n ws = each_shows (λ (t : ContainerTable). t.name) container_name container n ws container_named
 
--- one more container; to move down to the rules of scripts, as the next for loci
-containers_more : (earlier : List Text) (ts : List ContainerTable) (t : ContainerTable) → AreContainerTables earlier ts
-    → ((known : List Text) → ((name : Text) → is_among known name ≡ (is_among earlier name || is_among (container_names ts) name)) → IsContainerTable known t)
-    → AreContainerTables earlier (ts ++ t ∷ [])
-containers_more earlier [] t h good = (good earlier (λ name. sym (or-false (is_among earlier name))), tt)
-containers_more earlier (u ∷ ts) t h good =
-    (h.0, containers_more (u.name ∷ earlier) ts t h.1 (λ known same. good known (λ name. same name ∙ sym (or_moved (is_among earlier name) (text_eq name u.name) (is_among (container_names ts) name)))))
-
 containers_good : (n : ℕ) (ws : Words) → n ≤ 12 → AreContainerTables [] (each container n ws).0
 unfolding each
 containers_good zero ws le = tt
@@ -210,12 +197,6 @@ containers_good (suc n) ws le =
     (λ k lt. same (container_name k) ∙ ap (λ (ns : List Text). is_among ns (container_name k)) (names_of_containers n ws) ∙ among_below container_name n k lt))
 
 -- LOCI
-
-loci_more : (containers earlier : List Text) (ts : List LocusTable) (t : LocusTable) → AreLocusTables containers earlier ts
-    → ((known : List Text) → IsLocusTable containers known t)
-    → AreLocusTables containers earlier (ts ++ t ∷ [])
-loci_more containers earlier [] t h good = (good earlier, tt)
-loci_more containers earlier (u ∷ ts) t h good = (h.0, loci_more containers (u.name ∷ earlier) ts t h.1 good)
 
 -- a name that is among the first of two lists
 among_front : (xs ys : List Text) (name : Text) → is_among xs name ≡ true → is_among (xs ++ ys) name ≡ true
@@ -260,7 +241,7 @@ unfolding each
 loci_good containers zero ws le knows = tt
 loci_good containers (suc n) ws le knows =
     loci_more containers [] (each locus n ws).0 (locus n (each locus n ws).1).0 (loci_good containers n ws (omega arith) knows)
-    (λ known. locus_good containers known n (each locus n ws).1 (omega arith) knows)
+    (λ known same. locus_good containers known n (each locus n ws).1 (omega arith) knows)
 
 -- THE SCRIPT
 

@@ -15,6 +15,26 @@ use stream_edge::{Sink, SinkFault};
 /// A length that no text of two numbers exceeds.
 const NUMBERS_TEXT: usize = 64;
 
+/// The sentence on words that are no command's.
+const USAGE: &[u8] =
+    b"usage: hopper_program IMAGE COMMAND; a command is format N, with N from 2600 to 65536 blocks, run, run --trace, drill N, show, report or check-trace; run reads a script from standard input, and check-trace a script, a line --- and a trace (README.md)\n";
+
+/// The sentence on a fault of the disk.
+const DISK_FAULT: &[u8] =
+    b"disk fault: the image's file could not be read, written or synced; its disk may be full or gone, and when that is mended the command can be given again\n";
+
+/// The sentence on a fault of the source.
+const SOURCE_FAULT: &[u8] =
+    b"source fault: standard input could not be read, and nothing was run; give the command again\n";
+
+/// The sentence on a fault of the sink.
+const SINK_FAULT: &[u8] =
+    b"output fault: standard output did not take all lines; what the command did to the image stands\n";
+
+/// The sentence where memory ran out.
+const NO_MEMORY: &[u8] =
+    b"out of memory: nothing was run, and the image means what it meant; a script with fewer steps takes less (docs/SCRIPTS.md)\n";
+
 /// What a refusal speaks of: its key, or the script as a whole.
 fn subject(refusal: &Refusal) -> &str
     ensures { result.now ≡ subject refusal.now }
@@ -124,9 +144,7 @@ pub fn put_sentence<W: Sink>(sink: &mut W, status: &Status) -> Result<(), SinkFa
 {
     match status {
         Status::Done => Ok(()),
-        Status::Usage => sink.put(
-            b"usage: hopper_program IMAGE COMMAND; a command is format N, with N from 2600 to 65536 blocks, run, run --trace, drill N, show, report or check-trace; run reads a script from standard input, and check-trace a script, a line --- and a trace (README.md)\n",
-        ),
+        Status::Usage => sink.put(USAGE),
         Status::Script(refusal) => put_line(
             sink,
             "script refused: ",
@@ -139,18 +157,10 @@ pub fn put_sentence<W: Sink>(sink: &mut W, status: &Status) -> Result<(), SinkFa
             place_text(*block, *place).as_str(),
             " is not as in an image; name another file, or make an empty image by format N (docs/IMAGE.md)",
         ),
-        Status::DiskFault => sink.put(
-            b"disk fault: the image's file could not be read, written or synced; its disk may be full or gone, and when that is mended the command can be given again\n",
-        ),
-        Status::SourceFault => sink.put(
-            b"source fault: standard input could not be read, and nothing was run; give the command again\n",
-        ),
-        Status::SinkFault => sink.put(
-            b"output fault: standard output did not take all lines; what the command did to the image stands\n",
-        ),
-        Status::Memory => sink.put(
-            b"out of memory: nothing was run, and the image means what it meant; a script with fewer steps takes less (docs/SCRIPTS.md)\n",
-        ),
+        Status::DiskFault => sink.put(DISK_FAULT),
+        Status::SourceFault => sink.put(SOURCE_FAULT),
+        Status::SinkFault => sink.put(SINK_FAULT),
+        Status::Memory => sink.put(NO_MEMORY),
         Status::BlocksFull(blocks) => put_line(
             sink,
             "too few blocks: ",

@@ -1,6 +1,6 @@
 //! An empty image, made by a command.
 ghost use Rattle.std.specs.Prelude.{◌≡◌, ◌≤◌};
-ghost use Rattle.restart.specs.image_blocks.Layout.{least_blocks, most_blocks};
+ghost use Rattle.restart.specs.image_form.Layout.{least_blocks, most_blocks};
 ghost use Rattle.command_parts.specs.Seen.{gave, seen_disk, seen_sink};
 ghost use Rattle.command_parts.specs.Statuses.{ending};
 ghost use Rattle.format_command.specs.Formats.{FormatLeaves, fault_of_format};

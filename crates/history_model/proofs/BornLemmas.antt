@@ -1,34 +1,14 @@
 -- Who is born in a sound state, by the plain list of edges.
-use Rattle.std.proofs.Common.{◌≡◌, ℕ, ◌+◌, ◌≤◌, true, false, ◌&&◌, ◌||◌, if◌then◌else◌, ◌==◌, nat_lt, IsTrue, List, [], ◌∷◌, length, refl, sym, subst, ◌∙◌, arith}
-use Rattle.std.specs.List.{All}
+use Rattle.std.proofs.Common.{◌≡◌, ℕ, ◌+◌, ◌≤◌, true, ◌&&◌, ◌||◌, ◌==◌, nat_lt, IsTrue, List, length, refl, sym, subst, ◌∙◌, arith}
 use Rattle.std.proofs.lemmas.Bool.Decides.{nat_tests}
-use Rattle.std.proofs.lemmas.List.Elements.{All-cons, All-head, All-nil, All-tail, All-weaker}
+use Rattle.std.proofs.lemmas.List.Elements.{All-weaker}
 use Rattle.hop_model.specs.Soundness.{AreSound, is_born_container, regions_onto}
 use Rattle.hop_model.specs.State.{AtlasState, Cell}
 use Rattle.sound_runs.proofs.Tables.{shows_born}
 use Rattle.history_model.specs.Born.{AreEdges, is_before}
 use Rattle.history_model.specs.Plains.{edges_of}
 use Rattle.history_model.specs.declared.plain.Edge.{Edge}
-use Rattle.history_model.proofs.EdgeLemmas.{AllBefore, edge}
-
--- EDGES IN THE LIST
-
--- each edge in the list counts for its containers
-counted : (es : List Edge) → All (λ (e : Edge). 1 ≤ e.count) es → All (λ (e : Edge). 1 ≤ edges_of es e.from e.to) es
-counted [] all = All-nil (λ (e : Edge). 1 ≤ edges_of [] e.from e.to)
-counted (f ∷ fs) all =
-    All-cons (λ (e : Edge). 1 ≤ edges_of (f ∷ fs) e.from e.to) f fs (through f (λ differ. absurd (differ (both f))))
-    (All-weaker (λ (e : Edge). 1 ≤ edges_of fs e.from e.to) (λ (e : Edge). 1 ≤ edges_of (f ∷ fs) e.from e.to) (λ e h. through e (λ _. h)) fs (counted fs (All-tail (λ (e : Edge). 1 ≤ e.count) f fs all)))
-  where
-    both : (e : Edge) → (e.from == e.from && e.to == e.to) ≡ true
-    both e = grind (arith, nat_tests)
-
-    through : (e : Edge) → (((f.from == e.from && f.to == e.to) ≡ true → ⊥) → 1 ≤ edges_of fs e.from e.to) → 1 ≤ edges_of (f ∷ fs) e.from e.to
-    through e else' =
-        elim (f.from == e.from && f.to == e.to) as (λ b. ((b ≡ true → ⊥) → 1 ≤ edges_of fs e.from e.to) → 1 ≤ (if b then f.count else edges_of fs e.from e.to)) [
-          | true ↦ λ _. All-head (λ (e : Edge). 1 ≤ e.count) f fs all
-          | false ↦ λ h. h (λ t. cc)
-        ] else'
+use Rattle.history_model.proofs.EdgeLemmas.{AllBefore, counted, edge}
 
 -- all edges are from containers below the next number
 pub all_before : (a : AtlasState) (cells : ℕ → Cell) (es : List Edge) (n : ℕ) → AreSound a cells → ((x y : ℕ) → a.edges x y ≡ edges_of es x y) → AreEdges es → n ≡ length a.containers + 1 → AllBefore n 0 es

@@ -1,9 +1,9 @@
 -- The cells and versions of plain states, after a container or a locus changed.
-use Rattle.std.proofs.Common.{◌≡◌, ◌≢◌, ℕ, zero, suc, ◌+◌, ◌-◌, ◌<◌, ◌≤◌, ◌⊎◌, inl, inr, ⊎_elim, true, false, if◌then◌else◌, ◌==◌, nat_lt, List, [], ◌∷◌, Option, Some, None, slice_index, slice_get, slice_set, length, refl, sym, ap, subst, ◌∙◌, arith, eqb-true, eq-eqb}
+use Rattle.std.proofs.Common.{◌≡◌, ◌≢◌, ℕ, zero, suc, ◌+◌, ◌-◌, ◌<◌, ◌≤◌, ◌⊎◌, inl, inr, ⊎_elim, true, false, if◌then◌else◌, ◌==◌, nat_lt, List, [], ◌∷◌, Some, None, slice_index, slice_get, slice_set, length, refl, sym, ap, subst, ◌∙◌, arith, eqb-true, eq-eqb}
 use Rattle.std.proofs.lemmas.Bool.{cases_lt}
 use Rattle.std.proofs.lemmas.Bool.Decides.{nat_tests}
 use Rattle.std.proofs.lemmas.List.{get_or-set_same, get_or-set_other}
-use Rattle.hop_model.specs.State.{Supply, AtlasState, AtlasCell, ContainerCell, LocusCell}
+use Rattle.hop_model.specs.State.{Supply, AtlasState, ContainerCell, LocusCell}
 use Rattle.hop_base.specs.declared.instructions.Condition.{Condition}
 use Rattle.hop_base.specs.declared.instructions.Condition.TheVariants.{Running, Stopped, Halted}
 use Rattle.hop_model.specs.Steps.{if_running, running}
@@ -133,25 +133,3 @@ idle_at ls j n l at is apart high =
     by_condition Running apart = absurd (apart refl)
     by_condition Stopped apart = refl
     by_condition Halted apart = refl
-
--- an idle number makes no step
-pub idle_cell : (s : Supply) (a : AtlasState) (cs : List PlainContainer) (ls : List PlainLocus) (n : ℕ) → IsIdleIn ls n → running (cells_by s a cs ls n) ≡ None
-idle_cell s a cs ls n idle = ⊎_elim {C = running (cells_by s a cs ls n) ≡ None} low (λ (high : 41 ≤ n). ap running (high_cell s a cs ls n high) ∙ idle high) (cases_lt n 41)
-  where
-    of_container : (o : Option PlainContainer) → running (container_cell s o) ≡ None
-    of_container (Some c) = refl
-    of_container None = refl
-
-    low : n < 41 → running (cells_by s a cs ls n) ≡ None
-    low lt =
-        let b : nat_lt n 41 ≡ true = grind (arith, nat_tests) in
-        elim (n == 0) as (λ t. running (if t then AtlasCell a else if nat_lt n 41 then container_cell s (slice_get cs (n - 1)) else locus_cell (slice_get ls (n - 41))) ≡ None) [
-          | true ↦ refl
-          | false ↦ rw b (of_container (slice_get cs (n - 1)))
-        ]
-
--- an element that is put back changes nothing
-pub put_back : {A : Type 0} (xs : List A) (i : ℕ) (x : A) → slice_get xs i ≡ Some x → slice_set xs i x ≡ xs
-put_back [] i x h = refl
-put_back (y ∷ ys) zero x h = let same : x ≡ y = cc in ap (λ z. z ∷ ys) same
-put_back (y ∷ ys) (suc i) x h = ap (λ zs. y ∷ zs) (put_back ys i x h)

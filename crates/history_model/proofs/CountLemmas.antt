@@ -1,5 +1,5 @@
 -- One edge more and one less in the list: the model's counts, and the order.
-use Rattle.std.proofs.Common.{◌≡◌, ℕ, zero, suc, ◌+◌, ◌-◌, ◌<◌, ◌≤◌, Bool, true, false, not, ◌&&◌, if◌then◌else◌, ◌==◌, nat_lt, IsTrue, List, [], ◌∷◌, length, set, get_or, refl, sym, ap, subst, ◌∙◌, arith, eqb-true, eq-eqb}
+use Rattle.std.proofs.Common.{◌≡◌, ℕ, zero, suc, ◌+◌, ◌-◌, ◌<◌, ◌≤◌, Bool, true, false, not, ◌&&◌, if◌then◌else◌, ◌==◌, nat_lt, IsTrue, List, [], ◌∷◌, length, set, get_or, refl, sym, ap, subst, ◌∙◌, arith, eqb-true}
 use Rattle.std.specs.List.{All, insert, remove, position_or_len}
 use Rattle.std.proofs.lemmas.Bool.Decides.{nat_tests}
 use Rattle.std.proofs.lemmas.List.Elements.{All-cons, All-head, All-nil, All-tail, All-weaker}
@@ -8,9 +8,7 @@ use Rattle.history_model.specs.EdgeLists.{edge_less, edge_more, is_edge, is_reac
 use Rattle.history_model.specs.Born.{AreAscending, AreEdges, is_before}
 use Rattle.history_model.specs.Plains.{edges_of}
 use Rattle.history_model.specs.declared.plain.Edge.{Edge}
-
-abbrev pub edge : ℕ → ℕ → ℕ → Edge
-edge from to count = record { from = from; to = to; count = count }
+use Rattle.history_model.proofs.EdgeLemmas.{edge}
 
 -- WHERE THE CODE WRITES
 
@@ -114,9 +112,6 @@ module _ (from to : ℕ) (es : List Edge) (n : ℕ) where
   less_gone_at at f = subst (λ m. m < length es → f ≡ get_or es m f → f.count ≤ 1 → remove es m ≡ edge_less from to es) (sym at) (less_gone from to es f)
 
 -- THE MODEL'S COUNTS
-
-itself : (n : ℕ) → (n == n) ≡ true
-itself n = eq-eqb n n refl
 
 -- an edge behind another is another
 apart_before : (e f : Edge) → IsTrue (is_before e f) → (f.from == e.from && f.to == e.to) ≡ false

@@ -15,6 +15,23 @@ use Rattle.history_model.specs.declared.plain.Edge.{Edge}
 abbrev pub edge : ℕ → ℕ → ℕ → Edge
 edge from to count = record { from = from; to = to; count = count }
 
+-- each edge in the list counts for its containers
+pub counted : (es : List Edge) → All (λ (e : Edge). 1 ≤ e.count) es → All (λ (e : Edge). 1 ≤ edges_of es e.from e.to) es
+counted [] all = All-nil (λ (e : Edge). 1 ≤ edges_of [] e.from e.to)
+counted (f ∷ fs) all =
+    All-cons (λ (e : Edge). 1 ≤ edges_of (f ∷ fs) e.from e.to) f fs (through f (λ differ. absurd (differ (both f))))
+    (All-weaker (λ (e : Edge). 1 ≤ edges_of fs e.from e.to) (λ (e : Edge). 1 ≤ edges_of (f ∷ fs) e.from e.to) (λ e h. through e (λ _. h)) fs (counted fs (All-tail (λ (e : Edge). 1 ≤ e.count) f fs all)))
+  where
+    both : (e : Edge) → (e.from == e.from && e.to == e.to) ≡ true
+    both e = grind (arith, nat_tests)
+
+    through : (e : Edge) → (((f.from == e.from && f.to == e.to) ≡ true → ⊥) → 1 ≤ edges_of fs e.from e.to) → 1 ≤ edges_of (f ∷ fs) e.from e.to
+    through e else' =
+        elim (f.from == e.from && f.to == e.to) as (λ b. ((b ≡ true → ⊥) → 1 ≤ edges_of fs e.from e.to) → 1 ≤ (if b then f.count else edges_of fs e.from e.to)) [
+          | true ↦ λ _. All-head (λ (e : Edge). 1 ≤ e.count) f fs all
+          | false ↦ λ h. h (λ t. cc)
+        ] else'
+
 -- each edge is before the one from n to k
 abbrev pub AllBefore : ℕ → ℕ → List Edge → Type 0
 AllBefore n k es = All (λ e. IsTrue (is_before e (edge n k 0))) es

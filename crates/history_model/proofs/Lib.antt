@@ -2,7 +2,6 @@ pub mod ActLemmas
 pub mod CellLemmas
 pub mod SoundLemmas
 pub mod NameLemmas
-pub mod TableLemmas
 pub mod BirthLemmas
 pub mod EdgeLemmas
 pub mod BornLemmas
@@ -10,7 +9,6 @@ pub mod PlainBirths
 pub mod ScriptLemmas
 pub mod EmptyLemmas
 pub mod ReadLemmas
-pub mod LocalLemmas
 pub mod WantLemmas
 pub mod MarkLemmas
 pub mod CountLemmas
@@ -20,3 +18,4 @@ pub use Rattle.sound_runs.proofs.run_laws_lemmas
 pub use Rattle.sound_runs.proofs as sound_runs_lemmas
 pub use Rattle.sound_runs.proofs.sound_steps_lemmas
 pub use Rattle.wanted_act.proofs as wanted_act_lemmas
+pub use Rattle.wanted_laws.proofs as wanted_laws_lemmas

@@ -1,15 +1,15 @@
 -- Marks that spread along edges, and the test of circles.
-use Rattle.std.proofs.Common.{◌≡◌, ℕ, zero, suc, ◌<◌, ◌≤◌, ◌↔◌, ⊎_elim, Bool, true, false, IsTrue, not, ◌&&◌, if◌then◌else◌, ◌==◌, List, [], ◌∷◌, ◌++◌, length, set, replicate, find, Option, Some, None, refl, sym, ap, subst, ◌∙◌, arith, eqb-true, get_or-set_other}
+use Rattle.std.proofs.Common.{◌≡◌, ℕ, ◌<◌, ◌≤◌, ◌↔◌, Bool, true, false, IsTrue, not, ◌&&◌, if◌then◌else◌, ◌==◌, List, [], ◌∷◌, length, set, find, Option, Some, None, refl, sym, subst, ◌∙◌, arith, eqb-true}
 use Rattle.std.specs.List.{All}
-use Rattle.std.proofs.lemmas.Bool.{cases_eq, false≢true}
-use Rattle.std.proofs.lemmas.Bool.Decides.{nat_tests}
-use Rattle.std.proofs.lemmas.List.Elements.{All-cons, All-head, All-nil, All-tail, All-weaker}
-use Rattle.hop_base.specs.Edges.{ClosesCircle, Edges, IsPath, leads}
+use Rattle.hop_base.specs.Edges.{ClosesCircle, leads}
 use Rattle.circle_law.proofs.Circles.{circle_found}
-use Rattle.history_model.specs.EdgeLists.{AreReadyEdges, is_marked, leads_out}
+use Rattle.circle_law.proofs.Marks.{AllReached, closed_path, reached_more, unmarked, unmarked_less}
+use Rattle.circle_law.specs.Marks.{IsClosed, is_marked}
+use Rattle.history_model.specs.EdgeLists.{AreReadyEdges, leads_out}
 use Rattle.history_model.specs.Plains.{edges_of}
 use Rattle.history_model.specs.declared.plain.Edge.{Edge}
-use Rattle.history_model.proofs.SoundLemmas.{find_all}
+use Rattle.history_model.proofs.EdgeLemmas.{counted}
+use Rattle.sound_runs.proofs.sound_steps_lemmas.Lists.{find_all}
 
 -- TESTS
 
@@ -29,74 +29,6 @@ find_passes test (y ∷ ys) x h =
       | true ↦ λ is e. let same : y ≡ x = cc in subst (λ z. test z ≡ true) same is
       | false ↦ λ is e. find_passes test ys x e
     ] refl h
-
--- EDGES IN THE LIST
-
--- each edge in the list counts for its containers
-pub counted : (es : List Edge) → All (λ (e : Edge). 1 ≤ e.count) es → All (λ (e : Edge). 1 ≤ edges_of es e.from e.to) es
-counted [] all = All-nil (λ (e : Edge). 1 ≤ edges_of [] e.from e.to)
-counted (f ∷ fs) all =
-    All-cons (λ (e : Edge). 1 ≤ edges_of (f ∷ fs) e.from e.to) f fs (through f (λ differ. absurd (differ (both f))))
-    (All-weaker (λ (e : Edge). 1 ≤ edges_of fs e.from e.to) (λ (e : Edge). 1 ≤ edges_of (f ∷ fs) e.from e.to) (λ e h. through e (λ _. h)) fs (counted fs (All-tail (λ (e : Edge). 1 ≤ e.count) f fs all)))
-  where
-    both : (e : Edge) → (e.from == e.from && e.to == e.to) ≡ true
-    both e = grind (arith, nat_tests)
-
-    through : (e : Edge) → (((f.from == e.from && f.to == e.to) ≡ true → ⊥) → 1 ≤ edges_of fs e.from e.to) → 1 ≤ edges_of (f ∷ fs) e.from e.to
-    through e else' =
-        elim (f.from == e.from && f.to == e.to) as (λ b. ((b ≡ true → ⊥) → 1 ≤ edges_of fs e.from e.to) → 1 ≤ (if b then f.count else edges_of fs e.from e.to)) [
-          | true ↦ λ _. All-head (λ (e : Edge). 1 ≤ e.count) f fs all
-          | false ↦ λ h. h (λ t. cc)
-        ] else'
-
--- MARKS
-
--- one edge more
-path_more : (edges : Edges) (c x y : ℕ) (path : List ℕ) → IsPath edges c path x → 0 < edges x y → IsPath edges c (path ++ y ∷ []) y
-path_more edges c x y [] p e = (subst (λ z. 0 < edges z y) (sym p) e, refl)
-path_more edges c x y (z ∷ path) p e = (p.0, path_more edges z x y path p.1 e)
-
--- each marked number is reached
-abbrev pub AllReached : Edges → ℕ → List Bool → Type 0
-AllReached edges from marks = (y : ℕ) → is_marked marks y ≡ true → (path : List ℕ) × IsPath edges from path y
-
-reached_more : (edges : Edges) (from : ℕ) (marks : List Bool) (x y : ℕ) → AllReached edges from marks → is_marked marks x ≡ true → 0 < edges x y → AllReached edges from (set marks y true)
-reached_more edges from marks x y all m e = λ z k. ⊎_elim
-    (λ (same : z ≡ y). let p = all x m in (p.0 ++ y ∷ [], subst (IsPath edges from (p.0 ++ y ∷ [])) (sym same) (path_more edges from x y p.0 p.1 e)))
-    (λ (other : z ≡ y → ⊥). all z (sym (get_or-set_other marks y z true false other) ∙ k))
-    (cases_eq z y)
-
-pub still_marked : (marks : List Bool) (x y : ℕ) → is_marked marks x ≡ true → is_marked (set marks y true) x ≡ true
-still_marked [] x y m = m
-still_marked (b ∷ marks) zero zero m = refl
-still_marked (b ∷ marks) zero (suc y) m = m
-still_marked (b ∷ marks) (suc x) zero m = m
-still_marked (b ∷ marks) (suc x) (suc y) m = still_marked marks x y m
-
--- how many are not marked
-abbrev pub unmarked : List Bool → ℕ
-unmarked [] = 0
-unmarked (true ∷ marks) = unmarked marks
-unmarked (false ∷ marks) = suc (unmarked marks)
-
-unmarked_less : (marks : List Bool) (y : ℕ) → y < length marks → is_marked marks y ≡ false → unmarked (set marks y true) < unmarked marks
-unmarked_less [] y l m = absurd (omega arith)
-unmarked_less (true ∷ marks) zero l m = absurd (false≢true (sym m))
-unmarked_less (false ∷ marks) zero l m = omega arith
-unmarked_less (true ∷ marks) (suc y) l m = unmarked_less marks y (omega arith) m
-unmarked_less (false ∷ marks) (suc y) l m = omega (arith, unmarked_less marks y (omega arith) m)
-
--- at first one number alone is marked
-pub one_marked : (edges : Edges) (from n : ℕ) → AllReached edges from (set (replicate n false) from true)
-one_marked edges from n = λ y k. ⊎_elim
-    (λ (same : y ≡ from). ([], sym same))
-    (λ (other : y ≡ from → ⊥). absurd (false≢true (sym (none n y) ∙ sym (get_or-set_other (replicate n false) from y true false other) ∙ k)))
-    (cases_eq y from)
-  where
-    none : (n y : ℕ) → is_marked (replicate n false) y ≡ false
-    none zero y = refl
-    none (suc n) zero = refl
-    none (suc n) (suc y) = none n y
 
 -- A WAY OUT
 
@@ -119,9 +51,9 @@ pub way_fewer : (es : List Edge) (marks : List Bool) (e : Edge) → IsWayOut es 
 way_fewer es marks e way lt = unmarked_less marks e.to lt way.there
 
 -- where no edge leads out, what is reached from a marked number is marked
-closed : (es : List Edge) (marks : List Bool) (x y : ℕ) → find (leads_out marks) es ≡ None → 0 < edges_of es x y → is_marked marks x ≡ true → is_marked marks y ≡ true
-closed [] marks x y none some m = absurd (omega arith)
-closed (e ∷ es) marks x y none some m =
+closed : (es : List Edge) (marks : List Bool) → find (leads_out marks) es ≡ None → IsClosed (edges_of es) marks
+closed [] marks none x y m some = absurd (omega arith)
+closed (e ∷ es) marks none x y m some =
     elim (leads_out marks e) as (λ b. leads_out marks e ≡ b → (if b then Some e else find (leads_out marks) es) ≡ None → is_marked marks y ≡ true) [
       | true ↦ λ is no. cc
       | false ↦ λ is no.
@@ -129,7 +61,7 @@ closed (e ∷ es) marks x y none some m =
             | true ↦ λ at _.
                 let ends = both_true (e.from == x) (e.to == y) at in
                 subst (λ z. is_marked marks z ≡ true) (eqb-true e.to y ends.1) (must (is_marked marks e.from) (is_marked marks e.to) (subst (λ z. is_marked marks z ≡ true) (sym (eqb-true e.from x ends.0)) m) is)
-            | false ↦ λ at some. closed es marks x y no some m
+            | false ↦ λ at some. closed es marks no x y m some
           ] refl some
     ] refl none
   where
@@ -137,10 +69,6 @@ closed (e ∷ es) marks x y none some m =
     must true true e h = refl
     must true false e h = sym h
     must false b e h = cc
-
-closed_path : (es : List Edge) (marks : List Bool) → find (leads_out marks) es ≡ None → (c d : ℕ) (path : List ℕ) → is_marked marks c ≡ true → IsPath (edges_of es) c path d → is_marked marks d ≡ true
-closed_path es marks none c d [] m p = ap (is_marked marks) (sym p) ∙ m
-closed_path es marks none c d (x ∷ path) m p = closed_path es marks none x d path (closed es marks c x none p.0 m) p.1
 
 -- THE MODEL'S TEST
 
@@ -156,7 +84,7 @@ marks_tell es marks from to ready first reached none = by_both (is_marked marks 
     by_both true true m e = refl
     by_both false false m e = refl
     by_both true false m e = sym (circles.1 (reached to m)) ∙ e
-    by_both false true m e = let p = circles.0 e in sym m ∙ closed_path es marks none from to p.0 first p.1
+    by_both false true m e = let p = circles.0 e in sym m ∙ closed_path (edges_of es) marks (closed es marks none) from to p.0 first p.1
 
 pub none_by : {X : Type 0} (o : Option X) → ((x : X) → o ≡ Some x → ⊥) → o ≡ None
 none_by None h = refl

@@ -1,15 +1,9 @@
 -- Registers that a mapping reads.
-use Rattle.std.proofs.Common.{◌≡◌, ℕ, ◌+◌, ◌<◌, ◌≤◌, Bool, true, false, ◌&&◌, nat_lt, nat_le, None, arith, refl}
+use Rattle.std.proofs.Common.{◌≡◌, ℕ, ◌+◌, ◌<◌, ◌≤◌, true, ◌&&◌, nat_lt, nat_le, None, arith}
 use Rattle.std.proofs.lemmas.Bool.Decides.{nat_tests}
-use Rattle.hop_base.specs.declared.instructions.Reply.{Reply}
 use Rattle.hop_model.specs.Refusals.{no_page, reg}
 use Rattle.hop_model.specs.State.{LocusState}
-use Rattle.hop_model.specs.Words.{unless}
-
--- a test that doesn't refuse holds
-pub passes : (b : Bool) (why : Reply) → unless b why ≡ None → b ≡ true
-passes true why e = refl
-passes false why e = cc
+use Rattle.wanted_laws.proofs.ReadLemmas.{passes}
 
 within : (a b n : ℕ) → (nat_lt 0 n && nat_le (a + n) 256 && nat_le (b + n) 256) ≡ true → (0 < n) × (a + n ≤ 256) × (b + n ≤ 256)
 within a b n e = (grind (arith, nat_tests), grind (arith, nat_tests), grind (arith, nat_tests))

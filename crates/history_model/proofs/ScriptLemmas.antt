@@ -1,7 +1,5 @@
 -- Tables of a script that are found by name, and the births of names by their tables.
 use Rattle.std.proofs.Common.{◌≡◌, ℕ, inl, inr, ◌↔◌, true, false, if◌then◌else◌, List, [], ◌∷◌, map, find, Option, Some, None, Result, Ok, Err, IfOk, IfSome, IfNone, IsNone, is_some, option_map, string_bytes, refl, sym, ap, subst, ◌∙◌}
-use Rattle.std.specs.List.{All}
-use Rattle.std.proofs.lemmas.List.Elements.{All-head, All-tail}
 use Rattle.hop_base.specs.declared.histories.Entry.{Entry}
 use Rattle.hop_base.specs.declared.histories.Event.TheVariants.{Birth}
 use Rattle.hop_model.specs.Births.{birth, birth_change, birth_named, container_birth, knows_caps, knows_regions, locus_birth}
@@ -135,15 +133,3 @@ none_where_undefined script name old new us vs (Ok (Some e)) some none = (λ h. 
 
     no : (x : Entry × KernelState) → Some x ≡ None → ⊥
     no x e = cc
-
--- what holds of each table holds of the one that is found
-pub found_holds : (P : ContainerTable → Type 0) (ts : List ContainerTable) (name : Text) (t : ContainerTable) → All P ts → container_table ts name ≡ Some t → P t
-found_holds P [] name t all is = absurd (no is)
-  where
-    no : None ≡ Some t → ⊥
-    no e = cc
-found_holds P (u ∷ ts) name t all is =
-    elim (text_eq name u.name) as (λ b. (if b then Some u else container_table ts name) ≡ Some t → P t) [
-      | true ↦ λ e. let same : u ≡ t = cc in subst P same (All-head P u ts all)
-      | false ↦ λ e. found_holds P ts name t (All-tail P u ts all) e
-    ] is

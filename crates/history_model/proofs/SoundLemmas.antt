@@ -1,32 +1,16 @@
 -- What soundness says of plain states, and that the acts keep it.
-use Rattle.std.proofs.Common.{◌≡◌, ℕ, zero, suc, ◌+◌, ◌-◌, ◌/◌, ◌<◌, ◌≤◌, Bool, true, false, ◌&&◌, if◌then◌else◌, ◌==◌, nat_lt, nat_le, IsTrue, List, [], ◌∷◌, length, All, Option, Some, None, slice_get, find, refl, sym, ap, subst, ◌∙◌, arith}
+use Rattle.std.proofs.Common.{◌≡◌, ℕ, zero, suc, ◌+◌, ◌-◌, ◌<◌, ◌≤◌, Bool, true, false, ◌&&◌, ◌==◌, nat_lt, nat_le, IsTrue, List, [], ◌∷◌, length, Option, Some, None, slice_get, refl, sym, ap, subst, ◌∙◌, arith}
 use Rattle.std.specs.List.{list_all}
-use Rattle.std.specs.Option.{ForSome}
 use Rattle.std.proofs.lemmas.Bool.Decides.{nat_tests}
-use Rattle.std.proofs.lemmas.List.Elements.{All-head, All-tail}
-use Rattle.hop_base.specs.declared.capabilities.Private.{Private}
-use Rattle.hop_base.specs.declared.instructions.Walk.{Walk}
 use Rattle.hop_model.specs.State.{Supply, AtlasState, ContainerState, LocusState, NotBorn, AtlasCell, ContainerCell, LocusCell}
-use Rattle.hop_model.specs.Acts.{first_place, place_of_look, look_at}
-use Rattle.hop_model.specs.Refusals.{private_at}
-use Rattle.hop_model.specs.Soundness.{AreSound, IsSound, IsSoundContainer, IsSoundLocus, IsSoundPrivate, is_born, is_born_container, is_born_locus}
-use Rattle.hop_model.specs.Words.{covers}
-use Rattle.history_model.specs.Readiness.{IsReadyContainer}
+use Rattle.hop_model.specs.Soundness.{AreSound, IsSound, IsSoundContainer, IsSoundLocus, is_born, is_born_container, is_born_locus}
+use Rattle.wanted_laws.specs.Readiness.{IsReadyContainer}
 use Rattle.history_model.specs.Plains.{cells_by, container_cell, container_of, locus_of}
 use Rattle.history_model.specs.declared.plain.PlainContainer.{PlainContainer}
 use Rattle.history_model.specs.declared.plain.PlainLocus.{PlainLocus}
 use Rattle.history_model.proofs.CellLemmas.{cell_at_locus, low_container}
 
 -- LISTS
-
--- what holds of each holds of the one that is found
-pub find_all : {X : Type 0} (P : X → Type 0) (test : X → Bool) (xs : List X) → All P xs → ForSome (find test xs) P
-find_all P test [] all x h = cc
-find_all P test (y ∷ ys) all x h =
-    elim (test y) as (λ b. (if b then Some y else find test ys) ≡ Some x → P x) [
-      | true ↦ λ e. let same : y ≡ x = cc in subst P same (All-head P y ys all)
-      | false ↦ λ e. find_all P test ys (All-tail P y ys all) x e
-    ] h
 
 -- the element at a place passes the test that all pass
 pub all_at : {X : Type 0} (test : X → Bool) (xs : List X) (i : ℕ) (x : X) → IsTrue (list_all test xs) → slice_get xs i ≡ Some x → test x ≡ true
@@ -106,16 +90,3 @@ module _ (s : Supply) (a : AtlasState) (cs : List PlainContainer) (ls : List Pla
 
 pub ready_container : (a : AtlasState) (c : ContainerState) → IsSoundContainer a c → IsReadyContainer c.pages c.regions
 ready_container a c h = record { size = h.size; each = λ k d lt. ((h.regions k d lt).at, (h.regions k d lt).from) }
-
--- the container of the next look is born
-place_born : (a : AtlasState) (l : LocusState) (address : ℕ) (w : Option Walk) (p : Option Private) → IsTrue (is_born_container a l.host)
-    → ForSome w (λ (w : Walk). IsTrue (is_born_container a w.at)) → ForSome p (λ (p : Private). IsTrue (is_born_container a p.region.target)) → private_at l (address / 128) ≡ p
-    → IsTrue (is_born_container a (place_of_look l address w))
-place_born a l address (Some w) p host walk private is = walk w refl
-place_born a l address None (Some q) host walk private is = subst (λ o. IsTrue (is_born_container a (first_place l o))) (sym is) (private q refl)
-place_born a l address None None host walk private is = subst (λ o. IsTrue (is_born_container a (first_place l o))) (sym is) host
-
-pub look_born : (a : AtlasState) (l : LocusState) (address : ℕ) → IsSoundLocus a l → IsTrue (is_born_container a (look_at l address))
-look_born a l address h =
-    place_born a l address l.walk (private_at l (address / 128)) h.host (λ w is. (h.walk w is).at)
-    (λ q is. (find_all (IsSoundPrivate a) (λ p. p.made == l.host && covers p.region (address / 128)) l.privates h.privates q is).region.target) refl

@@ -1,6 +1,7 @@
 -- The list of edges of plain states: in order between containers, marked on the way out, counted up and down.
-use Rattle.std.specs.Prelude.{ℕ, ◌+◌, ◌-◌, Bool, false, not, ◌&&◌, ◌||◌, ◌==◌, nat_lt, nat_le, if◌then◌else◌, List, [], ◌∷◌, slice_index_or}
+use Rattle.std.specs.Prelude.{ℕ, ◌+◌, ◌-◌, Bool, not, ◌&&◌, ◌||◌, ◌==◌, nat_lt, nat_le, if◌then◌else◌, List, [], ◌∷◌}
 use Rattle.circle_law.specs.Containers.{IsAmongContainers}
+use Rattle.circle_law.specs.Marks.{is_marked}
 use Rattle.history_model.specs.Born.{AreEdges}
 use Rattle.history_model.specs.Plains.{edges_of}
 use Rattle.history_model.specs.declared.plain.Edge.{Edge}
@@ -9,11 +10,6 @@ use Rattle.history_model.specs.declared.plain.Edge.{Edge}
 pub record AreReadyEdges (es : List Edge) : Type 0 where
   pub edges : AreEdges es
   pub among : IsAmongContainers (edges_of es)
-
--- MARKS
-
-abbrev pub is_marked : List Bool → ℕ → Bool
-is_marked marks n = slice_index_or marks n false
 
 -- the edge leads from a marked number to one that isn't
 abbrev pub leads_out : List Bool → Edge → Bool

@@ -25,12 +25,3 @@ pub record IsActingAt (loci : List PlainLocus) (number place : ℕ) (act : Act) 
   pub is : slice_get loci place ≡ Some locus
   pub runs : locus.condition ≡ Running
   pub wants : wanted number (locus_of locus) ≡ act
-
--- the list goes on with others, if any
-abbrev pub IsFront : {A : Type 0} → List A → List A → Type 0
-IsFront {A} xs ys = (rest : List A) × (ys ≡ xs ++ rest)
-
--- names stay, and others may follow
-pub record KeepsNames (a b : AtlasState) : Type 0 where
-  pub containers : IsFront a.containers b.containers
-  pub loci : IsFront a.loci b.loci

@@ -3,7 +3,7 @@ ghost use Rattle.hop_model.specs.Outcomes.{look_address};
 ghost use Rattle.hop_model.specs.Words.{covers};
 ghost use Rattle.wanted_act.specs.Views.{IsReadyLocus, ShowsPage};
 ghost use Rattle.history_model.specs.Plains.{locus_of};
-ghost use Rattle.history_model.specs.Readiness.{IsReadyContainer};
+ghost use Rattle.wanted_laws.specs.Readiness.{IsReadyContainer};
 
 use crate::plain::{PlainContainer, PlainLocus};
 use hop_base::Region;

@@ -19,3 +19,5 @@ pub mod StepTallies
 pub mod BirthTallies
 pub mod PrintedCounts
 pub mod SoundNames
+pub mod Lists
+pub mod Names

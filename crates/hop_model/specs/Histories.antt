@@ -42,6 +42,10 @@ event_of s script e = by_event s script e.event e.actor
 abbrev pub writes : Entry → ℕ → Bool
 writes e x = list_any (λ t. t.entity == x && t.wrote) e.touched
 
+-- it reads or writes the entity
+abbrev pub touches : Entry → ℕ → Bool
+touches e x = list_any (λ t. t.entity == x) e.touched
+
 -- the version after a history: the version before, and the entries that write
 abbrev pub version_after : (ℕ → ℕ) → List Entry → ℕ → ℕ
 version_after start es x = start x + count_by (λ e. writes e x) es

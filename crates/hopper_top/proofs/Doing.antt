@@ -6,10 +6,10 @@ use Rattle.command_words.specs.declared.Command.TheVariants.{CheckTrace, Drill, 
 use Rattle.reading_commands.specs.command_parts.Seen.{Call}
 use Rattle.run_command.specs.hop_model.State.{Text}
 use Rattle.format_command.specs.image_meaning.Meaning.{Accepted}
-use Rattle.run_command.specs.Drilling.{CanDrill}
-use Rattle.run_command.specs.Leaving.{CanRun}
+use Rattle.run_command.specs.command_laws.Drilling.{CanDrill}
+use Rattle.run_command.specs.command_laws.Leaving.{CanRun}
 use Rattle.run_command.specs.Openings.{Managers}
-use Rattle.trace_command.specs.Leaving.{CanCheck}
+use Rattle.trace_command.specs.command_laws.TraceLeaving.{CanCheck}
 use Rattle.command_words.proofs.Worded.{one_command}
 use Rattle.hopper_top.specs.Leaving.{CanDo, answers_of}
 

@@ -15,15 +15,15 @@ use Rattle.reading_commands.specs.command_parts.declared.statuses.Status.TheVari
 use Rattle.format_command.specs.Formats.{FormatLeaves}
 use Rattle.reading_commands.specs.Reports.{ReportLeaves}
 use Rattle.reading_commands.specs.Shows.{ShowLeaves}
-use Rattle.run_command.specs.Drilling.{CanDrill, DrillLeaves}
-use Rattle.run_command.specs.Leaving.{CanRun, RunLeaves}
+use Rattle.run_command.specs.command_laws.Drilling.{CanDrill, DrillLeaves}
+use Rattle.run_command.specs.command_laws.Leaving.{CanRun, RunLeaves}
 use Rattle.run_command.specs.Openings.{Managers}
 use Rattle.run_command.specs.Tellings.{lines_of}
 use Rattle.run_command.specs.declared.putting.Lines.{Lines}
 use Rattle.run_command.specs.declared.putting.Lines.TheVariants.{Entries, Printed}
-use Rattle.trace_command.specs.Leaving.{CanCheck, TraceLeaves}
-use Rattle.trace_command.specs.Sources.{from_source}
-use Rattle.trace_command.specs.Checkers.{Managers as Answers}
+use Rattle.trace_command.specs.command_laws.TraceLeaving.{CanCheck, TraceLeaves}
+use Rattle.trace_command.specs.command_laws.Sources.{from_source}
+use Rattle.trace_command.specs.trace_rules.Standing.{Managers as Answers}
 
 -- STOPPED BEFORE ANY COMMAND by this fault: nothing was run, and neither source nor disk was touched
 pub record IsUntouched (call : Call) (gave : Gave) (fault : Fault) : Type 0 where

@@ -1,8 +1,8 @@
 pub mod Leaving
-pub use Rattle.run_command.specs.Booked
+pub use Rattle.run_command.specs.command_laws.Booked
 pub use Rattle.run_command.specs.Openings
 pub use Rattle.run_command.specs.Starts
-pub use Rattle.run_command.specs.Leaving as RunLeaving
+pub use Rattle.run_command.specs.command_laws.Leaving as RunLeaving
 pub use Rattle.reading_commands.specs.command_parts
 pub use Rattle.format_command.specs as format_command
 pub use Rattle.run_command.specs.hop_model
@@ -18,3 +18,6 @@ pub use Rattle.run_command.specs.serial_runs
 pub use Rattle.run_command.specs.entry_lines
 pub use Rattle.run_command.specs.stream_edge
 pub use Rattle.trace_command.specs as trace_command
+pub use Rattle.trace_command.specs.command_laws
+pub use Rattle.reading_commands.specs.image_form
+pub use Rattle.run_command.specs.opening_laws

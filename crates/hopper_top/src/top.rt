@@ -2,7 +2,7 @@
 ghost use Rattle.std.specs.Prelude.{◌≡◌, ◌≤◌, ◌<◌, ◌^◌, ℕ, Bool, map, string_bytes};
 ghost use Rattle.disk_trait.specs.Counts.{Rose};
 ghost use Rattle.disk_trait.specs.declared.disk.NoBlocks.{NoBlocks};
-ghost use Rattle.reading_commands.specs.image_blocks.Layout.{least_blocks, most_blocks};
+ghost use Rattle.reading_commands.specs.image_form.Layout.{least_blocks, most_blocks};
 ghost use Rattle.command_words.specs.Commands.{IsCommand};
 ghost use Rattle.command_words.specs.declared.Command.TheVariants.{Format as FormatCommand};
 ghost use Rattle.reading_commands.specs.command_parts.Seen.{gave, seen_disk, seen_sink, seen_source};

@@ -1,12 +1,13 @@
 //! The image of a run with regions, capabilities, calls, private regions and a walk, of which fields are changed: the first bad place is
 //! told by each command that reads it.
-use crate::calls::{formatted, put};
+use crate::calls::formatted;
 use crate::images::{Poke, Spot, alter, block_of};
 use Poke::{Byte, Like, Whole};
 use Spot::{Blob, Block, Second};
-use disk_trait::{MemoryDisk, Torn};
+use disk_trait::MemoryDisk;
 use std::alloc::Global;
 use std::test::Fail;
+use system_calls::{copy_of, put};
 
 // Container `b` has 2 pages and code that takes two blocks; container `a` 4 pages, of which it has stored one. Locus `l` made two private
 // regions and a call in `a`, and begins a walk to `b`; then `m` makes all stable.
@@ -44,7 +45,7 @@ fn lines_for(
     pokes: &[Poke],
     bad: (Spot, u16),
 ) -> Result<(String, String), Fail> {
-    let mut disk = image.crash(image.moments(), Torn::New)?;
+    let mut disk = copy_of(image)?;
     alter(&mut disk, pokes)?;
     let (spot, place) = bad;
     let block = block_of(&mut disk, spot)?;
@@ -381,7 +382,7 @@ const UNREAD: [Poke; 4] = [
 fn what_the_image_does_not_rest_on_is_not_read(rt: HostRuntime) -> Result<(), Fail> {
     let alloc = rt.alloc();
     let image = image(alloc)?;
-    let mut disk = image.crash(image.moments(), Torn::New)?;
+    let mut disk = copy_of(&image)?;
     let (whole, _) = put(alloc, &["show"], b"", image)?;
     alter(&mut disk, &UNREAD)?;
     let (text, _) = put(alloc, &["show"], b"", disk)?;

@@ -1,7 +1,8 @@
 //! Sources at and past their limits, and such that are no script: the line that a run puts.
-use crate::calls::{formatted, put};
+use crate::calls::formatted;
 use std::alloc::{AllocError, Global};
 use std::test::Fail;
+use system_calls::put;
 
 // How a source is made: as it stands; of so many `#`; of an item so many times behind a front; of so many that have their numbers inside;
 // with this region of container `b`, of 256 pages, on `a`; with this name of a container.

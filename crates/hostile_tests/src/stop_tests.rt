@@ -5,17 +5,18 @@ ghost use Rattle.disk_trait.specs.MemoryDisk.{moments_of};
 ghost use Rattle.script_read.specs.script_form.Rules.{IsScript};
 ghost use Rattle.script_read.specs.script_form.Scripts.{tables_of};
 
-use crate::calls::{FORMAT_CALLS, formatted, put, shown};
+use crate::calls::formatted;
 use cut_replays::{
     Front, acknowledged, are_rising, commits_of, fronts_from, is_cut_off, serial_history,
 };
 use disk_trait::{MemoryDisk, Torn};
 use hop_base::{Answer, Entry, Event};
-use hopper_top::command_parts::Outcome;
 use script_read::read_script;
 use script_read::script_form::Script;
 use std::alloc::Global;
 use std::test::Fail;
+use system_calls::hopper_top::command_parts::Outcome;
+use system_calls::{FORMAT_CALLS, copy_of, put, shown};
 
 // Every way in which a block that was not synced may be torn here.
 const TORN: [Torn; 3] = [Torn::Old, Torn::New, Torn::Fill(1)];
@@ -163,12 +164,31 @@ fn wrong_where_failed(
     Ok("")
 }
 
+// The run made again on the disk that came back: it ends, and keeps this where that is said. What isn't so.
+fn wrong_again(
+    alloc: Global,
+    text: &str,
+    disk: MemoryDisk,
+    kept: Option<&str>,
+) -> Result<&'static str, Fail> {
+    let (_, outcome) = put(alloc, &["run"], text.as_bytes(), disk)?;
+    if outcome.status.number() != 0 {
+        return Ok("the run isn't made again");
+    }
+    let again = shown(alloc, outcome.disk)?;
+    if kept.is_some_and(|kept| again.as_str() != kept) {
+        return Ok("the run made again keeps something else");
+    }
+    Ok("")
+}
+
 // The disk of such a run: it shows one of these, also where it is stopped at the end, and the run can be made again on it. What isn't so.
 fn wrong_behind(
     alloc: Global,
     text: &str,
     disk: MemoryDisk,
     fronts: &[Front],
+    kept: Option<&str>,
 ) -> Result<&'static str, Fail> {
     if !stop_shows_one_of(alloc, &disk, disk.moments(), fronts)? {
         return Ok("a stop behind the fault leaves something else");
@@ -177,11 +197,7 @@ fn wrong_behind(
     if !fronts.iter().any(|front| front.shows(shown.as_str())) {
         return Ok("the disk that came back shows something else");
     }
-    let (_, outcome) = put(alloc, &["run"], text.as_bytes(), outcome.disk)?;
-    if outcome.status.number() != 0 {
-        return Ok("the run isn't made again");
-    }
-    Ok("")
+    wrong_again(alloc, text, outcome.disk, kept)
 }
 
 // A run of which one call of the disk fails, and what is left. What isn't as it has to be.
@@ -190,6 +206,7 @@ fn wrong_at(
     text: &str,
     script: &Script,
     whole: &[Entry],
+    kept: Option<&str>,
     failing: u64,
 ) -> Result<&'static str, Fail>
     requires script { IsScript (tables_of script.now) }
@@ -201,15 +218,16 @@ fn wrong_at(
         return Ok(wrong);
     }
     let fronts = left_by(alloc, script, &outcome.history)?;
-    wrong_behind(alloc, text, outcome.disk, &fronts)
+    wrong_behind(alloc, text, outcome.disk, &fronts, kept)
 }
 
-// The table: a run with each call of the disk behind `format` failing in turn, and stopped at each moment. What isn't as it has to be, and
-// at which call.
+// The table: a run with each call of the disk behind `format` failing in turn, and stopped at each moment. A run made again may have to keep
+// what the whole run does. What isn't as it has to be, and at which call.
 fn wrong_of(
     alloc: Global,
     text: &str,
     counts: (usize, usize),
+    same_again: bool,
 ) -> Result<(&'static str, u64), Fail> {
     let script = read_script(alloc, text.as_bytes())?.script;
     let whole = serial_history(alloc, &script)?;
@@ -225,8 +243,10 @@ fn wrong_of(
     if wrong != "" {
         return Ok((wrong, 0));
     }
+    let shown = shown(alloc, copy_of(&outcome.disk)?)?;
+    let kept = same_again.then_some(shown.as_str());
     for failing in FORMAT_CALLS + 1..=outcome.disk.calls() {
-        let wrong = wrong_at(alloc, text, &script, &whole, failing)?;
+        let wrong = wrong_at(alloc, text, &script, &whole, kept, failing)?;
         if wrong != "" {
             return Ok((wrong, failing));
         }
@@ -238,13 +258,14 @@ fn wrong_of(
 fn a_run_with_wishes_keeps_what_was_acknowledged(rt: HostRuntime) -> Result<(), Fail> {
     // Seven records of those born, and then 3, 4, 5 of b, 6 of m, 3, 4, 5 of c, 6 of n, 4, 6 of a, 5, 9 of l. The cut rises behind the
     // births, m at 6 and l at 9.
-    assert_eq!(rt; wrong_of(rt.alloc(), WISHES, (19, 16))?, ("", 0));
+    assert_eq!(rt; wrong_of(rt.alloc(), WISHES, (19, 16), false)?, ("", 0));
     Ok(())
 }
 
 #[test]
 fn a_run_with_stabilises_of_many_containers_keeps_them(rt: HostRuntime) -> Result<(), Fail> {
-    // Eleven records of those born, and then twice eight containers and the locus. The cut rises three times.
-    assert_eq!(rt; wrong_of(rt.alloc(), STABILISES, (29, 26))?, ("", 0));
+    // Eleven records of those born, and then twice eight containers and the locus. The cut rises three times. From each of these cuts the
+    // locus goes on to the last stabilise.
+    assert_eq!(rt; wrong_of(rt.alloc(), STABILISES, (29, 26), true)?, ("", 0));
     Ok(())
 }

@@ -1,31 +1,19 @@
 -- The records of an image rest on a few blocks.
-use Rattle.std.proofs.Common.{◌≡◌, ℕ, zero, suc, ◌+◌, ◌-◌, ◌≤◌, ◌<◌, Bool, true, false, ◌==◌, if◌then◌else◌, inl, inr, List, [], ◌∷◌, ◌++◌, length, map, take, get_or, Option, Some, refl, sym, ap, subst, ◌∙◌, arith}
-use Rattle.std.proofs.lemmas.Bool.{cases_lt}
-use Rattle.std.proofs.lemmas.List.{get_or-append_right, get_or_append_left, length-append, length-map, map-append}
+use Rattle.std.proofs.Common.{◌≡◌, ℕ, zero, suc, ◌+◌, ◌-◌, ◌≤◌, ◌<◌, Bool, true, false, ◌==◌, if◌then◌else◌, inl, inr, List, [], ◌∷◌, ◌++◌, length, map, take, Option, Some, refl, sym, ap, subst, ◌∙◌, arith}
+use Rattle.std.proofs.lemmas.List.{length-map, map-append}
 use Rattle.disk_trait.specs.Image.{Image, block_at}
 use Rattle.hop_base.specs.Edges.{upto}
 use Rattle.hop_base.specs.declared.records.Rec.{Rec}
 use Rattle.hop_model.specs.Words.{first}
-use Rattle.image_blocks.specs.Bodies.{number_at, record_in}
-use Rattle.image_blocks.specs.Checks.{Bad, active_area, active_by, area_fault, body_fault, body_in, check_1, check_2, check_3, count_in, header_fault, in_block, log_fault, log_in, records_fault, slot_fault, superblock_fault, used_from, used_in}
-use Rattle.image_blocks.specs.Layout.{body_at, epoch_in, first_number, gate_at, header_at, is_open, other, slot_count, slot_gate_at}
+use Rattle.hop_model.proofs.Lists.{upto_len}
+use Rattle.image_form.specs.Bodies.{number_at, record_in}
+use Rattle.image_blocks.specs.Checks.{Bad, active_area, active_by, area_fault, body_in, check_1, check_2, check_3, in_block, log_fault, log_in, records_fault, slot_fault, used_from, used_in}
+use Rattle.image_form.specs.Checks.{body_fault, count_in, header_fault, superblock_fault}
+use Rattle.image_blocks.specs.Layout.{body_at, epoch_in, gate_at, header_at, other, slot_gate_at}
+use Rattle.image_form.specs.Layout.{first_number, is_open, slot_count}
 use Rattle.image_blocks.specs.Logs.{HasRecords, RecordsRestLaw, RecordsRestOn}
 use Rattle.image_blocks.specs.declared.areas.Area.{Area}
 use Rattle.image_blocks.specs.declared.areas.Area.TheVariants.{A, B}
-
-pub upto_len : (n : ℕ) → length (upto n) ≡ n
-upto_len zero = refl
-upto_len (suc n) = length-append (upto n) (n ∷ []) ∙ (let e = upto_len n in omega (arith, e))
-
-pub upto_get : (n i : ℕ) → i < n → get_or (upto n) i 0 ≡ i
-upto_get zero i lt = absurd (omega (arith, lt))
-upto_get (suc n) i lt = elim (cases_lt i n) as (λ _. get_or (upto (suc n)) i 0 ≡ i) [
-  | inl low ↦ (let len = upto_len n in get_or_append_left (upto n) (n ∷ []) 0 i (omega (arith, low, len)) ∙ upto_get n i low)
-  | inr high ↦
-      (let len = upto_len n in
-      let is : i ≡ n = omega (arith, lt, high) in
-      get_or-append_right (upto n) (n ∷ []) n i 0 len high ∙ (ap (λ (k : ℕ). get_or (n ∷ []) k 0) (let e : i - n ≡ 0 = omega (arith, is) in e) ∙ sym is))
-]
 
 pub same_map : {X : Type 0} (f g : ℕ → X) (n : ℕ) → ((i : ℕ) → i < n → f i ≡ g i) → map f (upto n) ≡ map g (upto n)
 same_map f g zero same = refl

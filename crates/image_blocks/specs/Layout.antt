@@ -1,9 +1,9 @@
--- Where the parts of an image stand on a disk.
-use Rattle.std.specs.Prelude.{◌≡◌, ◌⊎◌, ℕ, ◌+◌, ◌*◌, ◌^◌, Bool, ◌==◌, List, ◌++◌, replicate, codes}
-use Rattle.byteorder.specs.Endian.{little_bytes, little_number}
+-- Where the blocks of an area stand on a disk.
+use Rattle.std.specs.Prelude.{◌≡◌, ◌⊎◌, ℕ, ◌+◌, ◌*◌}
 use Rattle.disk_trait.specs.Image.{Image, IsInRun, block_at}
 use Rattle.image_blocks.specs.declared.areas.Area.{Area}
 use Rattle.image_blocks.specs.declared.areas.Area.TheVariants.{A, B}
+use Rattle.image_form.specs.Layout.{slot_blocks, first_number}
 
 -- the other area
 abbrev pub other : Area → Area
@@ -25,13 +25,6 @@ abbrev pub slots_at : Area → ℕ
 slots_at A = 5
 slots_at B = 1285
 
-abbrev pub slot_count : ℕ
-slot_count = 640
-
--- how many blocks they are
-abbrev pub slot_blocks : ℕ
-slot_blocks = 1280
-
 -- the block of a slot's body, and that of its gate
 abbrev pub body_at : Area → ℕ → ℕ
 body_at area i = slots_at area + 2 * i
@@ -39,56 +32,11 @@ body_at area i = slots_at area + 2 * i
 abbrev pub slot_gate_at : Area → ℕ → ℕ
 slot_gate_at area i = slots_at area + 2 * i + 1
 
--- the first block of the pool
-abbrev pub pool_at : ℕ
-pool_at = 2565
-
--- LIMITS
-
--- the least number of blocks of an image, and the greatest
-abbrev pub least_blocks : ℕ
-least_blocks = 2600
-
-abbrev pub most_blocks : ℕ
-most_blocks = 65536
-
--- the greatest epoch, version and component of a stamp
-abbrev pub last_number : ℕ
-last_number = 2 ^ 62
-
--- the greatest length of a blob
-abbrev pub most_length : ℕ
-most_length = 8192
-
 -- BLOCKS OF AREAS
 
 -- a block of an area: its header, its gate, or one of its slots
 abbrev pub IsOfArea : Area → ℕ → Type 0
 IsOfArea area n = (n ≡ header_at area) ⊎ (n ≡ gate_at area) ⊎ IsInRun (slots_at area) slot_blocks n
 
--- GATES
-
--- the number in the first 8 bytes
-abbrev pub first_number : List ℕ → ℕ
-first_number block = little_number 8 block
-
--- A gate is open exactly where its first 8 bytes are the number 1.
-abbrev pub is_open : Image → ℕ → Bool
-is_open image n = first_number (block_at image n) == 1
-
-unfoldable pub closed_gate : List ℕ
-closed_gate = replicate 1024 0
-
-unfoldable pub open_gate : List ℕ
-open_gate = little_bytes 8 1 ++ replicate 1016 0
-
--- HEADERS AND THE SUPERBLOCK, as they are written
-
-unfoldable pub header_block : ℕ → List ℕ
-header_block epoch = little_bytes 8 epoch ++ replicate 1016 0
-
 abbrev pub epoch_in : Image → Area → ℕ
 epoch_in image area = first_number (block_at image (header_at area))
-
-unfoldable pub superblock : ℕ → List ℕ
-superblock count = codes "GRASSHOP" ++ (little_bytes 4 1 ++ (little_bytes 4 count ++ replicate 1008 0))

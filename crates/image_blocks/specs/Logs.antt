@@ -1,11 +1,14 @@
 -- Images that have a log, and the stages of an image while a record is appended or the log is turned.
-use Rattle.std.specs.Prelude.{◌≡◌, ◌≢◌, ◌⊎◌, ℕ, ◌+◌, ◌<◌, ◌≤◌, true, false, List, [], ◌∷◌, ◌++◌, length, take, slice_get, slice_index, Some, None}
+use Rattle.std.specs.Prelude.{◌≡◌, ◌⊎◌, ℕ, ◌+◌, ◌<◌, ◌≤◌, true, false, List, [], ◌∷◌, ◌++◌, length, take, slice_get, Some, None}
 use Rattle.disk_trait.specs.Image.{Image, IsImage, SameOutside, block_at}
 use Rattle.hop_base.specs.declared.records.Rec.{Rec}
-use Rattle.image_blocks.specs.Layout.{other, header_at, header_block, gate_at, body_at, slot_gate_at, slot_count, is_open, epoch_in, last_number, most_blocks, most_length, pool_at, IsOfArea}
-use Rattle.image_blocks.specs.Bodies.{blocks_for, body_block, record_in}
-use Rattle.image_blocks.specs.Checks.{active_area, body_fault, check_1, count_in, header_fault, last_version, log_in, records_fault}
+use Rattle.image_blocks.specs.Layout.{other, header_at, gate_at, body_at, slot_gate_at, epoch_in, IsOfArea}
+use Rattle.image_form.specs.Layout.{header_block, slot_count, is_open}
+use Rattle.image_form.specs.Bodies.{body_block}
+use Rattle.image_blocks.specs.Checks.{active_area, check_1, log_in, records_fault}
+use Rattle.image_form.specs.Checks.{count_in, header_fault}
 use Rattle.image_blocks.specs.declared.areas.Area.{Area}
+use Rattle.image_form.specs.Logs.{IsInRange, AreFitting}
 
 -- ONE AREA
 
@@ -84,32 +87,6 @@ pub record IsTurning {D : Type 0} (may_leave : D → Image → Type 0) (p : Plac
   pub same : SameOutside (IsTurned p.active) from c
   pub log : HasLog p recs c ⊎ IsKeptLog p kept c
 
--- WHICH RECORDS FIT: what check 3 asks of a record behind others, in an image of so many blocks; HasLog with this for each is HasRecords
-
--- a record that check 3 accepts behind others, in an image of so many blocks
-pub record IsFitting (count : ℕ) (before : List Rec) (r : Rec) : Type 0 where
-  pub good : body_fault count before (body_block r) ≡ None
-  pub back : record_in (body_block r) ≡ r
-
--- a record in range behind others, in an image of so many blocks
-pub record IsInRange (count : ℕ) (before : List Rec) (r : Rec) : Type 0 where
-  pub entity : r.entity < 64
-  pub lengths : (1 ≤ r.length) × (r.length ≤ most_length)
-  pub versions : (1 ≤ r.version) × (r.version ≤ last_number)
-  pub newer : last_version before r.entity < r.version
-  pub components : length r.stamp ≡ 64
-  pub own : slice_index r.stamp r.entity ≡ r.version
-  pub small : (y : ℕ) → y < 64 → slice_index r.stamp y ≤ last_number
-  pub numbers : length r.blocks ≡ 8
-  -- as many different blocks of the pool as the blob needs, and 0 behind them
-  pub needed : (i : ℕ) → i < blocks_for r.length → (pool_at ≤ slice_index r.blocks i) × (slice_index r.blocks i < count)
-  pub different : (i k : ℕ) → i < blocks_for r.length → k < i → slice_index r.blocks k ≢ slice_index r.blocks i
-  pub unused : (i : ℕ) → blocks_for r.length ≤ i → slice_index r.blocks i ≡ 0
-
--- each of these behind the ones before it
-abbrev pub AreFitting : ℕ → List Rec → Type 0
-AreFitting count recs = (i : ℕ) (r : Rec) → slice_get recs i ≡ Some r → IsFitting count (take i recs) r
-
 -- the superblock and the header are good, so that only the log counts
 pub record HasFront (count : ℕ) (p : Place) (image : Image) : Type 0 where
   pub first : check_1 image ≡ None
@@ -125,10 +102,6 @@ LogLaw = (count : ℕ) (p : Place) (recs : List Rec) (image : Image) → HasFron
 -- and the other way round: an image of whole blocks with records has them as the log of its active area
 abbrev pub LogBackLaw : Type 0
 LogBackLaw = (recs : List Rec) (blocks : ℕ) (image : Image) → IsImage blocks image → HasRecords recs image → (p : Place) × HasFront (count_in image) p image × HasLog p recs image × AreFitting (count_in image) recs
-
--- a record in range fits
-abbrev pub FittingLaw : Type 0
-FittingLaw = (count : ℕ) (before : List Rec) (r : Rec) → count ≤ most_blocks → IsInRange count before r → IsFitting count before r
 
 -- and each record of an image is in range behind those before it
 abbrev pub InRangeLaw : Type 0

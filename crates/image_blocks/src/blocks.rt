@@ -1,8 +1,8 @@
 // Gates and headers, and the numbers in blocks.
 ghost use Rattle.std.specs.Prelude.{◌≡◌, ◌+◌, ◌≤◌, ◌==◌, None, Some, IfOk, IfErr};
-ghost use Rattle.image_blocks.specs.Bodies.{number_at};
-ghost use Rattle.image_blocks.specs.Checks.{header_fault};
-ghost use Rattle.image_blocks.specs.Layout.{first_number, closed_gate as closed_block, header_block as header_with, last_number, open_gate as open_block};
+ghost use Rattle.image_form.specs.Bodies.{number_at};
+ghost use Rattle.image_form.specs.Checks.{header_fault};
+ghost use Rattle.image_form.specs.Layout.{first_number, closed_gate as closed_block, header_block as header_with, last_number, open_gate as open_block};
 
 use crate::LAST_NUMBER;
 use crate::faults::{first_place, nonzero_from, unless_at};

@@ -1,8 +1,8 @@
 // The bodies of slots, read.
 ghost use Rattle.std.specs.Prelude.{◌≡◌, ◌<◌, ◌==◌, nat_le, if◌then◌else◌, None, Some, OnOk, IfOk, IfErr};
-ghost use Rattle.image_blocks.specs.Bodies.{blocks_for, number_at, record_in};
-ghost use Rattle.image_blocks.specs.Layout.{last_number};
-ghost use Rattle.image_blocks.specs.Checks.{blocks_fault as bad_block, body_fault as fault_of, is_block_number as may_be, last_version as last_in, stamps_fault as bad_component};
+ghost use Rattle.image_form.specs.Bodies.{blocks_for, number_at, record_in};
+ghost use Rattle.image_form.specs.Layout.{last_number};
+ghost use Rattle.image_form.specs.Checks.{blocks_fault as bad_block, body_fault as fault_of, is_block_number as may_be, last_version as last_in, stamps_fault as bad_component};
 
 use crate::blocks::{u32_at, u64_at};
 use crate::faults::{first_place, nonzero_from, unless_at};

@@ -1,7 +1,7 @@
 // Bad places, and the first of several.
 ghost use Rattle.std.specs.Prelude.{◌≡◌, ◌≤◌};
 ghost use Rattle.hop_model.specs.Words.{first};
-ghost use Rattle.image_blocks.specs.Checks.{unless_at as place_unless, zeros_from};
+ghost use Rattle.image_form.specs.Checks.{unless_at as place_unless, zeros_from};
 
 use disk_trait::BLOCK_BYTES;
 

@@ -1,4 +1,5 @@
 //! Blobs of atlases, byte by byte, and the places where they are refused.
+use atlas_dir::Atlas;
 use atlas_reading::read_atlas;
 use hop_base::{Entity, Kind};
 use snapshot_reading::BadBlob;
@@ -32,80 +33,88 @@ fn bad_with(bytes: &mut [u8], changes: &[(usize, u8)]) -> Option<BadBlob> {
     read_atlas(bytes).err()
 }
 
+/// Bytes that are put at places, and the first bad place that they make; none where an atlas is read.
+type Row = (&'static [(usize, u8)], Option<u32>);
+
+/// Whether these bytes with others in place of some are refused at this place, or read where there is none.
+fn is_bad_at(bytes: &mut [u8], changes: &[(usize, u8)], place: Option<u32>) -> bool {
+    bad_with(bytes, changes) == place.map(BadBlob::Malformed)
+}
+
+/// Whether the entity of this name has this number.
+fn is_found(atlas: &Atlas, name: &str, number: u8) -> bool {
+    atlas
+        .find(name)
+        .is_some_and(|entity| entity.number() == number)
+}
+
 #[test]
 fn an_atlas_is_read(rt: HostRuntime) -> Result<(), Fail> {
     let Ok(read) = read_atlas(&MADE) else {
         return Err(Fail::from("an atlas"));
     };
-    assert_eq!(rt; read.named(Kind::Container), 2);
-    assert_eq!(rt; read.named(Kind::Locus), 1);
-    let first = Entity::of(1);
-    let second = Entity::of(2);
-    assert_eq!(rt; read.find("#1"), Some(first));
-    assert_eq!(rt; read.find("b"), Some(second));
-    assert_eq!(rt; read.find("#41"), Some(Entity::of(41)));
-    assert_eq!(rt; read.count(second, first), 2);
-    assert_eq!(rt; read.count(first, second), 0);
+    let (first, second) = (Entity::of(1), Entity::of(2));
+    assert!(rt; (read.named(Kind::Container), read.named(Kind::Locus)) == (2, 1));
+    for (name, number) in [("#1", 1), ("b", 2), ("#41", 41)] {
+        assert!(rt; is_found(&read, name, number), "{name}");
+    }
+    assert!(rt; (read.count(second, first), read.count(first, second)) == (2, 0));
     Ok(())
 }
 
+/// The small atlas, in its names.
+const NAMES: [Row; 14] = [
+    (&[], None),
+    (&[(0, 1)], Some(0)),
+    (&[(1, 41)], Some(1)),
+    (&[(2, 0)], Some(2)),
+    (&[(2, 25)], Some(2)),
+    // one byte has no room for a made name, and a digit begins no name
+    (&[(3, b'#')], Some(3)),
+    (&[(3, b'1')], Some(3)),
+    (&[(3, 225)], Some(3)),
+    // two bytes: the byte behind the letter, and a made name
+    (&[(2, 2), (4, b'!')], Some(4)),
+    (&[(2, 2), (3, b'#'), (4, b'2')], Some(4)),
+    (&[(4, 24)], Some(4)),
+    // the name of the container again
+    (&[(6, b'a')], Some(6)),
+    // 1,793 edges are refused at the second byte, and 256 want more bytes
+    (&[(7, 1), (8, 7)], Some(8)),
+    (&[(8, 1)], Some(9)),
+];
+
 #[test]
 fn names_are_refused_where_none_goes_on(rt: HostRuntime) {
-    let rows: [(&[(usize, u8)], Option<u32>); 14] = [
-        (&[], None),
-        (&[(0, 1)], Some(0)),
-        (&[(1, 41)], Some(1)),
-        (&[(2, 0)], Some(2)),
-        (&[(2, 25)], Some(2)),
-        // one byte has no room for a made name, and a digit begins no name
-        (&[(3, b'#')], Some(3)),
-        (&[(3, b'1')], Some(3)),
-        (&[(3, 225)], Some(3)),
-        // two bytes: the byte behind the letter, and a made name
-        (&[(2, 2), (4, b'!')], Some(4)),
-        (&[(2, 2), (3, b'#'), (4, b'2')], Some(4)),
-        (&[(4, 24)], Some(4)),
-        // the name of the container again
-        (&[(6, b'a')], Some(6)),
-        // 1,793 edges are refused at the second byte, and 256 want more bytes
-        (&[(7, 1), (8, 7)], Some(8)),
-        (&[(8, 1)], Some(9)),
-    ];
-    for (changes, place) in rows {
+    for (changes, place) in NAMES {
         let mut bytes = SMALL;
-        assert_eq!(rt;
-            bad_with(&mut bytes, changes),
-            place.map(BadBlob::Malformed),
-            "{changes:?}"
-        );
+        assert!(rt; is_bad_at(&mut bytes, changes, place), "{changes:?}");
     }
 }
 
+/// The made atlas, in its edges.
+const EDGES: [Row; 11] = [
+    (&[], None),
+    // a made name has as many bytes as its number wants
+    (&[(2, 3)], Some(3)),
+    (&[(14, 0)], Some(14)),
+    (&[(14, 41)], Some(14)),
+    (&[(15, 0)], Some(15)),
+    (&[(15, 41)], Some(15)),
+    (&[(16, 0)], Some(16)),
+    (&[(16, 17)], Some(16)),
+    // containers that aren't born may have edges
+    (&[(14, 40), (15, 40)], None),
+    // the last pair leaves none for a second edge
+    (&[(12, 2), (14, 40), (15, 40)], Some(15)),
+    (&[(12, 2)], Some(17)),
+];
+
 #[test]
 fn edges_are_refused_where_none_goes_on(rt: HostRuntime) {
-    let rows: [(&[(usize, u8)], Option<u32>); 11] = [
-        (&[], None),
-        // a made name has as many bytes as its number wants
-        (&[(2, 3)], Some(3)),
-        (&[(14, 0)], Some(14)),
-        (&[(14, 41)], Some(14)),
-        (&[(15, 0)], Some(15)),
-        (&[(15, 41)], Some(15)),
-        (&[(16, 0)], Some(16)),
-        (&[(16, 17)], Some(16)),
-        // containers that aren't born may have edges
-        (&[(14, 40), (15, 40)], None),
-        // the last pair leaves none for a second edge
-        (&[(12, 2), (14, 40), (15, 40)], Some(15)),
-        (&[(12, 2)], Some(17)),
-    ];
-    for (changes, place) in rows {
+    for (changes, place) in EDGES {
         let mut bytes = MADE;
-        assert_eq!(rt;
-            bad_with(&mut bytes, changes),
-            place.map(BadBlob::Malformed),
-            "{changes:?}"
-        );
+        assert!(rt; is_bad_at(&mut bytes, changes, place), "{changes:?}");
     }
 }
 
@@ -122,35 +131,31 @@ fn the_second_edge_stands_behind_the_first(rt: HostRuntime) {
         for (at, byte) in MADE.iter().enumerate() {
             bytes[at] = *byte;
         }
-        assert_eq!(rt;
-            bad_with(&mut bytes, &[(12, 2), (17, from), (18, to), (19, 1)]),
-            place.map(BadBlob::Malformed)
-        );
+        let changes = [(12, 2), (17, from), (18, to), (19, 1)];
+        assert!(rt; is_bad_at(&mut bytes, &changes, place), "{from} to {to}");
     }
 }
 
 #[test]
 fn the_atlas_s_own_name_is_no_others(rt: HostRuntime) {
     let bytes = [0, 1, 5, b'a', b't', b'l', b'a', b's', 0, 0, 0];
-    assert_eq!(rt; read_atlas(&bytes).err(), Some(BadBlob::Malformed(7)));
+    assert!(rt; read_atlas(&bytes).err() == Some(BadBlob::Malformed(7)));
 }
 
 #[test]
 fn there_are_as_many_names_of_one_byte_as_letters(rt: HostRuntime) {
-    assert_eq!(rt;
-        read_atlas(&ALL_LETTERS).err(),
-        Some(BadBlob::Malformed(107))
-    );
+    assert!(rt; read_atlas(&ALL_LETTERS).err() == Some(BadBlob::Malformed(107)));
 }
 
 #[test]
 fn a_blob_is_neither_cut_off_nor_longer(rt: HostRuntime) {
-    assert_eq!(rt; read_atlas(&SMALL).err(), None);
-    assert_eq!(rt; read_atlas(&SMALL[..8]).err(), Some(BadBlob::Malformed(8)));
-    assert_eq!(rt; read_atlas(&[]).err(), Some(BadBlob::Malformed(0)));
+    for (count, place) in [(9, None), (8, Some(8)), (0, Some(0))] {
+        let mut bytes = SMALL;
+        assert!(rt; is_bad_at(&mut bytes[..count], &[], place), "{count} bytes");
+    }
     let mut longer = [0; 10];
     for (at, byte) in SMALL.iter().enumerate() {
         longer[at] = *byte;
     }
-    assert_eq!(rt; read_atlas(&longer).err(), Some(BadBlob::TooLong(9)));
+    assert!(rt; read_atlas(&longer).err() == Some(BadBlob::TooLong(9)));
 }

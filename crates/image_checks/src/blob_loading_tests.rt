@@ -69,13 +69,13 @@ fn an_atlas_is_loaded_or_its_bad_place_is_told(rt: HostRuntime) -> Result<(), Fa
         block: BODY,
         place: 4,
     });
-    assert_eq!(rt; bad_at(rt, 0, 0, 9)?, None);
-    assert_eq!(rt; bad_at(rt, 0, 3, 9)?, here(0));
-    assert_eq!(rt; bad_at(rt, 1, 41, 9)?, here(1));
-    assert_eq!(rt; bad_at(rt, 0, 0, 8)?, here(8));
-    assert_eq!(rt; bad_at(rt, 0, 0, 10)?, of_body);
-    assert_eq!(rt; bad_at(rt, 100, 5, 9)?, here(100));
-    assert_eq!(rt; bad_at(rt, 1023, 1, 9)?, here(1023));
+    assert!(rt; bad_at(rt, 0, 0, 9)? == None);
+    assert!(rt; bad_at(rt, 0, 3, 9)? == here(0));
+    assert!(rt; bad_at(rt, 1, 41, 9)? == here(1));
+    assert!(rt; bad_at(rt, 0, 0, 8)? == here(8));
+    assert!(rt; bad_at(rt, 0, 0, 10)? == of_body);
+    assert!(rt; bad_at(rt, 100, 5, 9)? == here(100));
+    assert!(rt; bad_at(rt, 1023, 1, 9)? == here(1023));
     Ok(())
 }
 
@@ -87,9 +87,8 @@ fn a_failed_read_is_told(rt: HostRuntime) -> Result<(), Fail> {
     // The next read is of zeros: an atlas of no names has 5 of them.
     match told_by(&mut disk, &record(9), &mut room)? {
         Ok(part) => assert!(rt; false, "{part:?}"),
-        Err(bad) => assert_eq!(rt;
-            bad,
-            Bad {
+        Err(bad) => assert!(rt;
+            bad == Bad {
                 block: BODY,
                 place: 4
             }

@@ -3,11 +3,11 @@ ghost use Rattle.std.specs.Prelude.{IfOk};
 ghost use Rattle.plain_parts.specs.history_model.Plains.{cells_of};
 ghost use Rattle.plain_parts.specs.hop_model.Soundness.{IsSound};
 
-use crate::small_image::{WRITES, alter, formatted, image};
+use crate::small_image::{WRITES, alter, cut, formatted, image};
 use disk_trait::MemoryDisk;
-use hop_base::Cut;
 use image_parts::log_reading::ReadingFault;
 use image_tools::{ImageFacts, read_image, write_report, write_show};
+use plain_parts::history_model::PlainContainer;
 use plain_show::stream_edge::{MemorySink, SinkFault};
 use report_lines::image_blocks::Area;
 use std::alloc::Global;
@@ -55,28 +55,28 @@ pub fn altered(alloc: Global, changes: &[(u32, usize, u8)]) -> Result<Option<Rea
     Ok(fault_of(alloc, &mut disk))
 }
 
+// Whether this is the log of the small image, and the cut over it.
+fn is_small_log(facts: &ImageFacts) -> bool {
+    facts.log.area == Area::A
+        && (facts.log.epoch, facts.log.blocks) == (1, 2600)
+        && facts.log.recs.len() == 3
+        && facts.cut == cut()
+}
+
+// Whether the words of a container that aren't the supplier's 7, of both pages, are these.
+fn has_words(container: &PlainContainer) -> bool {
+    container.words.len() == 2
+        && container.words.get(&3).copied() == Some(5)
+        && container.words.get(&129).copied() == Some(9)
+}
+
 #[test]
 fn an_image_is_read(rt: HostRuntime) -> Result<(), Fail> {
     let mut disk = image(rt.alloc(), &[])?;
-    match read(rt.alloc(), &mut disk) {
-        Ok(facts) => {
-            assert!(rt; facts.log.area == Area::A && facts.log.epoch == 1);
-            assert!(rt; facts.log.blocks == 2600 && facts.log.recs.len() == 3);
-            let mut cut = [0; 64];
-            cut[0] = 1;
-            cut[1] = 1;
-            cut[41] = 1;
-            assert_eq!(rt; facts.cut, Cut(cut));
-            assert!(rt; facts.state.containers.len() == 1 && facts.state.loci.len() == 1);
-            if let [container] = facts.state.containers.as_slice() {
-                // The words that aren't the supplier's 7, of both pages.
-                assert_eq!(rt; container.words.len(), 2);
-                assert_eq!(rt; container.words.get(&3).copied(), Some(5));
-                assert_eq!(rt; container.words.get(&129).copied(), Some(9));
-            }
-        }
-        Err(fault) => assert!(rt; false, "{fault:?}"),
-    }
+    let facts = read(rt.alloc(), &mut disk).ok().ok_or("an image")?;
+    assert!(rt; is_small_log(&facts));
+    assert!(rt; facts.state.containers.len() == 1 && facts.state.loci.len() == 1);
+    assert!(rt; has_words(&facts.state.containers[0]));
     Ok(())
 }
 
@@ -117,9 +117,9 @@ fn failed_reads_are_told(rt: HostRuntime) -> Result<(), Fail> {
     // Thirteen reads of the log, one of each of three blobs, and one of each of two pages.
     for read in 1..=18 {
         let mut disk = image(rt.alloc(), &[WRITES + read])?;
-        assert_eq!(rt; fault_of(rt.alloc(), &mut disk), Some(ReadingFault::Disk));
+        assert!(rt; fault_of(rt.alloc(), &mut disk) == Some(ReadingFault::Disk));
     }
     let mut disk = image(rt.alloc(), &[WRITES + 19])?;
-    assert_eq!(rt; fault_of(rt.alloc(), &mut disk), None);
+    assert!(rt; fault_of(rt.alloc(), &mut disk) == None);
     Ok(())
 }

@@ -148,99 +148,101 @@ fn unfit(alloc: Global, image: &Image) -> Result<Option<u8>, Fail> {
     unfit_in(alloc, &all)
 }
 
+/// Images, and the first entity that does not fit.
+const IMAGES: [(Image, Option<u8>); 20] = [
+    (GOOD, None),
+    // a container that the atlas doesn't name, which a region, a walk and the chosen record name
+    (
+        Image {
+            containers: 1,
+            ..GOOD
+        },
+        Some(1),
+    ),
+    // one that it names and that isn't chosen
+    (
+        Image {
+            containers: 3,
+            ..GOOD
+        },
+        Some(0),
+    ),
+    (Image { count: 0, ..GOOD }, Some(0)),
+    (Image { count: 2, ..GOOD }, Some(0)),
+    (
+        Image {
+            count_back: 1,
+            ..GOOD
+        },
+        Some(0),
+    ),
+    // a circle, and a container that shows itself
+    (
+        Image {
+            count_back: 1,
+            shows: 1,
+            ..GOOD
+        },
+        Some(0),
+    ),
+    (Image { shows: 2, ..GOOD }, Some(0)),
+    // blocks: before the pool, behind the image, named twice, and in a blob; no block is good twice
+    (
+        Image {
+            first: 2564,
+            ..GOOD
+        },
+        Some(1),
+    ),
+    (
+        Image {
+            second: 2600,
+            ..GOOD
+        },
+        Some(2),
+    ),
+    (
+        Image {
+            second: 2565,
+            ..GOOD
+        },
+        Some(1),
+    ),
+    (Image { blob: 2599, ..GOOD }, Some(2)),
+    (
+        Image {
+            second: 2568,
+            ..GOOD
+        },
+        Some(2),
+    ),
+    (
+        Image {
+            first: 0,
+            second: 0,
+            ..GOOD
+        },
+        None,
+    ),
+    // blobs may share a block
+    (Image { blob: 2568, ..GOOD }, None),
+    (Image { host: 3, ..GOOD }, Some(41)),
+    (Image { host: 41, ..GOOD }, Some(41)),
+    (Image { cap: 42, ..GOOD }, Some(41)),
+    (Image { cap: 0, ..GOOD }, None),
+    (
+        Image {
+            load: false,
+            ..GOOD
+        },
+        Some(41),
+    ),
+];
+
 #[test]
 fn entities_that_fit_are_told_from_others(rt: HostRuntime) -> Result<(), Fail> {
-    let rows = [
-        (GOOD, None),
-        // a container that the atlas doesn't name, which a region, a walk and the chosen record name
-        (
-            Image {
-                containers: 1,
-                ..GOOD
-            },
-            Some(1),
-        ),
-        // one that it names and that isn't chosen
-        (
-            Image {
-                containers: 3,
-                ..GOOD
-            },
-            Some(0),
-        ),
-        (Image { count: 0, ..GOOD }, Some(0)),
-        (Image { count: 2, ..GOOD }, Some(0)),
-        (
-            Image {
-                count_back: 1,
-                ..GOOD
-            },
-            Some(0),
-        ),
-        // a circle, and a container that shows itself
-        (
-            Image {
-                count_back: 1,
-                shows: 1,
-                ..GOOD
-            },
-            Some(0),
-        ),
-        (Image { shows: 2, ..GOOD }, Some(0)),
-        // blocks: before the pool, behind the image, named twice, and in a blob; no block is good twice
-        (
-            Image {
-                first: 2564,
-                ..GOOD
-            },
-            Some(1),
-        ),
-        (
-            Image {
-                second: 2600,
-                ..GOOD
-            },
-            Some(2),
-        ),
-        (
-            Image {
-                second: 2565,
-                ..GOOD
-            },
-            Some(1),
-        ),
-        (Image { blob: 2599, ..GOOD }, Some(2)),
-        (
-            Image {
-                second: 2568,
-                ..GOOD
-            },
-            Some(2),
-        ),
-        (
-            Image {
-                first: 0,
-                second: 0,
-                ..GOOD
-            },
-            None,
-        ),
-        // blobs may share a block
-        (Image { blob: 2568, ..GOOD }, None),
-        (Image { host: 3, ..GOOD }, Some(41)),
-        (Image { host: 41, ..GOOD }, Some(41)),
-        (Image { cap: 42, ..GOOD }, Some(41)),
-        (Image { cap: 0, ..GOOD }, None),
-        (
-            Image {
-                load: false,
-                ..GOOD
-            },
-            Some(41),
-        ),
-    ];
-    for (image, first) in rows {
-        assert_eq!(rt; unfit(rt.alloc(), &image)?, first);
+    for (row, (image, first)) in IMAGES.iter().enumerate() {
+        assert!(rt; unfit(rt.alloc(), image)? == *first, "row {row}");
     }
     Ok(())
 }
@@ -251,11 +253,11 @@ fn without_an_atlas_nothing_fits(rt: HostRuntime) -> Result<(), Fail> {
     if let Some(place) = all.get_mut(0) {
         *place = None;
     }
-    assert_eq!(rt; unfit_in(rt.alloc(), &all)?, Some(1));
+    assert!(rt; unfit_in(rt.alloc(), &all)? == Some(1));
     for place in all.iter_mut() {
         *place = None;
     }
-    assert_eq!(rt; unfit_in(rt.alloc(), &all)?, None);
+    assert!(rt; unfit_in(rt.alloc(), &all)? == None);
     Ok(())
 }
 

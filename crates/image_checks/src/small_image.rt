@@ -1,6 +1,6 @@
 //! A small image for tests: an atlas, a container of two pages and a locus.
 use disk_trait::{Disk, DiskFault, MemoryDisk};
-use hop_base::{Entity, Rec};
+use hop_base::{Cut, Entity, Rec};
 use page_words::block_with;
 use report_lines::image_blocks::{body_block, header_block, open_gate, superblock};
 use std::alloc::Global;
@@ -68,37 +68,55 @@ fn page(place: usize, word: u64) -> [u8; 1024] {
     block_with(&words)
 }
 
+// The superblock, and an empty log in area A.
+fn put_front(disk: &mut MemoryDisk) -> Result<(), DiskFault> {
+    put(disk, 0, &superblock(2600))?;
+    put(disk, 1, &header_block(1))?;
+    put(disk, 2, &open_gate())
+}
+
+// The bodies of four records, with the gates behind three of them.
+fn put_log(disk: &mut MemoryDisk) -> Result<(), DiskFault> {
+    put(disk, 5, &body_block(&record(Entity::of(1), 27, 2565)))?;
+    put(disk, 6, &open_gate())?;
+    put(disk, 7, &body_block(&record(Entity::ATLAS, 9, 2566)))?;
+    put(disk, 8, &open_gate())?;
+    put(disk, 9, &body_block(&record(Entity::of(41), 77, 2567)))?;
+    put(disk, 10, &open_gate())?;
+    put(disk, 11, &body_block(&record(Entity::of(42), 77, 2569)))
+}
+
+// Their blobs, and the two pages of the container.
+fn put_blobs(disk: &mut MemoryDisk) -> Result<(), DiskFault> {
+    put(disk, 2565, &CONTAINER)?;
+    put(disk, 2566, &ATLAS)?;
+    put(disk, 2567, &locus())?;
+    put(disk, 2569, &locus())?;
+    put(disk, 2568, &page(3, 5))?;
+    put(disk, 2570, &page(1, 9))
+}
+
 /// An image without a record.
 pub fn formatted(alloc: Global) -> Result<MemoryDisk, Fail> {
     let mut disk = MemoryDisk::new(alloc, 2600, 40, Vec::new(alloc))?;
-    put(&mut disk, 0, &superblock(2600))?;
-    put(&mut disk, 1, &header_block(1))?;
-    put(&mut disk, 2, &open_gate())?;
+    put_front(&mut disk)?;
     Ok(disk)
 }
 
 /// A log of the container, the atlas and the locus 41, and behind its closed gate the locus 42; the calls of these numbers fail.
 pub fn image(alloc: Global, fails: &[u64]) -> Result<MemoryDisk, Fail> {
     let mut disk = MemoryDisk::new(alloc, 2600, 40, fails.to_vec(alloc)?)?;
-    put(&mut disk, 0, &superblock(2600))?;
-    put(&mut disk, 1, &header_block(1))?;
-    put(&mut disk, 2, &open_gate())?;
-    put(&mut disk, 5, &body_block(&record(Entity::of(1), 27, 2565)))?;
-    put(&mut disk, 6, &open_gate())?;
-    put(&mut disk, 7, &body_block(&record(Entity::ATLAS, 9, 2566)))?;
-    put(&mut disk, 8, &open_gate())?;
-    put(&mut disk, 9, &body_block(&record(Entity::of(41), 77, 2567)))?;
-    put(&mut disk, 10, &open_gate())?;
-    put(
-        &mut disk,
-        11,
-        &body_block(&record(Entity::of(42), 77, 2569)),
-    )?;
-    put(&mut disk, 2565, &CONTAINER)?;
-    put(&mut disk, 2566, &ATLAS)?;
-    put(&mut disk, 2567, &locus())?;
-    put(&mut disk, 2569, &locus())?;
-    put(&mut disk, 2568, &page(3, 5))?;
-    put(&mut disk, 2570, &page(1, 9))?;
+    put_front(&mut disk)?;
+    put_log(&mut disk)?;
+    put_blobs(&mut disk)?;
     Ok(disk)
+}
+
+/// The cut over its records.
+pub fn cut() -> Cut {
+    let mut versions = [0; 64];
+    versions[0] = 1;
+    versions[1] = 1;
+    versions[41] = 1;
+    Cut(versions)
 }

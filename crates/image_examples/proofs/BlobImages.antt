@@ -10,9 +10,10 @@ use Rattle.image_meaning.proofs.blob_grammar_lemmas.Smallest.{clash, empty_conta
 use Rattle.image_meaning.specs.blob_grammar.Forms.{IsSpelling, SpellsContainer}
 use Rattle.image_meaning.specs.blob_grammar.Places.{Begins, GoesPast, IsBadPlace}
 use Rattle.image_meaning.specs.blob_grammar.Spelling.{container_blob}
-use Rattle.image_meaning.specs.image_blocks.Bodies.{blob_in, blob_room, body_block, record_in}
-use Rattle.image_meaning.specs.image_blocks.Checks.{active_area, blocks_fault, log_in, records_fault, stamps_fault}
-use Rattle.image_meaning.specs.image_blocks.Layout.{header_block, open_gate, superblock}
+use Rattle.image_meaning.specs.image_form.Bodies.{blob_in, blob_room, body_block, record_in}
+use Rattle.image_meaning.specs.image_blocks.Checks.{active_area, log_in, records_fault}
+use Rattle.image_meaning.specs.image_form.Checks.{blocks_fault, stamps_fault}
+use Rattle.image_meaning.specs.image_form.Layout.{header_block, open_gate, superblock}
 use Rattle.image_meaning.specs.image_blocks.Logs.{HasRecords}
 use Rattle.image_meaning.specs.image_blocks.declared.areas.Area.TheVariants.{A}
 use Rattle.image_meaning.specs.Foreign.{IsBadBlob, IsBadRest, IsBadSpelling, IsBodyBlock, IsFirstRest, IsForeign}

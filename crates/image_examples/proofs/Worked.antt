@@ -16,7 +16,7 @@ use Rattle.image_meaning.specs.blob_grammar.Spelling.{atlas_blob, container_blob
 use Rattle.image_meaning.proofs.blob_grammar_lemmas.Placing.{past_bad}
 use Rattle.image_meaning.proofs.blob_grammar_lemmas.Smallest.{clash, empty_container, no_cap, none_all, small_container, zeros_small}
 use Rattle.image_meaning.proofs.blob_grammar_lemmas.Values.{prefix_free}
-use Rattle.image_meaning.specs.image_blocks.Bodies.{blob_in, blob_room}
+use Rattle.image_meaning.specs.image_form.Bodies.{blob_in, blob_room}
 use Rattle.image_meaning.specs.Fits.{IsFit, shown_by}
 use Rattle.image_meaning.specs.Foreign.{IsBadRest, IsBadSpelling, IsFirstRest}
 use Rattle.image_meaning.specs.Parts.{AtlasPart, ContainerPart, LocusPart, Part, chosen}

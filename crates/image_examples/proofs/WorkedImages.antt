@@ -8,9 +8,10 @@ use Rattle.image_meaning.specs.hop_model.Choices.{covered, greatest}
 use Rattle.image_meaning.proofs.blob_grammar_lemmas.Smallest.{clash, empty_container, small_container}
 use Rattle.image_meaning.specs.blob_grammar.Forms.{SpellsContainer}
 use Rattle.image_meaning.specs.blob_grammar.Spelling.{container_blob}
-use Rattle.image_meaning.specs.image_blocks.Bodies.{body_block, record_in, blob_room}
-use Rattle.image_meaning.specs.image_blocks.Checks.{active_area, blocks_fault, count_in, log_in, records_fault, stamps_fault}
-use Rattle.image_meaning.specs.image_blocks.Layout.{header_block, open_gate, superblock}
+use Rattle.image_meaning.specs.image_form.Bodies.{body_block, record_in, blob_room}
+use Rattle.image_meaning.specs.image_blocks.Checks.{active_area, log_in, records_fault}
+use Rattle.image_meaning.specs.image_form.Checks.{blocks_fault, count_in, stamps_fault}
+use Rattle.image_meaning.specs.image_form.Layout.{header_block, open_gate, superblock}
 use Rattle.image_meaning.specs.image_blocks.Logs.{HasRecords}
 use Rattle.image_meaning.specs.image_blocks.declared.areas.Area.TheVariants.{A}
 use Rattle.image_meaning.specs.Fits.{IsFit}

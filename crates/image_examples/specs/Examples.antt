@@ -7,7 +7,7 @@ use Rattle.hop_base.specs.declared.instructions.Instr.{Instr}
 use Rattle.hop_base.specs.declared.instructions.Instr.TheVariants.{Load, Set}
 use Rattle.hop_base.specs.declared.records.Rec.{Rec}
 use Rattle.image_meaning.specs.hop_model.State.{AtlasState, ContainerState, LocusState, no_atlas}
-use Rattle.image_meaning.specs.image_blocks.Bodies.{blob_room}
+use Rattle.image_meaning.specs.image_form.Bodies.{blob_room}
 use Rattle.image_meaning.specs.image_blocks.Checks.{Bad}
 use Rattle.image_meaning.specs.Fits.{AreNamedOnce, IsFit, IsTied}
 use Rattle.image_meaning.specs.Foreign.{IsBadRest, IsBadSpelling, blob_bad}

@@ -2,9 +2,9 @@
 use Rattle.std.specs.Prelude.{◌≡◌, ◌-◌, ℕ, List, [], ◌∷◌, ◌++◌, length, replicate, slice_set, Some, None}
 use Rattle.disk_trait.specs.Image.{Image}
 use Rattle.hop_base.specs.declared.records.Rec.{Rec}
-use Rattle.image_meaning.specs.image_blocks.Bodies.{body_block}
+use Rattle.image_meaning.specs.image_form.Bodies.{body_block}
 use Rattle.image_meaning.specs.image_blocks.Checks.{records_fault}
-use Rattle.image_meaning.specs.image_blocks.Layout.{header_block, open_gate, superblock}
+use Rattle.image_meaning.specs.image_form.Layout.{header_block, open_gate, superblock}
 use Rattle.image_meaning.specs.Foreign.{IsForeign}
 use Rattle.image_examples.specs.Examples.{bad_at}
 

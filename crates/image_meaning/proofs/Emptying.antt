@@ -7,9 +7,10 @@ use Rattle.image_blocks.proofs.hop_model_lemmas.Basics.{and_left, and_right}
 use Rattle.image_blocks.specs.hop_model.State.{Supply, empty_state}
 use Rattle.image_blocks.specs.hop_model.Words.{first}
 use Rattle.byteorder.specs.Numbers.{little_number-reads_back}
-use Rattle.image_blocks.specs.Bodies.{number_at}
-use Rattle.image_blocks.specs.Checks.{count_in, header_fault, in_block, is_count, superblock_fault, unless_at}
-use Rattle.image_blocks.specs.Layout.{first_number, header_block, superblock}
+use Rattle.image_blocks.specs.image_form.Bodies.{number_at}
+use Rattle.image_blocks.specs.image_form.Checks.{count_in, header_fault, is_count, superblock_fault, unless_at}
+use Rattle.image_blocks.specs.Checks.{in_block}
+use Rattle.image_blocks.specs.image_form.Layout.{first_number, header_block, superblock}
 use Rattle.image_blocks.specs.Logs.{HasFront, HasLog, HasRecords, Place}
 use Rattle.image_blocks.specs.declared.areas.Area.TheVariants.{A}
 use Rattle.image_blocks.proofs.Reading.{log_law}

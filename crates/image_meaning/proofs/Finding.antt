@@ -13,9 +13,11 @@ use Rattle.blob_grammar.specs.Forms.{IsSpelling}
 use Rattle.blob_grammar.specs.Places.{GoesPast, IsBadPlace}
 use Rattle.blob_grammar.proofs.Placing.{some_place}
 use Rattle.blob_grammar.proofs.Smallest.{has_spelling}
-use Rattle.image_blocks.specs.Bodies.{blob_in, blob_room}
-use Rattle.image_blocks.specs.Checks.{Bad, active_area, area_fault, check_1, check_2, check_3, count_in, log_in, no_area, records_fault}
-use Rattle.image_blocks.specs.Layout.{body_at, is_open}
+use Rattle.image_blocks.specs.image_form.Bodies.{blob_in, blob_room}
+use Rattle.image_blocks.specs.Checks.{Bad, active_area, area_fault, check_1, check_2, check_3, log_in, no_area, records_fault}
+use Rattle.image_blocks.specs.image_form.Checks.{count_in}
+use Rattle.image_blocks.specs.Layout.{body_at}
+use Rattle.image_blocks.specs.image_form.Layout.{is_open}
 use Rattle.image_blocks.specs.Logs.{HasRecords}
 use Rattle.image_blocks.specs.declared.areas.Area.{Area}
 use Rattle.image_meaning.specs.Fits.{IsFit}

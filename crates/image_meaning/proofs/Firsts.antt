@@ -10,8 +10,9 @@ use Rattle.hop_base.specs.declared.records.Rec.{Rec}
 use Rattle.blob_grammar.specs.Forms.{IsSpelling}
 use Rattle.blob_grammar.specs.Places.{GoesPast}
 use Rattle.blob_grammar.proofs.Placing.{none_good, one_place}
-use Rattle.image_blocks.specs.Bodies.{blob_in, blob_room}
-use Rattle.image_blocks.specs.Checks.{Bad, count_in, records_fault}
+use Rattle.image_blocks.specs.image_form.Bodies.{blob_in, blob_room}
+use Rattle.image_blocks.specs.Checks.{Bad, records_fault}
+use Rattle.image_blocks.specs.image_form.Checks.{count_in}
 use Rattle.image_blocks.specs.Layout.{body_at}
 use Rattle.image_blocks.specs.declared.areas.Area.{Area}
 use Rattle.image_meaning.specs.Foreign.{IsBadBlob, IsBadRest, IsBadSpelling, IsBodyBlock, IsFirstRest, IsForeign, IsUnfit, blob_bad}

@@ -11,7 +11,7 @@ use Rattle.hop_base.specs.declared.records.Rec.{Rec}
 use Rattle.image_blocks.specs.hop_model.Soundness.{AreSound, IsSound, IsSoundContainer, IsSoundLocus, IsSoundWalk, looks, is_born, is_born_container, is_born_locus, regions_onto}
 use Rattle.hop_base.specs.declared.instructions.Walk.{Walk}
 use Rattle.image_blocks.specs.hop_model.Refusals.{instr_at}
-use Rattle.image_blocks.specs.Bodies.{blob_blocks}
+use Rattle.image_blocks.specs.image_form.Bodies.{blob_blocks}
 use Rattle.image_blocks.specs.hop_model.State.{Supply, AtlasState, ContainerState, LocusState, KernelState, Cell, NotBorn, AtlasCell, ContainerCell, LocusCell, empty_state, no_atlas}
 use Rattle.image_meaning.specs.Describing.{Describes, DescribesEntity, bytes_of}
 use Rattle.image_meaning.specs.Fits.{AreNamedOnce, IsFit, IsTied, IsTiedAtlas, shown_by}

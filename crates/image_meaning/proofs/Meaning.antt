@@ -12,7 +12,7 @@ use Rattle.image_blocks.specs.hop_model.Choices.{IsGreatest, IsNarrow}
 use Rattle.image_blocks.specs.hop_model.State.{Supply, KernelState, ContainerCell, empty_state}
 use Rattle.cut_laws.specs.Agreeing.{from_cut, nothing}
 use Rattle.cut_laws.specs.Records.{commits_of}
-use Rattle.image_blocks.specs.Bodies.{number_at, record_in}
+use Rattle.image_blocks.specs.image_form.Bodies.{number_at, record_in}
 use Rattle.image_blocks.specs.Checks.{body_in}
 use Rattle.image_blocks.specs.Logs.{HasRecords}
 use Rattle.image_blocks.specs.declared.areas.Area.{Area}

@@ -5,7 +5,7 @@ use Rattle.disk_trait.specs.Image.{Image, block_at}
 use Rattle.hop_base.specs.declared.records.Rec.{Rec}
 use Rattle.image_blocks.specs.hop_model.State.{Supply, KernelState}
 use Rattle.blob_grammar.proofs.Values.{one_atlas, one_container, one_locus}
-use Rattle.image_blocks.specs.Bodies.{blob_in}
+use Rattle.image_blocks.specs.image_form.Bodies.{blob_in}
 use Rattle.image_blocks.specs.Checks.{log_in}
 use Rattle.image_blocks.specs.Logs.{HasRecords}
 use Rattle.image_blocks.specs.declared.areas.Area.{Area}

@@ -8,8 +8,8 @@ use Rattle.std.proofs.lemmas.List.Elements.{Contains-get_or}
 use Rattle.disk_trait.specs.Image.{Image, block_at}
 use Rattle.hop_base.specs.declared.records.Rec.{Rec}
 use Rattle.image_blocks.specs.hop_model.State.{Supply}
-use Rattle.image_blocks.specs.Bodies.{blob_blocks, blob_room, number_at}
-use Rattle.image_blocks.specs.Checks.{count_in}
+use Rattle.image_blocks.specs.image_form.Bodies.{blob_blocks, blob_room, number_at}
+use Rattle.image_blocks.specs.image_form.Checks.{count_in}
 use Rattle.image_blocks.proofs.Rest.{records_rest_law}
 use Rattle.image_meaning.specs.Fits.{IsFit}
 use Rattle.image_meaning.specs.Meaning.{Accepted, entity_of}

@@ -11,8 +11,8 @@ use Rattle.image_blocks.specs.hop_model.Soundness.{AreSound, IsSound, IsSoundAtl
 use Rattle.image_blocks.specs.hop_model.State.{Supply, AtlasState, ContainerState, LocusState, EntityState, KernelState, Cell, NotBorn, AtlasCell, ContainerCell, LocusCell, empty_state, no_atlas}
 use Rattle.blob_grammar.proofs.Joins.{container_number}
 use Rattle.blob_grammar.specs.Forms.{IsContainerForm, IsLocusForm}
-use Rattle.image_blocks.specs.Bodies.{blob_in}
-use Rattle.image_blocks.specs.Checks.{count_in}
+use Rattle.image_blocks.specs.image_form.Bodies.{blob_in}
+use Rattle.image_blocks.specs.image_form.Checks.{count_in}
 use Rattle.image_meaning.specs.Fits.{IsFit, IsTied, IsTiedAtlas, IsTiedContainer, IsTiedLocus, shown_by}
 use Rattle.image_meaning.specs.Meaning.{Accepted, Means, entity_of, state_of}
 use Rattle.image_meaning.specs.Parts.{AreFormed, AreSpelt, AreTaken, AtlasPart, ContainerPart, IsFormed, LocusPart, Part, cell_of, chosen, kind_in, words_in}

@@ -10,8 +10,8 @@ use Rattle.hop_base.specs.declared.records.Rec.{Rec}
 use Rattle.image_blocks.specs.hop_model.State.{AtlasState, ContainerState, LocusState}
 use Rattle.image_blocks.specs.hop_model.Refusals.{instr_at}
 use Rattle.image_blocks.specs.hop_model.Soundness.{HasNoCircle, is_born, is_born_container, looks}
-use Rattle.image_blocks.specs.Bodies.{blob_blocks}
-use Rattle.image_blocks.specs.Layout.{pool_at}
+use Rattle.image_blocks.specs.image_form.Bodies.{blob_blocks}
+use Rattle.image_blocks.specs.image_form.Layout.{pool_at}
 use Rattle.image_meaning.specs.Parts.{Part, AtlasPart, ContainerPart, LocusPart, chosen, table_in}
 
 -- WHO IS NAMED

@@ -10,3 +10,4 @@ pub use Rattle.blob_grammar.specs as blob_grammar
 pub use Rattle.cut_laws.specs as cut_laws
 pub use Rattle.image_blocks.specs.hop_model
 pub use Rattle.image_blocks.specs as image_blocks
+pub use Rattle.image_blocks.specs.image_form

@@ -3,7 +3,7 @@ use Rattle.std.specs.Prelude.{◌≡◌, ℕ, List, Option, Some, None, slice_in
 use Rattle.disk_trait.specs.Image.{Image, block_at}
 use Rattle.hop_base.specs.declared.records.Rec.{Rec}
 use Rattle.image_blocks.specs.hop_model.State.{Supply, EntityState, KernelState, empty_state}
-use Rattle.image_blocks.specs.Checks.{count_in}
+use Rattle.image_blocks.specs.image_form.Checks.{count_in}
 use Rattle.image_blocks.specs.Logs.{HasRecords}
 use Rattle.image_meaning.specs.Parts.{AreSpelt, Part, cell_of, chosen}
 use Rattle.image_meaning.specs.Fits.{IsFit}

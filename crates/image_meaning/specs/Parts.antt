@@ -10,7 +10,7 @@ use Rattle.image_blocks.specs.hop_model.Choices.{greatest}
 use Rattle.cut_laws.specs.Agreeing.{nothing}
 use Rattle.cut_laws.specs.Records.{commits_of}
 use Rattle.blob_grammar.specs.Forms.{SpellsAtlas, SpellsContainer, SpellsLocus}
-use Rattle.image_blocks.specs.Bodies.{number_at, blob_in, blob_room}
+use Rattle.image_blocks.specs.image_form.Bodies.{number_at, blob_in, blob_room}
 
 -- what a blob spells: of a container its head and the blocks of its pages, where `state.words` means nothing
 pub data Part : Type 0 where

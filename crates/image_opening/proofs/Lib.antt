@@ -1,9 +1,5 @@
-pub mod Moments
-pub mod Stored
-pub mod Owned
-pub mod Clauses
-pub mod Starting
-pub mod Newest
-pub use Rattle.kernel_views.proofs.kernel_laws_lemmas
-pub use Rattle.opened_cells.proofs.meant_states_lemmas
-pub use Rattle.kernel_views.proofs.snapshot_store_lemmas
+pub use Rattle.opening_laws.proofs.kernel_views_lemmas.kernel_laws_lemmas
+pub use Rattle.opening_laws.proofs.opened_cells_lemmas.meant_states_lemmas
+pub use Rattle.opening_laws.proofs.kernel_views_lemmas.snapshot_store_lemmas
+pub use Rattle.opening_laws.proofs as opening_laws_lemmas
+pub use Rattle.opening_laws.proofs.kernel_views_lemmas.store_laws_lemmas

@@ -1,18 +1,18 @@
-pub mod Keeping
-pub mod Opened
-pub mod Images
-pub use Rattle.kernel_views.specs.cell_table
-pub use Rattle.kernel_views.specs.fitting_births
-pub use Rattle.opened_cells.specs.image_blocks
-pub use Rattle.opened_cells.specs.image_meaning
-pub use Rattle.kernel_views.specs.kernel_cells
-pub use Rattle.kernel_views.specs.kernel_laws
-pub use Rattle.kernel_views.specs.kernel_model
-pub use Rattle.kernel_views.specs.kernel_room
-pub use Rattle.kernel_views.specs as kernel_views
-pub use Rattle.kernel_views.specs.log_reading
-pub use Rattle.opened_cells.specs.record_laws
-pub use Rattle.kernel_views.specs.script_form
-pub use Rattle.kernel_views.specs.snapshot_store
-pub use Rattle.kernel_views.specs.sound_runs
-pub use Rattle.kernel_views.specs.store_model
+pub use Rattle.opening_laws.specs.kernel_views.cell_table
+pub use Rattle.opening_laws.specs.kernel_views.fitting_births
+pub use Rattle.opening_laws.specs.opened_cells.image_blocks
+pub use Rattle.opening_laws.specs.opened_cells.image_meaning
+pub use Rattle.opening_laws.specs.kernel_views.kernel_cells
+pub use Rattle.opening_laws.specs.kernel_views.kernel_laws
+pub use Rattle.opening_laws.specs.kernel_views.kernel_model
+pub use Rattle.opening_laws.specs.kernel_views.kernel_room
+pub use Rattle.opening_laws.specs.kernel_views
+pub use Rattle.opening_laws.specs.kernel_views.log_reading
+pub use Rattle.opening_laws.specs.opened_cells.record_laws
+pub use Rattle.opening_laws.specs.kernel_views.script_form
+pub use Rattle.opening_laws.specs.kernel_views.snapshot_store
+pub use Rattle.opening_laws.specs.kernel_views.sound_runs
+pub use Rattle.opening_laws.specs.kernel_views.store_model
+pub use Rattle.opening_laws.specs.kernel_views.log_laws
+pub use Rattle.opening_laws.specs as opening_laws
+pub use Rattle.opening_laws.specs.kernel_views.store_laws

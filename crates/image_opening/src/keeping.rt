@@ -2,18 +2,18 @@
 ghost use Rattle.std.specs.Prelude.{◌≡◌, ◌⊎◌, IfOk, IfErr, MatchResult};
 ghost use Rattle.disk_tally.specs.Counts.{Begins, shown};
 ghost use Rattle.disk_trait.specs.Moments.{LeavesOnly};
-ghost use Rattle.opened_cells.specs.image_blocks.Checks.{Bad as BadPlace};
-ghost use Rattle.opened_cells.specs.image_meaning.Meaning.{Accepted};
-ghost use Rattle.opened_cells.specs.image_parts.Parts.{IsAcceptedWith};
-ghost use Rattle.opened_cells.specs.part_checks.Chosen.{parts_of};
-ghost use Rattle.kernel_views.specs.snapshot_store.Opening.{IsSynced};
-ghost use Rattle.kernel_views.specs.snapshot_store.State.{books};
-ghost use Rattle.image_opening.specs.Images.{AreReadOf, HasBegun, HasImageCause, HasKeepCause, HasTurnLeft, HoldsImage, IsOpened, MeansSame, MeansSince, StopsShort, WasRefused};
+ghost use Rattle.opening_laws.specs.opened_cells.image_blocks.Checks.{Bad as BadPlace};
+ghost use Rattle.opening_laws.specs.opened_cells.image_meaning.Meaning.{Accepted};
+ghost use Rattle.opening_laws.specs.opened_cells.chosen_laws.Parts.{IsAcceptedWith};
+ghost use Rattle.opening_laws.specs.opened_cells.part_checks.Chosen.{parts_of};
+ghost use Rattle.opening_laws.specs.kernel_views.store_laws.Opening.{IsSynced};
+ghost use Rattle.opening_laws.specs.kernel_views.store_laws.State.{books};
+ghost use Rattle.opening_laws.specs.Images.{AreReadOf, HasBegun, HasImageCause, HasKeepCause, HasTurnLeft, HoldsImage, IsOpened, MeansSame, MeansSince, StopsShort, WasRefused};
 
 use crate::reading::{ReadImage, read_image};
 use disk_trait::Disk;
-use kernel_views::snapshot_store::{OpenFault, OpenWhy, Store};
-use opened_cells::image_parts::ImageParts;
+use opening_laws::kernel_views::snapshot_store::{OpenFault, OpenWhy, Store};
+use opening_laws::opened_cells::image_parts::ImageParts;
 use std::alloc::Global;
 
 // The store of an image that was read, which keeps its chosen records alone.

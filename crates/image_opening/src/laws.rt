@@ -1,6 +1,6 @@
 //! Laws of an opening. The functions do nothing: the contract of each is a law.
-ghost use Rattle.image_opening.specs.Keeping.{KeepingLaw};
-ghost use Rattle.image_opening.specs.Opened.{KeptLaw, OwnedLaw, PlacedLaw, SpeltLaw};
+ghost use Rattle.opening_laws.specs.Keeping.{KeepingLaw};
+ghost use Rattle.opening_laws.specs.Opened.{KeptLaw, OwnedLaw, PlacedLaw, SpeltLaw};
 
 use disk_trait::Disk;
 

@@ -2,17 +2,17 @@
 ghost use Rattle.std.specs.Prelude.{◌≡◌, ◌⊎◌, ◌≤◌, ◌<◌, IfOk, IfErr, MatchResult};
 ghost use Rattle.disk_tally.specs.Counts.{Begins, shown};
 ghost use Rattle.disk_trait.specs.Moments.{LeavesOnly};
-ghost use Rattle.opened_cells.specs.image_blocks.Checks.{Bad as BadPlace};
-ghost use Rattle.opened_cells.specs.image_meaning.Meaning.{Accepted};
-ghost use Rattle.kernel_views.specs.snapshot_store.State.{books};
-ghost use Rattle.kernel_views.specs.store_model.Books.{AreTrue};
-ghost use Rattle.image_opening.specs.Images.{AreOfImage, HasBegun, HasImageCause, HasTurnLeft, IsOpenedTable, MeansSame, MeansSince, StartsFrom, StopsShort, WasRefused};
+ghost use Rattle.opening_laws.specs.opened_cells.image_blocks.Checks.{Bad as BadPlace};
+ghost use Rattle.opening_laws.specs.opened_cells.image_meaning.Meaning.{Accepted};
+ghost use Rattle.opening_laws.specs.kernel_views.store_laws.State.{books};
+ghost use Rattle.opening_laws.specs.kernel_views.store_model.Books.{AreTrue};
+ghost use Rattle.opening_laws.specs.Images.{AreOfImage, HasBegun, HasImageCause, HasTurnLeft, IsOpenedTable, MeansSame, MeansSince, StartsFrom, StopsShort, WasRefused};
 
 use crate::keeping::keep_image;
 use disk_trait::Disk;
-use kernel_views::kernel_cells::Cell;
-use kernel_views::snapshot_store::{OpenFault, OpenWhy, Store};
-use opened_cells::cells_of;
+use opening_laws::kernel_views::kernel_cells::Cell;
+use opening_laws::kernel_views::snapshot_store::{OpenFault, OpenWhy, Store};
+use opening_laws::opened_cells::cells_of;
 use std::alloc::Global;
 
 /// Opens the image that a disk holds for a kernel: a store that keeps the chosen records alone (`keep_image`), and the 64 cells as these

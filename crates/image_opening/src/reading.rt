@@ -1,18 +1,18 @@
 // What is read of an image: its log behind a sync, its parts, and the page tables of them.
 ghost use Rattle.std.specs.Prelude.{◌≡◌, ◌⊎◌, IfOk, IfErr, MatchResult};
 ghost use Rattle.disk_trait.specs.Disk.{Only};
-ghost use Rattle.opened_cells.specs.image_parts.Parts.{IsAcceptedWith};
-ghost use Rattle.kernel_views.specs.log_reading.Logs.{IsKnown, IsLogOf};
-ghost use Rattle.kernel_views.specs.log_reading.Reads.{ReadsOnly};
-ghost use Rattle.opened_cells.specs.part_checks.Chosen.{parts_of};
-ghost use Rattle.kernel_views.specs.snapshot_store.Opening.{IsSynced, SyncsOnly};
-ghost use Rattle.image_opening.specs.Images.{AreReadOf, HasImageCause, HasPartsCause};
+ghost use Rattle.opening_laws.specs.opened_cells.chosen_laws.Parts.{IsAcceptedWith};
+ghost use Rattle.opening_laws.specs.kernel_views.log_reading.Logs.{IsKnown, IsLogOf};
+ghost use Rattle.opening_laws.specs.kernel_views.log_laws.Reads.{ReadsOnly};
+ghost use Rattle.opening_laws.specs.opened_cells.part_checks.Chosen.{parts_of};
+ghost use Rattle.opening_laws.specs.kernel_views.store_laws.Opening.{IsSynced, SyncsOnly};
+ghost use Rattle.opening_laws.specs.Images.{AreReadOf, HasImageCause, HasPartsCause};
 
 use disk_trait::Disk;
-use kernel_views::log_reading::ImageLog;
-use kernel_views::snapshot_store::{OpenFault, OpenWhy, SyncedLog};
-use opened_cells::image_parts::{ImageParts, page_tables, read_parts};
-use opened_cells::page_shadow::ShadowTable;
+use opening_laws::kernel_views::log_reading::ImageLog;
+use opening_laws::kernel_views::snapshot_store::{OpenFault, OpenWhy, SyncedLog};
+use opening_laws::opened_cells::image_parts::{ImageParts, page_tables, read_parts};
+use opening_laws::opened_cells::page_shadow::ShadowTable;
 use std::alloc::Global;
 
 // An image that was read.

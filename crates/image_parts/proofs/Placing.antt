@@ -5,18 +5,18 @@ use Rattle.std.proofs.lemmas.Bool.{cases_lt}
 use Rattle.std.proofs.lemmas.List.{get_or_past, length-map, length-replicate, map-append, get_or_append_left, get_or_push}
 use Rattle.std.proofs.lemmas.List.Elements.{All-from_get_or}
 use Rattle.std.proofs.lemmas.Option.{slice_get-get_or}
-use Rattle.blob_loading.specs.image_blocks.Layout.{pool_at}
-use Rattle.blob_loading.specs.image_meaning.Parts.{Part, table_in}
-use Rattle.blob_loading.specs.log_reading.declared.log.ImageLog.{ImageLog}
+use Rattle.chosen_laws.specs.blob_loading.image_form.Layout.{pool_at}
+use Rattle.chosen_laws.specs.blob_loading.image_meaning.Parts.{Part, table_in}
+use Rattle.chosen_laws.specs.blob_loading.log_reading.declared.log.ImageLog.{ImageLog}
 use Rattle.page_shadow.specs.declared.ShadowTable.{ShadowTable}
-use Rattle.blob_loading.specs.part_checks.Chosen.{entity_at, part_of, parts_of}
-use Rattle.blob_loading.proofs.part_checks_lemmas.Choices.{read_at}
-use Rattle.blob_loading.specs.part_checks.declared.chosen.ChosenEntity.{ChosenEntity}
-use Rattle.blob_loading.specs.part_checks.declared.chosen.ChosenPart.{ChosenPart}
-use Rattle.blob_loading.specs.part_checks.declared.chosen.ChosenPart.TheVariants.{Atlas, Container, Locus}
-use Rattle.blob_loading.specs.snapshot_reading.declared.containers.ContainerBlob.{ContainerBlob}
+use Rattle.chosen_laws.specs.blob_loading.part_checks.Chosen.{entity_at, part_of, parts_of}
+use Rattle.chosen_laws.proofs.blob_loading_lemmas.part_checks_lemmas.Choices.{read_at}
+use Rattle.chosen_laws.specs.blob_loading.part_checks.declared.chosen.ChosenEntity.{ChosenEntity}
+use Rattle.chosen_laws.specs.blob_loading.part_checks.declared.chosen.ChosenPart.{ChosenPart}
+use Rattle.chosen_laws.specs.blob_loading.part_checks.declared.chosen.ChosenPart.TheVariants.{Atlas, Container, Locus}
+use Rattle.chosen_laws.specs.blob_loading.snapshot_reading.declared.containers.ContainerBlob.{ContainerBlob}
 use Rattle.image_parts.specs.Parts.{ArePartsOf}
-use Rattle.image_parts.specs.Tables.{ArePlaced, AreTablesOf, IsTableOf, blocks_in, table_at}
+use Rattle.chosen_laws.specs.Tables.{ArePlaced, AreTablesOf, IsTableOf, blocks_in, table_at}
 use Rattle.image_parts.specs.declared.parts.ImageParts.{ImageParts}
 
 abbrev IsPlace : ℕ → ℕ → Type 0

@@ -1,9 +1,9 @@
 -- What an answer of a kind tells.
 use Rattle.std.proofs.Common.{◌≡◌, Option, Some, None, ap, subst, sym}
 use Rattle.std.specs.Prelude.{Result, Ok, Err, IfErr, IfNone, IfSome, IsErrAnd, IsErrOf}
-use Rattle.blob_loading.specs.image_blocks.Checks.{Bad}
-use Rattle.blob_loading.specs.log_reading.declared.faults.ReadingFault.{ReadingFault}
-use Rattle.blob_loading.specs.log_reading.declared.faults.ReadingFault.TheVariants.{Foreign, Memory}
+use Rattle.chosen_laws.specs.blob_loading.image_blocks.Checks.{Bad}
+use Rattle.chosen_laws.specs.blob_loading.log_reading.declared.faults.ReadingFault.{ReadingFault}
+use Rattle.chosen_laws.specs.blob_loading.log_reading.declared.faults.ReadingFault.TheVariants.{Foreign, Memory}
 
 pub if_err : {T E : Type 0} (r : Result T E) (e : E) (P : E → Type 0) → r ≡ Err e → IfErr r P → P e
 if_err r e P is holds = subst (λ (q : Result _ _). IfErr q P) is holds

@@ -1,8 +1,8 @@
-pub mod Choosing
 pub mod Parts
-pub mod Tables
-pub use Rattle.cut_finder.specs.cut_laws
-pub use Rattle.blob_loading.specs.log_reading
+pub use Rattle.chosen_laws.specs.cut_finder.cut_laws
+pub use Rattle.chosen_laws.specs.blob_loading.log_reading
 pub use Rattle.page_shadow.specs as page_shadow
-pub use Rattle.blob_loading.specs.part_checks
-pub use Rattle.blob_loading.specs.snapshot_reading
+pub use Rattle.chosen_laws.specs.blob_loading.part_checks
+pub use Rattle.chosen_laws.specs.blob_loading.snapshot_reading
+pub use Rattle.chosen_laws.specs as chosen_laws
+pub use Rattle.chosen_laws.specs.blob_loading.log_laws

@@ -1,11 +1,11 @@
 //! Which records of a log are chosen, and the slots they stand in.
 ghost use Rattle.std.specs.Prelude.{◌≡◌, ◌≤◌, ◌&&◌, ◌==◌, AllPairs, None, IfSome, IfNone, length, slice_index};
-ghost use Rattle.blob_loading.specs.image_blocks.Layout.{slot_count};
-ghost use Rattle.blob_loading.specs.image_meaning.Parts.{chosen_by, cut_of};
-ghost use Rattle.blob_loading.specs.log_reading.Logs.{AreInRange, IsOlder};
-ghost use Rattle.image_parts.specs.Choosing.{IsChosenSlot};
+ghost use Rattle.chosen_laws.specs.blob_loading.image_form.Layout.{slot_count};
+ghost use Rattle.chosen_laws.specs.blob_loading.image_meaning.Parts.{chosen_by, cut_of};
+ghost use Rattle.chosen_laws.specs.blob_loading.log_laws.Logs.{AreInRange, IsOlder};
+ghost use Rattle.chosen_laws.specs.Choosing.{IsChosenSlot};
 
-use cut_finder::greatest;
+use chosen_laws::cut_finder::greatest;
 use hop_base::{Cut, Entity, Rec};
 
 // The greatest closed choice over the records of an image of so many blocks.

@@ -1,21 +1,21 @@
 //! The chosen entities of an image, read one behind another.
 ghost use Rattle.std.specs.Prelude.{◌≡◌, ◌<◌, IfOk, IfSome, IsErrOf, length, slice_get, slice_index, Some};
 ghost use Rattle.disk_trait.specs.Counts.{Rose};
-ghost use Rattle.blob_loading.specs.image_blocks.Checks.{Bad as BadPlace};
-ghost use Rattle.blob_loading.specs.image_meaning.Foreign.{IsBadBlob};
-ghost use Rattle.blob_loading.specs.image_meaning.Parts.{AreFormed, AreSpelt, IsFormed, IsSpelt, chosen, cut_of};
-ghost use Rattle.blob_loading.specs.log_reading.Logs.{IsKnown};
-ghost use Rattle.blob_loading.specs.log_reading.Reads.{ReadsOnly};
-ghost use Rattle.blob_loading.specs.part_checks.Chosen.{part_of, parts_of, record_in};
-ghost use Rattle.blob_loading.specs.part_checks.Fits.{AreChosen};
-ghost use Rattle.image_parts.specs.Choosing.{IsBadEntity, IsBadSlot};
+ghost use Rattle.chosen_laws.specs.blob_loading.image_blocks.Checks.{Bad as BadPlace};
+ghost use Rattle.chosen_laws.specs.blob_loading.image_meaning.Foreign.{IsBadBlob};
+ghost use Rattle.chosen_laws.specs.blob_loading.image_meaning.Parts.{AreFormed, AreSpelt, IsFormed, IsSpelt, chosen, cut_of};
+ghost use Rattle.chosen_laws.specs.blob_loading.log_reading.Logs.{IsKnown};
+ghost use Rattle.chosen_laws.specs.blob_loading.log_laws.Reads.{ReadsOnly};
+ghost use Rattle.chosen_laws.specs.blob_loading.part_checks.Chosen.{part_of, parts_of, record_in};
+ghost use Rattle.chosen_laws.specs.blob_loading.part_checks.Fits.{AreChosen};
+ghost use Rattle.chosen_laws.specs.Choosing.{IsBadEntity, IsBadSlot};
 
 use crate::choosing::chosen_slot;
-use blob_loading::image_blocks::body_of;
-use blob_loading::load;
-use blob_loading::log_reading::{ImageLog, ReadingFault};
-use blob_loading::part_checks::ChosenEntity;
 use block_code::Blob;
+use chosen_laws::blob_loading::image_blocks::body_of;
+use chosen_laws::blob_loading::load;
+use chosen_laws::blob_loading::log_reading::{ImageLog, ReadingFault};
+use chosen_laws::blob_loading::part_checks::ChosenEntity;
 use disk_trait::Disk;
 use hop_base::{Cut, Entity, MOST_ENTITIES};
 use std::alloc::Global;

@@ -1,17 +1,17 @@
 //! Whether the chosen entities fit each other, and the place that is bad where one doesn't.
 ghost use Rattle.std.specs.Prelude.{◌≡◌, ◌≤◌, IfOk, IfSome, IfNone, length, slice_index};
 ghost use Rattle.disk_trait.specs.Image.{Image};
-ghost use Rattle.blob_loading.specs.image_blocks.Checks.{count_in};
-ghost use Rattle.blob_loading.specs.image_blocks.Layout.{slot_count};
-ghost use Rattle.blob_loading.specs.image_meaning.Foreign.{IsUnfit};
-ghost use Rattle.blob_loading.specs.image_meaning.Parts.{AreSpelt, cut_of};
-ghost use Rattle.blob_loading.specs.part_checks.Chosen.{parts_of};
-ghost use Rattle.blob_loading.specs.part_checks.Fits.{AreChosen, AreFit};
+ghost use Rattle.chosen_laws.specs.blob_loading.image_form.Checks.{count_in};
+ghost use Rattle.chosen_laws.specs.blob_loading.image_form.Layout.{slot_count};
+ghost use Rattle.chosen_laws.specs.blob_loading.image_meaning.Foreign.{IsUnfit};
+ghost use Rattle.chosen_laws.specs.blob_loading.image_meaning.Parts.{AreSpelt, cut_of};
+ghost use Rattle.chosen_laws.specs.blob_loading.part_checks.Chosen.{parts_of};
+ghost use Rattle.chosen_laws.specs.blob_loading.part_checks.Fits.{AreChosen, AreFit};
 
 use crate::choosing::chosen_slot;
-use blob_loading::image_blocks::{Bad, body_of};
-use blob_loading::log_reading::ImageLog;
-use blob_loading::part_checks::{ChosenEntity, first_unfit};
+use chosen_laws::blob_loading::image_blocks::{Bad, body_of};
+use chosen_laws::blob_loading::log_reading::ImageLog;
+use chosen_laws::blob_loading::part_checks::{ChosenEntity, first_unfit};
 use hop_base::{Cut, MOST_ENTITIES};
 use std::alloc::{AllocError, Global};
 

@@ -1,18 +1,19 @@
 //! The parts of an image that is accepted, or its first bad place.
 ghost use Rattle.std.specs.Prelude.{IfOk, IsErrOf};
 ghost use Rattle.disk_trait.specs.Counts.{Rose};
-ghost use Rattle.blob_loading.specs.image_blocks.Checks.{Bad as BadPlace};
-ghost use Rattle.blob_loading.specs.image_meaning.Foreign.{IsBadMeaning};
-ghost use Rattle.blob_loading.specs.log_reading.Logs.{IsKnown, IsLogOf};
-ghost use Rattle.blob_loading.specs.log_reading.Reads.{ReadsOnly};
-ghost use Rattle.blob_loading.specs.part_checks.Chosen.{parts_of};
-ghost use Rattle.image_parts.specs.Parts.{ArePartsOf, IsAcceptedWith};
+ghost use Rattle.chosen_laws.specs.blob_loading.image_blocks.Checks.{Bad as BadPlace};
+ghost use Rattle.chosen_laws.specs.blob_loading.image_meaning.Foreign.{IsBadMeaning};
+ghost use Rattle.chosen_laws.specs.blob_loading.log_reading.Logs.{IsKnown, IsLogOf};
+ghost use Rattle.chosen_laws.specs.blob_loading.log_laws.Reads.{ReadsOnly};
+ghost use Rattle.chosen_laws.specs.blob_loading.part_checks.Chosen.{parts_of};
+ghost use Rattle.image_parts.specs.Parts.{ArePartsOf};
+ghost use Rattle.chosen_laws.specs.Parts.{IsAcceptedWith};
 
 use crate::choosing::choice_of;
 use crate::entities::read_entities;
 use crate::fitting::unfit_place;
-use blob_loading::log_reading::{ImageLog, ReadingFault};
-use blob_loading::part_checks::ChosenEntity;
+use chosen_laws::blob_loading::log_reading::{ImageLog, ReadingFault};
+use chosen_laws::blob_loading::part_checks::ChosenEntity;
 use disk_trait::Disk;
 use hop_base::Cut;
 use std::alloc::Global;

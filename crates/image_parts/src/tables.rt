@@ -1,13 +1,13 @@
 //! The page tables of chosen records, as a store keeps them.
 ghost use Rattle.std.specs.Prelude.{◌≡◌, ℕ, IfOk, length, slice_index};
-ghost use Rattle.blob_loading.specs.image_meaning.Parts.{table_in};
-ghost use Rattle.blob_loading.specs.log_reading.declared.log.ImageLog.{ImageLog};
-ghost use Rattle.blob_loading.specs.part_checks.Chosen.{part_in, part_of};
+ghost use Rattle.chosen_laws.specs.blob_loading.image_meaning.Parts.{table_in};
+ghost use Rattle.chosen_laws.specs.blob_loading.log_reading.declared.log.ImageLog.{ImageLog};
+ghost use Rattle.chosen_laws.specs.blob_loading.part_checks.Chosen.{part_in, part_of};
 ghost use Rattle.image_parts.specs.Parts.{ArePartsOf};
-ghost use Rattle.image_parts.specs.Tables.{ArePlaced, AreTablesOf, IsTableOf, blocks_in};
+ghost use Rattle.chosen_laws.specs.Tables.{ArePlaced, AreTablesOf, IsTableOf, blocks_in};
 
 use crate::parts::ImageParts;
-use blob_loading::part_checks::{ChosenEntity, ChosenPart};
+use chosen_laws::blob_loading::part_checks::{ChosenEntity, ChosenPart};
 use hop_base::MOST_PAGES;
 use page_shadow::ShadowTable;
 use std::alloc::{AllocError, Global};

@@ -2,23 +2,23 @@
 ghost use Rattle.std.specs.Prelude.{◌≡◌, ◌<◌, ◌≤◌, ◌+◌, ◌^◌, ℕ, All, IfOk, IsErrOf, Some, length, slice_get};
 ghost use Rattle.disk_trait.specs.Counts.{Rose};
 ghost use Rattle.disk_trait.specs.Image.{block_at};
-ghost use Rattle.plain_parts.specs.history_model.Plains.{container_cell, container_of};
-ghost use Rattle.plain_parts.specs.hop_model.State.{ContainerCell, Supply};
-ghost use Rattle.meant_states.specs.image_meaning.Parts.{table_in};
-ghost use Rattle.image_parts.specs.Tables.{blocks_in};
-ghost use Rattle.image_parts.specs.log_reading.Reads.{ReadsOnly};
-ghost use Rattle.image_parts.specs.part_checks.Chosen.{part_in, part_of, parts_of};
-ghost use Rattle.image_parts.specs.part_checks.declared.chosen.ChosenPart.TheVariants.{Container};
-ghost use Rattle.image_tools.specs.States.{AreOnDisk, IsCellOf, IsContainerPart, IsSparseContainer};
+ghost use Rattle.shown_states.specs.plain_parts.history_model.Plains.{container_cell, container_of};
+ghost use Rattle.shown_states.specs.plain_parts.hop_model.State.{ContainerCell, Supply};
+ghost use Rattle.shown_states.specs.meant_states.image_meaning.Parts.{table_in};
+ghost use Rattle.shown_states.specs.image_parts.chosen_laws.Tables.{blocks_in};
+ghost use Rattle.shown_states.specs.image_parts.log_laws.Reads.{ReadsOnly};
+ghost use Rattle.shown_states.specs.image_parts.part_checks.Chosen.{part_in, part_of, parts_of};
+ghost use Rattle.shown_states.specs.image_parts.part_checks.declared.chosen.ChosenPart.TheVariants.{Container};
+ghost use Rattle.shown_states.specs.States.{AreOnDisk, IsCellOf, IsContainerPart, IsSparseContainer};
 
 use crate::faults::PagesFault;
 use crate::pages::words_of;
 use disk_trait::Disk;
 use hop_base::MOST_ENTITIES;
-use image_parts::part_checks::{ChosenEntity, ChosenPart};
-use image_parts::snapshot_reading::ContainerBlob;
-use plain_parts::history_model::PlainContainer;
-use plain_parts::plain_head;
+use shown_states::image_parts::part_checks::{ChosenEntity, ChosenPart};
+use shown_states::image_parts::snapshot_reading::ContainerBlob;
+use shown_states::plain_parts::history_model::PlainContainer;
+use shown_states::plain_parts::plain_head;
 use std::alloc::Global;
 
 // A container, with its words from the disk.

@@ -1,25 +1,25 @@
 //! An image, read whole.
 ghost use Rattle.std.specs.Prelude.{◌≡◌, ◌<◌, ◌≤◌, ◌^◌, ℕ, All, IfOk, IsErrOf, slice_index};
 ghost use Rattle.disk_trait.specs.Counts.{Rose};
-ghost use Rattle.plain_parts.specs.history_model.Born.{AreEdges};
-ghost use Rattle.plain_parts.specs.history_model.Plains.{cells_of};
-ghost use Rattle.plain_parts.specs.hop_model.Soundness.{IsSound};
-ghost use Rattle.plain_parts.specs.hop_model.State.{Supply};
+ghost use Rattle.shown_states.specs.plain_parts.history_model.Born.{AreEdges};
+ghost use Rattle.shown_states.specs.plain_parts.history_model.Plains.{cells_of};
+ghost use Rattle.shown_states.specs.plain_parts.hop_model.Soundness.{IsSound};
+ghost use Rattle.shown_states.specs.plain_parts.hop_model.State.{Supply};
 ghost use Rattle.report_lines.specs.image_blocks.Checks.{Bad as BadPlace};
-ghost use Rattle.meant_states.specs.image_meaning.Foreign.{IsForeign};
-ghost use Rattle.meant_states.specs.image_meaning.Parts.{cut_of};
-ghost use Rattle.image_parts.specs.log_reading.Logs.{IsLogOf};
-ghost use Rattle.image_parts.specs.log_reading.Reads.{ReadsOnly};
-ghost use Rattle.image_tools.specs.Facts.{MeansState};
-ghost use Rattle.image_tools.specs.States.{IsSparseContainer};
+ghost use Rattle.shown_states.specs.meant_states.image_meaning.Foreign.{IsForeign};
+ghost use Rattle.shown_states.specs.meant_states.image_meaning.Parts.{cut_of};
+ghost use Rattle.shown_states.specs.image_parts.log_reading.Logs.{IsLogOf};
+ghost use Rattle.shown_states.specs.image_parts.log_laws.Reads.{ReadsOnly};
+ghost use Rattle.shown_states.specs.Facts.{MeansState};
+ghost use Rattle.shown_states.specs.States.{IsSparseContainer};
 
 use crate::faults::PagesFault;
 use crate::state::state_of;
 use disk_trait::Disk;
 use hop_base::Cut;
-use image_parts::log_reading::{ImageLog, ReadingFault, read_log};
-use image_parts::read_parts;
-use plain_parts::history_model::Plain;
+use shown_states::image_parts::log_reading::{ImageLog, ReadingFault, read_log};
+use shown_states::image_parts::read_parts;
+use shown_states::plain_parts::history_model::Plain;
 use std::alloc::Global;
 
 /// What an image says: its log, the greatest closed choice over the log's records, and the state that it means. The version of each

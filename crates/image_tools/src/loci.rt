@@ -1,15 +1,15 @@
 //! The atlas and the loci of an image in ordinary lists.
 ghost use Rattle.std.specs.Prelude.{◌≡◌, ◌<◌, ◌≤◌, ◌+◌, ℕ, IfOk, length, slice_get};
-ghost use Rattle.plain_parts.specs.history_model.Born.{AreEdges};
-ghost use Rattle.plain_parts.specs.history_model.Plains.{atlas_of, locus_cell, locus_of};
-ghost use Rattle.plain_parts.specs.hop_model.State.{LocusCell, no_atlas};
-ghost use Rattle.image_parts.specs.part_checks.Chosen.{part_in, parts_of};
-ghost use Rattle.image_tools.specs.States.{IsLocusPart, atlas_by, cell_with};
+ghost use Rattle.shown_states.specs.plain_parts.history_model.Born.{AreEdges};
+ghost use Rattle.shown_states.specs.plain_parts.history_model.Plains.{atlas_of, locus_cell, locus_of};
+ghost use Rattle.shown_states.specs.plain_parts.hop_model.State.{LocusCell, no_atlas};
+ghost use Rattle.shown_states.specs.image_parts.part_checks.Chosen.{part_in, parts_of};
+ghost use Rattle.shown_states.specs.States.{IsLocusPart, atlas_by, cell_with};
 
 use hop_base::MOST_ENTITIES;
-use image_parts::part_checks::{ChosenEntity, ChosenPart};
-use plain_parts::history_model::{PlainAtlas, PlainLocus};
-use plain_parts::{plain_atlas, plain_locus};
+use shown_states::image_parts::part_checks::{ChosenEntity, ChosenPart};
+use shown_states::plain_parts::history_model::{PlainAtlas, PlainLocus};
+use shown_states::plain_parts::{plain_atlas, plain_locus};
 use std::alloc::{AllocError, Global};
 
 // An atlas that names nobody.

@@ -3,20 +3,20 @@ ghost use Rattle.std.specs.Prelude.{◌≡◌, ◌≢◌, ◌<◌, ◌≤◌, �
 ghost use Rattle.disk_trait.specs.Counts.{Rose};
 ghost use Rattle.disk_trait.specs.Disk.{HasCause};
 ghost use Rattle.disk_trait.specs.Image.{block_at};
-ghost use Rattle.plain_parts.specs.hop_model.State.{Supply};
-ghost use Rattle.meant_states.specs.image_meaning.Parts.{word_in, words_in};
-ghost use Rattle.image_parts.specs.log_reading.Reads.{ReadsOnly};
-ghost use Rattle.plain_parts.specs.Words.{words_with};
-ghost use Rattle.page_words.specs.store_model.Books.{words_of_bytes};
-ghost use Rattle.image_tools.specs.States.{AreOnDisk};
-ghost use Rattle.image_tools.specs.Words.{IsSparse};
+ghost use Rattle.shown_states.specs.plain_parts.hop_model.State.{Supply};
+ghost use Rattle.shown_states.specs.meant_states.image_meaning.Parts.{word_in, words_in};
+ghost use Rattle.shown_states.specs.image_parts.log_laws.Reads.{ReadsOnly};
+ghost use Rattle.shown_states.specs.plain_parts.Words.{words_with};
+ghost use Rattle.shown_states.specs.page_words.store_model.Books.{words_of_bytes};
+ghost use Rattle.shown_states.specs.States.{AreOnDisk};
+ghost use Rattle.shown_states.specs.Words.{IsSparse};
 
 use crate::faults::PagesFault;
 use crate::words::keep_page;
 use disk_trait::{Disk, DiskFault};
 use hop_base::MOST_PAGES;
-use page_words::words_in;
-use plain_parts::locus_machine::Head;
+use shown_states::page_words::words_in;
+use shown_states::plain_parts::locus_machine::Head;
 use std::alloc::Global;
 use std::collections::BTreeMap;
 

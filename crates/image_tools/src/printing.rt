@@ -1,9 +1,9 @@
 //! What an image says, printed.
 ghost use Rattle.std.specs.Prelude.{◌≡◌, ◌≤◌, ◌<◌, ◌^◌, ℕ, OnErr};
 ghost use Rattle.disk_trait.specs.Counts.{Rose};
-ghost use Rattle.plain_parts.specs.history_model.Plains.{cells_of};
-ghost use Rattle.plain_parts.specs.hop_model.Soundness.{IsSound};
-ghost use Rattle.plain_parts.specs.hop_model.State.{Supply};
+ghost use Rattle.shown_states.specs.plain_parts.history_model.Plains.{cells_of};
+ghost use Rattle.shown_states.specs.plain_parts.hop_model.Soundness.{IsSound};
+ghost use Rattle.shown_states.specs.plain_parts.hop_model.State.{Supply};
 ghost use Rattle.plain_show.specs.Show.{shown};
 ghost use Rattle.report_lines.specs.Reports.{report_text};
 ghost use Rattle.plain_show.specs.stream_edge.Streams.{Puts};

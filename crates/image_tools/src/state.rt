@@ -2,22 +2,22 @@
 ghost use Rattle.std.specs.Prelude.{◌≡◌, ◌<◌, ◌^◌, ℕ, All, IfOk, IsErrOf};
 ghost use Rattle.disk_trait.specs.Counts.{Rose};
 ghost use Rattle.disk_trait.specs.Image.{block_at};
-ghost use Rattle.plain_parts.specs.history_model.Born.{AreEdges};
-ghost use Rattle.plain_parts.specs.history_model.Plains.{cells_of};
-ghost use Rattle.plain_parts.specs.hop_model.State.{Supply};
-ghost use Rattle.image_parts.specs.Parts.{ArePartsOf};
-ghost use Rattle.image_parts.specs.log_reading.Logs.{IsKnown};
-ghost use Rattle.image_parts.specs.log_reading.Reads.{ReadsOnly};
-ghost use Rattle.image_parts.specs.log_reading.declared.log.ImageLog.{ImageLog};
-ghost use Rattle.image_parts.specs.part_checks.Chosen.{parts_of};
-ghost use Rattle.image_tools.specs.States.{IsCellOf, IsSparseContainer};
+ghost use Rattle.shown_states.specs.plain_parts.history_model.Born.{AreEdges};
+ghost use Rattle.shown_states.specs.plain_parts.history_model.Plains.{cells_of};
+ghost use Rattle.shown_states.specs.plain_parts.hop_model.State.{Supply};
+ghost use Rattle.shown_states.specs.image_parts.Parts.{ArePartsOf};
+ghost use Rattle.shown_states.specs.image_parts.log_reading.Logs.{IsKnown};
+ghost use Rattle.shown_states.specs.image_parts.log_laws.Reads.{ReadsOnly};
+ghost use Rattle.shown_states.specs.image_parts.log_reading.declared.log.ImageLog.{ImageLog};
+ghost use Rattle.shown_states.specs.image_parts.part_checks.Chosen.{parts_of};
+ghost use Rattle.shown_states.specs.States.{IsCellOf, IsSparseContainer};
 
 use crate::containers::containers_of;
 use crate::faults::PagesFault;
 use crate::loci::{atlas_at, loci_of};
 use disk_trait::Disk;
-use image_parts::ImageParts;
-use plain_parts::history_model::Plain;
+use shown_states::image_parts::ImageParts;
+use shown_states::plain_parts::history_model::Plain;
 use std::alloc::Global;
 
 // The state of the parts, with the words of the pages from the disk.

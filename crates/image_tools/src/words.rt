@@ -1,8 +1,8 @@
 //! The words of a container, of which those are kept that differ from the supplier's.
 ghost use Rattle.std.specs.Prelude.{◌≡◌, ◌<◌, ◌≤◌, ◌+◌, ◌*◌, ◌^◌, ℕ, OnOk, slice_index};
-ghost use Rattle.plain_parts.specs.hop_model.State.{Supply};
-ghost use Rattle.plain_parts.specs.Words.{words_with};
-ghost use Rattle.image_tools.specs.Words.{IsSparse};
+ghost use Rattle.shown_states.specs.plain_parts.hop_model.State.{Supply};
+ghost use Rattle.shown_states.specs.plain_parts.Words.{words_with};
+ghost use Rattle.shown_states.specs.Words.{IsSparse};
 
 use hop_base::PAGE_WORDS;
 use std::alloc::AllocFailed;

@@ -15,7 +15,7 @@ use Rattle.locus_machine.specs.hop_model.Words.{last_call, but_last}
 use Rattle.locus_machine.specs.wanted_act.Views.{IsReadyLocus, may_name_itself}
 use Rattle.locus_machine.proofs.wanted_act_lemmas.Allowed.{unless_none}
 use Rattle.locus_machine.proofs.wanted_act_lemmas.Beside.{wanted_same, made_beside}
-use Rattle.locus_machine.proofs.Alone.{wanted_says, place_within}
+use Rattle.locus_machine.proofs.wanted_laws_lemmas.Alone.{wanted_says, place_within}
 use Rattle.invocation.specs.Entries.{is_invoke, is_leave, is_return, WantsBeside, Invoked}
 
 -- THE WANTED INSTRUCTION

@@ -11,24 +11,24 @@ use Rattle.hop_base.specs.declared.records.Rec.{Rec}
 use Rattle.snapshot_store.proofs.hop_model_lemmas.Lowering.{greatest_is, greatest_one}
 use Rattle.snapshot_store.specs.cut_laws.Agreeing.{nothing}
 use Rattle.snapshot_store.specs.cut_laws.Records.{commits_of}
-use Rattle.snapshot_store.proofs.image_blocks_lemmas.Rest.{upto_get, upto_len}
+use Rattle.snapshot_store.proofs.hop_model_lemmas.Lists.{upto_get, upto_len}
 use Rattle.opened_cells.specs.image_meaning.Parts.{AtlasPart, ContainerPart, IsFormed, LocusPart, Part, chosen_by, cut_of, table_in}
 use Rattle.opened_cells.proofs.image_meaning_lemmas.Firsts.{clash}
 use Rattle.opened_cells.specs.image_parts.Parts.{ArePartsOf}
-use Rattle.opened_cells.specs.image_parts.Tables.{AreTablesOf, IsTableOf, blocks_in, table_at}
+use Rattle.opened_cells.specs.chosen_laws.Tables.{AreTablesOf, IsTableOf, blocks_in, table_at}
 use Rattle.opened_cells.specs.image_parts.declared.parts.ImageParts.{ImageParts}
-use Rattle.opened_cells.proofs.image_parts_lemmas.Slots.{chosen_entity}
+use Rattle.opened_cells.proofs.chosen_laws_lemmas.Slots.{chosen_entity}
 use Rattle.snapshot_store.specs.log_reading.declared.log.ImageLog.{ImageLog}
 use Rattle.opened_cells.specs.Held.{HoldsNamed}
 use Rattle.snapshot_store.specs.page_shadow.declared.ShadowTable.{ShadowTable}
 use Rattle.opened_cells.specs.part_checks.Chosen.{entity_at, part_in, part_of, parts_of, record_in}
 use Rattle.opened_cells.specs.part_checks.declared.chosen.ChosenEntity.{ChosenEntity}
 use Rattle.opened_cells.proofs.part_checks_lemmas.Choices.{none_past}
-use Rattle.snapshot_store.specs.Choosing.{HasKept, are_chosen, chosen_list, kept_rows, listed, table_of, with_tables}
-use Rattle.snapshot_store.specs.Holds.{names_page}
-use Rattle.snapshot_store.specs.Naming.{is_use}
-use Rattle.snapshot_store.specs.Opening.{IsFresh}
-use Rattle.snapshot_store.specs.State.{IsWhole, State, books}
+use Rattle.snapshot_store.specs.store_laws.Choosing.{HasKept, are_chosen, chosen_list, kept_rows, listed, table_of, with_tables}
+use Rattle.snapshot_store.specs.store_laws.Holds.{names_page}
+use Rattle.snapshot_store.specs.store_laws.Naming.{is_use}
+use Rattle.snapshot_store.specs.store_laws.Opening.{IsFresh}
+use Rattle.snapshot_store.specs.store_laws.State.{IsWhole, State, books}
 use Rattle.snapshot_store.specs.store_model.Books.{recs_in}
 
 -- a place at which a list passes a test

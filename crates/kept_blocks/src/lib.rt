@@ -4,15 +4,15 @@
 
 ghost use Rattle.std.specs.Prelude.{◌≡◌, List};
 ghost use Rattle.opened_cells.specs.image_parts.Parts.{ArePartsOf};
-ghost use Rattle.opened_cells.specs.image_parts.Tables.{AreTablesOf};
+ghost use Rattle.opened_cells.specs.chosen_laws.Tables.{AreTablesOf};
 ghost use Rattle.opened_cells.specs.image_parts.declared.parts.ImageParts.{ImageParts as Parts};
 ghost use Rattle.snapshot_store.specs.log_reading.declared.log.ImageLog.{ImageLog as Log};
 ghost use Rattle.opened_cells.specs.Held.{HoldsNamed};
 ghost use Rattle.snapshot_store.specs.page_shadow.declared.ShadowTable.{ShadowTable};
 ghost use Rattle.opened_cells.specs.part_checks.Chosen.{parts_of};
-ghost use Rattle.snapshot_store.specs.Choosing.{HasKept};
-ghost use Rattle.snapshot_store.specs.Opening.{IsFresh};
-ghost use Rattle.snapshot_store.specs.State.{IsWhole, State, books};
+ghost use Rattle.snapshot_store.specs.store_laws.Choosing.{HasKept};
+ghost use Rattle.snapshot_store.specs.store_laws.Opening.{IsFresh};
+ghost use Rattle.snapshot_store.specs.store_laws.State.{IsWhole, State, books};
 ghost use Rattle.snapshot_store.specs.store_model.Books.{recs_in};
 
 use disk_trait::Disk;

@@ -13,10 +13,10 @@ use Rattle.invocation.specs.hop_model.Acts.{bearing, allowed, wanted}
 use Rattle.invocation.specs.hop_model.Outcomes.{Outcome, outcome, with_newborn, with_atlas, make, make_at, spawn, spawn_at, born, holding, finish, free_container, free_locus, made_name, made_container, spawned}
 use Rattle.invocation.specs.hop_model.Refusals.{instr_at, refusal, reg, no_free_slot}
 use Rattle.invocation.specs.hop_model.Words.{unless, free_slot}
-use Rattle.atlas_dir.specs.Directory.{Directory, free_number, with_entity}
-use Rattle.atlas_dir.specs.Directory.{made_name as directory_name}
+use Rattle.atlas_dir.specs.directory_form.Directory.{Directory, free_number, with_entity}
+use Rattle.atlas_dir.specs.directory_form.Directory.{made_name as directory_name}
 use Rattle.invocation.proofs.wanted_act_lemmas.Allowed.{unless_none, first_none}
-use Rattle.invocation.proofs.locus_machine_lemmas.Alone.{wanted_says, wanted_allowed}
+use Rattle.invocation.proofs.wanted_laws_lemmas.Alone.{wanted_says, wanted_allowed}
 use Rattle.kernel_calls.specs.Calls.{is_make, is_spawn, atlas_state, WantsBirth, AtlasCallMade}
 
 -- a new container by its parts

@@ -8,7 +8,7 @@ use Rattle.invocation.specs.hop_model.State.{Supply, AtlasState, LocusState, Cel
 use Rattle.invocation.specs.hop_model.Acts.{Act, alone, beside, beside_or_self, allowed, wanted}
 use Rattle.invocation.specs.hop_model.Outcomes.{outcome, on_cell, with_newborn, local_act, with_other, own_reply, stopped, going}
 use Rattle.invocation.specs.hop_model.Refusals.{instr_at, refusal, entity_of}
-use Rattle.invocation.proofs.locus_machine_lemmas.Alone.{wanted_says, wanted_allowed}
+use Rattle.invocation.proofs.wanted_laws_lemmas.Alone.{wanted_says, wanted_allowed}
 use Rattle.invocation.specs.Entries.{WantsBeside}
 use Rattle.invocation.proofs.Entered.{instr_is}
 use Rattle.kernel_calls.specs.Calls.{is_stop, is_go}

@@ -5,3 +5,4 @@ pub mod MapLemmas
 pub use Rattle.invocation.proofs.locus_machine_lemmas
 pub use Rattle.invocation.proofs.wanted_act_lemmas
 pub use Rattle.invocation.proofs.hop_model_lemmas
+pub use Rattle.invocation.proofs.wanted_laws_lemmas

@@ -22,13 +22,13 @@ use Rattle.invocation.specs.hop_model.Outcomes.{Outcome, outcome, on_cell, with_
 use Rattle.invocation.specs.hop_model.Refusals.{instr_at, refusal, reg, named, entity_of, no_cap, no_slot, no_container, lacks, no_page, new_region}
 use Rattle.invocation.specs.hop_model.Words.{unless, first, flat, overlaps, insert_region, put, is_container}
 use Rattle.region_map.specs.Regions.{begins_at, add_answer}
-use Rattle.atlas_dir.specs.Directory.{Directory, edges_of, with_count, IsBornContainer}
+use Rattle.atlas_dir.specs.directory_form.Directory.{Directory, edges_of, with_count, IsBornContainer}
 use Rattle.circle_law.specs.Containers.{IsAmongContainers}
 use Rattle.circle_law.proofs.Circles.{circle_found}
-use Rattle.atlas_dir.specs.Reached.{with_edge}
+use Rattle.atlas_dir.specs.directory_form.Reached.{with_edge}
 use Rattle.invocation.specs.wanted_act.Views.{may_name_itself}
 use Rattle.invocation.proofs.wanted_act_lemmas.Allowed.{unless_none, first_none}
-use Rattle.invocation.proofs.locus_machine_lemmas.Alone.{wanted_says}
+use Rattle.invocation.proofs.wanted_laws_lemmas.Alone.{wanted_says}
 use Rattle.invocation.specs.Entries.{WantsBeside}
 use Rattle.invocation.proofs.Entered.{made_by}
 use Rattle.kernel_calls.specs.Calls.{is_map, is_unmap, atlas_state, NamesBorn, AtlasCallMade}

@@ -12,7 +12,7 @@ use Rattle.invocation.specs.hop_model.Words.{is_container}
 use Rattle.invocation.specs.locus_machine.Loci.{locus_of, container_with}
 use Rattle.invocation.specs.locus_machine.declared.loci.Head.{Head}
 use Rattle.invocation.specs.locus_machine.declared.loci.Locus.{Locus}
-use Rattle.atlas_dir.specs.Directory.{Directory, edges_of, IsBornContainer}
+use Rattle.atlas_dir.specs.directory_form.Directory.{Directory, edges_of, IsBornContainer}
 
 -- what the directory is in the model
 abbrev pub atlas_state : Directory → AtlasState

@@ -3,7 +3,7 @@ ghost use Rattle.std.specs.Prelude.{◌≡◌, ℕ, ◌+◌, ◌<◌, ◌≤◌,
 ghost use Rattle.invocation.specs.hop_model.Acts.{wanted};
 ghost use Rattle.invocation.specs.hop_model.Outcomes.{outcome, map_region, unmap as unmapping};
 ghost use Rattle.invocation.specs.hop_model.State.{Supply, ContainerCell};
-ghost use Rattle.atlas_dir.specs.Directory.{edges_of, IsBornContainer};
+ghost use Rattle.atlas_dir.specs.directory_form.Directory.{edges_of, IsBornContainer};
 ghost use Rattle.invocation.specs.wanted_act.Views.{IsReadyLocus};
 ghost use Rattle.invocation.specs.locus_machine.Loci.{locus_of, container_with};
 ghost use Rattle.invocation.specs.Entries.{WantsBeside};

@@ -13,7 +13,7 @@ use Rattle.event_clocks.specs.hop_model.Outcomes.{Outcome, local_act, outcome, w
 use Rattle.event_clocks.specs.hop_model.Refusals.{entity_of, instr_at, refusal}
 use Rattle.event_clocks.specs.hop_model.State.{Supply, AtlasState, LocusState, Cell as ModelCell, LocusCell, EntityState, KernelState}
 use Rattle.event_clocks.specs.hop_model.Steps.{accesses_of, change_by, change_of, if_running, numbered_change, outcome_in, running, seen_atlas, seen_other, step, step_change, with_atlas_access, with_newborn_access, with_other_access}
-use Rattle.kernel_calls.specs.locus_machine.Loci.{IsAlone}
+use Rattle.kernel_calls.specs.wanted_laws.Loci.{IsAlone}
 use Rattle.event_clocks.specs.Clocks.{HasClock, writing, CarriesOne}
 use Rattle.event_clocks.proofs.Changing.{access_first, written_at}
 use Rattle.kernel_cells.specs.declared.cells.Cell.{Cell}

@@ -1,6 +1,5 @@
 pub mod Cells
 pub mod Steps
-pub mod Itself
 pub mod Wishes
 pub use Rattle.event_clocks.specs as event_clocks
 pub use Rattle.fault_paging.specs as fault_paging
@@ -8,3 +7,4 @@ pub use Rattle.event_clocks.specs.hop_model
 pub use Rattle.kernel_calls.specs as kernel_calls
 pub use Rattle.kernel_calls.specs.locus_machine
 pub use Rattle.kernel_calls.specs.wanted_act
+pub use Rattle.kernel_calls.specs.wanted_laws

@@ -5,10 +5,11 @@ ghost use Rattle.event_clocks.specs.hop_model.Outcomes.{outcome};
 ghost use Rattle.event_clocks.specs.hop_model.State.{AtlasState, Cell as ModelCell, KernelState, LocusCell, LocusState, Supply};
 ghost use Rattle.hop_base.specs.declared.instructions.Condition.TheVariants.{Running as RunningNow};
 ghost use Rattle.kernel_calls.specs.wanted_act.Views.{IsReadyLocus};
-ghost use Rattle.kernel_calls.specs.locus_machine.Loci.{locus_of, IsAlone};
+ghost use Rattle.kernel_calls.specs.locus_machine.Loci.{locus_of};
+ghost use Rattle.kernel_calls.specs.wanted_laws.Loci.{IsAlone};
 ghost use Rattle.kernel_calls.specs.locus_machine.declared.loci.Locus.{Locus as ALocus};
 ghost use Rattle.kernel_cells.specs.Cells.{part_of, HasCell, IsRunning};
-ghost use Rattle.kernel_cells.specs.Itself.{WantsItself};
+ghost use Rattle.kernel_calls.specs.wanted_laws.Itself.{WantsItself};
 ghost use Rattle.kernel_cells.specs.Steps.{MakesAlone, Steps};
 
 use crate::cells::{Cell, Part};

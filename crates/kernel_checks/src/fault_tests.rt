@@ -1,6 +1,6 @@
 //! Disks each of whose calls fails in turn, and disks with too few blocks.
 ghost use Rattle.std.specs.Prelude.{◌≤◌, ◌<◌};
-ghost use Rattle.image_tools.specs.image_blocks.Layout.{least_blocks, most_blocks};
+ghost use Rattle.image_tools.specs.image_form.Layout.{least_blocks, most_blocks};
 ghost use Rattle.script_read.specs.script_form.Rules.{IsScript};
 ghost use Rattle.script_read.specs.script_form.Scripts.{tables_of};
 

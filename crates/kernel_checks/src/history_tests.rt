@@ -22,27 +22,36 @@ fn a_locus_out_of_steps_and_an_absent_one_make_none(rt: HostRuntime) -> Result<(
     let alloc = rt.alloc();
     let script = script_of(alloc, FIVE)?;
     let mut own = opened(alloc, formatted(alloc, 4096, 100, &[])?, &script)?;
-    assert_eq!(rt; own.kernel().history().len(), 0);
+    assert!(rt; own.kernel().history().len() == 0);
     assert!(rt; own.kernel().stopped().is_none());
-    assert_eq!(rt; own.births(alloc, &script), Ok(()));
-    assert_eq!(rt; own.births(alloc, &script), Err(Unborn::Unfit));
-    assert_eq!(rt; own.step(Entity::of(41)), Ok(Looked::Stepped));
-    assert_eq!(rt; own.step(Entity::of(41)), Ok(Looked::Idle(Idle::Spent)));
-    assert_eq!(rt; own.step(Entity::of(63)), Ok(Looked::Idle(Idle::Absent)));
-    assert_eq!(rt; own.step(Entity::of(1)), Ok(Looked::Idle(Idle::Absent)));
-    assert_eq!(rt; own.finish(), Ok(()));
+    assert!(rt; own.births(alloc, &script) == Ok(()));
+    assert!(rt; own.births(alloc, &script) == Err(Unborn::Unfit));
+    assert!(rt; own.step(Entity::of(41)) == Ok(Looked::Stepped));
+    assert!(rt; own.step(Entity::of(41)) == Ok(Looked::Idle(Idle::Spent)));
+    assert!(rt; own.step(Entity::of(63)) == Ok(Looked::Idle(Idle::Absent)));
+    assert!(rt; own.step(Entity::of(1)) == Ok(Looked::Idle(Idle::Absent)));
+    assert!(rt; own.finish() == Ok(()));
     let ended = own.into_ended();
     let lines = trace(alloc, &ended.history, &["a"], &["l"])?;
-    assert_eq!(rt;
-        lines.as_str(),
-        "birth a atlas:1,a:1
+    assert!(rt;
+        lines.as_str()
+            == "birth a atlas:1,a:1
 birth l atlas:2,a:2,l:1
 stable atlas
 step l l:2 quiet
 "
     );
-    assert_eq!(rt; ended.marks.len(), 1);
+    assert!(rt; ended.marks.len() == 1);
     Ok(())
+}
+
+// A run of container `a` and locus `l`: its history in lines, and what the image shows behind it.
+fn told(alloc: Global, text: &str) -> Result<(String, String), Fail> {
+    let script = script_of(alloc, text)?;
+    let mut ended = run_whole(alloc, formatted(alloc, 4096, 100, &[])?, &script)?;
+    let lines = trace(alloc, &ended.history, &["a"], &["l"])?;
+    let shown = shown(alloc, &facts_of(alloc, &mut ended.disk)?)?;
+    Ok((lines, shown))
 }
 
 // A snapshot of the container behind the store, and none of the locus.
@@ -52,48 +61,35 @@ snap a 3
 step l l:4 quiet
 ";
 
+const ABANDONED_SHOWN: &str = "container a 1 0 1 -
+locus l a 0 running 0 0 0 0 0 0 0 0 0
+";
+
 #[test]
 fn a_snapshot_that_needs_another_is_not_in_the_cut(rt: HostRuntime) -> Result<(), Fail> {
-    let alloc = rt.alloc();
-    let script = script_of(alloc, STORES_ONCE)?;
-    let mut ended = run_whole(alloc, formatted(alloc, 4096, 100, &[])?, &script)?;
-    let lines = trace(alloc, &ended.history, &["a"], &["l"])?;
-    assert_eq!(rt; lines.as_str().strip_prefix(BORN), Some(ABANDONED));
-    let shown = shown(alloc, &facts_of(alloc, &mut ended.disk)?)?;
-    assert_eq!(rt;
-        shown.as_str(),
-        "container a 1 0 1 -
-locus l a 0 running 0 0 0 0 0 0 0 0 0
-"
-    );
+    let (lines, shown) = told(rt.alloc(), STORES_ONCE)?;
+    assert!(rt; lines.as_str().strip_prefix(BORN) == Some(ABANDONED));
+    assert!(rt; shown.as_str() == ABANDONED_SHOWN);
     Ok(())
 }
 
-#[test]
-fn both_snapshots_are_in_the_cut(rt: HostRuntime) -> Result<(), Fail> {
-    let alloc = rt.alloc();
-    let script = script_of(alloc, STORES_BOTH)?;
-    let mut ended = run_whole(alloc, formatted(alloc, 4096, 100, &[])?, &script)?;
-    let lines = trace(alloc, &ended.history, &["a"], &["l"])?;
-    assert_eq!(rt;
-        lines.as_str().strip_prefix(BORN),
-        Some(
-            "step l l:2 quiet
+const BOTH: &str = "step l l:2 quiet
 step l a:3,l:3 reply 0
 snap a 3
 snap l 3
 step l l:4 quiet
-"
-        )
-    );
-    let shown = shown(alloc, &facts_of(alloc, &mut ended.disk)?)?;
-    assert_eq!(rt;
-        shown.as_str(),
-        "container a 1 0 1 -
+";
+
+const BOTH_SHOWN: &str = "container a 1 0 1 -
 word a 0 5
 locus l a 2 running 2 5 0 0 0 0 0 0 0
-"
-    );
+";
+
+#[test]
+fn both_snapshots_are_in_the_cut(rt: HostRuntime) -> Result<(), Fail> {
+    let (lines, shown) = told(rt.alloc(), STORES_BOTH)?;
+    assert!(rt; lines.as_str().strip_prefix(BORN) == Some(BOTH));
+    assert!(rt; shown.as_str() == BOTH_SHOWN);
     Ok(())
 }
 
@@ -122,9 +118,9 @@ step m m:4 quiet
         lines.as_str()
     );
     let shown = shown(alloc, &facts_of(alloc, &mut ended.disk)?)?;
-    assert_eq!(rt;
-        shown.as_str(),
-        "container a 1 0 1 -
+    assert!(rt;
+        shown.as_str()
+            == "container a 1 0 1 -
 word a 0 9
 locus l a 0 running 0 0 0 0 0 0 0 0 0
 locus m a 5 running 2 9 0 0 0 0 0 0 0
@@ -154,8 +150,8 @@ fn one_frame_has_the_history_of_all(rt: HostRuntime) -> Result<(), Fail> {
     let history = summed(alloc, 1)?;
     assert!(rt; history == summed(alloc, 256)?);
     // Two births, a Stable, and the steps of the locus.
-    assert_eq!(rt; history.len(), 3 + 2821);
-    assert_eq!(rt; answers(&history, Answer::Print(32_896)), 1);
+    assert!(rt; history.len() == 3 + 2821);
+    assert!(rt; answers(&history, Answer::Print(32_896)) == 1);
     Ok(())
 }
 
@@ -165,9 +161,9 @@ fn the_last_number_is_given_and_no_more(rt: HostRuntime) -> Result<(), Fail> {
     let script = script_of(alloc, LAST_NUMBER)?;
     let ended = run_whole(alloc, formatted(alloc, 4096, 100, &[])?, &script)?;
     let history = &ended.history;
-    assert_eq!(rt; answers(history, Answer::Reply(Reply::Ok)), 22);
-    assert_eq!(rt; answers(history, Answer::Reply(Reply::NoNumber)), 1);
-    assert_eq!(rt; answers(history, Answer::Print(10)), 1);
+    assert!(rt; answers(history, Answer::Reply(Reply::Ok)) == 22);
+    assert!(rt; answers(history, Answer::Reply(Reply::NoNumber)) == 1);
+    assert!(rt; answers(history, Answer::Print(10)) == 1);
     Ok(())
 }
 
@@ -181,7 +177,7 @@ fn many_stables_turn_the_log(rt: HostRuntime) -> Result<(), Fail> {
         .iter()
         .filter(|entry| entry.event == Event::Stable)
         .count();
-    assert_eq!(rt; stables, 701);
+    assert!(rt; stables == 701);
     let facts = facts_of(alloc, &mut ended.disk)?;
     assert!(rt; facts.log.area == Area::A);
     let report = reported(alloc, &facts)?;
@@ -199,7 +195,7 @@ rec 2 41 1274 earlier
         .lines()
         .filter(|line| line.starts_with("rec "))
         .last();
-    assert_eq!(rt; rec, Some("rec 65 41 1400 chosen"));
+    assert!(rt; rec == Some("rec 65 41 1400 chosen"));
     Ok(())
 }
 
@@ -209,11 +205,11 @@ fn what_is_not_made_stable_is_gone(rt: HostRuntime) -> Result<(), Fail> {
     let script = script_of(alloc, COUNTS_ON)?;
     let mut ended = run_whole(alloc, formatted(alloc, 4096, 100, &[])?, &script)?;
     // Two births, 103 steps, and two Stables.
-    assert_eq!(rt; ended.history.len(), 107);
+    assert!(rt; ended.history.len() == 107);
     let shown = shown(alloc, &facts_of(alloc, &mut ended.disk)?)?;
-    assert_eq!(rt;
-        shown.as_str(),
-        "container a 1 0 0 -
+    assert!(rt;
+        shown.as_str()
+            == "container a 1 0 0 -
 word a 0 7
 locus l a 3 running 0 7 0 0 0 0 0 0 0
 cap l 0 atlas t

@@ -1,7 +1,7 @@
 // A kernel with managers of its own.
 ghost use Rattle.std.specs.Prelude.{◌≡◌, ◌<◌, ◌≤◌, [], true, None, Some, Err, IfErr, IfSome, OnOk};
 ghost use Rattle.kernel_opening.specs.fitting_births.Fitting.{Fits};
-ghost use Rattle.kernel_opening.specs.kernel_core.Bearing.{HasOpened};
+ghost use Rattle.kernel_opening.specs.core_laws.Bearing.{HasOpened};
 ghost use Rattle.script_read.specs.script_form.Rules.{IsScript};
 ghost use Rattle.script_read.specs.script_form.Scripts.{tables_of};
 ghost use Rattle.kernel_opening.specs.table_births.Births.{atlas_state_in};
@@ -66,7 +66,7 @@ pub struct OwnKernel<D: Disk> {
 }
 
 impl<D: Disk> Model for OwnKernel<D> {
-    ghost use Rattle.kernel_opening.specs.kernel_core.Kernels.{Held, StaysClean};
+    ghost use Rattle.kernel_opening.specs.core_laws.Kernels.{Held, StaysClean};
     ghost use Rattle.manager_gate.specs.Managers.{counted_word};
 
     ghost Value = { Held D };

@@ -8,18 +8,19 @@ use Rattle.hop_base.specs.declared.histories.Entry.{Entry}
 use Rattle.hop_base.specs.declared.histories.Touch.{Touch}
 use Rattle.hop_base.specs.Touches.{AllTouches, IsRising}
 use Rattle.hop_base.specs.declared.histories.Event.TheVariants.{Snap}
-use Rattle.table_steps.specs.hop_model.Histories.{Policy, Run, has_wish, is_full, mark, run_after, start_run, version_of}
-use Rattle.table_steps.proofs.hop_model_lemmas.StableCuts.{run_append}
-use Rattle.serial_turns.specs.serial_runs.Serial.{IsBehind, wished_snap, wished_snaps, written_in}
-use Rattle.serial_turns.proofs.serial_runs_lemmas.Calm.{snap_next, without}
-use Rattle.serial_turns.specs.Turns.{IsStoppedIn}
-use Rattle.serial_turns.proofs.Stops.{stopped_behind, stopped_longer}
-use Rattle.cell_books.specs.kernel_model.Beginnings.{Beginning, run_of}
-use Rattle.kernel_commits.specs.Lacking.{LacksIn}
-use Rattle.kernel_commits.specs.Parts.{Parts}
-use Rattle.kernel_commits.specs.Pieces.{StopsIn}
-use Rattle.kernel_commits.specs.Snapping.{RunsFree, SnapsAll, SnapsOne, wants_in}
-use Rattle.kernel_commits.proofs.Dues.{lacks_behind}
+use Rattle.commit_laws.specs.table_steps.hop_model.Histories.{Policy, Run, has_wish, is_full, mark, run_after, start_run, version_of}
+use Rattle.commit_laws.proofs.table_steps_lemmas.hop_model_lemmas.StableCuts.{run_append}
+use Rattle.commit_laws.specs.serial_turns.serial_runs.Serial.{IsBehind, wished_snap, wished_snaps, written_in}
+use Rattle.commit_laws.proofs.serial_turns_lemmas.serial_runs_lemmas.Calm.{snap_next, without}
+use Rattle.commit_laws.specs.serial_turns.Turns.{IsStoppedIn}
+use Rattle.commit_laws.proofs.serial_turns_lemmas.Stops.{stopped_behind, stopped_longer}
+use Rattle.commit_laws.specs.cell_books.kernel_model.Beginnings.{Beginning, run_of}
+use Rattle.commit_laws.specs.Lacking.{LacksIn}
+use Rattle.commit_laws.specs.Parts.{Parts}
+use Rattle.commit_laws.specs.Pieces.{StopsIn}
+use Rattle.commit_laws.specs.Snapping.{RunsFree, wants_in}
+use Rattle.kernel_commits.specs.Snapping.{SnapsAll, SnapsOne}
+use Rattle.commit_laws.proofs.Dues.{lacks_behind}
 
 module _ {D : Type 0} (tells : Type 0) (clock faults : D → ℕ) (reading : D → Image) (may_leave : D → Image → Type 0) (left_since : D → ℕ → Image → Type 0) (b : Beginning) (policy : Policy) where
   abbrev later_snaps : Run → List Touch → List Entry

@@ -8,24 +8,25 @@ use Rattle.disk_trait.specs.Counts.{Rose}
 use Rattle.disk_trait.specs.declared.disk.NoBlocks.{NoBlocks as TooFewBlocks}
 use Rattle.hop_base.specs.declared.histories.Entry.{Entry}
 use Rattle.hop_base.specs.declared.histories.Event.TheVariants.{Snap, Tried}
-use Rattle.table_steps.specs.hop_model.Histories.{mark}
-use Rattle.table_steps.specs.kernel_cells.declared.cells.Cell.{Cell}
-use Rattle.table_steps.specs.cell_blobs.Blobs.{is_recorded}
-use Rattle.table_steps.specs.cell_table.Lending.{Lends}
-use Rattle.cell_books.specs.snapshot_store.State.{State, books}
-use Rattle.cell_books.specs.snapshot_store.declared.faults.StoreFault.{StoreFault}
-use Rattle.cell_books.specs.snapshot_store.declared.faults.StoreFault.TheVariants.{NoBlocks, ReadFault, Shut, WriteFault}
-use Rattle.cell_books.specs.kernel_records.Committing.{CellFaults, CommitCounts, IsTooFew}
-use Rattle.cell_books.specs.kernel_model.Beginnings.{Beginning}
-use Rattle.cell_books.specs.kernel_model.Live.{TooFew as TooFewStop}
-use Rattle.cell_books.specs.Matching.{version_of}
-use Rattle.kernel_commits.specs.Parts.{LivesAs, Noted, Parts, parts_of}
-use Rattle.kernel_commits.specs.Recording.{CanRecord, CommitsAmong, GoesOnBy, HasMade, HasNotMade, HasRecorded, HasTried, IsShort, MayRecord, why_of, with_fault}
+use Rattle.commit_laws.specs.table_steps.hop_model.Histories.{mark}
+use Rattle.commit_laws.specs.table_steps.kernel_cells.declared.cells.Cell.{Cell}
+use Rattle.commit_laws.specs.table_steps.cell_blobs.Blobs.{is_recorded}
+use Rattle.commit_laws.specs.table_steps.cell_table.Lending.{Lends}
+use Rattle.commit_laws.specs.cell_books.store_laws.State.{State, books}
+use Rattle.commit_laws.specs.cell_books.snapshot_store.declared.faults.StoreFault.{StoreFault}
+use Rattle.commit_laws.specs.cell_books.snapshot_store.declared.faults.StoreFault.TheVariants.{NoBlocks, ReadFault, Shut, WriteFault}
+use Rattle.commit_laws.specs.cell_books.kernel_records.Committing.{CellFaults, CommitCounts, IsTooFew}
+use Rattle.commit_laws.specs.cell_books.kernel_model.Beginnings.{Beginning}
+use Rattle.commit_laws.specs.cell_books.kernel_model.Live.{TooFew as TooFewStop}
+use Rattle.commit_laws.specs.cell_books.Matching.{version_of}
+use Rattle.commit_laws.specs.Parts.{LivesAs, Noted, Parts, parts_of}
+use Rattle.commit_laws.specs.Recording.{CanRecord, CommitsAmong, HasMade, HasNotMade, HasRecorded, HasTried, IsShort, MayRecord, with_fault}
+use Rattle.kernel_commits.specs.Recording.{GoesOnBy, why_of}
 use Rattle.kernel_commits.specs.declared.stopping.Stopped.{Stopped}
 use Rattle.kernel_commits.specs.declared.stopping.Stopped.TheVariants.{Failed, TooFew}
-use Rattle.kernel_commits.proofs.Committing.{not_recorded, recorded}
-use Rattle.kernel_commits.proofs.Running.{snap_stands, still_lives}
-use Rattle.kernel_commits.proofs.Trying.{tried_stops}
+use Rattle.commit_laws.proofs.Committing.{not_recorded, recorded}
+use Rattle.commit_laws.proofs.Running.{snap_stands, still_lives}
+use Rattle.commit_laws.proofs.Trying.{tried_stops}
 use Rattle.std.proofs.lemmas.Option.{same_Some}
 
 abbrev stop_result : Stopped → Result ⊤ Stopped

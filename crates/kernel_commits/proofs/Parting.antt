@@ -6,18 +6,18 @@ use Rattle.disk_trait.specs.Image.{Image}
 use Rattle.disk_trait.specs.declared.disk.NoBlocks.{NoBlocks as TooFewBlocks}
 use Rattle.hop_base.specs.declared.histories.Entry.{Entry}
 use Rattle.hop_base.specs.declared.histories.Event.TheVariants.{Stable, Tried}
-use Rattle.table_steps.specs.hop_model.Histories.{Run, mark, next_changed, run_after, version_of as run_version}
-use Rattle.serial_turns.specs.Turns.{IsStoppedIn}
-use Rattle.serial_turns.proofs.Stops.{cut_made, cut_stable, cut_stable_tried}
-use Rattle.cell_books.specs.kernel_model.Beginnings.{Beginning, run_of}
-use Rattle.cell_books.specs.Matching.{version_of}
-use Rattle.kernel_commits.specs.Parts.{Parts}
-use Rattle.kernel_commits.specs.Pieces.{StopsIn}
-use Rattle.kernel_commits.specs.Recording.{HasTried}
-use Rattle.kernel_commits.specs.Through.{IsUnderway}
+use Rattle.commit_laws.specs.table_steps.hop_model.Histories.{Run, mark, next_changed, run_after, version_of as run_version}
+use Rattle.commit_laws.specs.serial_turns.Turns.{IsStoppedIn}
+use Rattle.commit_laws.proofs.serial_turns_lemmas.Stops.{cut_made, cut_stable, cut_stable_tried}
+use Rattle.commit_laws.specs.cell_books.kernel_model.Beginnings.{Beginning, run_of}
+use Rattle.commit_laws.specs.cell_books.Matching.{version_of}
+use Rattle.commit_laws.specs.Parts.{Parts}
+use Rattle.commit_laws.specs.Pieces.{StopsIn}
+use Rattle.commit_laws.specs.Recording.{HasTried}
+use Rattle.commit_laws.specs.Through.{IsUnderway}
 use Rattle.kernel_commits.specs.declared.stopping.Stopped.{Stopped}
 use Rattle.kernel_commits.specs.declared.stopping.Stopped.TheVariants.{Failed, TooFew}
-use Rattle.kernel_commits.proofs.Stabling.{behind_snaps}
+use Rattle.commit_laws.proofs.Stabling.{behind_snaps}
 
 -- nothing came
 pub none_came : (b : Beginning) (all old new : List Entry) → new ≡ old → StopsIn b all old new

@@ -4,16 +4,16 @@ use Rattle.std.specs.Prelude.{Result}
 use Rattle.disk_trait.specs.Image.{Image}
 use Rattle.disk_trait.specs.declared.disk.NoBlocks.{NoBlocks as TooFewBlocks}
 use Rattle.hop_base.specs.declared.histories.Entry.{Entry}
-use Rattle.table_steps.specs.cell_table.Tables.{IsOrderly}
-use Rattle.cell_books.specs.snapshot_store.State.{books}
-use Rattle.cell_books.specs.wish_laws.Founded.{IsFoundedCell}
-use Rattle.cell_books.proofs.kernel_views_lemmas.Behind.{order}
-use Rattle.kernel_commits.specs.Parts.{Parts}
-use Rattle.kernel_commits.specs.Recording.{HasTried, IsShort}
+use Rattle.commit_laws.specs.table_steps.cell_table.Tables.{IsOrderly}
+use Rattle.commit_laws.specs.cell_books.store_laws.State.{books}
+use Rattle.commit_laws.specs.cell_books.wish_laws.Founded.{IsFoundedCell}
+use Rattle.commit_laws.proofs.cell_books_lemmas.kernel_views_lemmas.Behind.{order}
+use Rattle.commit_laws.specs.Parts.{Parts}
+use Rattle.commit_laws.specs.Recording.{HasTried, IsShort}
 use Rattle.kernel_commits.specs.Stops.{LeavesStopped}
 use Rattle.kernel_commits.specs.declared.stopping.Stopped.{Stopped}
 use Rattle.kernel_commits.specs.declared.stopping.Stopped.TheVariants.{Failed, TooFew}
-use Rattle.cell_books.proofs.kernel_records_lemmas.snapshot_store_lemmas.Causes.{Rose-before}
+use Rattle.disk_trait.proofs.Ticks.{Rose-before}
 
 module _ {D : Type 0} (tells : Type 0) (clock faults : D → ℕ) (reading : D → Image) (may_leave : D → Image → Type 0) (left_since : D → ℕ → Image → Type 0) (x : ℕ) (mid new : Parts D)
     (ord : IsOrderly (books mid.store).held mid.cells) where

@@ -7,34 +7,36 @@ use Rattle.disk_trait.specs.Image.{Image}
 use Rattle.disk_trait.specs.declared.disk.NoBlocks.{NoBlocks as TooFewBlocks}
 use Rattle.hop_base.specs.declared.histories.Entry.{Entry}
 use Rattle.hop_base.specs.declared.histories.Event.TheVariants.{Snap, Tried}
-use Rattle.table_steps.specs.hop_model.Histories.{MayCommit, Policy, Run, goes_on, has_wish, is_full, mark, version_of}
-use Rattle.table_steps.specs.kernel_cells.declared.cells.Cell.{Cell}
-use Rattle.table_steps.specs.hop_model.State.{Supply}
-use Rattle.table_steps.specs.kernel_cells.Cells.{HasCell, part_of}
-use Rattle.table_steps.specs.kernel_cells.Wishes.{HasWish, is_open}
-use Rattle.table_steps.specs.cell_table.Tables.{state_in}
-use Rattle.table_steps.proofs.cell_table_lemmas.Having.{no_supply, no_words, state_has}
-use Rattle.cell_books.specs.record_laws.Cells.{words_on}
-use Rattle.cell_books.specs.snapshot_store.State.{books}
-use Rattle.cell_books.specs.snapshot_store.Shelves.{records_of}
-use Rattle.cell_books.specs.store_model.Books.{kept_in}
-use Rattle.cell_books.specs.kernel_records.Snapping.{has_room, is_snapped}
-use Rattle.serial_turns.specs.serial_runs.Serial.{wished_snap}
-use Rattle.serial_turns.specs.Turns.{IsStoppedIn}
-use Rattle.serial_turns.proofs.Stops.{cut_tried}
-use Rattle.cell_books.specs.kernel_model.Beginnings.{Beginning, run_of}
-use Rattle.cell_books.specs.kernel_views.Views.{FollowsRun}
-use Rattle.cell_books.proofs.kernel_views_lemmas.Following.{cells_follow}
-use Rattle.cell_books.proofs.kernel_views_lemmas.Fullness.{full_same}
-use Rattle.cell_books.proofs.kernel_views_lemmas.Legal.{run_next}
-use Rattle.cell_books.specs.Matching.{version_at}
-use Rattle.kernel_commits.specs.Parts.{LivesAs, Parts, StandsAs, stop_of}
-use Rattle.kernel_commits.specs.Pieces.{StopsIn}
-use Rattle.kernel_commits.specs.Recording.{HasRecorded, HasTried, MayRecord}
-use Rattle.kernel_commits.specs.Snapping.{RunsFree, Snaps, SnapsOne}
+use Rattle.commit_laws.specs.table_steps.hop_model.Histories.{MayCommit, Policy, Run, goes_on, has_wish, is_full, mark, version_of}
+use Rattle.commit_laws.specs.table_steps.kernel_cells.declared.cells.Cell.{Cell}
+use Rattle.commit_laws.specs.table_steps.hop_model.State.{Supply}
+use Rattle.commit_laws.specs.table_steps.kernel_cells.Cells.{HasCell, part_of}
+use Rattle.commit_laws.specs.table_steps.kernel_cells.Wishes.{HasWish, is_open}
+use Rattle.commit_laws.specs.table_steps.cell_table.Tables.{state_in}
+use Rattle.commit_laws.proofs.table_steps_lemmas.cell_table_lemmas.Having.{no_supply, no_words, state_has}
+use Rattle.commit_laws.specs.cell_books.record_laws.Cells.{words_on}
+use Rattle.commit_laws.specs.cell_books.store_laws.State.{books}
+use Rattle.commit_laws.specs.cell_books.store_laws.Shelves.{records_of}
+use Rattle.commit_laws.specs.cell_books.store_model.Books.{kept_in}
+use Rattle.commit_laws.specs.cell_books.kernel_records.Snapping.{has_room, is_snapped}
+use Rattle.commit_laws.specs.serial_turns.serial_runs.Serial.{wished_snap}
+use Rattle.commit_laws.specs.serial_turns.Turns.{IsStoppedIn}
+use Rattle.commit_laws.proofs.serial_turns_lemmas.Stops.{cut_tried}
+use Rattle.commit_laws.specs.cell_books.kernel_model.Beginnings.{Beginning, run_of}
+use Rattle.commit_laws.specs.cell_books.kernel_views.Views.{FollowsRun}
+use Rattle.commit_laws.proofs.cell_books_lemmas.kernel_views_lemmas.Following.{cells_follow}
+use Rattle.commit_laws.proofs.cell_books_lemmas.kernel_views_lemmas.Fullness.{full_same}
+use Rattle.commit_laws.proofs.cell_books_lemmas.kernel_views_lemmas.Legal.{run_next}
+use Rattle.commit_laws.specs.cell_books.Matching.{version_at}
+use Rattle.commit_laws.specs.Parts.{LivesAs, Parts, StandsAs}
+use Rattle.kernel_commits.specs.Parts.{stop_of}
+use Rattle.commit_laws.specs.Pieces.{StopsIn}
+use Rattle.commit_laws.specs.Recording.{HasRecorded, HasTried, MayRecord}
+use Rattle.commit_laws.specs.Snapping.{RunsFree, Snaps}
+use Rattle.kernel_commits.specs.Snapping.{SnapsOne}
 use Rattle.kernel_commits.specs.declared.stopping.Stopped.{Stopped}
-use Rattle.kernel_commits.specs.Lacking.{LacksBlocks, LacksIn}
-use Rattle.kernel_commits.proofs.Dues.{lacks_first}
+use Rattle.commit_laws.specs.Lacking.{LacksBlocks, LacksIn}
+use Rattle.commit_laws.proofs.Dues.{lacks_first}
 use Rattle.kernel_commits.proofs.Parting.{none_came}
 use Rattle.kernel_commits.specs.declared.stopping.Stopped.TheVariants.{Failed, TooFew}
 
@@ -89,7 +91,7 @@ module _ {D : Type 0} (tells : Type 0) (clock faults : D → ℕ) (reading : D �
   full = full_same tells clock faults reading may_leave left_since b old.cells old.store old.noted.entries old.noted.marks x told free.stands
 
   version_is : version_of r x ≡ version_at (slice_get old.cells x)
-  version_is = ap (λ w. (w x).version) (sym follow.state) ∙ (ap (λ o. (Rattle.table_steps.specs.cell_table.Tables.entity_in b.supply words x o).version) at ∙ sym (ap version_at at))
+  version_is = ap (λ w. (w x).version) (sym follow.state) ∙ (ap (λ o. (Rattle.commit_laws.specs.table_steps.cell_table.Tables.entity_in b.supply words x o).version) at ∙ sym (ap version_at at))
 
   abbrev test : Bool
   test = has_wish policy r x && not (is_full r x)

@@ -1,23 +1,11 @@
--- One record of a kernel's cell.
-use Rattle.std.specs.Prelude.{◌≡◌, ℕ, ◌+◌, ◌<◌, ◌≤◌, ◌^◌, true, false, List, [], ◌∷◌, ◌++◌, None, Some, IfErr, OnOk, Result, slice_get, ⊤}
-use Rattle.disk_trait.specs.Counts.{Rose}
+-- What comes of one record in a run.
+use Rattle.std.specs.Prelude.{ℕ, Some, IfErr, OnOk, Result, ⊤}
 use Rattle.disk_trait.specs.Image.{Image}
-use Rattle.disk_trait.specs.Moments.{LeavesOnly}
-use Rattle.disk_trait.specs.declared.disk.NoBlocks.{NoBlocks}
-use Rattle.hop_base.specs.declared.histories.Entry.{Entry}
-use Rattle.hop_base.specs.declared.histories.Event.TheVariants.{Snap, Tried}
-use Rattle.table_steps.specs.hop_model.Histories.{MayCommit, mark}
-use Rattle.cell_books.specs.store_model.Books.{AreSmall, AreTrue}
-use Rattle.cell_books.specs.snapshot_store.Putting.{are_small}
-use Rattle.cell_books.specs.snapshot_store.State.{State, books}
-use Rattle.table_steps.specs.kernel_cells.declared.cells.Cell.{Cell}
-use Rattle.table_steps.specs.cell_table.Lending.{Lends}
-use Rattle.cell_books.specs.kernel_records.Committing.{HasCommitted, HasNotCommitted, IsTooFew, StoresKeptOrCell}
-use Rattle.cell_books.specs.kernel_model.Beginnings.{Beginning, run_of}
-use Rattle.cell_books.specs.Matching.{HasRoomFor, MatchesBooks, newest_of, version_of}
-use Rattle.cell_books.specs.snapshot_store.declared.faults.StoreFault.{StoreFault}
-use Rattle.cell_books.specs.snapshot_store.declared.faults.StoreFault.TheVariants.{NoBlocks as NoBlocksAre, ReadFault, Shut, WriteFault}
-use Rattle.kernel_commits.specs.Parts.{LivesAs, Noted, Parts, StandsAs, stop_of}
+use Rattle.commit_laws.specs.cell_books.kernel_model.Beginnings.{Beginning}
+use Rattle.commit_laws.specs.cell_books.snapshot_store.declared.faults.StoreFault.{StoreFault}
+use Rattle.commit_laws.specs.cell_books.snapshot_store.declared.faults.StoreFault.TheVariants.{NoBlocks as NoBlocksAre, ReadFault, Shut, WriteFault}
+use Rattle.commit_laws.specs.Parts.{LivesAs, Parts, StandsAs}
+use Rattle.kernel_commits.specs.Parts.{stop_of}
 use Rattle.kernel_commits.specs.declared.stopping.Stopped.{Stopped}
 use Rattle.kernel_commits.specs.declared.stopping.Stopped.TheVariants.{Failed, TooFew}
 
@@ -28,74 +16,7 @@ why_of WriteFault = Failed
 why_of ReadFault = Failed
 why_of Shut = Failed
 
--- what is noted of it: where a call of the disk failed this entry
-abbrev pub with_fault : StoreFault → Entry → Noted → Noted
-with_fault (NoBlocksAre n) e noted = noted
-with_fault WriteFault e noted = record noted { entries = noted.entries ++ e ∷ [] }
-with_fault ReadFault e noted = record noted { entries = noted.entries ++ e ∷ [] }
-with_fault Shut e noted = record noted { entries = noted.entries ++ e ∷ [] }
-
 module _ {D : Type 0} (tells : Type 0) (clock faults : D → ℕ) (reading : D → Image) (may_leave : D → Image → Type 0) (left_since : D → ℕ → Image → Type 0) where
-  -- A RECORD OF THE ENTITY MAY BE MADE: it has changed since its newest one, and the store works and matches the cells
-  pub record CanRecord (x : ℕ) (cs : List Cell) (st : State D) : Type 0 where
-    pub matches : MatchesBooks (λ _. 5) (books st) cs
-    pub working : (books st).shut ≡ false
-    pub true_books : tells → AreTrue reading may_leave (books st) st.disk
-    pub changed : newest_of cs x < version_of cs x
-    pub epoch : (books st).place.epoch < 2 ^ 63
-
-  -- A COMMIT of the entity's cell among the others, and what a stop left of it
-  pub record CommitsAmong (x : ℕ) (c d : Cell) (cs cs' : List Cell) (old new : State D) : Type 0 where
-    pub number : c.clock.entity ≡ x
-    pub lends : Lends cs cs' (c ∷ []) (d ∷ [])
-    pub moments : tells → AreSmall (books old) → are_small c.clock.version c.clock.stamp.0 ≡ true
-        → LeavesOnly clock left_since old.disk new.disk (StoresKeptOrCell tells clock reading may_leave left_since c d old)
-
-  -- the record was made
-  pub record HasMade (x : ℕ) (cs cs' : List Cell) (old new : State D) : Type 0 where
-    pub before : Cell
-    pub after : Cell
-    pub commits : CommitsAmong x before after cs cs' old new
-    pub committed : HasCommitted tells clock reading may_leave left_since before after old new
-    pub true_books : tells → AreTrue reading may_leave (books new) new.disk
-
-  -- or failed
-  pub record HasNotMade (x : ℕ) (cs cs' : List Cell) (old new : State D) : Type 0 where
-    pub before : Cell
-    pub after : Cell
-    pub commits : CommitsAmong x before after cs cs' old new
-    pub failed : HasNotCommitted tells clock reading may_leave left_since before after old new
-
-  -- THE RECORD WAS MADE, and its Snap noted with the mark
-  pub record HasRecorded (x : ℕ) (old new : Parts D) : Type 0 where
-    pub made : HasMade x old.cells new.cells old.store new.store
-    pub entries : new.noted.entries ≡ old.noted.entries ++ mark Snap x (version_of old.cells x) ∷ []
-    pub marks : new.noted.marks ≡ old.noted.marks ++ (books new.store).begun ∷ []
-    pub room : new.noted.room ≡ old.noted.room
-    pub matches : (most : ℕ → ℕ) → HasRoomFor most x (books old.store) → MatchesBooks most (books new.store) new.cells
-    pub working : (books new.store).shut ≡ false
-    pub epoch : (books new.store).place.epoch ≤ (books old.store).place.epoch + 1
-
-  -- IT WAS TRIED: a call of the disk failed
-  pub record HasTried (x : ℕ) (old new : Parts D) : Type 0 where
-    pub entries : new.noted.entries ≡ old.noted.entries ++ mark Tried x (version_of old.cells x) ∷ []
-    pub marks : new.noted.marks ≡ old.noted.marks
-    pub room : new.noted.room ≡ old.noted.room
-    pub failed : HasNotMade x old.cells new.cells old.store new.store
-    pub rose : Rose (faults old.store.disk) (faults new.store.disk)
-
-  -- too few blocks are free for it; both numbers
-  pub record IsShort (x : ℕ) (p : Parts D) (n : NoBlocks) : Type 0 where
-    pub cell : Cell
-    pub at : slice_get p.cells x ≡ Some cell
-    pub short : IsTooFew cell (books p.store) n
-
-  -- a commit of the entity may be next in the run
-  pub record MayRecord (b : Beginning) (x : ℕ) (p : Parts D) : Type 0 where
-    pub stands : StandsAs tells clock faults reading may_leave left_since b p
-    pub untried : (run_of b p.noted.entries).tried ≡ None
-    pub may : MayCommit b.policy (run_of b p.noted.entries) x
-
   -- WHAT COMES OF IT IN A RUN: the kernel goes on, or is live where it stopped
   pub record GoesOnBy (b : Beginning) (result : Result ⊤ Stopped) (new : Parts D) : Type 0 where
     pub stands : OnOk result (StandsAs tells clock faults reading may_leave left_since b new)

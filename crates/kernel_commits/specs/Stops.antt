@@ -1,9 +1,9 @@
 -- What a kernel is left with where it stops, whatever the disk tells.
 use Rattle.std.specs.Prelude.{ℕ, ◌<◌, ◌≤◌, length}
 use Rattle.disk_trait.specs.Counts.{Rose}
-use Rattle.table_steps.specs.cell_table.Tables.{IsOrderly}
-use Rattle.cell_books.specs.snapshot_store.State.{books}
-use Rattle.kernel_commits.specs.Parts.{Parts}
+use Rattle.commit_laws.specs.table_steps.cell_table.Tables.{IsOrderly}
+use Rattle.commit_laws.specs.cell_books.store_laws.State.{books}
+use Rattle.commit_laws.specs.Parts.{Parts}
 use Rattle.kernel_commits.specs.declared.stopping.Stopped.{Stopped}
 use Rattle.kernel_commits.specs.declared.stopping.Stopped.TheVariants.{Failed, TooFew}
 

@@ -1,10 +1,10 @@
 // What a kernel is made of.
 use crate::notes::Notes;
 use block_code::Blob;
-use cell_books::snapshot_store::Store;
+use commit_laws::cell_books::snapshot_store::Store;
+use commit_laws::table_steps::kernel_cells::Cell;
 use disk_trait::Disk;
 use std::marker::Model;
-use table_steps::kernel_cells::Cell;
 
 /// A kernel's store, its cells, room for one blob, and what was noted.
 #[derive(Drop)]
@@ -16,7 +16,7 @@ pub struct Core<D: Disk> {
 }
 
 impl<D: Disk> Model for Core<D> {
-    ghost use Rattle.kernel_commits.specs.Parts.{Parts, parts_of};
+    ghost use Rattle.commit_laws.specs.Parts.{Parts, parts_of};
 
     ghost Value = { Parts D };
 

@@ -1,17 +1,17 @@
 // Whether enough blocks are free for the records of all changed cells.
 ghost use Rattle.std.specs.Prelude.{◌≡◌, ◌↔◌, None, Some};
-ghost use Rattle.table_steps.specs.cell_table.Tables.{IsOrderly};
+ghost use Rattle.commit_laws.specs.table_steps.cell_table.Tables.{IsOrderly};
 ghost use Rattle.disk_trait.specs.declared.disk.NoBlocks.{NoBlocks as TooFewBlocks};
-ghost use Rattle.kernel_commits.specs.Stabilising.{AreTooFew, NeedsFit, needs_in};
-ghost use Rattle.cell_books.specs.snapshot_store.State.{books};
-ghost use Rattle.cell_books.specs.store_model.Books.{kept_names};
+ghost use Rattle.commit_laws.specs.Stabilising.{AreTooFew, NeedsFit, needs_in};
+ghost use Rattle.commit_laws.specs.cell_books.store_laws.State.{books};
+ghost use Rattle.commit_laws.specs.cell_books.store_model.Books.{kept_names};
 
 use crate::cores::Core;
 use block_code::Blob;
-use cell_books::snapshot_store::Store;
+use commit_laws::cell_books::snapshot_store::Store;
+use commit_laws::table_steps::cell_blobs::need_cell;
+use commit_laws::table_steps::kernel_cells::Cell;
 use disk_trait::{Disk, NoBlocks};
-use table_steps::cell_blobs::need_cell;
-use table_steps::kernel_cells::Cell;
 
 /// The blocks that a record of each changed cell needs, together. What was in `blob` is lost.
 fn all_needs<D: Disk>(cells: &[Cell], store: &Store<D>, blob: &mut Blob) -> u32

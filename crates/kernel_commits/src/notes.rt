@@ -15,7 +15,7 @@ pub struct Notes {
 
 impl Model for Notes {
     ghost use Rattle.std.specs.Prelude.{◌≤◌, vec_capacity};
-    ghost use Rattle.kernel_commits.specs.Parts.{Noted};
+    ghost use Rattle.commit_laws.specs.Parts.{Noted};
 
     ghost Value = { Noted };
 

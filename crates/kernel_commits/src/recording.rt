@@ -1,27 +1,28 @@
 // One record of a cell of the kernel.
 ghost use Rattle.std.specs.Prelude.{◌≡◌, ◌↔◌, ◌<◌, ℕ, Bool, true, false, Some, IfErr, IsErrOf, OnErr, OnOk, length, slice_get};
 ghost use Rattle.disk_trait.specs.declared.disk.NoBlocks.{NoBlocks as TooFewBlocks};
-ghost use Rattle.cell_books.specs.Matching.{version_of};
+ghost use Rattle.commit_laws.specs.cell_books.Matching.{version_of};
 ghost use Rattle.hop_base.specs.declared.histories.Event.TheVariants as AnEvent;
-ghost use Rattle.table_steps.specs.hop_model.Histories.{mark};
-ghost use Rattle.table_steps.specs.cell_blobs.Blobs.{is_recorded};
-ghost use Rattle.table_steps.specs.kernel_cells.declared.cells.Cell.{Cell as ACell};
-ghost use Rattle.kernel_commits.specs.Lacking.{LacksBlocks};
-ghost use Rattle.kernel_commits.specs.Parts.{Parts};
-ghost use Rattle.kernel_commits.specs.Recording.{CanRecord, GoesOnBy, HasMade, HasNotMade, HasRecorded, HasTried, IsShort, MayRecord, why_of, with_fault};
+ghost use Rattle.commit_laws.specs.table_steps.hop_model.Histories.{mark};
+ghost use Rattle.commit_laws.specs.table_steps.cell_blobs.Blobs.{is_recorded};
+ghost use Rattle.commit_laws.specs.table_steps.kernel_cells.declared.cells.Cell.{Cell as ACell};
+ghost use Rattle.commit_laws.specs.Lacking.{LacksBlocks};
+ghost use Rattle.commit_laws.specs.Parts.{Parts};
+ghost use Rattle.commit_laws.specs.Recording.{CanRecord, HasMade, HasNotMade, HasRecorded, HasTried, IsShort, MayRecord, with_fault};
+ghost use Rattle.kernel_commits.specs.Recording.{GoesOnBy, why_of};
 ghost use Rattle.kernel_commits.specs.declared.stopping.Stopped.{Stopped as AStop};
-ghost use Rattle.cell_books.specs.kernel_model.Beginnings.{Beginning, run_of};
-ghost use Rattle.cell_books.specs.kernel_records.Committing.{CellFaults, CommitCounts};
+ghost use Rattle.commit_laws.specs.cell_books.kernel_model.Beginnings.{Beginning, run_of};
+ghost use Rattle.commit_laws.specs.cell_books.kernel_records.Committing.{CellFaults, CommitCounts};
 
 use crate::cores::Core;
 use crate::notes::Notes;
 use crate::stopping::Stopped;
 use block_code::Blob;
-use cell_books::kernel_records::{commit_cell, mark_entry};
-use cell_books::snapshot_store::{Store, StoreFault};
+use commit_laws::cell_books::kernel_records::{commit_cell, mark_entry};
+use commit_laws::cell_books::snapshot_store::{Store, StoreFault};
+use commit_laws::table_steps::kernel_cells::Cell;
 use disk_trait::Disk;
 use hop_base::{Entity, Event};
-use table_steps::kernel_cells::Cell;
 
 /// Commits a record of one of the cells, which has changed since its newest one.
 fn commit_among<D: Disk>(

@@ -1,35 +1,36 @@
 // Snaps of entities whose wishes are open.
 ghost use Rattle.std.specs.Prelude.{◌≡◌, ◌↔◌, ◌*◌, ℕ, List, Bool, true, false, IfErr, IsErrOf, Ok, OnErr, OnOk, Some, length, slice_get};
 ghost use Rattle.hop_base.specs.Touches.{IsRising};
-ghost use Rattle.table_steps.specs.hop_model.Histories.{Run, has_wish};
-ghost use Rattle.table_steps.specs.hop_model.State.{Supply};
-ghost use Rattle.table_steps.specs.kernel_cells.Cells.{HasCell, part_of};
-ghost use Rattle.table_steps.specs.kernel_cells.Wishes.{HasWish, is_open};
-ghost use Rattle.table_steps.specs.kernel_cells.declared.cells.Cell.{Cell as ACell};
-ghost use Rattle.cell_books.specs.kernel_model.Beginnings.{run_of};
-ghost use Rattle.cell_books.specs.wish_laws.Founded.{IsFoundedCell};
+ghost use Rattle.commit_laws.specs.table_steps.hop_model.Histories.{Run, has_wish};
+ghost use Rattle.commit_laws.specs.table_steps.hop_model.State.{Supply};
+ghost use Rattle.commit_laws.specs.table_steps.kernel_cells.Cells.{HasCell, part_of};
+ghost use Rattle.commit_laws.specs.table_steps.kernel_cells.Wishes.{HasWish, is_open};
+ghost use Rattle.commit_laws.specs.table_steps.kernel_cells.declared.cells.Cell.{Cell as ACell};
+ghost use Rattle.commit_laws.specs.cell_books.kernel_model.Beginnings.{run_of};
+ghost use Rattle.commit_laws.specs.cell_books.wish_laws.Founded.{IsFoundedCell};
 ghost use Rattle.disk_trait.specs.declared.disk.NoBlocks.{NoBlocks as TooFewBlocks};
-ghost use Rattle.kernel_commits.specs.Lacking.{LacksIn};
-ghost use Rattle.kernel_commits.specs.Recording.{HasRecorded, HasTried, IsShort};
-ghost use Rattle.kernel_commits.specs.Snapping.{CanSnap, RunsFree, Snaps, SnapsAll, SnapsOne, wants_in};
-ghost use Rattle.kernel_commits.specs.Steady.{IsSteady};
+ghost use Rattle.commit_laws.specs.Lacking.{LacksIn};
+ghost use Rattle.commit_laws.specs.Recording.{HasRecorded, HasTried, IsShort};
+ghost use Rattle.commit_laws.specs.Snapping.{CanSnap, RunsFree, Snaps, wants_in};
+ghost use Rattle.kernel_commits.specs.Snapping.{SnapsAll, SnapsOne};
+ghost use Rattle.commit_laws.specs.Steady.{IsSteady};
 ghost use Rattle.kernel_commits.specs.Stops.{LeavesStopped};
 ghost use Rattle.kernel_commits.specs.declared.stopping.Stopped.{Stopped as AStop};
-ghost use Rattle.cell_books.specs.kernel_model.Beginnings.{Beginning};
-ghost use Rattle.cell_books.specs.kernel_records.Committing.{CommitCounts};
-ghost use Rattle.serial_turns.specs.serial_runs.Serial.{wished_snap, wished_snaps, written_in};
-ghost use Rattle.table_steps.specs.cell_table.Tables.{AreClean};
-ghost use Rattle.cell_books.specs.record_laws.Cells.{words_on};
-ghost use Rattle.kernel_commits.specs.Pieces.{CountsWithin, StopsIn};
+ghost use Rattle.commit_laws.specs.cell_books.kernel_model.Beginnings.{Beginning};
+ghost use Rattle.commit_laws.specs.cell_books.kernel_records.Committing.{CommitCounts};
+ghost use Rattle.commit_laws.specs.serial_turns.serial_runs.Serial.{wished_snap, wished_snaps, written_in};
+ghost use Rattle.commit_laws.specs.table_steps.cell_table.Tables.{AreClean};
+ghost use Rattle.commit_laws.specs.cell_books.record_laws.Cells.{words_on};
+ghost use Rattle.commit_laws.specs.Pieces.{CountsWithin, StopsIn};
 
 use crate::cores::Core;
 use crate::recording::record_one;
 use crate::stopping::Stopped;
-use cell_books::kernel_records::FULL;
+use commit_laws::cell_books::kernel_records::FULL;
+use commit_laws::table_steps::kernel_cells::Cell;
 use disk_trait::Disk;
 use hop_base::{Entity, Entry, Touch};
 use manager_gate::{Gate, Policy, Supplier};
-use table_steps::kernel_cells::Cell;
 
 /// Whether a record of one of the cells is wished.
 fn wishes_among<S: Supplier, P: Policy>(cells: &[Cell], entity: Entity, gate: &Gate<S, P>) -> bool

@@ -1,32 +1,34 @@
 // The records of a Stable.
 ghost use Rattle.std.specs.Prelude.{◌≡◌, ◌↔◌, ◌==◌, ◌*◌, ◌+◌, ◌<◌, ◌≤◌, ◌++◌, ◌∷◌, [], ℕ, None, Some, IfErr, IsErrOf, OnErr, OnOk, length, take};
-ghost use Rattle.cell_books.specs.Matching.{newest_of, version_of};
-ghost use Rattle.kernel_commits.specs.Lacking.{LacksIn};
-ghost use Rattle.kernel_commits.specs.Parts.{LivesAs, stop_of};
+ghost use Rattle.commit_laws.specs.cell_books.Matching.{newest_of, version_of};
+ghost use Rattle.commit_laws.specs.Lacking.{LacksIn};
+ghost use Rattle.commit_laws.specs.Parts.{LivesAs};
+ghost use Rattle.kernel_commits.specs.Parts.{stop_of};
 ghost use Rattle.hop_base.specs.declared.histories.Event.TheVariants as AnEvent;
-ghost use Rattle.table_steps.specs.hop_model.Histories.{mark};
+ghost use Rattle.commit_laws.specs.table_steps.hop_model.Histories.{mark};
 ghost use Rattle.disk_trait.specs.declared.disk.NoBlocks.{NoBlocks as TooFewBlocks};
-ghost use Rattle.kernel_commits.specs.Pieces.{CountsWithin, StopsIn};
-ghost use Rattle.kernel_commits.specs.Stabilising.{AreTooFew, HasStabilised, NeedsFit, OwesStable, Stabilises};
-ghost use Rattle.cell_books.specs.snapshot_store.State.{books};
-ghost use Rattle.kernel_commits.specs.Steady.{IsSteady, entries_taken, steps_to_come};
+ghost use Rattle.commit_laws.specs.Pieces.{CountsWithin, StopsIn};
+ghost use Rattle.commit_laws.specs.Stabilising.{AreTooFew, HasStabilised, NeedsFit, OwesStable};
+ghost use Rattle.kernel_commits.specs.Stabilising.{Stabilises};
+ghost use Rattle.commit_laws.specs.cell_books.store_laws.State.{books};
+ghost use Rattle.commit_laws.specs.Steady.{IsSteady, entries_taken, steps_to_come};
 ghost use Rattle.kernel_commits.specs.Stops.{LeavesStopped};
-ghost use Rattle.kernel_commits.specs.Through.{GoesThrough, RunsThrough};
+ghost use Rattle.commit_laws.specs.Through.{GoesThrough, RunsThrough};
 ghost use Rattle.kernel_commits.specs.declared.stopping.Stopped.{Stopped as AStop};
-ghost use Rattle.cell_books.specs.kernel_model.Beginnings.{Beginning};
-ghost use Rattle.table_steps.specs.hop_model.State.{Supply};
-ghost use Rattle.table_steps.specs.cell_table.Tables.{AreClean};
-ghost use Rattle.cell_books.specs.record_laws.Cells.{words_on};
+ghost use Rattle.commit_laws.specs.cell_books.kernel_model.Beginnings.{Beginning};
+ghost use Rattle.commit_laws.specs.table_steps.hop_model.State.{Supply};
+ghost use Rattle.commit_laws.specs.table_steps.cell_table.Tables.{AreClean};
+ghost use Rattle.commit_laws.specs.cell_books.record_laws.Cells.{words_on};
 
 use crate::cores::Core;
 use crate::needing::shortage;
 use crate::recording::record_one;
 use crate::stopping::Stopped;
-use cell_books::kernel_records::mark_entry;
+use commit_laws::cell_books::kernel_records::mark_entry;
+use commit_laws::table_steps::cell_blobs::is_recorded;
+use commit_laws::table_steps::kernel_cells::Cell;
 use disk_trait::Disk;
 use hop_base::{Entity, Event};
-use table_steps::cell_blobs::is_recorded;
-use table_steps::kernel_cells::Cell;
 
 /// Whether one of the cells hasn't changed since its newest record.
 fn recorded_among(cells: &[Cell], entity: Entity) -> bool

@@ -3,18 +3,18 @@ use Rattle.std.proofs.Common.{◌≡◌, inl, inr, ℕ, ◌++◌, Option, Ok, Er
 use Rattle.std.specs.Prelude.{IfErr, OnOk, Result}
 use Rattle.std.specs.Result.{result_err}
 use Rattle.disk_trait.specs.Image.{Image}
-use Rattle.kernel_commits.specs.hop_model.Histories.{Policy}
-use Rattle.birth_views.specs.cell_table.Tables.{IsOrderly}
-use Rattle.birth_views.specs.snapshot_store.State.{books}
-use Rattle.birth_views.specs.kernel_model.Beginnings.{Beginning, run_of}
-use Rattle.birth_views.specs.serial_runs.Serial.{look}
-use Rattle.kernel_core.specs.Kernels.{IsKept, Lives}
-use Rattle.kernel_core.specs.Looking.{LooksInRun, StopsLook}
+use Rattle.core_laws.specs.kernel_commits.hop_model.Histories.{Policy}
+use Rattle.core_laws.specs.birth_views.cell_table.Tables.{IsOrderly}
+use Rattle.core_laws.specs.birth_views.store_laws.State.{books}
+use Rattle.core_laws.specs.birth_views.kernel_model.Beginnings.{Beginning, run_of}
+use Rattle.core_laws.specs.birth_views.serial_runs.Serial.{look}
+use Rattle.core_laws.specs.Kernels.{IsKept, Lives}
+use Rattle.core_laws.specs.Looking.{LooksInRun, StopsLook}
 use Rattle.kernel_core.specs.declared.looking.Looked.{Looked as Look}
-use Rattle.kernel_commits.specs.Parts.{Parts}
-use Rattle.kernel_commits.specs.Steady.{IsSteady}
-use Rattle.kernel_commits.specs.declared.stopping.Stopped.{Stopped}
-use Rattle.kernel_core.proofs.Kept.{while_going}
+use Rattle.core_laws.specs.kernel_commits.commit_laws.Parts.{Parts}
+use Rattle.core_laws.specs.kernel_commits.commit_laws.Steady.{IsSteady}
+use Rattle.core_laws.specs.kernel_commits.declared.stopping.Stopped.{Stopped}
+use Rattle.core_laws.proofs.Kept.{while_going}
 
 module _ {D : Type 0} (tells : Type 0) (clock faults : D → ℕ) (reading : D → Image) (may_leave : D → Image → Type 0) (left_since : D → ℕ → Image → Type 0) (me : ℕ) (old new : Parts D) where
   orderly_by : (r : Result Look Stopped) → OnOk r (IsSteady tells reading may_leave new) → IfErr r (StopsLook tells clock faults reading may_leave left_since me old new) → IsOrderly (books new.store).held new.cells

@@ -7,59 +7,61 @@ use Rattle.disk_trait.specs.Image.{Image}
 use Rattle.disk_trait.specs.declared.disk.NoBlocks.{NoBlocks as TooFewBlocks}
 use Rattle.hop_base.specs.declared.histories.Entry.{Entry}
 use Rattle.hop_base.specs.declared.histories.Event.{Event}
-use Rattle.kernel_commits.specs.hop_model.Histories.{May, Run, goes_on}
-use Rattle.kernel_commits.specs.hop_model.Serial.{can_step}
-use Rattle.kernel_commits.specs.hop_model.State.{KernelState, Supply, empty_state}
-use Rattle.kernel_commits.specs.hop_model.Steps.{running, step}
-use Rattle.birth_views.specs.fault_paging.Calls.{IsCausedBy}
-use Rattle.birth_views.specs.page_store.declared.faults.PageFault.{PageFault}
-use Rattle.birth_views.specs.page_store.declared.faults.PageFault.TheVariants as page
-use Rattle.birth_views.specs.store_model.Books.{free_in}
-use Rattle.birth_views.specs.snapshot_store.State.{State, books}
-use Rattle.birth_views.specs.kernel_cells.declared.cells.Cell.{Cell}
-use Rattle.kernel_commits.specs.step_plans.Plans.{idle_of}
-use Rattle.kernel_commits.specs.step_plans.declared.idle.Idle.{Idle as AnIdle}
-use Rattle.kernel_commits.specs.step_plans.declared.idle.Idle.TheVariants.{Absent}
-use Rattle.birth_views.specs.cell_table.Steps.{EntersStep}
-use Rattle.birth_views.specs.cell_table.Tables.{AreClean, IsOrderly, entity_in, left_of, state_in}
-use Rattle.birth_views.specs.record_laws.Cells.{words_on}
-use Rattle.kernel_commits.specs.table_steps.Wanting.{WantsWord}
-use Rattle.kernel_commits.specs.table_steps.declared.stepping.StepFault.{StepFault}
-use Rattle.kernel_commits.specs.table_steps.declared.stepping.StepFault.TheVariants.{Idle, Paging}
-use Rattle.birth_views.specs.kernel_model.Beginnings.{Beginning, run_of, state_after}
-use Rattle.birth_views.specs.kernel_model.Live.{IsCalm}
-use Rattle.birth_views.proofs.kernel_laws_lemmas.Going.{event_runs, stop_lives}
-use Rattle.birth_views.specs.kernel_room.Room.{enough_blocks}
-use Rattle.birth_views.proofs.kernel_room_lemmas.Enough.{calm_whole}
-use Rattle.birth_views.specs.kernel_views.Events.{StepsOver, StopsOver}
-use Rattle.birth_views.specs.kernel_views.Views.{FollowsRun, newest_at, view_of}
-use Rattle.birth_views.proofs.kernel_views_lemmas.Following.{cells_follow}
-use Rattle.birth_views.proofs.kernel_views_lemmas.Legal.{run_next}
-use Rattle.birth_views.proofs.kernel_views_lemmas.Stepping.{clean_on, made_event}
-use Rattle.birth_views.proofs.kernel_views_lemmas.Stopping.{stops}
-use Rattle.birth_views.specs.look_steps.Looking.{IsWordStep}
-use Rattle.birth_views.specs.serial_runs.Serial.{IsBehind, IsCalm as IsQuiet, kept_behind, look, written_in}
-use Rattle.birth_views.proofs.serial_runs_lemmas.Calm.{step_behind, step_entry, step_may}
-use Rattle.birth_views.proofs.serial_runs_lemmas.Rounds.{step_some}
-use Rattle.kernel_commits.proofs.serial_turns_lemmas.Looks.{look_made}
+use Rattle.core_laws.specs.kernel_commits.hop_model.Histories.{May, Run, goes_on}
+use Rattle.core_laws.specs.kernel_commits.hop_model.Serial.{can_step}
+use Rattle.core_laws.specs.kernel_commits.hop_model.State.{KernelState, Supply, empty_state}
+use Rattle.core_laws.specs.kernel_commits.hop_model.Steps.{running, step}
+use Rattle.core_laws.specs.birth_views.fault_paging.Calls.{IsCausedBy}
+use Rattle.core_laws.specs.birth_views.page_store.declared.faults.PageFault.{PageFault}
+use Rattle.core_laws.specs.birth_views.page_store.declared.faults.PageFault.TheVariants as page
+use Rattle.core_laws.specs.birth_views.store_model.Books.{free_in}
+use Rattle.core_laws.specs.birth_views.store_laws.State.{State, books}
+use Rattle.core_laws.specs.birth_views.kernel_cells.declared.cells.Cell.{Cell}
+use Rattle.core_laws.specs.kernel_commits.step_plans.Plans.{idle_of}
+use Rattle.core_laws.specs.kernel_commits.step_plans.declared.idle.Idle.{Idle as AnIdle}
+use Rattle.core_laws.specs.kernel_commits.step_plans.declared.idle.Idle.TheVariants.{Absent}
+use Rattle.core_laws.specs.birth_views.cell_table.Steps.{EntersStep}
+use Rattle.core_laws.specs.birth_views.cell_table.Tables.{AreClean, IsOrderly, entity_in, left_of, state_in}
+use Rattle.core_laws.specs.birth_views.record_laws.Cells.{words_on}
+use Rattle.core_laws.specs.kernel_commits.table_steps.Wanting.{WantsWord}
+use Rattle.core_laws.specs.kernel_commits.table_steps.declared.stepping.StepFault.{StepFault}
+use Rattle.core_laws.specs.kernel_commits.table_steps.declared.stepping.StepFault.TheVariants.{Idle, Paging}
+use Rattle.core_laws.specs.birth_views.kernel_model.Beginnings.{Beginning, run_of, state_after}
+use Rattle.core_laws.specs.birth_views.kernel_model.Live.{IsCalm}
+use Rattle.core_laws.proofs.birth_views_lemmas.kernel_laws_lemmas.Going.{event_runs, stop_lives}
+use Rattle.core_laws.specs.birth_views.kernel_room.Room.{enough_blocks}
+use Rattle.core_laws.proofs.birth_views_lemmas.kernel_room_lemmas.Enough.{calm_whole}
+use Rattle.core_laws.specs.birth_views.kernel_views.Events.{StepsOver, StopsOver}
+use Rattle.core_laws.specs.birth_views.kernel_views.Views.{FollowsRun, newest_at, view_of}
+use Rattle.core_laws.proofs.birth_views_lemmas.kernel_views_lemmas.Following.{cells_follow}
+use Rattle.core_laws.proofs.birth_views_lemmas.kernel_views_lemmas.Legal.{run_next}
+use Rattle.core_laws.proofs.birth_views_lemmas.kernel_views_lemmas.Stepping.{clean_on, made_event}
+use Rattle.core_laws.proofs.birth_views_lemmas.kernel_views_lemmas.Stopping.{stops}
+use Rattle.core_laws.specs.birth_views.look_steps.Looking.{IsWordStep}
+use Rattle.core_laws.specs.birth_views.serial_runs.Serial.{IsBehind, IsCalm as IsQuiet, kept_behind, look, written_in}
+use Rattle.core_laws.proofs.birth_views_lemmas.serial_runs_lemmas.Calm.{step_behind, step_entry, step_may}
+use Rattle.core_laws.proofs.birth_views_lemmas.serial_runs_lemmas.Rounds.{step_some}
+use Rattle.core_laws.proofs.kernel_commits_lemmas.serial_turns_lemmas.Looks.{look_made}
 use Rattle.store_steps.specs.Leaving.{LeavesInOrder}
-use Rattle.kernel_commits.specs.cell_books.Matching.{Rises, newest_of, version_at, version_of}
-use Rattle.kernel_commits.proofs.cell_books_lemmas.Keeping.{rises}
-use Rattle.kernel_commits.specs.Parts.{Noted, Parts, StandsAs, parts_of, stop_of}
-use Rattle.kernel_commits.specs.Lacking.{IsDueIn, LacksBlocks, MayWant}
-use Rattle.kernel_commits.specs.Pieces.{CountsWithin}
-use Rattle.kernel_commits.specs.Steady.{IsSteady, entries_taken, steps_to_come}
-use Rattle.kernel_core.specs.Stepping.{HasCause, StepsInRun, StepsOnce, idle_at, stop_by}
+use Rattle.core_laws.specs.kernel_commits.cell_books.Matching.{Rises, newest_of, version_at, version_of}
+use Rattle.core_laws.proofs.kernel_commits_lemmas.cell_books_lemmas.Keeping.{rises}
+use Rattle.core_laws.specs.kernel_commits.commit_laws.Parts.{Noted, Parts, StandsAs, parts_of}
+use Rattle.core_laws.specs.kernel_commits.Parts.{stop_of}
+use Rattle.core_laws.specs.kernel_commits.commit_laws.Lacking.{IsDueIn, LacksBlocks, MayWant}
+use Rattle.core_laws.specs.kernel_commits.commit_laws.Pieces.{CountsWithin}
+use Rattle.core_laws.specs.kernel_commits.commit_laws.Steady.{IsSteady, entries_taken, steps_to_come}
+use Rattle.core_laws.specs.Stepping.{HasCause, StepsInRun, idle_at, stop_by}
+use Rattle.kernel_core.specs.Stepping.{StepsOnce}
 use Rattle.kernel_core.specs.declared.stepping.Stepping.{Stepping}
 use Rattle.kernel_core.specs.declared.stepping.Stepping.TheVariants.{Idle as IdleFor, Made}
-use Rattle.kernel_commits.specs.declared.stopping.Stopped.{Stopped}
-use Rattle.kernel_commits.specs.declared.stopping.Stopped.TheVariants.{TooFew}
-use Rattle.kernel_commits.proofs.Dues.{due_first}
-use Rattle.kernel_commits.proofs.Enough.{none_lacks}
-use Rattle.kernel_commits.proofs.Room.{steps_within, taken_next}
+use Rattle.core_laws.specs.kernel_commits.declared.stopping.Stopped.{Stopped}
+use Rattle.core_laws.specs.kernel_commits.declared.stopping.Stopped.TheVariants.{TooFew}
+use Rattle.core_laws.proofs.kernel_commits_lemmas.commit_laws_lemmas.Dues.{due_first}
+use Rattle.core_laws.proofs.kernel_commits_lemmas.commit_laws_lemmas.Enough.{none_lacks}
+use Rattle.core_laws.proofs.kernel_commits_lemmas.commit_laws_lemmas.Room.{steps_within, taken_next}
 use Rattle.store_steps.proofs.cell_table_lemmas.Idling.{can_by, empty_idle, empty_stays, high_by}
-use Rattle.kernel_commits.proofs.StepRoom.{step_room, step_spare}
-use Rattle.kernel_core.proofs.Paired.{both_or}
+use Rattle.core_laws.proofs.kernel_commits_lemmas.commit_laws_lemmas.StepRoom.{step_room, step_spare}
+use Rattle.core_laws.proofs.Paired.{both_or}
 
 cell_or : (cs : List Cell) (x : ℕ) → ((c : Cell) × (slice_get cs x ≡ Some c)) ⊎ (slice_get cs x ≡ None)
 cell_or cs x = by (slice_get cs x) refl

@@ -1,19 +1,18 @@
-pub mod Kernels
 pub mod Stepping
-pub mod Looking
-pub mod Bearing
-pub use Rattle.kernel_commits.specs.cell_books
-pub use Rattle.birth_views.specs.cell_table
-pub use Rattle.birth_views.specs.fitting_births
-pub use Rattle.kernel_commits.specs.hop_model
-pub use Rattle.kernel_commits.specs.kernel_calls
-pub use Rattle.birth_views.specs.kernel_cells
-pub use Rattle.kernel_commits.specs as kernel_commits
-pub use Rattle.birth_views.specs.kernel_laws
-pub use Rattle.birth_views.specs.kernel_model
-pub use Rattle.birth_views.specs.record_laws
-pub use Rattle.birth_views.specs.script_against
-pub use Rattle.birth_views.specs.script_form
-pub use Rattle.birth_views.specs.serial_runs
-pub use Rattle.kernel_commits.specs.serial_turns
-pub use Rattle.birth_views.specs.table_births
+pub use Rattle.core_laws.specs.kernel_commits.cell_books
+pub use Rattle.core_laws.specs.birth_views.cell_table
+pub use Rattle.core_laws.specs.birth_views.fitting_births
+pub use Rattle.core_laws.specs.kernel_commits.hop_model
+pub use Rattle.core_laws.specs.kernel_commits.kernel_calls
+pub use Rattle.core_laws.specs.birth_views.kernel_cells
+pub use Rattle.core_laws.specs.kernel_commits
+pub use Rattle.core_laws.specs.birth_views.kernel_laws
+pub use Rattle.core_laws.specs.birth_views.kernel_model
+pub use Rattle.core_laws.specs.birth_views.record_laws
+pub use Rattle.core_laws.specs.birth_views.script_against
+pub use Rattle.core_laws.specs.birth_views.script_form
+pub use Rattle.core_laws.specs.birth_views.serial_runs
+pub use Rattle.core_laws.specs.kernel_commits.serial_turns
+pub use Rattle.core_laws.specs.birth_views.table_births
+pub use Rattle.core_laws.specs.kernel_commits.commit_laws
+pub use Rattle.core_laws.specs as core_laws

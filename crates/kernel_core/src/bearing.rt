@@ -1,26 +1,26 @@
 // The births of a script, and the Stable behind them.
 ghost use Rattle.std.specs.Prelude.{◌≡◌, ◌==◌, ◌*◌, ◌<◌, ◌≤◌, true, false, IfErr, OnOk, length};
-ghost use Rattle.kernel_commits.specs.hop_model.State.{Supply};
-ghost use Rattle.birth_views.specs.fitting_births.Fitting.{Fits};
-ghost use Rattle.birth_views.specs.script_form.Rules.{IsScript};
-ghost use Rattle.birth_views.specs.script_form.Scripts.{tables_of};
-ghost use Rattle.birth_views.specs.cell_table.Steps.{IsInOrder};
-ghost use Rattle.birth_views.specs.cell_table.Tables.{AreClean, AreFewWrites};
-ghost use Rattle.birth_views.specs.record_laws.Cells.{words_on};
-ghost use Rattle.birth_views.specs.table_births.Births.{AreUnderWay, NoBirthLeft, atlas_state_in};
-ghost use Rattle.kernel_commits.specs.Pieces.{CountsWithin};
-ghost use Rattle.kernel_commits.specs.Steady.{IsSteady};
-ghost use Rattle.kernel_commits.specs.Stops.{LeavesStopped};
-ghost use Rattle.kernel_core.specs.Bearing.{HasBorne, HasBorneAll, HasOpened, IsInBirths, IsShortBehind, OpensRun, RunsInBirths};
-ghost use Rattle.birth_views.specs.kernel_model.Beginnings.{Beginning};
+ghost use Rattle.core_laws.specs.kernel_commits.hop_model.State.{Supply};
+ghost use Rattle.core_laws.specs.birth_views.fitting_births.Fitting.{Fits};
+ghost use Rattle.core_laws.specs.birth_views.script_form.Rules.{IsScript};
+ghost use Rattle.core_laws.specs.birth_views.script_form.Scripts.{tables_of};
+ghost use Rattle.core_laws.specs.birth_views.cell_table.Steps.{IsInOrder};
+ghost use Rattle.core_laws.specs.birth_views.cell_table.Tables.{AreClean, AreFewWrites};
+ghost use Rattle.core_laws.specs.birth_views.record_laws.Cells.{words_on};
+ghost use Rattle.core_laws.specs.birth_views.table_births.Births.{AreUnderWay, NoBirthLeft, atlas_state_in};
+ghost use Rattle.core_laws.specs.kernel_commits.commit_laws.Pieces.{CountsWithin};
+ghost use Rattle.core_laws.specs.kernel_commits.commit_laws.Steady.{IsSteady};
+ghost use Rattle.core_laws.specs.kernel_commits.Stops.{LeavesStopped};
+ghost use Rattle.core_laws.specs.Bearing.{HasBorne, HasBorneAll, HasOpened, IsInBirths, IsShortBehind, OpensRun, RunsInBirths};
+ghost use Rattle.core_laws.specs.birth_views.kernel_model.Beginnings.{Beginning};
 
-use birth_views::kernel_cells::Cell;
-use birth_views::script_against::Progress;
-use birth_views::script_form::Script;
-use birth_views::table_births::bear_next;
+use core_laws::birth_views::kernel_cells::Cell;
+use core_laws::birth_views::script_against::Progress;
+use core_laws::birth_views::script_form::Script;
+use core_laws::birth_views::table_births::bear_next;
+use core_laws::kernel_commits::{Core, Notes, Stopped, settle};
 use disk_trait::Disk;
 use hop_base::Entity;
-use kernel_commits::{Core, Notes, Stopped, settle};
 
 // At most 63 entities are born, so one of so many searches finds none left.
 const MOST_SEARCHES: usize = 64;

@@ -1,40 +1,40 @@
 // A running kernel.
 ghost use Rattle.std.specs.Prelude.{◌≡◌, ◌↔◌, ◌⊎◌, ◌+◌, ◌*◌, ◌^◌, ◌≤◌, ◌++◌, ℕ, List, [], true, false, None, Some, Ok, Err, IfErr, IfOk, IfSome, IsErrOf, OnErr, OnOk, length, slice_get};
-ghost use Rattle.kernel_commits.specs.hop_model.State.{Supply};
+ghost use Rattle.core_laws.specs.kernel_commits.hop_model.State.{Supply};
 ghost use Rattle.disk_trait.specs.declared.disk.NoBlocks.{NoBlocks as TooFewBlocks};
-ghost use Rattle.birth_views.specs.kernel_cells.declared.cells.Cell.{Cell as ACell};
-ghost use Rattle.birth_views.specs.kernel_cells.declared.cells.Part.{Part as APart};
-ghost use Rattle.birth_views.specs.fitting_births.Fitting.{Fits};
-ghost use Rattle.birth_views.specs.script_form.Rules.{IsScript};
-ghost use Rattle.birth_views.specs.script_form.Scripts.{tables_of};
-ghost use Rattle.birth_views.specs.table_births.Births.{atlas_state_in};
-ghost use Rattle.birth_views.specs.kernel_laws.Opening.{empty_script, with_script};
-ghost use Rattle.kernel_core.specs.Bearing.{HasOpened, IsShortBehind};
-ghost use Rattle.kernel_core.specs.Kernels.{Lives, MayBegin, StaysClean};
-ghost use Rattle.kernel_commits.specs.Lacking.{LacksIn};
-ghost use Rattle.kernel_commits.specs.Pieces.{CountsWithin, StopsIn};
+ghost use Rattle.core_laws.specs.birth_views.kernel_cells.declared.cells.Cell.{Cell as ACell};
+ghost use Rattle.core_laws.specs.birth_views.kernel_cells.declared.cells.Part.{Part as APart};
+ghost use Rattle.core_laws.specs.birth_views.fitting_births.Fitting.{Fits};
+ghost use Rattle.core_laws.specs.birth_views.script_form.Rules.{IsScript};
+ghost use Rattle.core_laws.specs.birth_views.script_form.Scripts.{tables_of};
+ghost use Rattle.core_laws.specs.birth_views.table_births.Births.{atlas_state_in};
+ghost use Rattle.core_laws.specs.birth_views.kernel_laws.Opening.{empty_script, with_script};
+ghost use Rattle.core_laws.specs.Bearing.{HasOpened, IsShortBehind};
+ghost use Rattle.core_laws.specs.Kernels.{Lives, MayBegin, StaysClean};
+ghost use Rattle.core_laws.specs.kernel_commits.commit_laws.Lacking.{LacksIn};
+ghost use Rattle.core_laws.specs.kernel_commits.commit_laws.Pieces.{CountsWithin, StopsIn};
 ghost use Rattle.disk_trait.specs.Counts.{Rose};
-ghost use Rattle.kernel_core.specs.Looking.{StopsLook};
-ghost use Rattle.kernel_commits.specs.Recording.{HasRecorded, HasTried, IsShort};
-ghost use Rattle.kernel_commits.specs.Snapping.{Snaps};
-ghost use Rattle.kernel_core.specs.Stepping.{idle_at};
+ghost use Rattle.core_laws.specs.Looking.{StopsLook};
+ghost use Rattle.core_laws.specs.kernel_commits.commit_laws.Recording.{HasRecorded, HasTried, IsShort};
+ghost use Rattle.core_laws.specs.kernel_commits.commit_laws.Snapping.{Snaps};
+ghost use Rattle.core_laws.specs.Stepping.{idle_at};
 ghost use Rattle.kernel_core.specs.declared.looking.Looked.TheVariants as ALook;
-ghost use Rattle.kernel_commits.specs.step_plans.declared.idle.Idle.{Idle as AnIdle};
-ghost use Rattle.kernel_commits.specs.declared.stopping.Stopped.{Stopped as AStop};
-ghost use Rattle.birth_views.specs.kernel_model.Beginnings.{Beginning, run_of};
-ghost use Rattle.birth_views.specs.kernel_records.Committing.{CommitCounts};
-ghost use Rattle.birth_views.specs.serial_runs.Serial.{look, opening, wished_snap};
+ghost use Rattle.core_laws.specs.kernel_commits.step_plans.declared.idle.Idle.{Idle as AnIdle};
+ghost use Rattle.core_laws.specs.kernel_commits.declared.stopping.Stopped.{Stopped as AStop};
+ghost use Rattle.core_laws.specs.birth_views.kernel_model.Beginnings.{Beginning, run_of};
+ghost use Rattle.core_laws.specs.birth_views.kernel_records.Committing.{CommitCounts};
+ghost use Rattle.core_laws.specs.birth_views.serial_runs.Serial.{look, opening, wished_snap};
 
 use crate::bearing::open_core;
 use crate::looking::{Looked, look_core};
 use atlas_dir::Atlas;
-use birth_views::kernel_cells::{Cell, Part};
-use birth_views::script_form::Script;
-use birth_views::snapshot_store::{OpenFault, OpenWhy, Store};
 use block_code::Blob;
+use core_laws::birth_views::kernel_cells::{Cell, Part};
+use core_laws::birth_views::script_form::Script;
+use core_laws::birth_views::snapshot_store::{OpenFault, OpenWhy, Store};
+use core_laws::kernel_commits::{Core, Notes, Stopped, snap_one};
 use disk_trait::Disk;
 use hop_base::{Entity, Entry};
-use kernel_commits::{Core, Notes, Stopped, snap_one};
 use manager_gate::{Gate, Policy, Supplier};
 use std::alloc::{AllocError, Global};
 use std::marker::Model;
@@ -74,7 +74,7 @@ pub struct Ended<D> {
 }
 
 impl<D: Disk> Model for Kernel<D> {
-    ghost use Rattle.kernel_core.specs.Kernels.{Held, IsKept};
+    ghost use Rattle.core_laws.specs.Kernels.{Held, IsKept};
 
     ghost Value = { Held D };
 

@@ -7,8 +7,8 @@ mod looking;
 mod owing;
 mod stepping;
 
-pub use birth_views::{script_against, script_form};
-pub use kernel_commits::Stopped;
-pub use kernel_commits::step_plans::Idle;
+pub use core_laws::birth_views::{script_against, script_form};
+pub use core_laws::kernel_commits::Stopped;
+pub use core_laws::kernel_commits::step_plans::Idle;
 pub use kernels::{Ended, Kernel};
 pub use looking::Looked;

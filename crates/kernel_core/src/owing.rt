@@ -2,22 +2,22 @@
 ghost use Rattle.std.specs.Prelude.{◌≡◌, ◌&&◌, ℕ, List, Option, Some, None, if◌then◌else◌};
 ghost use Rattle.hop_base.specs.declared.histories.Answer.TheVariants.{Reply as Replied};
 ghost use Rattle.hop_base.specs.declared.instructions.Reply.TheVariants.{Ok as OkReply};
-ghost use Rattle.kernel_commits.specs.hop_model.Histories.{locus_in, owed_by, stabilises};
-ghost use Rattle.kernel_commits.specs.hop_model.Refusals.{instr_at};
-ghost use Rattle.kernel_commits.specs.hop_model.State.{LocusState, Supply};
-ghost use Rattle.kernel_commits.specs.wanted_act.Views.{IsReadyLocus};
-ghost use Rattle.kernel_commits.specs.locus_machine.Loci.{locus_of};
-ghost use Rattle.kernel_commits.specs.locus_machine.declared.loci.Locus.{Locus as ALocus};
-ghost use Rattle.birth_views.specs.kernel_cells.Cells.{locus_cell, part_of};
-ghost use Rattle.birth_views.specs.kernel_cells.declared.cells.Part.TheVariants as APart;
-ghost use Rattle.birth_views.specs.cell_table.Steps.{IsInOrder};
-ghost use Rattle.birth_views.specs.cell_table.Tables.{state_in};
-ghost use Rattle.kernel_core.specs.Stepping.{is_ok};
+ghost use Rattle.core_laws.specs.kernel_commits.hop_model.Histories.{locus_in, owed_by, stabilises};
+ghost use Rattle.core_laws.specs.kernel_commits.hop_model.Refusals.{instr_at};
+ghost use Rattle.core_laws.specs.kernel_commits.hop_model.State.{LocusState, Supply};
+ghost use Rattle.core_laws.specs.kernel_commits.wanted_act.Views.{IsReadyLocus};
+ghost use Rattle.core_laws.specs.kernel_commits.locus_machine.Loci.{locus_of};
+ghost use Rattle.core_laws.specs.kernel_commits.locus_machine.declared.loci.Locus.{Locus as ALocus};
+ghost use Rattle.core_laws.specs.birth_views.kernel_cells.Cells.{locus_cell, part_of};
+ghost use Rattle.core_laws.specs.birth_views.kernel_cells.declared.cells.Part.TheVariants as APart;
+ghost use Rattle.core_laws.specs.birth_views.cell_table.Steps.{IsInOrder};
+ghost use Rattle.core_laws.specs.birth_views.cell_table.Tables.{state_in};
+ghost use Rattle.core_laws.specs.Stepping.{is_ok};
 
-use birth_views::kernel_cells::{Cell, Part, Storage};
+use core_laws::birth_views::kernel_cells::{Cell, Part, Storage};
+use core_laws::kernel_commits::locus_machine::Locus;
+use core_laws::kernel_commits::wanted_act::fetch;
 use hop_base::{Answer, Entity, Instr, Reply};
-use kernel_commits::locus_machine::Locus;
-use kernel_commits::wanted_act::fetch;
 
 /// Whether the locus's next instruction is a stabilise.
 fn stabilises_next(locus: &Locus) -> bool

@@ -1,19 +1,20 @@
 // One look at a locus: its step, and what comes behind it.
 ghost use Rattle.std.specs.Prelude.{◌≡◌, ◌<◌, ◌++◌, ◌∷◌, [], length};
-ghost use Rattle.birth_views.specs.cell_table.Tables.{AreClean};
-ghost use Rattle.kernel_commits.specs.Parts.{parts_of};
-ghost use Rattle.kernel_commits.specs.Steady.{IsSteady};
-ghost use Rattle.kernel_core.specs.Stepping.{StepsOnce, stop_by};
-ghost use Rattle.birth_views.specs.record_laws.Cells.{words_on};
+ghost use Rattle.core_laws.specs.birth_views.cell_table.Tables.{AreClean};
+ghost use Rattle.core_laws.specs.kernel_commits.commit_laws.Parts.{parts_of};
+ghost use Rattle.core_laws.specs.kernel_commits.commit_laws.Steady.{IsSteady};
+ghost use Rattle.kernel_core.specs.Stepping.{StepsOnce};
+ghost use Rattle.core_laws.specs.Stepping.{stop_by};
+ghost use Rattle.core_laws.specs.birth_views.record_laws.Cells.{words_on};
 
-use birth_views::kernel_cells::Cell;
-use birth_views::page_store::PageFault;
-use birth_views::snapshot_store::Store;
+use core_laws::birth_views::kernel_cells::Cell;
+use core_laws::birth_views::page_store::PageFault;
+use core_laws::birth_views::snapshot_store::Store;
+use core_laws::kernel_commits::step_plans::Idle;
+use core_laws::kernel_commits::table_steps::StepFault;
+use core_laws::kernel_commits::{Core, Notes, Stopped};
 use disk_trait::Disk;
 use hop_base::{Entity, Entry};
-use kernel_commits::step_plans::Idle;
-use kernel_commits::table_steps::StepFault;
-use kernel_commits::{Core, Notes, Stopped};
 use manager_gate::{Gate, Policy, Supplier};
 use store_steps::step_over;
 

@@ -12,7 +12,7 @@ use Rattle.meant_states.specs.hop_model.Choices.{Commit}
 use Rattle.meant_states.specs.hop_model.Histories.{Run, goes_on, start_run, went_on}
 use Rattle.meant_states.proofs.hop_model_lemmas.StableCuts.{run_append}
 use Rattle.kernel_model.specs.run_cuts.Marks.{completes, is_completing, is_step}
-use Rattle.meant_states.specs.image_blocks.Layout.{last_number}
+use Rattle.meant_states.specs.image_form.Layout.{last_number}
 use Rattle.meant_states.specs.image_blocks.Logs.{Place}
 use Rattle.meant_states.specs.image_meaning.Stores.{Kept, Stores}
 use Rattle.kernel_model.specs.store_model.Between.{OnlyPages, stores_left}

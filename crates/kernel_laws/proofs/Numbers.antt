@@ -7,7 +7,7 @@ use Rattle.hop_base.specs.declared.histories.Entry.{Entry}
 use Rattle.hop_base.specs.declared.histories.Event.TheVariants.{Birth, Step, Snap as SnapEvent, Stable, Tried}
 use Rattle.meant_states.specs.hop_model.Histories.{Run, chosen_commits, commits_of, goes_on, has_changed, run_after, start_run, went_on, writes}
 use Rattle.meant_states.specs.hop_model.State.{KernelState}
-use Rattle.meant_states.specs.image_blocks.Layout.{last_number}
+use Rattle.meant_states.specs.image_form.Layout.{last_number}
 use Rattle.kernel_model.proofs.run_laws_lemmas.Tellings.{versions_told}
 use Rattle.kernel_model.proofs.sound_runs_lemmas.Lengths.{length_bound}
 use Rattle.kernel_model.proofs.sound_states_lemmas.States.{run_state}

@@ -14,8 +14,8 @@ use Rattle.meant_states.specs.hop_model.State.{EntityState, KernelState, Supply,
 use Rattle.meant_states.proofs.hop_model_lemmas.Lowering.{greatest_is}
 use Rattle.meant_states.specs.cut_laws.Agreeing.{from_cut, nothing}
 use Rattle.meant_states.specs.cut_laws.Records.{commit_of, commits_of}
-use Rattle.meant_states.specs.image_blocks.Checks.{count_in}
-use Rattle.meant_states.specs.image_blocks.Logs.{IsInRange}
+use Rattle.meant_states.specs.image_form.Checks.{count_in}
+use Rattle.meant_states.specs.image_form.Logs.{IsInRange}
 use Rattle.meant_states.proofs.image_blocks_lemmas.Ranges.{in_range_law}
 use Rattle.meant_states.specs.image_meaning.Meaning.{Means, entity_of}
 use Rattle.meant_states.specs.image_meaning.Parts.{IsSpelt, Part, chosen, cut_of, table_in}

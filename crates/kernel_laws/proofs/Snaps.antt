@@ -14,9 +14,8 @@ use Rattle.meant_states.specs.hop_model.Parts.{after, after_entry, is_event, nex
 use Rattle.meant_states.specs.hop_model.State.{EntityState, KernelState}
 use Rattle.meant_states.proofs.hop_model_lemmas.StableCuts.{run_append}
 use Rattle.kernel_model.specs.run_cuts.Marks.{completes, is_completing, is_step}
-use Rattle.kernel_model.proofs.run_cuts_lemmas.Cutting.{after_append}
 use Rattle.kernel_model.proofs.run_cuts_lemmas.Leaving.{comparable, count_append}
-use Rattle.kernel_model.proofs.run_laws_lemmas.Places.{things_stay}
+use Rattle.kernel_model.proofs.run_laws_lemmas.Places.{after_append, things_stay}
 use Rattle.meant_states.specs.image_meaning.Stores.{Kept}
 use Rattle.kernel_model.specs.store_model.Books.{AreSmall, AreTrue, Books, kept_of}
 use Rattle.kernel_model.specs.store_model.Owning.{AreOwned}

@@ -10,7 +10,7 @@ ghost use Rattle.meant_states.specs.hop_model.Scripts.{Script};
 ghost use Rattle.meant_states.specs.hop_model.State.{KernelState};
 ghost use Rattle.kernel_model.specs.script_form.Rules.{IsScript};
 ghost use Rattle.kernel_model.specs.sound_runs.Kinds.{NamesNoLocus};
-ghost use Rattle.meant_states.specs.image_blocks.Layout.{last_number};
+ghost use Rattle.meant_states.specs.image_form.Layout.{last_number};
 ghost use Rattle.meant_states.specs.image_meaning.Meaning.{Means};
 ghost use Rattle.kernel_model.specs.store_model.Books.{Books, kept_of};
 ghost use Rattle.kernel_model.specs.Beginnings.{Beginning, BeginsRight, IsLegal, completed, state_after, with_tried};

@@ -4,8 +4,8 @@ use Rattle.std.specs.Prelude.{Contains}
 use Rattle.std.specs.List.{list_any}
 use Rattle.std.proofs.lemmas.Bool.{false≢true}
 use Rattle.disk_trait.specs.Image.{Image}
-use Rattle.store_model.specs.image_blocks.Bodies.{blob_blocks}
-use Rattle.store_model.specs.image_blocks.Layout.{pool_at}
+use Rattle.store_model.specs.image_form.Bodies.{blob_blocks}
+use Rattle.store_model.specs.image_form.Layout.{pool_at}
 use Rattle.store_model.specs.image_meaning.Describing.{HasPage}
 use Rattle.store_model.specs.image_meaning.Stores.{Kept}
 use Rattle.store_model.specs.Books.{Books, Logged, is_used, kept_for, kept_in, kept_names, kept_of, names}

@@ -14,8 +14,8 @@ use Rattle.store_model.specs.cut_laws.Agreeing.{from_cut, nothing}
 use Rattle.store_model.specs.cut_laws.Records.{commit_of, commits_of}
 use Rattle.store_model.proofs.cut_laws_lemmas.Filters.{kept, more}
 use Rattle.store_model.proofs.cut_laws_lemmas.Joins.{same_greatest}
-use Rattle.store_model.specs.image_blocks.Bodies.{body_block, record_in}
-use Rattle.store_model.specs.image_blocks.Logs.{AreFitting}
+use Rattle.store_model.specs.image_form.Bodies.{body_block, record_in}
+use Rattle.store_model.specs.image_form.Logs.{AreFitting}
 use Rattle.store_model.proofs.image_meaning_lemmas.Choosing.{from_commits}
 use Rattle.store_model.specs.image_meaning.Stores.{Kept, recs_of}
 use Rattle.store_model.specs.Books.{Books, Logged, cut_in, kept_for, kept_in, kept_of, logged_recs, recs_in}

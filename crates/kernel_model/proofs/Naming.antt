@@ -5,7 +5,7 @@ use Rattle.std.specs.List.{AllByRecursion}
 use Rattle.hop_base.specs.declared.histories.Entry.{Entry}
 use Rattle.hop_base.specs.declared.records.Rec.{Rec}
 use Rattle.store_model.proofs.hop_model_lemmas.Basics.{and_left}
-use Rattle.store_model.specs.image_blocks.Bodies.{blob_blocks}
+use Rattle.store_model.specs.image_form.Bodies.{blob_blocks}
 use Rattle.store_model.specs.image_meaning.Describing.{HasPage}
 use Rattle.store_model.specs.image_meaning.Fits.{AreNamedOnce}
 use Rattle.store_model.specs.image_meaning.Parts.{Part, chosen, chosen_by, cut_of, table_in}

@@ -1,23 +1,18 @@
 -- Entries that follow change nothing of what kept records say.
-use Rattle.std.proofs.Common.{◌≡◌, ℕ, ◌≤◌, List, [], ◌∷◌, ◌++◌, length, Option, sym, ap, subst, ◌∙◌, arith, length-append}
+use Rattle.std.proofs.Common.{◌≡◌, ℕ, ◌≤◌, List, [], ◌∷◌, ◌++◌, length, sym, ap, subst, ◌∙◌, arith, length-append}
 use Rattle.std.specs.List.{AllByRecursion}
 use Rattle.disk_trait.specs.Image.{Image}
 use Rattle.hop_base.specs.declared.histories.Entry.{Entry}
 use Rattle.store_model.specs.hop_model.Choices.{Commit}
 use Rattle.store_model.specs.hop_model.Histories.{Run, event_of, start_run}
-use Rattle.store_model.specs.hop_model.Parts.{IsPlayed, after, after_entry}
+use Rattle.store_model.specs.hop_model.Parts.{after}
 use Rattle.store_model.specs.hop_model.State.{EntityState, KernelState}
 use Rattle.store_model.proofs.hop_model_lemmas.LegalRuns.{event_of_local, event_of_stamped, legal_played}
 use Rattle.store_model.proofs.hop_model_lemmas.StableCuts.{commits_grow, run_append, versions_rise_over}
-use Rattle.run_cuts.proofs.Cutting.{after_append}
-use Rattle.run_cuts.proofs.run_laws_lemmas.Places.{things_stay}
+use Rattle.run_cuts.proofs.run_laws_lemmas.Places.{after_append, played_rest, things_stay}
 use Rattle.store_model.specs.image_meaning.Stores.{Kept}
 use Rattle.kernel_model.specs.Beginnings.{Beginning, IsLegal, completed, entity_at, run_of, state_after}
 use Rattle.kernel_model.specs.Records.{AreKeptRecords, IsKeptRecord, StoresCommits}
-
-played_rest : (act : Entry → KernelState → Option (Entry × KernelState)) (fs gs : List Entry) (w : KernelState) → IsPlayed act w (fs ++ gs) → IsPlayed act (after act w fs) gs
-played_rest act [] gs w played = played
-played_rest act (e ∷ fs) gs w played = played_rest act fs gs (after_entry act w e) played.1
 
 module _ (b : Beginning) (es fs : List Entry) where
   -- the commits are those of before and more

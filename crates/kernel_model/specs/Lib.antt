@@ -12,3 +12,4 @@ pub use Rattle.run_cuts.specs as run_cuts
 pub use Rattle.run_cuts.specs.script_form
 pub use Rattle.run_cuts.specs.sound_runs
 pub use Rattle.store_model.specs as store_model
+pub use Rattle.store_model.specs.image_form

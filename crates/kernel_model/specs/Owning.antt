@@ -1,7 +1,7 @@
 -- Whose the blocks of a new record are.
 use Rattle.std.specs.Prelude.{◌≡◌, ℕ, ◌≤◌, ◌<◌, true, false, List, Contains}
-use Rattle.store_model.specs.image_blocks.Bodies.{blob_blocks}
-use Rattle.store_model.specs.image_blocks.Layout.{pool_at}
+use Rattle.store_model.specs.image_form.Bodies.{blob_blocks}
+use Rattle.store_model.specs.image_form.Layout.{pool_at}
 use Rattle.store_model.specs.image_meaning.Describing.{HasPage}
 use Rattle.store_model.specs.image_meaning.Stores.{Kept}
 use Rattle.store_model.specs.Books.{Books, is_used}

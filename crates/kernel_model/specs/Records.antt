@@ -6,8 +6,8 @@ use Rattle.hop_base.specs.declared.histories.Entry.{Entry}
 use Rattle.store_model.specs.hop_model.Choices.{Commit}
 use Rattle.store_model.specs.cut_laws.Agreeing.{AgreeFromCut, nothing}
 use Rattle.store_model.specs.cut_laws.Records.{commits_of}
-use Rattle.store_model.specs.image_blocks.Bodies.{blob_blocks}
-use Rattle.store_model.specs.image_blocks.Layout.{pool_at}
+use Rattle.store_model.specs.image_form.Bodies.{blob_blocks}
+use Rattle.store_model.specs.image_form.Layout.{pool_at}
 use Rattle.store_model.specs.image_meaning.Describing.{DescribesEntity, HasPage}
 use Rattle.store_model.specs.image_meaning.Parts.{Part, table_in}
 use Rattle.store_model.specs.image_meaning.Stores.{Kept, Stores, recs_of}

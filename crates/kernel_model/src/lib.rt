@@ -9,7 +9,7 @@ ghost use Rattle.hop_base.specs.declared.histories.Entry.{Entry};
 ghost use Rattle.store_model.specs.hop_model.Choices.{Commit};
 ghost use Rattle.store_model.specs.hop_model.State.{KernelState};
 ghost use Rattle.store_model.specs.cut_laws.Records.{commit_of};
-ghost use Rattle.store_model.specs.image_blocks.Logs.{AreFitting};
+ghost use Rattle.store_model.specs.image_form.Logs.{AreFitting};
 ghost use Rattle.store_model.specs.image_meaning.Meaning.{Means};
 ghost use Rattle.store_model.specs.image_meaning.Stores.{Kept};
 ghost use Rattle.run_cuts.specs.Cuts.{IsCutState};

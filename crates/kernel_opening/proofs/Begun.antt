@@ -13,8 +13,8 @@ use Rattle.kernel_core.specs.hop_model.State.{Supply}
 use Rattle.image_opening.specs.image_meaning.Meaning.{Means}
 use Rattle.image_opening.specs.kernel_cells.declared.cells.Cell.{Cell}
 use Rattle.image_opening.specs.cell_table.Tables.{AreClean}
-use Rattle.image_opening.specs.Images.{AreOfImage, IsOpenedTable, StartsFrom}
-use Rattle.kernel_core.specs.Kernels.{Held, StaysClean}
+use Rattle.image_opening.specs.opening_laws.Images.{AreOfImage, IsOpenedTable, StartsFrom}
+use Rattle.kernel_core.specs.core_laws.Kernels.{Held, StaysClean}
 use Rattle.kernel_core.specs.kernel_commits.Parts.{stop_of}
 use Rattle.kernel_core.specs.kernel_commits.declared.stopping.Stopped.{Stopped}
 use Rattle.image_opening.specs.kernel_laws.Opening.{HasNoBirths, empty_script}
@@ -28,7 +28,7 @@ use Rattle.image_opening.proofs.meant_states_lemmas.Meant.{meant_state}
 use Rattle.image_opening.specs.record_laws.Cells.{words_on}
 use Rattle.image_opening.specs.script_form.Rules.{IsScript}
 use Rattle.image_opening.specs.sound_runs.Kinds.{NamesNoLocus}
-use Rattle.image_opening.specs.snapshot_store.State.{State}
+use Rattle.image_opening.specs.store_laws.State.{State}
 use Rattle.image_opening.specs.snapshot_store.declared.opening.OpenWhy.{OpenWhy}
 use Rattle.image_opening.specs.snapshot_store.declared.opening.OpenWhy.TheVariants.{Memory}
 

@@ -10,16 +10,16 @@ use Rattle.image_opening.specs.kernel_cells.declared.cells.Cell.{Cell}
 use Rattle.image_opening.specs.kernel_cells.Wishes.{HasWish}
 use Rattle.kernel_core.specs.cell_books.Matching.{MatchesBooks, newest_of, version_of}
 use Rattle.image_opening.specs.cell_table.Tables.{entity_in, state_in}
-use Rattle.image_opening.specs.Images.{IsOpened, IsOpenedTable}
-use Rattle.kernel_core.proofs.snapshot_store_lemmas.ChosenAlone.{row_of}
-use Rattle.kernel_core.proofs.snapshot_store_lemmas.ChosenRows.{row_all}
-use Rattle.image_opening.proofs.Stored.{same_lists}
+use Rattle.image_opening.specs.opening_laws.Images.{IsOpened, IsOpenedTable}
+use Rattle.kernel_core.proofs.store_laws_lemmas.ChosenAlone.{row_of}
+use Rattle.kernel_core.proofs.store_laws_lemmas.ChosenRows.{row_all}
+use Rattle.image_opening.proofs.opening_laws_lemmas.Stored.{same_lists}
 use Rattle.image_opening.specs.image_meaning.Parts.{cut_of}
-use Rattle.kernel_core.specs.Kernels.{MayBegin}
+use Rattle.kernel_core.specs.core_laws.Kernels.{MayBegin}
 use Rattle.image_opening.specs.kernel_laws.Opening.{chosen_recs}
-use Rattle.image_opening.specs.log_reading.Logs.{AreInRange}
-use Rattle.image_opening.proofs.snapshot_store_lemmas.Chosen.{chosen_is}
-use Rattle.image_opening.specs.snapshot_store.State.{State, books}
+use Rattle.image_opening.specs.log_laws.Logs.{AreInRange}
+use Rattle.image_opening.proofs.store_laws_lemmas.Chosen.{chosen_is}
+use Rattle.image_opening.specs.store_laws.State.{State, books}
 use Rattle.image_opening.specs.store_model.Books.{AreTrue, recs_in}
 
 -- no version of a chosen record is too large

@@ -1,5 +1,5 @@
 pub mod Starts
-pub use Rattle.kernel_core.specs.Kernels
+pub use Rattle.kernel_core.specs.core_laws.Kernels
 pub use Rattle.image_opening.specs.cell_table
 pub use Rattle.image_opening.specs.fitting_births
 pub use Rattle.image_opening.specs as image_opening
@@ -14,3 +14,6 @@ pub use Rattle.image_opening.specs.record_laws
 pub use Rattle.kernel_core.specs.script_against
 pub use Rattle.image_opening.specs.snapshot_store
 pub use Rattle.kernel_core.specs.table_births
+pub use Rattle.kernel_core.specs.core_laws
+pub use Rattle.image_opening.specs.opening_laws
+pub use Rattle.image_opening.specs.store_laws

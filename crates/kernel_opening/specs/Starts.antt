@@ -4,8 +4,8 @@ use Rattle.disk_trait.specs.Disk.{Ticks}
 use Rattle.disk_trait.specs.Image.{Image}
 use Rattle.kernel_core.specs.hop_model.State.{KernelState}
 use Rattle.image_opening.specs.image_meaning.Meaning.{Means}
-use Rattle.image_opening.specs.Images.{AreOfImage, HasLowEpoch}
-use Rattle.kernel_core.specs.Kernels.{Held, Lives}
+use Rattle.image_opening.specs.opening_laws.Images.{AreOfImage, HasLowEpoch}
+use Rattle.kernel_core.specs.core_laws.Kernels.{Held, Lives}
 use Rattle.image_opening.specs.kernel_laws.Opening.{HasNoBirths, empty_script}
 use Rattle.image_opening.specs.kernel_model.Beginnings.{Beginning, BeginsRight}
 

@@ -5,10 +5,10 @@ ghost use Rattle.disk_trait.specs.Moments.{LeavesOnly};
 ghost use Rattle.kernel_core.specs.hop_model.State.{Supply};
 ghost use Rattle.image_opening.specs.image_blocks.Checks.{Bad as BadPlace};
 ghost use Rattle.image_opening.specs.image_meaning.Meaning.{Accepted};
-ghost use Rattle.image_opening.specs.Images.{HasBegun, HasImageCause, HasTurnLeft, IsOpenedTable, MeansSame, MeansSince, StopsShort, WasRefused};
-ghost use Rattle.kernel_core.specs.Kernels.{StaysClean};
+ghost use Rattle.image_opening.specs.opening_laws.Images.{HasBegun, HasImageCause, HasTurnLeft, IsOpenedTable, MeansSame, MeansSince, StopsShort, WasRefused};
+ghost use Rattle.kernel_core.specs.core_laws.Kernels.{StaysClean};
 ghost use Rattle.kernel_opening.specs.Starts.{LivesFrom, Opens};
-ghost use Rattle.image_opening.specs.snapshot_store.State.{books};
+ghost use Rattle.image_opening.specs.store_laws.State.{books};
 
 use disk_trait::Disk;
 use image_opening::open_parts;

@@ -11,12 +11,12 @@ use Rattle.snapshot_store.proofs.hop_model_lemmas.Lowering.{greatest_is}
 use Rattle.wish_laws.specs.hop_model.Choices.{Among, Commit, IsBelow, IsGreatest}
 use Rattle.record_laws.specs.image_meaning.Parts.{chosen, chosen_by, cut_of}
 use Rattle.kernel_records.specs.Keeping.{HasNewest}
-use Rattle.snapshot_store.specs.log_reading.Logs.{AreInRange, IsOlder}
-use Rattle.snapshot_store.specs.Choosing.{chosen_list, listed}
-use Rattle.snapshot_store.proofs.Chosen.{are_row, chosen_is, chosen_more, picked}
-use Rattle.snapshot_store.proofs.Opened.{narrow_in_range}
-use Rattle.snapshot_store.proofs.ChosenAlone.{row_of}
-use Rattle.snapshot_store.proofs.ChosenRows.{row_all}
+use Rattle.snapshot_store.specs.log_laws.Logs.{AreInRange, IsOlder}
+use Rattle.snapshot_store.specs.store_laws.Choosing.{chosen_list, listed}
+use Rattle.snapshot_store.proofs.store_laws_lemmas.Chosen.{are_row, chosen_is, chosen_more, picked}
+use Rattle.snapshot_store.proofs.store_laws_lemmas.Opened.{narrow_in_range}
+use Rattle.snapshot_store.proofs.store_laws_lemmas.ChosenAlone.{row_of}
+use Rattle.snapshot_store.proofs.store_laws_lemmas.ChosenRows.{row_all}
 
 -- the version of a chosen record, 0 for none; and its stamp
 abbrev pub version_in : Option Rec → ℕ

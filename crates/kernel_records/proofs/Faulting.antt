@@ -11,8 +11,8 @@ use Rattle.wish_laws.specs.kernel_cells.Wishes.{is_open}
 use Rattle.wish_laws.specs.Founded.{IsFoundedCell}
 use Rattle.record_laws.specs.cell_blobs.Blobs.{is_recorded}
 use Rattle.record_laws.specs.store_model.Books.{Books, kept_in}
-use Rattle.snapshot_store.specs.Shelves.{records_of}
-use Rattle.snapshot_store.specs.State.{State}
+use Rattle.snapshot_store.specs.store_laws.Shelves.{records_of}
+use Rattle.snapshot_store.specs.store_laws.State.{State}
 use Rattle.snapshot_store.specs.declared.faults.StoreFault.{StoreFault as Fault}
 use Rattle.snapshot_store.specs.declared.faults.StoreFault.TheVariants.{NoBlocks, ReadFault, Shut, WriteFault}
 use Rattle.kernel_records.specs.Committing.{CellFaults}

@@ -5,9 +5,9 @@ use Rattle.std.specs.List.{list_any, range_with_len}
 use Rattle.std.proofs.lemmas.Bool.{and_parts, false≢true, or_cases, or_left, or_right}
 use Rattle.std.proofs.lemmas.List.{length-take}
 use Rattle.std.proofs.lemmas.Map.Views.{Contains-from_any}
-use Rattle.snapshot_store.specs.image_blocks.Bodies.{blob_blocks, blocks_for}
-use Rattle.snapshot_store.specs.image_blocks.Layout.{pool_at}
-use Rattle.snapshot_store.specs.Committed.{HasNewRecord}
+use Rattle.snapshot_store.specs.image_form.Bodies.{blob_blocks, blocks_for}
+use Rattle.snapshot_store.specs.image_form.Layout.{pool_at}
+use Rattle.snapshot_store.specs.store_laws.Committed.{HasNewRecord}
 use Rattle.record_laws.specs.store_model.Books.{AreHeldPages, Books, Logged, free_in, is_used, kept_in, kept_names, names}
 use Rattle.kernel_room.proofs.Counting.{count_le, count_or}
 use Rattle.kernel_room.proofs.Used.{blocks_count}

@@ -5,13 +5,13 @@ use Rattle.disk_trait.specs.Counts.{Rose}
 use Rattle.disk_trait.specs.Image.{Image}
 use Rattle.disk_trait.specs.Moments.{LeavesOnly}
 use Rattle.hop_base.specs.declared.records.Rec.{Rec}
-use Rattle.snapshot_store.specs.image_blocks.Layout.{last_number, slot_count}
+use Rattle.snapshot_store.specs.image_form.Layout.{last_number, slot_count}
 use Rattle.snapshot_store.specs.image_blocks.Logs.{Place}
 use Rattle.record_laws.specs.image_meaning.Stores.{Stores}
 use Rattle.record_laws.specs.store_model.Between.{LeavesOnly-join, OnlyPages}
 use Rattle.record_laws.specs.store_model.Books.{AreSmall, AreTrue, Books, Logged, kept_in, kept_of, logged_recs}
-use Rattle.snapshot_store.specs.Committed.{StoresKeptOrMore}
-use Rattle.snapshot_store.specs.State.{State, books}
+use Rattle.snapshot_store.specs.store_laws.Committed.{StoresKeptOrMore}
+use Rattle.snapshot_store.specs.store_laws.State.{State, books}
 use Rattle.snapshot_store.specs.page_store.Pages.{IsWriteFault}
 use Rattle.snapshot_store.specs.page_store.declared.faults.PageFault.{PageFault}
 use Rattle.snapshot_store.specs.page_store.declared.faults.PageFault.TheVariants.{NoBlocks, ReadFault, Shut, WriteFault}

@@ -4,8 +4,8 @@ use Rattle.disk_trait.specs.Image.{Image}
 use Rattle.record_laws.specs.store_model.Between.{Between-stay}
 use Rattle.record_laws.specs.cell_blobs.Blobs.{IsFormed, blob_need, page_need}
 use Rattle.record_laws.specs.store_model.Books.{free_in, kept_names}
-use Rattle.snapshot_store.specs.Committed.{HasFailedShut, SameUsed}
-use Rattle.snapshot_store.specs.State.{HoldsPoolBlocks, State, books}
+use Rattle.snapshot_store.specs.store_laws.Committed.{HasFailedShut, SameUsed}
+use Rattle.snapshot_store.specs.store_laws.State.{HoldsPoolBlocks, State, books}
 use Rattle.wish_laws.specs.fault_paging.Calls.{Keeps}
 use Rattle.wish_laws.specs.fault_paging.declared.paged.PagedMemory.{PagedMemory}
 use Rattle.wish_laws.specs.kernel_cells.declared.cells.Cell.{Cell}

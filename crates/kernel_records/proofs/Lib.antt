@@ -17,3 +17,4 @@ pub use Rattle.wish_laws.proofs.run_laws_lemmas
 pub use Rattle.snapshot_store.proofs as snapshot_store_lemmas
 pub use Rattle.snapshot_store.proofs.store_commit_lemmas
 pub use Rattle.wish_laws.proofs as wish_laws_lemmas
+pub use Rattle.snapshot_store.proofs.store_laws_lemmas

@@ -15,9 +15,9 @@ use Rattle.wish_laws.specs.cut_laws.Records.{commits_of, is_rec_from}
 use Rattle.snapshot_store.specs.hop_model.Choices.{Among, IsBelow}
 use Rattle.snapshot_store.specs.hop_model.Words.{put}
 use Rattle.record_laws.specs.image_meaning.Parts.{cut_of}
-use Rattle.snapshot_store.specs.log_reading.Logs.{IsOlder}
-use Rattle.snapshot_store.specs.Committed.{HasNewRecord}
-use Rattle.snapshot_store.specs.Shelves.{is_from, records_of}
+use Rattle.snapshot_store.specs.log_laws.Logs.{IsOlder}
+use Rattle.snapshot_store.specs.store_laws.Committed.{HasNewRecord}
+use Rattle.snapshot_store.specs.store_laws.Shelves.{is_from, records_of}
 use Rattle.record_laws.specs.store_model.Books.{Books, Logged, cut_in, kept_in, logged_recs, recs_in}
 use Rattle.kernel_records.specs.Keeping.{HasNewest, KeepsNewest}
 use Rattle.kernel_records.proofs.Fewer.{counts_cons, own}

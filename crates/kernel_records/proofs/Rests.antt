@@ -6,7 +6,7 @@ use Rattle.std.proofs.lemmas.List.{same_from_push}
 use Rattle.disk_trait.specs.Counts.{Rose}
 use Rattle.disk_trait.specs.Image.{Image}
 use Rattle.hop_base.specs.declared.records.Rec.{Rec}
-use Rattle.snapshot_store.specs.image_blocks.Bodies.{blob_in, blocks_for}
+use Rattle.snapshot_store.specs.image_form.Bodies.{blob_in, blocks_for}
 use Rattle.wish_laws.specs.kernel_cells.declared.cells.Cell.{Cell}
 use Rattle.wish_laws.specs.kernel_cells.declared.cells.Part.{Part}
 use Rattle.wish_laws.specs.kernel_cells.declared.cells.Part.TheVariants as part
@@ -14,9 +14,9 @@ use Rattle.record_laws.specs.cell_blobs.Blobs.{bytes_of, spelt_in}
 use Rattle.record_laws.specs.Cells.{IsSoundIn, table_of}
 use Rattle.record_laws.proofs.Telling.{no_blocks}
 use Rattle.snapshot_store.specs.CommitAnswers.{CommitAnswers}
-use Rattle.snapshot_store.specs.Committed.{CommitsInFreeBlocks, HasFailedShut, HasNewRecord}
-use Rattle.snapshot_store.specs.Putting.{are_small}
-use Rattle.snapshot_store.specs.State.{State, books}
+use Rattle.snapshot_store.specs.store_laws.Committed.{CommitsInFreeBlocks, HasFailedShut, HasNewRecord}
+use Rattle.snapshot_store.specs.store_laws.Putting.{are_small}
+use Rattle.snapshot_store.specs.store_laws.State.{State, books}
 use Rattle.snapshot_store.specs.declared.faults.StoreFault.{StoreFault as Fault}
 use Rattle.snapshot_store.specs.declared.faults.StoreFault.TheVariants.{NoBlocks, ReadFault, Shut, WriteFault}
 use Rattle.record_laws.specs.store_model.Books.{Logged, free_in, kept_in}

@@ -8,7 +8,7 @@ use Rattle.record_laws.specs.blob_grammar.Spelling.{caps_bytes, container_blob, 
 use Rattle.byteorder.specs.Endian.{little_bytes}
 use Rattle.record_laws.proofs.blob_grammar_lemmas.KindSizes.{some}
 use Rattle.record_laws.proofs.blob_grammar_lemmas.Sizes.{numbers_len}
-use Rattle.snapshot_store.specs.image_blocks.Bodies.{blocks_for}
+use Rattle.snapshot_store.specs.image_form.Bodies.{blocks_for}
 use Rattle.record_laws.specs.image_meaning.Parts.{Part as Spelt, AtlasPart, ContainerPart, LocusPart, IsOf, Spells}
 use Rattle.record_laws.specs.locus_machine.declared.loci.Head.{Head}
 use Rattle.record_laws.specs.locus_machine.Loci.{container_with}

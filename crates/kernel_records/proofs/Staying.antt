@@ -3,9 +3,9 @@ use Rattle.std.proofs.Common.{◌≡◌, ◌≢◌, ℕ, ◌/◌, ◌%◌, ◌�
 use Rattle.std.proofs.lemmas.Bool.{cases_eq}
 use Rattle.disk_trait.specs.Image.{Image}
 use Rattle.snapshot_store.specs.hop_model.State.{ContainerCell, Supply}
-use Rattle.snapshot_store.specs.image_blocks.Layout.{pool_at}
+use Rattle.snapshot_store.specs.image_form.Layout.{pool_at}
 use Rattle.record_laws.specs.store_model.Books.{Books, kept_names, words_of_bytes}
-use Rattle.snapshot_store.specs.Committed.{SameUsed}
+use Rattle.snapshot_store.specs.store_laws.Committed.{SameUsed}
 use Rattle.frame_table.specs.FrameTable.{Resident, page_at}
 use Rattle.record_laws.specs.locus_machine.declared.loci.Head.{Head}
 use Rattle.record_laws.specs.locus_machine.Loci.{container_with}

@@ -6,7 +6,7 @@ use Rattle.snapshot_store.specs.hop_model.State.{KernelState, Supply}
 use Rattle.record_laws.specs.image_meaning.Parts.{Spells}
 use Rattle.record_laws.specs.image_meaning.Stores.{Kept}
 use Rattle.record_laws.specs.store_model.Books.{kept_for, kept_names}
-use Rattle.snapshot_store.specs.State.{State, books}
+use Rattle.snapshot_store.specs.store_laws.State.{State, books}
 use Rattle.wish_laws.specs.event_clocks.declared.Clock.{Clock}
 use Rattle.wish_laws.specs.event_clocks.Clocks.{HasClock}
 use Rattle.wish_laws.specs.kernel_cells.declared.cells.Cell.{Cell}

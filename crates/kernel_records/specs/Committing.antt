@@ -6,15 +6,15 @@ use Rattle.disk_trait.specs.Image.{Image}
 use Rattle.disk_trait.specs.declared.disk.NoBlocks.{NoBlocks as TooFew}
 use Rattle.hop_base.specs.declared.records.Rec.{Rec}
 use Rattle.snapshot_store.specs.hop_model.State.{Supply}
-use Rattle.snapshot_store.specs.image_blocks.Bodies.{blob_in}
-use Rattle.snapshot_store.specs.image_blocks.Layout.{slot_count}
+use Rattle.snapshot_store.specs.image_form.Bodies.{blob_in}
+use Rattle.snapshot_store.specs.image_form.Layout.{slot_count}
 use Rattle.record_laws.specs.image_meaning.Parts.{Spells}
 use Rattle.record_laws.specs.image_meaning.Stores.{Stores}
 use Rattle.record_laws.specs.store_model.Between.{OnlyPages}
 use Rattle.record_laws.specs.store_model.Books.{Books, free_in, kept_in, kept_names, kept_of, recs_in}
-use Rattle.snapshot_store.specs.Committed.{HasNewRecord, SameUsed, StoresMoreInFreeBlocks}
-use Rattle.snapshot_store.specs.Putting.{are_small}
-use Rattle.snapshot_store.specs.State.{HoldsPoolBlocks, State, books}
+use Rattle.snapshot_store.specs.store_laws.Committed.{HasNewRecord, SameUsed, StoresMoreInFreeBlocks}
+use Rattle.snapshot_store.specs.store_laws.Putting.{are_small}
+use Rattle.snapshot_store.specs.store_laws.State.{HoldsPoolBlocks, State, books}
 use Rattle.snapshot_store.specs.declared.faults.StoreFault.{StoreFault}
 use Rattle.snapshot_store.specs.declared.faults.StoreFault.TheVariants.{NoBlocks, ReadFault, Shut, WriteFault}
 use Rattle.vector_stamps.specs.Stamps.{component}

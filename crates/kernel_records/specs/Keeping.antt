@@ -2,9 +2,9 @@
 use Rattle.std.specs.Prelude.{◌≡◌, ◌⊎◌, ℕ, ◌+◌, ◌*◌, ◌<◌, ◌≤◌, ◌==◌, if◌then◌else◌, All, AllPairs, Any, List, length, slice_index}
 use Rattle.hop_base.specs.declared.records.Rec.{Rec}
 use Rattle.snapshot_store.specs.hop_model.Words.{put}
-use Rattle.snapshot_store.specs.log_reading.Logs.{IsOlder}
-use Rattle.snapshot_store.specs.Committed.{HasNewRecord}
-use Rattle.snapshot_store.specs.Shelves.{records_of}
+use Rattle.snapshot_store.specs.log_laws.Logs.{IsOlder}
+use Rattle.snapshot_store.specs.store_laws.Committed.{HasNewRecord}
+use Rattle.snapshot_store.specs.store_laws.Shelves.{records_of}
 use Rattle.record_laws.specs.store_model.Books.{Books, Logged, kept_in, recs_in}
 
 -- one record more at most is kept, of the entity whose it is

@@ -19,3 +19,6 @@ pub use Rattle.record_laws.specs as record_laws
 pub use Rattle.snapshot_store.specs as snapshot_store
 pub use Rattle.record_laws.specs.store_model
 pub use Rattle.wish_laws.specs as wish_laws
+pub use Rattle.snapshot_store.specs.image_form
+pub use Rattle.snapshot_store.specs.store_laws
+pub use Rattle.snapshot_store.specs.log_laws

@@ -5,7 +5,7 @@ use Rattle.snapshot_store.specs.hop_model.State.{Supply}
 use Rattle.wish_laws.specs.kernel_cells.declared.cells.Cell.{Cell}
 use Rattle.wish_laws.specs.kernel_cells.Cells.{part_of}
 use Rattle.wish_laws.specs.kernel_cells.Wishes.{is_open}
-use Rattle.snapshot_store.specs.Shelves.{records_of}
+use Rattle.snapshot_store.specs.store_laws.Shelves.{records_of}
 use Rattle.record_laws.specs.store_model.Books.{Books, kept_in}
 
 -- FULL: the store keeps four records of the entity or more

@@ -5,7 +5,7 @@ use Rattle.hop_base.specs.declared.records.Rec.{Rec}
 use Rattle.snapshot_store.specs.hop_model.State.{KernelState, Supply}
 use Rattle.record_laws.specs.store_model.Books.{kept_for}
 use Rattle.record_laws.specs.kernel_model.Telling.{TellsOf}
-use Rattle.snapshot_store.specs.State.{State, books}
+use Rattle.snapshot_store.specs.store_laws.State.{State, books}
 use Rattle.wish_laws.specs.kernel_cells.declared.cells.Cell.{Cell}
 use Rattle.wish_laws.specs.kernel_cells.Cells.{HasCell}
 use Rattle.record_laws.specs.Cells.{IsCleanIn, IsSoundIn, IsSpellable, table_of, words_on}

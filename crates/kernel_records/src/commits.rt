@@ -5,8 +5,8 @@ ghost use Rattle.disk_trait.specs.Disk.{Only};
 ghost use Rattle.disk_trait.specs.Moments.{LeavesOnly};
 ghost use Rattle.record_laws.specs.cell_blobs.Blobs.{blob_need, is_recorded, page_need};
 ghost use Rattle.kernel_records.specs.Committing.{CellFaults, CommitCounts, HasCommitted, HasNotCommitted, MayCommit, StoresKeptOrCell};
-ghost use Rattle.snapshot_store.specs.Putting.{are_small};
-ghost use Rattle.snapshot_store.specs.State.{books};
+ghost use Rattle.snapshot_store.specs.store_laws.Putting.{are_small};
+ghost use Rattle.snapshot_store.specs.store_laws.State.{books};
 ghost use Rattle.snapshot_store.specs.declared.faults.StoreFault.{StoreFault as Fault};
 ghost use Rattle.record_laws.specs.store_model.Books.{AreSmall, AreTrue, free_in, kept_names};
 

@@ -7,9 +7,9 @@ ghost use Rattle.disk_trait.specs.Moments.{LeavesOnly};
 ghost use Rattle.record_laws.specs.cell_blobs.Blobs.{blob_need, bytes_of, spelt_in};
 ghost use Rattle.record_laws.specs.Cells.{table_of};
 ghost use Rattle.kernel_records.specs.Committing.{HasRecord, IsSpelt, MayCommit};
-ghost use Rattle.snapshot_store.specs.Committed.{HasFailedShut, SameUsed, StoresKeptOrMore};
-ghost use Rattle.snapshot_store.specs.Putting.{are_small};
-ghost use Rattle.snapshot_store.specs.State.{books};
+ghost use Rattle.snapshot_store.specs.store_laws.Committed.{HasFailedShut, SameUsed, StoresKeptOrMore};
+ghost use Rattle.snapshot_store.specs.store_laws.Putting.{are_small};
+ghost use Rattle.snapshot_store.specs.store_laws.State.{books};
 ghost use Rattle.snapshot_store.specs.declared.faults.StoreFault.{StoreFault as Fault};
 ghost use Rattle.record_laws.specs.store_model.Books.{AreSmall, AreTrue, free_in};
 

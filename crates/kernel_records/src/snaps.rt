@@ -7,8 +7,8 @@ ghost use Rattle.snapshot_store.specs.hop_model.Histories.{mark};
 ghost use Rattle.snapshot_store.specs.hop_model.State.{Supply};
 ghost use Rattle.kernel_records.specs.Committing.{CellFaults, CommitCounts, HasCommitted, HasNotCommitted, MayCommit, StoresKeptOrCell};
 ghost use Rattle.kernel_records.specs.Snapping.{is_snapped};
-ghost use Rattle.snapshot_store.specs.Putting.{are_small};
-ghost use Rattle.snapshot_store.specs.State.{books};
+ghost use Rattle.snapshot_store.specs.store_laws.Putting.{are_small};
+ghost use Rattle.snapshot_store.specs.store_laws.State.{books};
 ghost use Rattle.record_laws.specs.store_model.Books.{AreSmall, AreTrue};
 ghost use Rattle.wish_laws.specs.Founded.{IsFoundedCell};
 

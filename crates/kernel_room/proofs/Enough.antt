@@ -5,8 +5,8 @@ use Rattle.hop_base.specs.declared.histories.Entry.{Entry}
 use Rattle.disk_trait.specs.Image.{Image}
 use Rattle.hop_base.specs.Edges.{upto}
 use Rattle.kernel_model.specs.hop_model.Histories.{commits_above}
-use Rattle.kernel_model.specs.image_blocks.Layout.{pool_at}
-use Rattle.kernel_model.specs.image_blocks.Logs.{AreFitting}
+use Rattle.kernel_model.specs.image_form.Layout.{pool_at}
+use Rattle.kernel_model.specs.image_form.Logs.{AreFitting}
 use Rattle.kernel_model.proofs.run_laws_lemmas.Few.{Few, few_after}
 use Rattle.kernel_model.proofs.sound_runs_lemmas.Standing.{legal_below}
 use Rattle.kernel_model.proofs.sound_states_lemmas.Empty.{none_beyond}

@@ -16,8 +16,8 @@ use Rattle.kernel_model.specs.cut_laws.Agreeing.{from_cut, is_from, nothing}
 use Rattle.kernel_model.specs.cut_laws.Records.{commit_of, commits_of}
 use Rattle.kernel_model.proofs.cut_laws_lemmas.Filters.{kept}
 use Rattle.kernel_model.proofs.cut_laws_lemmas.Joins.{same_greatest}
-use Rattle.kernel_model.specs.image_blocks.Bodies.{blob_blocks, blocks_for, body_block, record_in}
-use Rattle.kernel_model.specs.image_blocks.Logs.{AreFitting}
+use Rattle.kernel_model.specs.image_form.Bodies.{blob_blocks, blocks_for, body_block, record_in}
+use Rattle.kernel_model.specs.image_form.Logs.{AreFitting}
 use Rattle.kernel_model.specs.image_meaning.Describing.{bytes_of}
 use Rattle.kernel_model.specs.image_meaning.Parts.{AtlasPart, ContainerPart, LocusPart, Part, Spells, cell_of, table_in}
 use Rattle.kernel_model.specs.image_meaning.Stores.{Page, recs_of}

@@ -9,9 +9,9 @@ use Rattle.kernel_model.specs.cut_laws.Records.{commit_of, commits_of}
 use Rattle.kernel_model.proofs.cut_laws_lemmas.Filters.{kept}
 use Rattle.kernel_model.proofs.cut_laws_lemmas.Joins.{same_greatest}
 use Rattle.hop_base.specs.declared.records.Rec.{Rec}
-use Rattle.kernel_model.specs.image_blocks.Bodies.{blob_blocks}
-use Rattle.kernel_model.specs.image_blocks.Layout.{pool_at}
-use Rattle.kernel_model.specs.image_blocks.Logs.{AreFitting}
+use Rattle.kernel_model.specs.image_form.Bodies.{blob_blocks}
+use Rattle.kernel_model.specs.image_form.Layout.{pool_at}
+use Rattle.kernel_model.specs.image_form.Logs.{AreFitting}
 use Rattle.kernel_model.proofs.image_meaning_lemmas.Choosing.{from_commits}
 use Rattle.kernel_model.proofs.image_meaning_lemmas.Resting.{one_of}
 use Rattle.kernel_model.specs.store_model.Books.{Books, Logged, cut_in, is_used, kept_in, kept_names, logged_recs, names, recs_in}

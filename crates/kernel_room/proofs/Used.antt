@@ -5,8 +5,8 @@ use Rattle.std.specs.List.{list_any, range_with_len}
 use Rattle.std.proofs.lemmas.Bool.{and_parts, cases_lt, false≢true, or_cases, or_left, or_right}
 use Rattle.std.proofs.lemmas.List.FromFn.{length-range_with_len}
 use Rattle.hop_base.specs.Edges.{upto}
-use Rattle.kernel_model.specs.image_blocks.Bodies.{blob_blocks}
-use Rattle.kernel_model.specs.image_blocks.Layout.{pool_at}
+use Rattle.kernel_model.specs.image_form.Bodies.{blob_blocks}
+use Rattle.kernel_model.specs.image_form.Layout.{pool_at}
 use Rattle.kernel_model.specs.store_model.Books.{Books, Logged, free_in, is_used, kept_in, kept_names, names}
 use Rattle.kernel_model.specs.store_model.Owning.{AreOwned, NamesPage}
 use Rattle.kernel_room.specs.Room.{blocks_of, kept_blocks, named_in, working_blocks}

@@ -1,23 +1,15 @@
 -- An entity's room doesn't fall: once born it stays, and a container keeps its pages.
-use Rattle.std.proofs.Common.{◌≡◌, ℕ, ◌+◌, ◌/◌, ◌≤◌, ◌<◌, Bool, true, false, ◌&&◌, ◌||◌, ◌==◌, nat_le, nat_lt, if◌then◌else◌, MatchOption, List, [], ◌∷◌, ◌++◌, length, find, Option, Some, None, is_some, refl, sym, ap, subst, ◌∙◌, arith, eqb-true}
-use Rattle.std.proofs.lemmas.Bool.{false≢true, ltb-true}
+use Rattle.std.proofs.Common.{◌≡◌, ℕ, ◌+◌, ◌≤◌, ◌<◌, Bool, true, false, ◌&&◌, ◌||◌, ◌==◌, nat_le, nat_lt, if◌then◌else◌, List, [], ◌∷◌, length, Option, Some, None, is_some, refl, sym, ap, subst, ◌∙◌, arith, eqb-true}
+use Rattle.std.specs.Prelude.{IfSome}
+use Rattle.std.proofs.lemmas.Bool.{ltb-true}
 use Rattle.std.proofs.lemmas.Bool.Decides.{nat_tests}
-use Rattle.hop_base.specs.declared.capabilities.Cap.{Cap}
-use Rattle.hop_base.specs.declared.capabilities.Region.{Region}
-use Rattle.hop_base.specs.declared.instructions.Call.{Call}
-use Rattle.hop_base.specs.declared.instructions.Instr.{Instr}
-use Rattle.hop_base.specs.declared.instructions.Instr.TheVariants.{Load, Store, Invoke, Leave, Return, Map, Unmap, Take, Give, Make, Spawn, Stop, Go, Snap}
-use Rattle.hop_base.specs.declared.instructions.Reply.{Reply}
-use Rattle.hop_base.specs.declared.instructions.Reply.TheVariants.{Deep, ListFull, NoPage}
-use Rattle.kernel_model.specs.hop_model.State.{Supply, AtlasCell, AtlasState, ContainerState, LocusState, Cell, ContainerCell, LocusCell, KernelState, NotBorn}
+use Rattle.kernel_model.specs.hop_model.State.{Supply, AtlasCell, AtlasState, LocusState, Cell, ContainerCell, LocusCell, KernelState, NotBorn}
 use Rattle.kernel_model.specs.hop_model.Soundness.{IsSound, is_born}
-use Rattle.kernel_model.specs.hop_model.Words.{cap_at, covers, denied, free_slot, last_call}
-use Rattle.kernel_model.specs.hop_model.Refusals.{reg, instr_at, entity_of, new_region, refusal}
-use Rattle.kernel_model.specs.hop_model.Acts.{Act, alone, beside, beside_or_self, allowed, act_by, wanted}
-use Rattle.kernel_model.specs.hop_model.Outcomes.{Outcome, back, back_to, by_refused, enter, entered, free_container, free_locus, give, give_at, given_cap, hop_to, invoke, invoke_at, leave, leave_at, load, look_address, look_hops, looked, looked_by, make, make_at, map_by, map_refusal, map_region, on_cell, outcome, own_reply, spawn, spawn_at, store, take_by, take_cap, through, unmap, unmap_at, with_newborn, with_other}
+use Rattle.kernel_model.specs.hop_model.Acts.{wanted}
+use Rattle.kernel_model.specs.hop_model.Outcomes.{by_refused, free_container, free_locus, outcome}
 use Rattle.kernel_model.specs.hop_model.Changes.{Access, access_at, accessed, changed, insert_access, joined, merged, ordered, touches_of, written}
 use Rattle.kernel_model.specs.hop_model.Steps.{accesses_of, outcome_in, seen_atlas, seen_other, with_atlas_access, with_newborn_access, with_other_access}
-use Rattle.kernel_model.proofs.hop_model_lemmas.Faithful.{IsNewborn, wanted_is}
+use Rattle.kernel_model.proofs.sound_runs_lemmas.Acting.{HoldsBorn, IsKept, newborn_holds, newborn_is, refused_kept}
 
 -- the room of an entity: a container's pages, and eight blocks of a blob
 abbrev pub cell_room : Cell → ℕ
@@ -30,75 +22,15 @@ cell_room (LocusCell l) = 8
 
 -- a new cell, if there is one, has at least this room
 abbrev pub HasRoom : ℕ → Option Cell → Type 0
-HasRoom n None = Unit {0}
-HasRoom n (Some c) = n ≤ cell_room c
+HasRoom n new = IfSome new (λ c. n ≤ cell_room c)
 
-module _ (s : Supply) (n : ℕ) where
-  through_room : (l : LocusState) (r : Region) (address : ℕ) (why : Option Reply) → HasRoom n (through l r address why).other
-  through_room l r address (Some why) = tt
-  through_room l r address None = elim (nat_lt (look_hops l) 63) as (λ b. HasRoom n (if◌then◌else◌ {A = Outcome} b (hop_to l r address) (own_reply l Deep)).other) [ true ↦ tt | false ↦ tt ]
-
-  by_region : (l : LocusState) (address needed : ℕ) (done : Outcome) (r : Option Region) → HasRoom n done.other → HasRoom n (looked_by l address needed done r).other
-  by_region l address needed done (Some r) good = through_room l r address (denied r.rights.0 needed)
-  by_region l address needed done None good = good
-
-  looked_room : (l : LocusState) (c : ContainerState) (address needed : ℕ) (done : Outcome) → HasRoom n done.other → HasRoom n (looked l c address needed done).other
-  looked_room l c address needed done good =
-      elim (nat_lt (address / 128) c.pages) as (λ b. HasRoom n (if◌then◌else◌ {A = Outcome} b (looked_by l address needed done (find (λ r. covers r (address / 128)) c.regions)) (own_reply l NoPage)).other) [
-        | true ↦ by_region l address needed done (find (λ r. covers r (address / 128)) c.regions) good
-        | false ↦ tt
-      ]
-
-  module _ (l : LocusState) (a : AtlasState) (x : ℕ) (c : ContainerState) (good : n ≤ 8 + c.pages) where
-    invoke_room : (e : Option ℕ) → HasRoom n (invoke_at l x c e).other
-    invoke_room None = good
-    invoke_room (Some e) = elim (nat_lt (length l.chain) 64) as (λ b. HasRoom n (if◌then◌else◌ {A = Outcome} b (entered c (enter l x c e (l.chain ++ record { container = l.host; place = l.place + 1 } ∷ []))) (with_other l ListFull (ContainerCell c))).other) [ true ↦ good | false ↦ good ]
-
-    leave_room : (e : Option ℕ) → HasRoom n (leave_at l x c e).other
-    leave_room None = good
-    leave_room (Some e) = good
-
-    back_room : (call : Option Call) → HasRoom n (back_to l c call).other
-    back_room None = tt
-    back_room (Some call) = good
-
-    map_room : (r : Region) (why : Option Reply) → HasRoom n (map_by l a x c r why).other
-    map_room r None = good
-    map_room r (Some why) = good
-
-    unmap_room : (at : ℕ) (r : Option Region) → HasRoom n (unmap_at l a x c at r).other
-    unmap_room at None = good
-    unmap_room at (Some r) = good
-
-    take_room : (d : ℕ) (cap : Option Cap) (slot : Option ℕ) → HasRoom n (take_by l c d cap slot).other
-    take_room d None slot = good
-    take_room d (Some cap) None = good
-    take_room d (Some cap) (Some slot) = good
-
-    give_room : (d : ℕ) (cap : Cap) (slot : Option ℕ) → HasRoom n (give_at l c d cap slot).other
-    give_room d cap None = good
-    give_room d cap (Some slot) = good
-
-  -- an act leaves a cell its room
-  on_room : (l : LocusState) (a : AtlasState) (x : ℕ) (i : Instr) (cell : Cell) → n ≤ cell_room cell → HasRoom n (on_cell s l a x i cell).other
-  unfolding on_cell load store invoke leave back map_region unmap take_cap give
-  on_room l a x (Load d r) (ContainerCell c) good = looked_room l c (look_address l (reg l r)) 1 _ tt
-  on_room l a x (Store r v) (ContainerCell c) good = looked_room l c (look_address l (reg l r)) 2 _ good
-  on_room l a x (Invoke r) (ContainerCell c) good = invoke_room l a x c good c.entry
-  on_room l a x (Leave r) (ContainerCell c) good = leave_room l a x c good c.entry
-  on_room l a x Return (ContainerCell c) good = back_room l a x c good (last_call l.chain)
-  on_room l a x (Map d r k b m rights) (ContainerCell c) good = map_room l a x c good (new_region l r k b m rights) (map_refusal a x c (new_region l r k b m rights))
-  on_room l a x (Unmap d r) (ContainerCell c) good = unmap_room l a x c good (reg l r) (find (λ q. q.at == reg l r) c.regions)
-  on_room l a x (Take d k y) (ContainerCell c) good = take_room l a x c good d (cap_at c.caps (reg l y)) (free_slot l.caps)
-  on_room l a x (Give d k r rights) (ContainerCell c) good = give_room l a x c good d (given_cap l r rights.0) (free_slot c.caps)
-  on_room l a x (Stop c) (LocusCell m) good = good
-  on_room l a x (Go c) (LocusCell m) good = good
-  on_room l a x (Snap c) cell good = good
-  on_room l a x i cell good = good
-
-  by_refusal_room : (l : LocusState) (a : AtlasState) (i : Instr) (why : Option Reply) (x : ℕ) (cell : Cell) → n ≤ cell_room cell → HasRoom n (by_refused s l a i why (Some x) cell).other
-  by_refusal_room l a i (Some why) x cell good = tt
-  by_refusal_room l a i None x cell good = on_room l a x i cell good
+-- an act leaves a cell its room
+room_kept : (n : ℕ) → IsKept (λ c. n ≤ cell_room c)
+room_kept n = record {
+  contained = λ c d pages tag words good. omega (arith, pages, good);
+  stored = λ c address word page good. good;
+  located = λ l m good. good;
+}
 
 -- WHAT IS BORN
 
@@ -130,52 +62,8 @@ free_locus_unborn a n few free = by_room (nat_lt (length a.loci) 23) refl free
     by_room true e is = subst (λ m. is_born a m ≡ false) (ap (number 0) is) (unborn (length a.containers) (length a.loci) few)
     by_room false e is = cc
 
-module _ (s : Supply) (me : ℕ) (l : LocusState) (a : AtlasState) (cell : Cell) (b : ℕ × Cell) (few : length a.containers ≤ 40) where
-  abbrev BearsFree : Act → Type 0
-  BearsFree act = act.atlas ≡ true → act.other ≡ None → (outcome s l act a cell).newborn ≡ Some b → is_born a b.0 ≡ false
-
-  number_is : (n : ℕ) (c : Cell) → Some (n, c) ≡ Some b → is_born a n ≡ false → is_born a b.0 ≡ false
-  number_is n c e free = let same : (n, c) ≡ b = cc in subst (λ (q : ℕ × Cell). is_born a q.0 ≡ false) same free
-
-  make_free : (d pages tag : ℕ) (entry o : Option ℕ) → free_container a ≡ o → (make_at s l a d pages tag entry o).newborn ≡ Some b → is_born a b.0 ≡ false
-  make_free d pages tag entry None free e = cc
-  make_free d pages tag entry (Some n) free e = number_is n _ e (free_container_unborn a n free)
-
-  spawn_free : (d place : ℕ) (o : Option ℕ) → free_locus a ≡ o → (spawn_at l a d place o).newborn ≡ Some b → is_born a b.0 ≡ false
-  spawn_free d place None free e = cc
-  spawn_free d place (Some n) free e = number_is n _ e (free_locus_unborn a n few free)
-
-  some_none : (x : ℕ) → Some x ≡ None → ⊥
-  some_none x e = cc
-
-  self_bears : (i : Instr) (x : ℕ) → BearsFree (beside_or_self me i x)
-  self_bears i x = elim (x == me) as (λ t. BearsFree (if t then alone i None else beside i x)) [ true ↦ λ h. absurd (false≢true h) | false ↦ λ h. absurd (false≢true h) ]
-
-  allowed_bears : (i : Instr) → BearsFree (allowed me l i)
-  unfolding allowed outcome with_newborn make spawn
-  allowed_bears (Make d n t e) h k is = make_free d (reg l n) (reg l t) e (free_container a) refl is
-  allowed_bears (Spawn d p) h k is = spawn_free d p (free_locus a) refl is
-  allowed_bears (Map d r c q n rights) h k is = absurd (some_none _ k)
-  allowed_bears (Unmap d r) h k is = absurd (some_none _ k)
-  allowed_bears (Stop c) h k is = self_bears (Stop c) (entity_of l c) h k is
-  allowed_bears (Go c) h k is = self_bears (Go c) (entity_of l c) h k is
-  allowed_bears (Snap c) h k is = self_bears (Snap c) (entity_of l c) h k is
-  allowed_bears i h k is = absurd (false≢true h)
-
-  wanted_bears : BearsFree (wanted me l)
-  unfolding wanted
-  wanted_bears = by_refusal (refusal l (instr_at l))
-    where
-      by_refusal : (o : Option Reply) → BearsFree (act_by me l (instr_at l) o)
-      by_refusal (Some why) = λ h. absurd (false≢true h)
-      by_refusal None = allowed_bears (instr_at l)
-
-  newborn_is : (outcome s l (wanted me l) a cell).newborn ≡ Some b → IsNewborn (wanted me l).atlas (wanted me l).other a (outcome s l (wanted me l) a cell).atlas b
-  newborn_is is =
-      subst (λ o. MatchOption o ((wanted me l).atlas ≡ true → length (outcome s l (wanted me l) a cell).atlas.loci ≡ length a.loci) (λ b. IsNewborn (wanted me l).atlas (wanted me l).other a (outcome s l (wanted me l) a cell).atlas b)) is (wanted_is s me l a cell).bears
-
-  newborn_free : (outcome s l (wanted me l) a cell).newborn ≡ Some b → is_born a b.0 ≡ false
-  newborn_free is = (let f = newborn_is is in wanted_bears f.0 f.1 is)
+born_free : (s : Supply) (l : LocusState) (a : AtlasState) → length a.containers ≤ 40 → HoldsBorn s l a (λ b. is_born a b.0 ≡ false)
+born_free s l a few = record { container = λ d pages tag entry n free. free_container_unborn a n free; locus = λ d place n free. free_locus_unborn a n few free }
 
 -- CHANGES
 
@@ -252,15 +140,15 @@ module _ (s : Supply) (w : KernelState) (sound : IsSound (λ x. (w x).cell)) whe
     other_wide x is =
         let act = wanted me l in
         subst (λ (o : Option ℕ). HasRoom (cell_room (w x).cell) (by_refused s l (seen_atlas w act.atlas) act.instr act.refused o (seen_other w o)).other) (sym is)
-        (by_refusal_room s (cell_room (w x).cell) l (seen_atlas w act.atlas) act.instr act.refused x (w x).cell (omega arith))
+        (refused_kept s (λ c. cell_room (w x).cell ≤ cell_room c) (room_kept (cell_room (w x).cell)) l (seen_atlas w act.atlas) act.instr act.refused x (w x).cell (omega arith))
 
     newborn_wide : (b : ℕ × Cell) → (outcome_in s l (wanted me l) w).newborn ≡ Some b → cell_room (w b.0).cell ≤ cell_room b.1
     newborn_wide b is =
         let act = wanted me l in
         let seen : AtlasState = seen_atlas w act.atlas in
-        let f = newborn_is s me l seen (seen_other w act.other) b (few_seen act.atlas) is in
+        let f = newborn_is s me l seen (seen_other w act.other) b is in
         let same : seen ≡ sound.0 = ap (seen_atlas w) f.0 ∙ ap Rattle.kernel_model.specs.hop_model.Steps.atlas_in sound.1.atlas in
-        let free = newborn_free s me l seen (seen_other w act.other) b (few_seen act.atlas) is in
+        let free = newborn_holds s me l seen (seen_other w act.other) (λ b. is_born seen b.0 ≡ false) (born_free s l seen (few_seen act.atlas)) b is in
         unborn_room b.0 (cell_room b.1) (subst (λ (a : AtlasState). is_born a b.0 ≡ false) same free)
       where
         few_seen : (t : Bool) → length (seen_atlas w t).containers ≤ 40

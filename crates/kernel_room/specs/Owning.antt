@@ -1,7 +1,7 @@
 -- A record that a store puts behind its log, against the working page tables.
 use Rattle.std.specs.Prelude.{◌≡◌, ℕ, ◌≤◌, ◌<◌, ◌⊎◌, true, false, List, [], ◌∷◌, ◌++◌, Contains, slice_index}
-use Rattle.kernel_model.specs.image_blocks.Bodies.{blob_blocks}
-use Rattle.kernel_model.specs.image_blocks.Layout.{pool_at}
+use Rattle.kernel_model.specs.image_form.Bodies.{blob_blocks}
+use Rattle.kernel_model.specs.image_form.Layout.{pool_at}
 use Rattle.kernel_model.specs.store_model.Books.{Books, Logged, is_used, kept_in}
 
 -- Its pages are those of its entity's working table, in the pool, and the blocks of its blob weren't in use. Nothing else is another.

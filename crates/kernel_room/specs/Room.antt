@@ -3,8 +3,8 @@ use Rattle.std.specs.Prelude.{◌≡◌, ℕ, ◌+◌, ◌*◌, ◌≤◌, Bool,
 use Rattle.std.specs.List.{sum_by}
 use Rattle.hop_base.specs.Edges.{upto}
 use Rattle.kernel_model.specs.hop_model.State.{AtlasCell, Cell, ContainerCell, KernelState, LocusCell, NotBorn}
-use Rattle.kernel_model.specs.image_blocks.Bodies.{blob_blocks}
-use Rattle.kernel_model.specs.image_blocks.Layout.{pool_at}
+use Rattle.kernel_model.specs.image_form.Bodies.{blob_blocks}
+use Rattle.kernel_model.specs.image_form.Layout.{pool_at}
 use Rattle.kernel_model.specs.store_model.Books.{Books, Logged, kept_in}
 
 -- the blocks that a page table names, each place counted

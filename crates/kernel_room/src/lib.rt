@@ -5,8 +5,8 @@
 ghost use Rattle.std.specs.Prelude.{◌==◌, count_by, [], ◌∷◌, ◌++◌, ◌≡◌, ◌≤◌, ◌+◌, ◌*◌, ◌⊎◌, ℕ, Contains, List, None, false, length};
 ghost use Rattle.hop_base.specs.declared.histories.Entry.{Entry};
 ghost use Rattle.kernel_model.specs.hop_model.Histories.{commits_above};
-ghost use Rattle.kernel_model.specs.image_blocks.Layout.{pool_at};
-ghost use Rattle.kernel_model.specs.image_blocks.Logs.{AreFitting};
+ghost use Rattle.kernel_model.specs.image_form.Layout.{pool_at};
+ghost use Rattle.kernel_model.specs.image_form.Logs.{AreFitting};
 ghost use Rattle.kernel_model.specs.store_model.Books.{Books, Logged, free_in, kept_in, recs_in};
 ghost use Rattle.kernel_model.specs.store_model.Owning.{AreOwned};
 ghost use Rattle.kernel_model.specs.Beginnings.{Beginning, BeginsRight, IsLegal, completed, run_of, state_after};

@@ -21,12 +21,12 @@ use Rattle.kernel_core.specs.table_births.Births.{atlas_state_in}
 use Rattle.kernel_core.specs.record_laws.Cells.{words_on}
 use Rattle.kernel_core.specs.kernel_laws.Opening.{empty_script, with_script}
 use Rattle.kernel_core.specs.kernel_model.Beginnings.{Beginning, run_of, state_after}
-use Rattle.kernel_core.specs.Kernels.{Held, Lives}
-use Rattle.kernel_core.specs.kernel_commits.Lacking.{LacksIn}
-use Rattle.kernel_core.specs.kernel_commits.Pieces.{StopsIn}
+use Rattle.kernel_core.specs.core_laws.Kernels.{Held, Lives}
+use Rattle.kernel_core.specs.commit_laws.Lacking.{LacksIn}
+use Rattle.kernel_core.specs.commit_laws.Pieces.{StopsIn}
 use Rattle.kernel_core.specs.kernel_commits.declared.stopping.Stopped.{Stopped}
 use Rattle.kernel_core.specs.kernel_commits.declared.stopping.Stopped.TheVariants.{TooFew}
-use Rattle.kernel_core.proofs.kernel_commits_lemmas.Dues.{due_opening}
+use Rattle.kernel_core.proofs.commit_laws_lemmas.Dues.{due_opening}
 use Rattle.kernel_core.proofs.kernel_commits_lemmas.Wishing.{fault_in}
 use Rattle.kernel_runs.specs.Running.{HasStopped, IsOver, IsRunBy, RunsAlong, TakesOn, opened_in}
 use Rattle.kernel_runs.proofs.Course.{over}

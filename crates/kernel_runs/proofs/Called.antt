@@ -8,7 +8,7 @@ use Rattle.kernel_core.specs.hop_model.State.{KernelState, Supply, Text}
 use Rattle.kernel_core.specs.hop_model.Steps.{atlas_in}
 use Rattle.kernel_core.specs.hop_model.Words.{or_else}
 use Rattle.kernel_core.proofs.hop_model_lemmas.LegalRuns.{state_after as state_run}
-use Rattle.atlas_dir.specs.Directory.{Directory, IsDirectory, entity_named}
+use Rattle.atlas_dir.specs.directory_form.Directory.{Directory, IsDirectory, entity_named}
 use Rattle.kernel_core.proofs.directory_laws_lemmas.NameLaws.{numbers_same}
 use Rattle.kernel_core.specs.kernel_calls.Calls.{atlas_state}
 use Rattle.kernel_core.specs.kernel_cells.declared.cells.Cell.{Cell}
@@ -18,7 +18,7 @@ use Rattle.kernel_core.specs.cell_table.Tables.{entity_in, state_in}
 use Rattle.kernel_core.proofs.directory_laws_lemmas.ByKind.{container_test, locus_test, no_locus}
 use Rattle.kernel_core.specs.record_laws.Cells.{words_on}
 use Rattle.kernel_core.specs.kernel_model.Beginnings.{Beginning, run_of}
-use Rattle.kernel_core.specs.Kernels.{Held, Lives}
+use Rattle.kernel_core.specs.core_laws.Kernels.{Held, Lives}
 use Rattle.std.proofs.lemmas.Option.{same_Some}
 use Rattle.std.proofs.lemmas.Bool.{true≢false}
 

@@ -5,14 +5,14 @@ use Rattle.disk_trait.specs.Counts.{Rose}
 use Rattle.disk_trait.specs.Image.{Image}
 use Rattle.disk_trait.specs.declared.disk.NoBlocks.{NoBlocks}
 use Rattle.kernel_core.specs.hop_model.Scripts.{Script}
-use Rattle.kernel_core.specs.kernel_commits.Parts.{Parts}
-use Rattle.kernel_core.specs.kernel_commits.Stabilising.{AreTooFew}
+use Rattle.kernel_core.specs.commit_laws.Parts.{Parts}
+use Rattle.kernel_core.specs.commit_laws.Stabilising.{AreTooFew}
 use Rattle.kernel_core.specs.kernel_commits.Stops.{IsCause}
 use Rattle.kernel_core.specs.kernel_commits.declared.stopping.Stopped.{Stopped}
 use Rattle.kernel_core.specs.kernel_commits.declared.stopping.Stopped.TheVariants.{Failed, TooFew}
-use Rattle.kernel_core.specs.Bearing.{IsShortBehind}
-use Rattle.kernel_core.specs.Looking.{StopsLook}
-use Rattle.kernel_core.proofs.snapshot_store_lemmas.Causes.{Rose-before}
+use Rattle.kernel_core.specs.core_laws.Bearing.{IsShortBehind}
+use Rattle.kernel_core.specs.core_laws.Looking.{StopsLook}
+use Rattle.disk_trait.proofs.Ticks.{Rose-before}
 
 -- the cause of a part of a stretch is one of the whole
 pub cause_from : {D : Type 0} (faults : D → ℕ) (old mid new : Parts D) (why : Stopped) → faults old.store.disk ≤ faults mid.store.disk → faults mid.store.disk ≤ faults new.store.disk

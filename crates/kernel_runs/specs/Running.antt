@@ -9,8 +9,8 @@ use Rattle.kernel_core.specs.fitting_births.Fitting.{Fits}
 use Rattle.kernel_core.specs.serial_runs.Serial.{IsStopped, IsWhole}
 use Rattle.kernel_core.specs.serial_turns.Turns.{HasLooked, opened}
 use Rattle.kernel_core.specs.kernel_model.Beginnings.{Beginning}
-use Rattle.kernel_core.specs.Kernels.{Held, Lives}
-use Rattle.kernel_core.specs.kernel_commits.Lacking.{IsDue, LacksBlocks}
+use Rattle.kernel_core.specs.core_laws.Kernels.{Held, Lives}
+use Rattle.kernel_core.specs.commit_laws.Lacking.{IsDue, LacksBlocks}
 use Rattle.kernel_core.specs.kernel_commits.declared.stopping.Stopped.{Stopped}
 use Rattle.kernel_core.specs.kernel_commits.declared.stopping.Stopped.TheVariants.{TooFew}
 

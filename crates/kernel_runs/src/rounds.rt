@@ -2,9 +2,9 @@
 ghost use Rattle.std.specs.Prelude.{◌≡◌, ◌+◌, ◌*◌, ◌^◌, ◌≤◌, ℕ, None, Some, Err, IfErr, IfSome, OnOk, length};
 ghost use Rattle.kernel_core.specs.hop_model.Serial.{looks_of};
 ghost use Rattle.kernel_core.specs.hop_model.Steps.{atlas_in};
-ghost use Rattle.kernel_core.specs.kernel_commits.Pieces.{CountsWithin};
+ghost use Rattle.kernel_core.specs.commit_laws.Pieces.{CountsWithin};
 ghost use Rattle.kernel_core.specs.kernel_commits.Stops.{IsCause};
-ghost use Rattle.kernel_core.specs.Kernels.{Lives, StaysClean};
+ghost use Rattle.kernel_core.specs.core_laws.Kernels.{Lives, StaysClean};
 ghost use Rattle.kernel_core.specs.kernel_model.Beginnings.{Beginning, run_of};
 ghost use Rattle.kernel_runs.specs.Running.{EndsRun, IsRunBy, RunsAlong, TakesOn, end_of, look_most, opened_in};
 

@@ -1,9 +1,9 @@
 // A whole run of a script.
 ghost use Rattle.std.specs.Prelude.{◌≡◌, ◌+◌, ◌*◌, ◌^◌, [], None, Some, Err, IfErr, IfSome, OnOk, length};
 ghost use Rattle.kernel_core.specs.fitting_births.Fitting.{Fits};
-ghost use Rattle.kernel_core.specs.kernel_commits.Pieces.{CountsWithin};
+ghost use Rattle.kernel_core.specs.commit_laws.Pieces.{CountsWithin};
 ghost use Rattle.kernel_core.specs.kernel_commits.Stops.{IsCause};
-ghost use Rattle.kernel_core.specs.Kernels.{Lives, StaysClean};
+ghost use Rattle.kernel_core.specs.core_laws.Kernels.{Lives, StaysClean};
 ghost use Rattle.kernel_core.specs.kernel_laws.Opening.{empty_script, with_script};
 ghost use Rattle.kernel_core.specs.kernel_model.Beginnings.{Beginning};
 ghost use Rattle.kernel_runs.specs.Running.{EndsRun, look_most};

@@ -3,7 +3,7 @@ use Rattle.std.proofs.Common.{◌≡◌, ℕ, Bool, ◌||◌, List, [], ◌∷�
 use Rattle.std.proofs.lemmas.Bool.{false≢true}
 use Rattle.disk_trait.specs.Image.{Image}
 use Rattle.kernel_records.specs.event_clocks.declared.Clock.{Clock}
-use Rattle.kernel_records.specs.snapshot_store.State.{State, books}
+use Rattle.kernel_records.specs.store_laws.State.{State, books}
 use Rattle.kernel_records.specs.kernel_cells.declared.cells.Cell.{Cell}
 use Rattle.kernel_records.specs.kernel_cells.declared.cells.Wish.{Wish}
 use Rattle.cell_table.specs.Lending.{Lends}

@@ -3,11 +3,11 @@ use Rattle.std.proofs.Common.{◌≡◌, ◌≢◌, ◌⊎◌, ◌↔◌, inl, i
 use Rattle.std.specs.Prelude.{Contains}
 use Rattle.std.proofs.lemmas.Bool.{cases_eq}
 use Rattle.disk_trait.specs.Image.{Image}
-use Rattle.kernel_records.specs.image_blocks.Bodies.{blob_blocks}
-use Rattle.kernel_records.specs.image_blocks.Layout.{pool_at}
+use Rattle.kernel_records.specs.image_form.Bodies.{blob_blocks}
+use Rattle.kernel_records.specs.image_form.Layout.{pool_at}
 use Rattle.kernel_laws.specs.store_model.Books.{Books, Logged, kept_in, kept_names, names}
 use Rattle.kernel_laws.specs.store_model.Owning.{AreOwned, NamesPage}
-use Rattle.kernel_records.specs.snapshot_store.State.{State, books}
+use Rattle.kernel_records.specs.store_laws.State.{State, books}
 use Rattle.kernel_records.specs.fault_paging.declared.paged.PagedMemory.{PagedMemory}
 use Rattle.kernel_records.specs.fault_paging.Calls.{IsOfTable, Keeps}
 use Rattle.kernel_records.specs.kernel_cells.declared.cells.Cell.{Cell}

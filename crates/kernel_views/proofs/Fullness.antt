@@ -4,8 +4,8 @@ use Rattle.std.proofs.lemmas.Bool.Decides.{nat_tests}
 use Rattle.disk_trait.specs.Image.{Image}
 use Rattle.hop_base.specs.declared.histories.Entry.{Entry}
 use Rattle.kernel_records.specs.hop_model.Histories.{is_full}
-use Rattle.kernel_records.specs.snapshot_store.Shelves.{records_of}
-use Rattle.kernel_records.specs.snapshot_store.State.{State, books}
+use Rattle.kernel_records.specs.store_laws.Shelves.{records_of}
+use Rattle.kernel_records.specs.store_laws.State.{State, books}
 use Rattle.kernel_laws.specs.store_model.Books.{kept_in}
 use Rattle.kernel_records.specs.kernel_cells.declared.cells.Cell.{Cell}
 use Rattle.kernel_records.specs.Snapping.{has_room}

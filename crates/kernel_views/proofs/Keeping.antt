@@ -4,14 +4,14 @@ use Rattle.std.specs.Prelude.{Contains}
 use Rattle.std.proofs.lemmas.Bool.{cases_lt, false≢true, or_left, or_right}
 use Rattle.std.specs.List.{AllByRecursion, concat, flat_map, list_any}
 use Rattle.disk_trait.specs.Image.{Image, block_at}
-use Rattle.kernel_records.specs.image_blocks.Bodies.{blob_blocks, blob_in}
-use Rattle.kernel_records.specs.image_blocks.Layout.{pool_at}
+use Rattle.kernel_records.specs.image_form.Bodies.{blob_blocks, blob_in}
+use Rattle.kernel_records.specs.image_form.Layout.{pool_at}
 use Rattle.kernel_laws.specs.image_meaning.Stores.{Kept, Page}
 use Rattle.kernel_laws.proofs.kernel_model_lemmas.Apart.{any_passes}
 use Rattle.kernel_laws.proofs.kernel_model_lemmas.Naming.{behind, first_in}
 use Rattle.kernel_laws.specs.store_model.Books.{AreApartFrom, Books, IsApart, IsBeforePool, Logged, is_used, kept_for, kept_in, kept_names, kept_of, names, page_for}
 use Rattle.kernel_laws.specs.store_model.Owning.{NamesPage}
-use Rattle.kernel_records.specs.snapshot_store.Committed.{SameUsed}
+use Rattle.kernel_records.specs.store_laws.Committed.{SameUsed}
 
 -- A BLOCK OF A KEPT RECORD IS IN USE
 

@@ -6,9 +6,9 @@ use Rattle.disk_trait.specs.Image.{Image}
 use Rattle.hop_base.specs.declared.histories.Entry.{Entry}
 use Rattle.kernel_records.specs.hop_model.Histories.{Run, version_of}
 use Rattle.kernel_records.specs.hop_model.State.{KernelState, Supply}
-use Rattle.kernel_records.specs.image_blocks.Layout.{last_number}
-use Rattle.kernel_records.specs.snapshot_store.Putting.{are_small}
-use Rattle.kernel_records.specs.snapshot_store.State.{State, books}
+use Rattle.kernel_records.specs.image_form.Layout.{last_number}
+use Rattle.kernel_records.specs.store_laws.Putting.{are_small}
+use Rattle.kernel_records.specs.store_laws.State.{State, books}
 use Rattle.kernel_records.specs.event_clocks.declared.Clock.{Clock}
 use Rattle.vector_stamps.specs.Stamps.{component}
 use Rattle.kernel_records.specs.kernel_cells.declared.cells.Cell.{Cell}

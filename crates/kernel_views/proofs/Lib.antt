@@ -27,3 +27,4 @@ pub use Rattle.serial_runs.proofs as serial_runs_lemmas
 pub use Rattle.kernel_records.proofs.snapshot_store_lemmas
 pub use Rattle.cell_table.proofs.sound_runs_lemmas
 pub use Rattle.kernel_records.proofs.store_commit_lemmas
+pub use Rattle.kernel_records.proofs.store_laws_lemmas

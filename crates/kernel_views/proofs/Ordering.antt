@@ -6,7 +6,7 @@ use Rattle.kernel_records.specs.hop_model.State.{AtlasCell, ContainerCell, Conta
 use Rattle.kernel_records.specs.event_clocks.declared.Clock.{Clock}
 use Rattle.vector_stamps.specs.Stamps.{component}
 use Rattle.kernel_records.specs.locus_machine.declared.loci.Head.{Head}
-use Rattle.kernel_records.specs.snapshot_store.State.{State, books}
+use Rattle.kernel_records.specs.store_laws.State.{State, books}
 use Rattle.kernel_laws.specs.store_model.Books.{kept_names}
 use Rattle.kernel_records.specs.fault_paging.declared.paged.PagedMemory.{PagedMemory}
 use Rattle.kernel_records.specs.fault_paging.Words.{block_at}

@@ -3,7 +3,7 @@ use Rattle.std.proofs.Common.{◌≡◌, ◌≢◌, ℕ, Bool, true, List, slice
 use Rattle.disk_trait.specs.Image.{Image}
 use Rattle.kernel_records.specs.hop_model.State.{Supply}
 use Rattle.kernel_laws.specs.store_model.Books.{kept_names}
-use Rattle.kernel_records.specs.snapshot_store.State.{State, books}
+use Rattle.kernel_records.specs.store_laws.State.{State, books}
 use Rattle.kernel_records.specs.fault_paging.declared.paged.PagedMemory.{PagedMemory}
 use Rattle.kernel_records.specs.fault_paging.Words.{AreCleanTrue, IsSoundTable, block_at}
 use Rattle.kernel_records.specs.fault_paging.Calls.{IsOfTable}

@@ -7,12 +7,13 @@ use Rattle.kernel_records.specs.hop_model.Choices.{Commit}
 use Rattle.kernel_records.specs.hop_model.Histories.{MayCommit, Run, goes_on, mark, start_run}
 use Rattle.kernel_records.specs.hop_model.State.{KernelState}
 use Rattle.kernel_records.proofs.hop_model_lemmas.LegalRuns.{state_after as state_run}
-use Rattle.kernel_records.specs.image_blocks.Logs.{AreFitting, Place}
+use Rattle.kernel_records.specs.image_form.Logs.{AreFitting}
+use Rattle.kernel_records.specs.image_blocks.Logs.{Place}
 use Rattle.kernel_laws.specs.image_meaning.Parts.{Spells}
 use Rattle.kernel_laws.specs.store_model.Books.{AreApartFrom, AreSmall, IsBeforePool, Logged, kept_for, kept_of, logged_recs, recs_in}
 use Rattle.kernel_laws.specs.store_model.Owning.{AreOwned}
-use Rattle.kernel_records.specs.snapshot_store.Putting.{are_small}
-use Rattle.kernel_records.specs.snapshot_store.State.{State, books}
+use Rattle.kernel_records.specs.store_laws.Putting.{are_small}
+use Rattle.kernel_records.specs.store_laws.State.{State, books}
 use Rattle.kernel_records.specs.event_clocks.declared.Clock.{Clock}
 use Rattle.vector_stamps.specs.Stamps.{component}
 use Rattle.kernel_records.specs.kernel_cells.declared.cells.Cell.{Cell}

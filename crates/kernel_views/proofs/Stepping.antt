@@ -9,7 +9,7 @@ use Rattle.kernel_records.specs.hop_model.Steps.{step}
 use Rattle.kernel_laws.specs.run_cuts.Marks.{is_completing, is_step}
 use Rattle.serial_runs.specs.Serial.{IsCalm as IsQuiet}
 use Rattle.serial_runs.proofs.Calm.{step_entry, step_may}
-use Rattle.kernel_records.specs.snapshot_store.State.{State, books}
+use Rattle.kernel_records.specs.store_laws.State.{State, books}
 use Rattle.kernel_records.specs.kernel_cells.declared.cells.Cell.{Cell}
 use Rattle.kernel_records.specs.kernel_cells.Wishes.{HasWish}
 use Rattle.cell_table.specs.Tables.{AreClean, state_in, tables_in}

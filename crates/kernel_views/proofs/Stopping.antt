@@ -2,7 +2,7 @@
 use Rattle.std.proofs.Common.{ℕ, List, Some, None, refl, ◌∙◌}
 use Rattle.disk_trait.specs.Image.{Image}
 use Rattle.hop_base.specs.declared.histories.Entry.{Entry}
-use Rattle.kernel_records.specs.snapshot_store.State.{State, books}
+use Rattle.kernel_records.specs.store_laws.State.{State, books}
 use Rattle.kernel_records.specs.kernel_cells.declared.cells.Cell.{Cell}
 use Rattle.kernel_records.specs.record_laws.Cells.{words_on}
 use Rattle.kernel_laws.specs.kernel_model.Beginnings.{Beginning, run_of}

@@ -12,8 +12,8 @@ use Rattle.kernel_laws.specs.image_meaning.Parts.{Spells}
 use Rattle.kernel_laws.specs.image_meaning.Stores.{Kept, Page, Stores}
 use Rattle.kernel_laws.specs.store_model.Books.{AreStored, kept_names, kept_of, recs_in}
 use Rattle.kernel_laws.specs.store_model.Owning.{AreOwned, NamesPage}
-use Rattle.kernel_records.specs.snapshot_store.Committed.{StoresMoreInFreeBlocks}
-use Rattle.kernel_records.specs.snapshot_store.State.{State, books}
+use Rattle.kernel_records.specs.store_laws.Committed.{StoresMoreInFreeBlocks}
+use Rattle.kernel_records.specs.store_laws.State.{State, books}
 use Rattle.kernel_records.specs.event_clocks.Clocks.{HasClock}
 use Rattle.kernel_records.specs.event_clocks.declared.Clock.{Clock}
 use Rattle.vector_stamps.specs.Stamps.{component}

@@ -5,7 +5,7 @@ use Rattle.hop_base.specs.declared.histories.Entry.{Entry}
 use Rattle.hop_base.specs.declared.histories.Event.TheVariants.{Tried}
 use Rattle.kernel_records.specs.hop_model.Histories.{MayCommit, Run, commit_of as run_commit, mark, start_run}
 use Rattle.kernel_records.proofs.hop_model_lemmas.LegalRuns.{state_after as state_run}
-use Rattle.kernel_records.specs.snapshot_store.State.{State, books}
+use Rattle.kernel_records.specs.store_laws.State.{State, books}
 use Rattle.kernel_records.specs.kernel_cells.declared.cells.Cell.{Cell}
 use Rattle.kernel_records.specs.kernel_cells.Wishes.{HasWish}
 use Rattle.cell_table.specs.Tables.{IsOrderly}

@@ -5,7 +5,7 @@ use Rattle.hop_base.specs.declared.histories.Entry.{Entry}
 use Rattle.kernel_records.specs.hop_model.Histories.{Run}
 use Rattle.kernel_laws.specs.store_model.Between.{OnlyPages}
 use Rattle.kernel_laws.specs.store_model.Books.{kept_names}
-use Rattle.kernel_records.specs.snapshot_store.State.{State, books}
+use Rattle.kernel_records.specs.store_laws.State.{State, books}
 use Rattle.kernel_records.specs.kernel_cells.declared.cells.Cell.{Cell}
 use Rattle.cell_table.specs.Steps.{GoesOn}
 use Rattle.cell_table.specs.Tables.{AreClean, AreNumbered, HasNews, HasTableWishes, IsOrderly, state_in, tables_in}

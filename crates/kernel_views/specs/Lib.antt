@@ -30,3 +30,5 @@ pub use Rattle.cell_table.specs.sound_runs
 pub use Rattle.cell_table.specs.sound_states
 pub use Rattle.kernel_laws.specs.store_model
 pub use Rattle.kernel_records.specs.wish_laws
+pub use Rattle.kernel_records.specs.log_laws
+pub use Rattle.kernel_records.specs.store_laws

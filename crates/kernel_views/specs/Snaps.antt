@@ -6,7 +6,7 @@ use Rattle.hop_base.specs.declared.histories.Entry.{Entry}
 use Rattle.hop_base.specs.declared.histories.Event.TheVariants.{Snap, Tried}
 use Rattle.kernel_records.specs.hop_model.Histories.{MayCommit, is_full, mark}
 use Rattle.kernel_laws.specs.store_model.Books.{AreTrue}
-use Rattle.kernel_records.specs.snapshot_store.State.{State, books}
+use Rattle.kernel_records.specs.store_laws.State.{State, books}
 use Rattle.kernel_records.specs.kernel_cells.declared.cells.Cell.{Cell}
 use Rattle.cell_table.specs.Tables.{AreClean, IsOrderly}
 use Rattle.cell_table.specs.Lending.{Lends}

@@ -7,7 +7,7 @@ use Rattle.kernel_records.specs.kernel_cells.declared.cells.Cell.{Cell}
 use Rattle.cell_table.specs.Tables.{HasTableWishes, state_in, tables_in}
 use Rattle.kernel_records.specs.record_laws.Cells.{words_on}
 use Rattle.kernel_laws.specs.store_model.Books.{Books}
-use Rattle.kernel_records.specs.snapshot_store.State.{State, books}
+use Rattle.kernel_records.specs.store_laws.State.{State, books}
 use Rattle.kernel_laws.specs.kernel_model.Beginnings.{Beginning, run_of}
 use Rattle.kernel_laws.specs.kernel_model.Live.{KernelView, Stopped}
 

@@ -11,92 +11,103 @@ fn read_line(alloc: Global, line: &str) -> Result<Option<Command>, AllocError> {
     read_command(alloc, words.as_slice())
 }
 
+// Lines of words, and the commands that they are.
+const COMMANDS: [(&str, Command); 12] = [
+    ("run", Command::Run { trace: false }),
+    ("run --trace", Command::Run { trace: true }),
+    ("show", Command::Show),
+    ("report", Command::Report),
+    ("check-trace", Command::CheckTrace),
+    ("drill 0", Command::Drill(0)),
+    ("drill 00000000000000000001", Command::Drill(1)),
+    ("drill 18446744073709551615", Command::Drill(u64::MAX)),
+    ("format 2600", Command::Format(2600)),
+    ("format 65536", Command::Format(65_536)),
+    ("format 02600", Command::Format(2600)),
+    ("format 00000000000000002600", Command::Format(2600)),
+];
+
+// Lines of words that are no command.
+const OTHERS: [&str; 61] = [
+    "format 000000000000000002600",
+    "format 2599",
+    "format 65537",
+    "format 4294969896",
+    "format",
+    "format ",
+    "format +2600",
+    "format -2600",
+    "format 2600=",
+    "format 2600 2601",
+    "format -- 2600",
+    "format --help",
+    "format -V",
+    "Run",
+    "run x",
+    "run --workers",
+    "run trace",
+    "run -trace",
+    "run --trac",
+    "run --traces",
+    "run --trace x",
+    "run x --trace",
+    "run --trace --trace",
+    "run --trace=",
+    "run --trace --",
+    "--trace run",
+    "drill",
+    "drill x",
+    "drill -1",
+    "drill +1",
+    "drill 1 2",
+    "drill 18446744073709551616",
+    "drill 000000000000000000001",
+    "check-trace x",
+    "check-trace --trace",
+    "check_trace",
+    "show --",
+    "report x",
+    "report show",
+    "reports",
+    "Report",
+    "",
+    "2600",
+    // Empty words before, between and behind; `--` and `=` in any place; digits of other scripts, signs and marks within a number.
+    " run",
+    "run ",
+    "run  --trace",
+    "drill 1 ",
+    "--",
+    "-- run",
+    "=",
+    "run =",
+    "drill =1",
+    "run --trace=1",
+    "drill \u{661}",
+    "drill \u{ff11}",
+    "drill 0x1",
+    "drill 1_0",
+    "drill 1.0",
+    "format 2600\n",
+    "run\0",
+    "\u{feff}run",
+];
+
 #[test]
 fn words_are_read_as_commands(rt: HostRuntime) -> Result<(), Fail> {
-    let alloc = rt.alloc();
-    let cases = [
-        ("run", Some(Command::Run { trace: false })),
-        ("run --trace", Some(Command::Run { trace: true })),
-        ("show", Some(Command::Show)),
-        ("report", Some(Command::Report)),
-        ("check-trace", Some(Command::CheckTrace)),
-        ("drill 0", Some(Command::Drill(0))),
-        ("drill 00000000000000000001", Some(Command::Drill(1))),
-        (
-            "drill 18446744073709551615",
-            Some(Command::Drill(18_446_744_073_709_551_615)),
-        ),
-        ("format 2600", Some(Command::Format(2600))),
-        ("format 65536", Some(Command::Format(65_536))),
-        ("format 02600", Some(Command::Format(2600))),
-        ("format 00000000000000002600", Some(Command::Format(2600))),
-        ("format 000000000000000002600", None),
-        ("format 2599", None),
-        ("format 65537", None),
-        ("format 4294969896", None),
-        ("format", None),
-        ("format ", None),
-        ("format +2600", None),
-        ("format -2600", None),
-        ("format 2600=", None),
-        ("format 2600 2601", None),
-        ("format -- 2600", None),
-        ("format --help", None),
-        ("format -V", None),
-        ("Run", None),
-        ("run x", None),
-        ("run --workers", None),
-        ("run trace", None),
-        ("run -trace", None),
-        ("run --trac", None),
-        ("run --traces", None),
-        ("run --trace x", None),
-        ("run x --trace", None),
-        ("run --trace --trace", None),
-        ("run --trace=", None),
-        ("run --trace --", None),
-        ("--trace run", None),
-        ("drill", None),
-        ("drill x", None),
-        ("drill -1", None),
-        ("drill +1", None),
-        ("drill 1 2", None),
-        ("drill 18446744073709551616", None),
-        ("drill 000000000000000000001", None),
-        ("check-trace x", None),
-        ("check-trace --trace", None),
-        ("check_trace", None),
-        ("show --", None),
-        ("report x", None),
-        ("report show", None),
-        ("reports", None),
-        ("Report", None),
-        ("", None),
-        ("2600", None),
-        // Empty words before, between and behind; `--` and `=` in any place; digits of other scripts, signs and marks within a number.
-        (" run", None),
-        ("run ", None),
-        ("run  --trace", None),
-        ("drill 1 ", None),
-        ("--", None),
-        ("-- run", None),
-        ("=", None),
-        ("run =", None),
-        ("drill =1", None),
-        ("run --trace=1", None),
-        ("drill \u{661}", None),
-        ("drill \u{ff11}", None),
-        ("drill 0x1", None),
-        ("drill 1_0", None),
-        ("drill 1.0", None),
-        ("format 2600\n", None),
-        ("run\0", None),
-        ("\u{feff}run", None),
-    ];
-    for (line, want) in cases {
-        assert_eq!(rt; read_line(alloc, line)?, want, "{line}");
+    for (line, want) in COMMANDS {
+        let read = read_line(rt.alloc(), line)?;
+        assert!(rt; read == Some(want), "{line}");
     }
-    let none = Vec::new(alloc);
-    assert_eq!(rt; read_command(alloc, none.as_slice())?, None);
+    Ok(())
+}
+
+#[test]
+fn other_words_are_no_command(rt: HostRuntime) -> Result<(), Fail> {
+    let alloc = rt.alloc();
+    for line in OTHERS {
+        assert!(rt; read_line(alloc, line)?.is_none(), "{line}");
+    }
+    assert!(rt; read_command(alloc, Vec::new(alloc).as_slice())?.is_none());
     Ok(())
 }

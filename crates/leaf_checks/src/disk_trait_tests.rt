@@ -1,5 +1,6 @@
 use disk_trait::{Disk, DiskFault, MemoryDisk, Torn, write_and_sync, write_run};
 use std::alloc::{AllocError, Global};
+use std::process::Abort;
 use std::test::Fail;
 
 // A disk of 2,700 blocks.
@@ -36,17 +37,30 @@ fn stopped(disk: &MemoryDisk, moment: u64, torn: Torn) -> Result<MemoryDisk, All
     disk.crash(moment, torn)
 }
 
+// What fills blocks 1 and 2 of what a stop leaves, which has no write or sync so far.
+fn blocks_left(
+    rt: &impl Abort,
+    disk: &MemoryDisk,
+    moment: u64,
+    torn: Torn,
+) -> Result<(u8, u8), Fail> {
+    let mut left = stopped(disk, moment, torn)?;
+    let filled = (filling(&mut left, 1)?, filling(&mut left, 2)?);
+    assert!(rt; (left.moments(), left.calls()) == (0, 2));
+    Ok(filled)
+}
+
 #[test]
 fn a_new_disk_is_zero_before_and_after_a_stop(rt: HostRuntime) -> Result<(), Fail> {
     let mut disk = MemoryDisk::new(rt.alloc(), 2700, 10, Vec::new(rt.alloc()))?;
-    assert_eq!(rt; disk.blocks(), 2700);
-    assert_eq!(rt; disk.moments(), 0);
-    assert_eq!(rt; disk.calls(), 0);
+    assert!(rt; disk.blocks() == 2700);
+    assert!(rt; disk.moments() == 0);
+    assert!(rt; disk.calls() == 0);
     let mut left = stopped(&disk, 0, Torn::Old)?;
-    assert_eq!(rt; left.blocks(), 2700);
+    assert!(rt; left.blocks() == 2700);
     for at in [0, 1, 2699] {
-        assert_eq!(rt; filling(&mut disk, at), Ok(0));
-        assert_eq!(rt; filling(&mut left, at), Ok(0));
+        assert!(rt; filling(&mut disk, at) == Ok(0));
+        assert!(rt; filling(&mut left, at) == Ok(0));
     }
     Ok(())
 }
@@ -58,7 +72,7 @@ fn a_stop_leaves_pending_blocks_torn(rt: HostRuntime) -> Result<(), Fail> {
     disk.sync().ok().ok_or("sync")?;
     fill(&mut disk, 1, 9).ok().ok_or("write")?;
     fill(&mut disk, 2, 5).ok().ok_or("write")?;
-    assert_eq!(rt; disk.moments(), 4);
+    assert!(rt; disk.moments() == 4);
     // The moment, and what blocks 1 and 2 hold where pending ones are old, new, or filled with 3.
     let table = [
         (0, [0, 0, 0], [0, 0, 0]),
@@ -69,19 +83,8 @@ fn a_stop_leaves_pending_blocks_torn(rt: HostRuntime) -> Result<(), Fail> {
     ];
     for (moment, one, two) in table {
         for (i, torn) in [Torn::Old, Torn::New, Torn::Fill(3)].iter().enumerate() {
-            let mut left = stopped(&disk, moment, *torn)?;
-            assert_eq!(rt;
-                filling(&mut left, 1),
-                Ok(one[i]),
-                "moment {moment}, {torn:?}"
-            );
-            assert_eq!(rt;
-                filling(&mut left, 2),
-                Ok(two[i]),
-                "moment {moment}, {torn:?}"
-            );
-            assert_eq!(rt; left.moments(), 0);
-            assert_eq!(rt; left.calls(), 2);
+            let left = blocks_left(&rt, &disk, moment, *torn)?;
+            assert!(rt; left == (one[i], two[i]), "moment {moment}, {torn:?}");
         }
     }
     Ok(())
@@ -90,32 +93,30 @@ fn a_stop_leaves_pending_blocks_torn(rt: HostRuntime) -> Result<(), Fail> {
 #[test]
 fn calls_fail_by_their_number(rt: HostRuntime) -> Result<(), Fail> {
     let mut disk = disk(rt.alloc(), 10, &[1, 3, 4])?;
-    assert_eq!(rt; fill(&mut disk, 1, 7), Err(DiskFault));
-    assert_eq!(rt; filling(&mut disk, 1), Ok(0));
-    assert_eq!(rt; filling(&mut disk, 1), Err(DiskFault));
-    assert_eq!(rt; disk.sync(), Err(DiskFault));
-    assert_eq!(rt; disk.moments(), 2);
+    assert!(rt; fill(&mut disk, 1, 7) == Err(DiskFault));
+    assert!(rt; filling(&mut disk, 1) == Ok(0));
+    assert!(rt; filling(&mut disk, 1) == Err(DiskFault));
+    assert!(rt; disk.sync() == Err(DiskFault));
+    assert!(rt; disk.moments() == 2);
     // The write that failed left its block pending, and so did the sync that failed.
-    assert_eq!(rt; filling(&mut stopped(&disk, 2, Torn::Fill(3))?, 1), Ok(3));
-    assert_eq!(rt; filling(&mut stopped(&disk, 2, Torn::New)?, 1), Ok(0));
-    assert_eq!(rt; disk.sync(), Ok(()));
-    assert_eq!(rt; filling(&mut stopped(&disk, 3, Torn::Fill(3))?, 1), Ok(0));
-    assert_eq!(rt; disk.calls(), 5);
+    assert!(rt; blocks_left(&rt, &disk, 2, Torn::Fill(3))? == (3, 0));
+    assert!(rt; blocks_left(&rt, &disk, 2, Torn::New)? == (0, 0));
+    assert!(rt; disk.sync() == Ok(()));
+    assert!(rt; blocks_left(&rt, &disk, 3, Torn::Fill(3))? == (0, 0));
+    assert!(rt; disk.calls() == 5);
     Ok(())
 }
 
 #[test]
 fn a_full_disk_refuses_writes_and_syncs(rt: HostRuntime) -> Result<(), Fail> {
     let mut disk = disk(rt.alloc(), 1, &[])?;
-    assert_eq!(rt; fill(&mut disk, 1, 7), Ok(()));
-    assert_eq!(rt; fill(&mut disk, 2, 9), Err(DiskFault));
-    assert_eq!(rt; disk.sync(), Err(DiskFault));
-    assert_eq!(rt; disk.moments(), 3);
-    assert_eq!(rt; filling(&mut disk, 1), Ok(7));
-    assert_eq!(rt; filling(&mut disk, 2), Ok(0));
-    let mut left = stopped(&disk, 3, Torn::Fill(3))?;
-    assert_eq!(rt; filling(&mut left, 1), Ok(3));
-    assert_eq!(rt; filling(&mut left, 2), Ok(0));
+    assert!(rt; fill(&mut disk, 1, 7) == Ok(()));
+    assert!(rt; fill(&mut disk, 2, 9) == Err(DiskFault));
+    assert!(rt; disk.sync() == Err(DiskFault));
+    assert!(rt; disk.moments() == 3);
+    assert!(rt; filling(&mut disk, 1) == Ok(7));
+    assert!(rt; filling(&mut disk, 2) == Ok(0));
+    assert!(rt; blocks_left(&rt, &disk, 3, Torn::Fill(3))? == (3, 0));
     Ok(())
 }
 
@@ -132,8 +133,8 @@ fn stretches_write_what_they_are_given(rt: HostRuntime) -> Result<(), Fail> {
     let mut left = stopped(&disk, 4, Torn::Old)?;
     for at in 4..9 {
         let want = [0, 1, 2, 3, 0][at as usize - 4];
-        assert_eq!(rt; filling(&mut disk, at), Ok(want));
-        assert_eq!(rt; filling(&mut left, at), Ok(want));
+        assert!(rt; filling(&mut disk, at) == Ok(want));
+        assert!(rt; filling(&mut left, at) == Ok(want));
     }
     Ok(())
 }

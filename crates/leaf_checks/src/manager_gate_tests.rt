@@ -29,9 +29,8 @@ fn the_default_managers_answer_by_tag_page_and_interval(rt: HostRuntime) {
         (1, 255, 127, 32768),
     ] {
         assert!(rt; n < 256 && k < 128);
-        assert_eq!(rt;
-            word_at(&gate, tag, n, k),
-            want,
+        assert!(rt;
+            word_at(&gate, tag, n, k) == want,
             "tag {tag}, page {n}, place {k}"
         );
     }
@@ -43,9 +42,8 @@ fn the_default_managers_answer_by_tag_page_and_interval(rt: HostRuntime) {
         (2, 2, true),
         (3, u64::MAX, true),
     ] {
-        assert_eq!(rt;
-            gate.wishes(every, since),
-            want,
+        assert!(rt;
+            gate.wishes(every, since) == want,
             "every {every}, since {since}"
         );
     }
@@ -80,7 +78,7 @@ impl Policy for Once {
 #[test]
 fn managers_may_keep_a_value(rt: HostRuntime) {
     let gate = Gate::new(Constant(9), Once(3));
-    assert_eq!(rt; word_at(&gate, 4, 0, 0), 9);
+    assert!(rt; word_at(&gate, 4, 0, 0) == 9);
     assert!(rt; gate.wishes(0, 3));
     assert!(rt; !gate.wishes(1, 4));
     let Gate {
@@ -153,6 +151,6 @@ fn through_closures(tag: u64, n: u32, k: u16) -> (u64, bool)
 
 #[test]
 fn closures_stand_in_a_gate(rt: HostRuntime) {
-    assert_eq!(rt; through_closures(7, 1, 2), (137, true));
-    assert_eq!(rt; through_closures(0, 255, 127), (0, false));
+    assert!(rt; through_closures(7, 1, 2) == (137, true));
+    assert!(rt; through_closures(0, 255, 127) == (0, false));
 }

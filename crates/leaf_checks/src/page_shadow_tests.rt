@@ -13,7 +13,7 @@ fn give(rt: &impl Abort, pool: &mut Pool, block: u32) {
 #[test]
 fn the_pool_of_blocks_2565_to_2599_has_35_free(rt: HostRuntime) -> Result<(), Fail> {
     let mut pool = Pool::new(rt.alloc(), 2565, 2600)?;
-    assert_eq!(rt; pool.free(), 35);
+    assert!(rt; pool.free() == 35);
     for (block, want) in [
         (0, false),
         (2564, false),
@@ -22,13 +22,13 @@ fn the_pool_of_blocks_2565_to_2599_has_35_free(rt: HostRuntime) -> Result<(), Fa
         (2600, false),
         (u32::MAX, false),
     ] {
-        assert_eq!(rt; pool.is_free(block), want, "block {block}");
+        assert!(rt; pool.is_free(block) == want, "block {block}");
     }
     for want in 2565..2600 {
-        assert_eq!(rt; pool.take_block(), Ok(want));
+        assert!(rt; pool.take_block() == Ok(want));
     }
-    assert_eq!(rt; pool.take_block(), Err(NoBlocks { need: 1, free: 0 }));
-    assert_eq!(rt; pool.free(), 0);
+    assert!(rt; pool.take_block() == Err(NoBlocks { need: 1, free: 0 }));
+    assert!(rt; pool.free() == 0);
     Ok(())
 }
 
@@ -36,18 +36,18 @@ fn the_pool_of_blocks_2565_to_2599_has_35_free(rt: HostRuntime) -> Result<(), Fa
 fn blocks_come_back_in_their_place(rt: HostRuntime) -> Result<(), Fail> {
     let mut pool = Pool::new(rt.alloc(), 60, 200)?;
     for want in 60..140 {
-        assert_eq!(rt; pool.take_block(), Ok(want));
+        assert!(rt; pool.take_block() == Ok(want));
     }
     let free = pool.is_free(150);
     assert!(rt; free);
     pool.take_this(150);
-    assert_eq!(rt; pool.free(), 59);
+    assert!(rt; pool.free() == 59);
     for block in [130, 63, 64] {
         give(&rt, &mut pool, block);
     }
-    assert_eq!(rt; pool.free(), 62);
+    assert!(rt; pool.free() == 62);
     for want in [63, 64, 130, 140] {
-        assert_eq!(rt; pool.take_block(), Ok(want));
+        assert!(rt; pool.take_block() == Ok(want));
     }
     assert!(rt; !pool.is_free(150) && pool.is_free(151));
     Ok(())
@@ -56,11 +56,11 @@ fn blocks_come_back_in_their_place(rt: HostRuntime) -> Result<(), Fail> {
 #[test]
 fn the_whole_of_the_largest_disk_fits(rt: HostRuntime) -> Result<(), Fail> {
     let mut pool = Pool::new(rt.alloc(), 0, 65536)?;
-    assert_eq!(rt; pool.free(), 65536);
-    assert_eq!(rt; pool.take_block(), Ok(0));
+    assert!(rt; pool.free() == 65536);
+    assert!(rt; pool.take_block() == Ok(0));
     for (first, end) in [(7, 7), (70, 7)] {
         let mut none = Pool::new(rt.alloc(), first, end)?;
-        assert_eq!(rt; none.take_block(), Err(NoBlocks { need: 1, free: 0 }));
+        assert!(rt; none.take_block() == Err(NoBlocks { need: 1, free: 0 }));
     }
     Ok(())
 }
@@ -68,12 +68,12 @@ fn the_whole_of_the_largest_disk_fits(rt: HostRuntime) -> Result<(), Fail> {
 #[test]
 fn a_pool_with_nothing_free_fills_as_blocks_come_back(rt: HostRuntime) -> Result<(), Fail> {
     let mut pool = Pool::none_free(rt.alloc(), 2565, 2600)?;
-    assert_eq!(rt; pool.free(), 0);
-    assert_eq!(rt; pool.take_block(), Err(NoBlocks { need: 1, free: 0 }));
+    assert!(rt; pool.free() == 0);
+    assert!(rt; pool.take_block() == Err(NoBlocks { need: 1, free: 0 }));
     give(&rt, &mut pool, 2599);
     give(&rt, &mut pool, 2565);
-    assert_eq!(rt; pool.free(), 2);
-    assert_eq!(rt; pool.take_block(), Ok(2565));
+    assert!(rt; pool.free() == 2);
+    assert!(rt; pool.take_block() == Ok(2565));
     Ok(())
 }
 
@@ -93,12 +93,12 @@ fn a_block_is_named_until_each_name_is_taken_back(rt: HostRuntime) -> Result<(),
 #[test]
 fn zero_in_a_page_table_stands_for_no_block(rt: HostRuntime) {
     let mut table = ShadowTable::new();
-    assert_eq!(rt; table.block(0), None);
+    assert!(rt; table.block(0) == None);
     table.set(255, 2565);
-    assert_eq!(rt; table.block(255), Some(2565));
-    assert_eq!(rt; table.0[255], 2565);
+    assert!(rt; table.block(255) == Some(2565));
+    assert!(rt; table.0[255] == 2565);
     table.clear(255);
-    assert_eq!(rt; table, ShadowTable::new());
+    assert!(rt; table == ShadowTable::new());
 }
 
 #[test]
@@ -106,16 +106,21 @@ fn a_ledger_counts_what_is_neither_held_nor_named(rt: HostRuntime) -> Result<(),
     let mut ledger = Ledger::new(rt.alloc(), 5, 8)?;
     ledger.name(5);
     assert!(rt; ledger.is_named(5));
-    assert_eq!(rt; ledger.free(), 2);
+    assert!(rt; ledger.free() == 2);
     let block = match ledger.take_block() {
         Ok(block) => block,
         Err(_none) => panic!(rt; "two blocks are free"),
     };
-    assert_eq!(rt; (block, ledger.free()), (6, 1));
+    assert!(rt; (block, ledger.free()) == (6, 1));
     ledger.give_back(block);
     ledger.unname(5);
-    assert_eq!(rt; ledger.free(), 3);
-    let mut found = Ledger::all_named(rt.alloc(), 5, 8)?;
-    assert_eq!(rt; found.take_block(), Err(NoBlocks { need: 1, free: 0 }));
+    assert!(rt; ledger.free() == 3);
+    Ok(())
+}
+
+#[test]
+fn a_ledger_of_named_blocks_has_none_to_take(rt: HostRuntime) -> Result<(), Fail> {
+    let mut ledger = Ledger::all_named(rt.alloc(), 5, 8)?;
+    assert!(rt; ledger.take_block() == Err(NoBlocks { need: 1, free: 0 }));
     Ok(())
 }

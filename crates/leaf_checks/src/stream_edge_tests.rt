@@ -59,13 +59,13 @@ fn a_memory_source_gives_its_bytes_in_order_and_fails_at_the_given_takes(
     let alloc = rt.alloc();
     let mut source = MemorySource::new([1, 2, 3, 4].to_vec(alloc)?, [2, 4].to_vec(alloc)?);
     let mut out = [0u8; 3];
-    assert_eq!(rt; source.take(&mut out), Ok(3));
-    assert_eq!(rt; out.as_slice(), [1, 2, 3].as_slice());
-    assert_eq!(rt; source.take(&mut out), Err(SourceFault));
-    assert_eq!(rt; source.take(&mut out), Ok(1));
-    assert_eq!(rt; out[0], 4);
-    assert_eq!(rt; source.take(&mut out), Err(SourceFault));
-    assert_eq!(rt; source.take(&mut out), Ok(0));
+    assert!(rt; source.take(&mut out) == Ok(3));
+    assert!(rt; out.as_slice() == [1, 2, 3].as_slice());
+    assert!(rt; source.take(&mut out) == Err(SourceFault));
+    assert!(rt; source.take(&mut out) == Ok(1));
+    assert!(rt; out[0] == 4);
+    assert!(rt; source.take(&mut out) == Err(SourceFault));
+    assert!(rt; source.take(&mut out) == Ok(0));
     Ok(())
 }
 
@@ -81,8 +81,8 @@ fn a_memory_sink_fails_at_the_given_puts_and_past_its_room(rt: HostRuntime) -> R
         (b"e", false, b"abcd"),
     ];
     for (bytes, succeeds, held) in puts {
-        assert_eq!(rt; sink.put(bytes).is_ok(), succeeds);
-        assert_eq!(rt; sink.held(), held);
+        assert!(rt; sink.put(bytes).is_ok() == succeeds);
+        assert!(rt; sink.held() == held);
     }
     Ok(())
 }
@@ -102,12 +102,12 @@ fn a_source_is_read_up_to_the_limit_and_not_past_it(rt: HostRuntime) -> Result<(
         match read_all(alloc, &mut source, limit) {
             Ok(read) => {
                 assert!(rt; count <= limit, "{count} bytes within {limit}");
-                assert_eq!(rt; read.len(), count);
+                assert!(rt; read.len() == count);
                 assert!(rt; read.iter().all(|byte| *byte == 7));
             }
             Err(stop) => {
                 assert!(rt; limit < count, "{count} bytes past {limit}");
-                assert_eq!(rt; stop, ReadStop::Long);
+                assert!(rt; stop == ReadStop::Long);
             }
         }
     }
@@ -123,7 +123,7 @@ fn a_source_that_fails_at_its_second_take_is_not_taken_as_ended(
     let Err(stop) = read_all(alloc, &mut source, 10) else {
         return Err(Fail::from("a failing source was read"));
     };
-    assert_eq!(rt; stop, ReadStop::Source(SourceFault));
+    assert!(rt; stop == ReadStop::Source(SourceFault));
     Ok(())
 }
 
@@ -133,13 +133,13 @@ fn a_reader_is_a_source(rt: HostRuntime) -> Result<(), Fail> {
     let bytes: &[u8] = b"abcde";
     let mut source = ReadSource::new(bytes);
     let read = read_all(alloc, &mut source, 5)?;
-    assert_eq!(rt; read.as_slice(), bytes);
+    assert!(rt; read.as_slice() == bytes);
 
     let mut out = [0u8; 4];
     let mut source = ReadSource::new(Stutter { reads: 0 });
-    assert_eq!(rt; source.take(&mut out), Ok(1));
-    assert_eq!(rt; out[0], 9);
-    assert_eq!(rt; source.take(&mut out), Err(SourceFault));
+    assert!(rt; source.take(&mut out) == Ok(1));
+    assert!(rt; out[0] == 9);
+    assert!(rt; source.take(&mut out) == Err(SourceFault));
     Ok(())
 }
 
@@ -148,14 +148,14 @@ fn a_writer_is_a_sink(rt: HostRuntime) -> Result<(), Fail> {
     let alloc = rt.alloc();
     let mut kept = Vec::new(alloc);
     let mut sink = WriteSink::new(&mut kept);
-    assert_eq!(rt; sink.put(b"ab"), Ok(()));
-    assert_eq!(rt; sink.put(b"c"), Ok(()));
+    assert!(rt; sink.put(b"ab") == Ok(()));
+    assert!(rt; sink.put(b"c") == Ok(()));
     drop(sink);
-    assert_eq!(rt; kept.as_slice(), b"abc".as_slice());
+    assert!(rt; kept.as_slice() == b"abc".as_slice());
 
     let mut sink = WriteSink::new(Narrow { room: 3 });
-    assert_eq!(rt; sink.put(b"ab"), Ok(()));
-    assert_eq!(rt; sink.put(b"cd"), Err(SinkFault));
+    assert!(rt; sink.put(b"ab") == Ok(()));
+    assert!(rt; sink.put(b"cd") == Err(SinkFault));
     Ok(())
 }
 
@@ -169,13 +169,17 @@ fn empty_file<R: Files>(files: &R) -> io::Result<R::File> {
         .open(files, "a_file_is_a_disk.img")
 }
 
+// Whether a block of the disk reads as this.
+fn reads(disk: &mut FileDisk, at: u32, wanted: &[u8; 1024]) -> bool {
+    let mut block = [9; 1024];
+    at < disk.blocks() && disk.read(at, &mut block).is_ok() && block == *wanted
+}
+
 #[test]
 fn a_file_is_a_disk(rt: HostRuntime) -> Result<(), Fail> {
     let zeros = [0; 1024];
-    let mut block = [9; 1024];
     let mut disk = FileDisk::new(empty_file(&rt)?);
-    assert_eq!(rt; disk.read(0, &mut block), Ok(()));
-    assert_eq!(rt; block.as_slice(), zeros.as_slice());
+    assert!(rt; reads(&mut disk, 0, &zeros));
 
     let mut file = empty_file(&rt)?;
     file.write_all(b"abc")?;
@@ -184,17 +188,11 @@ fn a_file_is_a_disk(rt: HostRuntime) -> Result<(), Fail> {
     ends_inside[1] = b'b';
     ends_inside[2] = b'c';
     let mut disk = FileDisk::new(file);
-    assert_eq!(rt; disk.read(0, &mut block), Ok(()));
-    assert_eq!(rt; block.as_slice(), ends_inside.as_slice());
-
-    assert_eq!(rt; disk.write(2, &[7; 1024]), Ok(()));
-    assert_eq!(rt; disk.sync(), Ok(()));
-    assert_eq!(rt; disk.read(2, &mut block), Ok(()));
-    assert_eq!(rt; block.as_slice(), [7; 1024].as_slice());
-    assert_eq!(rt; disk.read(1, &mut block), Ok(()));
-    assert_eq!(rt; block.as_slice(), zeros.as_slice());
-    assert_eq!(rt; disk.read(0, &mut block), Ok(()));
-    assert_eq!(rt; block.as_slice(), ends_inside.as_slice());
+    assert!(rt; reads(&mut disk, 0, &ends_inside));
+    assert!(rt; disk.write(2, &[7; 1024]).is_ok() && disk.sync().is_ok());
+    for (at, wanted) in [(2, [7; 1024]), (1, zeros), (0, ends_inside)] {
+        assert!(rt; reads(&mut disk, at, &wanted), "block {at}");
+    }
     fs::remove_file(&rt, "a_file_is_a_disk.img")?;
     Ok(())
 }
@@ -216,23 +214,28 @@ fn a_file_is_a_source(rt: HostRuntime) -> Result<(), Fail> {
         fs::write(&rt, path, content)?;
         let mut source = ReadSource::new(File::open(&rt, path)?);
         let read = read_all(alloc, &mut source, 2500)?;
-        assert_eq!(rt; read.as_slice(), content);
-        assert_eq!(rt; source.take(&mut [0; 10]), Ok(0));
+        assert!(rt; read.as_slice() == content);
+        assert!(rt; source.take(&mut [0; 10]) == Ok(0));
     }
+    fs::remove_file(&rt, path)?;
+    Ok(())
+}
 
-    // In pieces, and past a limit.
+#[test]
+fn a_file_is_read_in_pieces_and_not_past_a_limit(rt: HostRuntime) -> Result<(), Fail> {
+    let alloc = rt.alloc();
+    let path = "a_file_in_pieces.txt";
+    let long = bytes_past_two_blocks(alloc)?;
+    fs::write(&rt, path, &long)?;
     let mut source = ReadSource::new(File::open(&rt, path)?);
     let mut out = [0; 1000];
-    for (count, last) in [(1000, 7), (1000, 7), (500, 7), (0, 7)] {
-        assert_eq!(rt; source.take(&mut out), Ok(count));
-        assert_eq!(rt; out[999], last);
+    for count in [1000, 1000, 500, 0] {
+        assert!(rt; source.take(&mut out) == Ok(count) && out[999] == 7);
     }
-    assert_eq!(rt; out[499], 9);
+    assert!(rt; out[499] == 9);
     let mut source = ReadSource::new(File::open(&rt, path)?);
-    let Err(stop) = read_all(alloc, &mut source, 2499) else {
-        return Err(Fail::from("a file past the limit was read"));
-    };
-    assert_eq!(rt; stop, ReadStop::Long);
+    let read = read_all(alloc, &mut source, 2499);
+    assert!(rt; matches!(read, Err(ReadStop::Long)));
     fs::remove_file(&rt, path)?;
     Ok(())
 }
@@ -250,11 +253,11 @@ fn a_file_is_a_sink(rt: HostRuntime) -> Result<(), Fail> {
     let puts: [&[u8]; 4] = [b"ab", b"", &long, b"c\n"];
     let mut whole = Vec::new(alloc);
     for bytes in puts {
-        assert_eq!(rt; sink.put(bytes), Ok(()));
+        assert!(rt; sink.put(bytes) == Ok(()));
         whole.extend_from_slice(bytes)?;
         // What was put is seen at once.
         let read = fs::read(&rt, path)?;
-        assert_eq!(rt; read.as_slice(), whole.as_slice());
+        assert!(rt; read.as_slice() == whole.as_slice());
     }
     fs::remove_file(&rt, path)?;
     Ok(())

@@ -12,8 +12,8 @@ fn a_stamp_tells_what_it_met_and_was_raised_to(rt: HostRuntime) {
     assert!(rt; !stamp.covers(&other.0));
     stamp.meet(&other);
     assert!(rt; stamp.covers(&other.0));
-    assert_eq!(rt; stamp.at(Entity::ATLAS), 1);
-    assert_eq!(rt; stamp.at(Entity::of(1)), 1);
-    assert_eq!(rt; stamp.at(Entity::of(63)), 7);
-    assert_eq!(rt; stamp.at(Entity::of(2)), 0);
+    assert!(rt; stamp.at(Entity::ATLAS) == 1);
+    assert!(rt; stamp.at(Entity::of(1)) == 1);
+    assert!(rt; stamp.at(Entity::of(63)) == 7);
+    assert!(rt; stamp.at(Entity::of(2)) == 0);
 }

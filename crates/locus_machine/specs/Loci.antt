@@ -1,9 +1,6 @@
--- What a locus and the head of a container are in the model, and which acts touch the locus alone.
-use Rattle.std.specs.Prelude.{◌≡◌, ℕ, Bool, true, false, None}
-use Rattle.hop_base.specs.declared.instructions.Instr.{Instr}
-use Rattle.hop_base.specs.declared.instructions.Instr.TheVariants.{Set, Copy, Add, Sub, Jump, Jz, Lmap, Lunmap, Drop, Stabilise, Print, Halt}
+-- What a locus and the head of a container are in the model.
+use Rattle.std.specs.Prelude.{ℕ}
 use Rattle.hop_model.specs.State.{ContainerState, LocusState}
-use Rattle.hop_model.specs.Acts.{Act}
 use Rattle.locus_machine.specs.declared.loci.Locus.{Locus}
 use Rattle.locus_machine.specs.declared.loci.Head.{Head}
 
@@ -34,25 +31,3 @@ container_with words h = record {
   caps = h.caps;
   words = words;
 }
-
--- nothing besides the locus is touched
-pub record IsAlone (act : Act) : Type 0 where
-  pub atlas : act.atlas ≡ false
-  pub other : act.other ≡ None
-  pub newborn : act.newborn ≡ None
-
--- where the locus alone doesn't refuse it, the instruction touches the locus alone
-abbrev pub touches_alone : Instr → Bool
-touches_alone (Set d n) = true
-touches_alone (Copy d s) = true
-touches_alone (Add d s) = true
-touches_alone (Sub d s) = true
-touches_alone (Jump p) = true
-touches_alone (Jz s p) = true
-touches_alone (Lmap a c b n rights) = true
-touches_alone (Lunmap a) = true
-touches_alone (Drop s) = true
-touches_alone (Stabilise c) = true
-touches_alone (Print s) = true
-touches_alone Halt = true
-touches_alone i = false

@@ -8,7 +8,8 @@ ghost use Rattle.hop_model.specs.State.{Supply, AtlasState, Cell};
 ghost use Rattle.hop_model.specs.Outcomes.{local_act, outcome};
 ghost use Rattle.hop_model.specs.Refusals.{refusal};
 ghost use Rattle.wanted_act.specs.Views.{IsReadyLocus};
-ghost use Rattle.locus_machine.specs.Loci.{locus_of, touches_alone, IsAlone};
+ghost use Rattle.locus_machine.specs.Loci.{locus_of};
+ghost use Rattle.wanted_laws.specs.Loci.{touches_alone, IsAlone};
 
 use crate::loci::Locus;
 use hop_base::{Answer, Condition, Instr, MOST_PRINTED, Private, Reply, Rights};

@@ -7,15 +7,16 @@ use Rattle.disk_trait.specs.Image.{Image, SameOutside, block_at}
 use Rattle.disk_trait.specs.Moments.{LeavesOnly}
 use Rattle.disk_trait.proofs.Phases.{LeavesOnly-then, LeavesOnly-weaker, Moments}
 use Rattle.hop_base.specs.declared.records.Rec.{Rec}
-use Rattle.log_reading.specs.image_blocks.Layout.{closed_gate, gate_at, header_at, header_block, open_gate, slot_gate_at}
+use Rattle.log_reading.specs.image_form.Layout.{closed_gate, header_block, open_gate}
+use Rattle.log_reading.specs.image_blocks.Layout.{gate_at, header_at, slot_gate_at}
 use Rattle.log_reading.specs.image_blocks.Logs.{HasLog, IsTurning, Place}
 use Rattle.log_reading.specs.image_blocks.declared.areas.Area.{Area}
 use Rattle.log_reading.specs.image_blocks.declared.areas.Area.TheVariants.{A, B}
-use Rattle.log_turn.proofs.commit_log_lemmas.Through.{gate_closed, gate_open}
-use Rattle.log_turn.specs.Stages.{IsLogging}
+use Rattle.log_turn.proofs.log_laws_lemmas.Through.{gate_closed, gate_open}
+use Rattle.log_turn.specs.log_laws.Stages.{IsLogging}
 use Rattle.log_turn.specs.Standing.{Stands, area_of, epoch_of, used_of}
 use Rattle.log_turn.specs.declared.areas.Areas.{Areas}
-use Rattle.log_turn.proofs.Turning.{epoch_reads}
+use Rattle.log_turn.proofs.log_laws_lemmas.Turning.{epoch_reads}
 use Rattle.log_checks.specs.Uses.{IsOneOf}
 
 -- the four blocks of the front

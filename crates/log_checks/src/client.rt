@@ -2,7 +2,7 @@
 ghost use Rattle.std.specs.Prelude.{◌≡◌, ◌≤◌, ◌<◌, ◌^◌, List, [], false, length, IfOk, OnOk};
 ghost use Rattle.disk_trait.specs.Moments.{LeavesOnly};
 ghost use Rattle.hop_base.specs.declared.records.Rec.{Rec as Record};
-ghost use Rattle.log_reading.specs.image_blocks.Layout.{pool_at, slot_count};
+ghost use Rattle.log_reading.specs.image_form.Layout.{pool_at, slot_count};
 ghost use Rattle.log_turn.specs.Standing.{Stands, epoch_of, has_failed, place_of};
 ghost use Rattle.log_checks.specs.Uses.{IsOneOf};
 

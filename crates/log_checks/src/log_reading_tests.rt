@@ -63,10 +63,10 @@ fn a_log_is_read(rt: HostRuntime) -> Result<(), Fail> {
     let mut disk = image(rt.alloc(), &[])?;
     match read_log(rt.alloc(), &mut disk) {
         Ok(log) => {
-            assert_eq!(rt; log.blocks, 2600);
-            assert_eq!(rt; log.area, Area::A);
-            assert_eq!(rt; log.epoch, 1);
-            assert_eq!(rt; log.recs.as_slice(), [record(1), record(2)].as_slice());
+            assert!(rt; log.blocks == 2600);
+            assert!(rt; log.area == Area::A);
+            assert!(rt; log.epoch == 1);
+            assert!(rt; log.recs.as_slice() == [record(1), record(2)].as_slice());
         }
         Err(fault) => assert!(rt; false, "{fault:?}"),
     }
@@ -78,10 +78,7 @@ fn a_log_is_read(rt: HostRuntime) -> Result<(), Fail> {
         Err(fault) => assert!(rt; false, "{fault:?}"),
     }
     let mut failing = image(rt.alloc(), &[10])?;
-    assert_eq!(rt;
-        fault_of(rt.alloc(), &mut failing),
-        Some(ReadingFault::Disk)
-    );
+    assert!(rt; fault_of(rt.alloc(), &mut failing) == Some(ReadingFault::Disk));
     Ok(())
 }
 
@@ -110,25 +107,18 @@ fn the_first_bad_place_is_told(rt: HostRuntime) -> Result<(), Fail> {
         let mut disk = image(rt.alloc(), &[])?;
         alter(&mut disk, at, in_block, byte)?;
         let bad = Bad { block, place };
-        assert_eq!(rt;
-            fault_of(rt.alloc(), &mut disk),
-            Some(ReadingFault::Foreign(bad)),
+        assert!(rt;
+            fault_of(rt.alloc(), &mut disk) == Some(ReadingFault::Foreign(bad)),
             "block {at}, byte {in_block}"
         );
     }
     let mut none = MemoryDisk::new(rt.alloc(), 0, 0, Vec::new(rt.alloc()))?;
     let bad = Bad { block: 0, place: 0 };
-    assert_eq!(rt;
-        fault_of(rt.alloc(), &mut none),
-        Some(ReadingFault::Foreign(bad))
-    );
+    assert!(rt; fault_of(rt.alloc(), &mut none) == Some(ReadingFault::Foreign(bad)));
     let mut equal = image(rt.alloc(), &[])?;
     alter(&mut equal, 4, 0, 1)?;
     alter(&mut equal, 3, 0, 1)?;
     let bad = Bad { block: 3, place: 0 };
-    assert_eq!(rt;
-        fault_of(rt.alloc(), &mut equal),
-        Some(ReadingFault::Foreign(bad))
-    );
+    assert!(rt; fault_of(rt.alloc(), &mut equal) == Some(ReadingFault::Foreign(bad)));
     Ok(())
 }

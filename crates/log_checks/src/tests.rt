@@ -19,7 +19,7 @@ fn append_all(
     recs: &[Rec],
 ) -> Result<(), Fail> {
     for rec in recs {
-        assert_eq!(rt; append(areas, disk, rec)?, Ok(()), "{}", rec.version);
+        assert!(rt; append(areas, disk, rec)? == Ok(()), "{}", rec.version);
     }
     Ok(())
 }
@@ -33,9 +33,9 @@ fn reads_as(
     recs: &[Rec],
 ) -> Result<(), Fail> {
     let log = log_of(alloc, disk)?;
-    assert_eq!(rt; (log.area, log.epoch), place);
-    assert_eq!(rt; log.recs.len(), recs.len());
-    assert_eq!(rt; log.recs.as_slice(), recs);
+    assert!(rt; (log.area, log.epoch) == place);
+    assert!(rt; log.recs.len() == recs.len());
+    assert!(rt; log.recs.as_slice() == recs);
     Ok(())
 }
 
@@ -49,11 +49,11 @@ fn last_slot_fails(
     for failing in 1..=4 {
         let mut areas = Areas::new(Area::A, 1, 639, Tally(0));
         let fault = Err(LogFault::WriteFault);
-        assert_eq!(rt; append(&mut areas, disk, &record(640))?, fault);
+        assert!(rt; append(&mut areas, disk, &record(640))? == fault);
         is_shut(rt, &mut areas, disk)?;
         let log = log_at(alloc, disk, disk.memory.moments(), Torn::New)?;
         let last = if failing < 4 { 639 } else { 640 };
-        assert_eq!(rt; log.recs.len(), last);
+        assert!(rt; log.recs.len() == last);
         assert!(rt; all.starts_with(&log.recs), "{failing}");
     }
     Ok(())
@@ -68,22 +68,19 @@ fn a_full_log_is_turned_and_turned_back(rt: HostRuntime) -> Result<(), Fail> {
     let all = records(alloc, 1, 640)?;
     append_all(&rt, &mut areas, &mut disk, &records(alloc, 1, 639)?)?;
     last_slot_fails(&rt, alloc, &mut disk, &all)?;
-    assert_eq!(rt; append(&mut areas, &mut disk, &record(640))?, Ok(()));
-    assert_eq!(rt; disk.memory.moments(), 3214);
+    assert!(rt; append(&mut areas, &mut disk, &record(640))? == Ok(()));
+    assert!(rt; disk.memory.moments() == 3214);
     let full = Err(LogFault::SlotsFull);
-    assert_eq!(rt; append(&mut areas, &mut disk, &record(641))?, full);
-    assert_eq!(rt; disk.memory.moments(), 3214);
+    assert!(rt; append(&mut areas, &mut disk, &record(641))? == full);
+    assert!(rt; disk.memory.moments() == 3214);
     reads_as(&rt, alloc, &mut disk, (Area::A, 1), &all)?;
-    assert_eq!(rt; turn(&mut areas, &mut disk, &all)?, Ok(()));
+    assert!(rt; turn(&mut areas, &mut disk, &all)? == Ok(()));
     reads_as(&rt, alloc, &mut disk, (Area::B, 2), &all)?;
-    assert_eq!(rt; append(&mut areas, &mut disk, &record(641))?, full);
+    assert!(rt; append(&mut areas, &mut disk, &record(641))? == full);
     // The slots of area A behind the two that are kept there stand open from before.
-    assert_eq!(rt;
-        turn(&mut areas, &mut disk, &records(alloc, 1, 2)?)?,
-        Ok(())
-    );
+    assert!(rt; turn(&mut areas, &mut disk, &records(alloc, 1, 2)?)? == Ok(()));
     reads_as(&rt, alloc, &mut disk, (Area::A, 3), &records(alloc, 1, 2)?)?;
-    assert_eq!(rt; append(&mut areas, &mut disk, &record(3))?, Ok(()));
+    assert!(rt; append(&mut areas, &mut disk, &record(3))? == Ok(()));
     reads_as(&rt, alloc, &mut disk, (Area::A, 3), &records(alloc, 1, 3)?)
 }
 
@@ -91,9 +88,9 @@ fn a_full_log_is_turned_and_turned_back(rt: HostRuntime) -> Result<(), Fail> {
 fn is_shut(rt: &impl Abort, areas: &mut Areas, disk: &mut QuietDisk) -> Result<(), Fail> {
     let calls = disk.memory.calls();
     let shut = Err(LogFault::Shut);
-    assert_eq!(rt; append(areas, disk, &record(9))?, shut);
-    assert_eq!(rt; turn(areas, disk, &[])?, shut);
-    assert_eq!(rt; disk.memory.calls(), calls);
+    assert!(rt; append(areas, disk, &record(9))? == shut);
+    assert!(rt; turn(areas, disk, &[])? == shut);
+    assert!(rt; disk.memory.calls() == calls);
     Ok(())
 }
 
@@ -106,9 +103,8 @@ fn a_call_of_an_append_that_fails_shuts_the_log(rt: HostRuntime) -> Result<(), F
         let mut disk = empty_image(alloc, 40, &[failing])?;
         let mut areas = Areas::new(Area::A, 1, 0, Tally(0));
         append_all(&rt, &mut areas, &mut disk, &records(alloc, 1, 1)?)?;
-        assert_eq!(rt;
-            append(&mut areas, &mut disk, &record(2))?,
-            fault,
+        assert!(rt;
+            append(&mut areas, &mut disk, &record(2))? == fault,
             "{failing}"
         );
         is_shut(&rt, &mut areas, &mut disk)?;
@@ -136,7 +132,7 @@ fn turn_fails(
     append_all(rt, &mut areas, disk, &two)?;
     let kept = [record(2)];
     let fault = Err(LogFault::WriteFault);
-    assert_eq!(rt; turn(&mut areas, disk, &kept)?, fault);
+    assert!(rt; turn(&mut areas, disk, &kept)? == fault);
     is_shut(rt, &mut areas, disk)?;
     if is_old {
         return reads_as(rt, alloc, disk, (Area::A, 1), &two);
@@ -200,11 +196,11 @@ fn a_stop_at_any_moment_leaves_the_old_log_or_the_new_one(rt: HostRuntime) -> Re
         append_all(&rt, &mut areas, &mut disk, &two)?;
         let start = disk.memory.moments();
         append_all(&rt, &mut areas, &mut disk, &records(alloc, 3, 3)?)?;
-        assert_eq!(rt; disk.memory.moments(), start.saturating_add(5));
+        assert!(rt; disk.memory.moments() == start.saturating_add(5));
         let logs = ((Area::A, two.as_slice()), (Area::A, three.as_slice()));
         stops_leave(&rt, alloc, &disk, start, logs)?;
         let start = disk.memory.moments();
-        assert_eq!(rt; turn(&mut areas, &mut disk, &kept)?, Ok(()));
+        assert!(rt; turn(&mut areas, &mut disk, &kept)? == Ok(()));
         let logs = ((Area::A, three.as_slice()), (Area::B, kept.as_slice()));
         stops_leave(&rt, alloc, &disk, start, logs)?;
     }
@@ -222,12 +218,9 @@ fn a_log_is_begun_appended_to_and_turned(rt: HostRuntime) -> Result<(), Fail> {
     disk.write(0, &superblock(2600))?;
     let mut areas = begin_log(&mut disk)?;
     let kept = [record(1)];
-    assert_eq!(rt;
-        append_and_turn(&mut areas, &mut disk, &record(2), &kept),
-        Ok(())
-    );
+    assert!(rt; append_and_turn(&mut areas, &mut disk, &record(2), &kept) == Ok(()));
     let log = log_of(alloc, &mut disk)?;
-    assert_eq!(rt; (log.area, log.epoch), (Area::B, 2));
-    assert_eq!(rt; log.recs.as_slice(), kept.as_slice());
+    assert!(rt; (log.area, log.epoch) == (Area::B, 2));
+    assert!(rt; log.recs.as_slice() == kept.as_slice());
     Ok(())
 }

@@ -1,6 +1,3 @@
-mod Reached
 mod Verdicts
-pub mod ReadSoFar
-pub mod InRange
-mod Ascending
 pub use Rattle.image_blocks.proofs as image_blocks_lemmas
+pub use Rattle.log_laws.proofs as log_laws_lemmas

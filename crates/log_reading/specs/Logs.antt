@@ -1,11 +1,12 @@
 -- What is read of an image's log.
-use Rattle.std.specs.Prelude.{◌≡◌, ◌≤◌, ◌<◌, ℕ, List, AllPairs, Some, length, slice_get, take}
+use Rattle.std.specs.Prelude.{◌≡◌, ◌≤◌, ℕ, AllPairs, length}
 use Rattle.disk_trait.specs.Image.{Image}
-use Rattle.image_blocks.specs.Checks.{count_in}
-use Rattle.hop_base.specs.declared.records.Rec.{Rec}
-use Rattle.image_blocks.specs.Layout.{epoch_in, last_number, most_blocks, pool_at, slot_count}
-use Rattle.image_blocks.specs.Logs.{HasRecords, IsInRange}
+use Rattle.image_blocks.specs.image_form.Checks.{count_in}
+use Rattle.image_blocks.specs.Layout.{epoch_in}
+use Rattle.image_blocks.specs.image_form.Layout.{last_number, most_blocks, pool_at, slot_count}
+use Rattle.image_blocks.specs.Logs.{HasRecords}
 use Rattle.log_reading.specs.declared.log.ImageLog.{ImageLog}
+use Rattle.log_laws.specs.Logs.{AreInRange, IsOlder}
 
 -- the image has these records in this area, with this epoch, and so many blocks
 pub record IsLogOf (image : Image) (log : ImageLog) : Type 0 where
@@ -13,14 +14,6 @@ pub record IsLogOf (image : Image) (log : ImageLog) : Type 0 where
   pub area : has.area ≡ log.area
   pub epoch : log.epoch ≡ epoch_in image log.area
   pub blocks : log.blocks ≡ count_in image
-
--- each of these is in range behind the ones before it
-abbrev pub AreInRange : ℕ → List Rec → Type 0
-AreInRange count recs = (i : ℕ) (r : Rec) → slice_get recs i ≡ Some r → IsInRange count (take i recs) r
-
--- the version is below that of a later record of the same entity
-abbrev pub IsOlder : Rec → Rec → Type 0
-IsOlder r s = r.entity ≡ s.entity → r.version < s.version
 
 -- what is known of it whether or not the disk tells its content
 pub record IsKnown (count : ℕ) (log : ImageLog) : Type 0 where

@@ -1,9 +1,11 @@
 // The superblock, and which area is active.
 ghost use Rattle.std.specs.Prelude.{◌≡◌, ◌≤◌, None, Some, IfOk, IfErr, MatchResult};
 ghost use Rattle.disk_trait.specs.Disk.{HasCause};
-ghost use Rattle.image_blocks.specs.Checks.{active_area, active_by, check_1, check_2, count_in, no_area};
-ghost use Rattle.image_blocks.specs.Layout.{epoch_in, last_number, most_blocks, pool_at};
-ghost use Rattle.log_reading.specs.Reads.{ReadsOnly};
+ghost use Rattle.image_blocks.specs.Checks.{active_area, active_by, check_1, check_2, no_area};
+ghost use Rattle.image_blocks.specs.image_form.Checks.{count_in};
+ghost use Rattle.image_blocks.specs.Layout.{epoch_in};
+ghost use Rattle.image_blocks.specs.image_form.Layout.{last_number, most_blocks, pool_at};
+ghost use Rattle.log_laws.specs.Reads.{ReadsOnly};
 
 use crate::looks::{area_epoch, block_of, is_area_open};
 use disk_trait::{Disk, DiskFault};

@@ -3,7 +3,7 @@ ghost use Rattle.std.specs.Prelude.{◌≡◌, ◌≤◌, Some, length, IfOk, Is
 ghost use Rattle.image_blocks.specs.Checks.{Bad as BadPlace, records_fault};
 ghost use Rattle.disk_trait.specs.Counts.{Rose};
 ghost use Rattle.log_reading.specs.Logs.{IsKnown, IsLogOf};
-ghost use Rattle.log_reading.specs.Reads.{ReadsOnly};
+ghost use Rattle.log_laws.specs.Reads.{ReadsOnly};
 
 use crate::ReadingFault;
 use crate::front::{front_of, place_of};

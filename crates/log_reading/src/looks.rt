@@ -2,8 +2,9 @@
 ghost use Rattle.std.specs.Prelude.{◌≡◌, ◌<◌, ◌≤◌, ◌==◌, IfOk};
 ghost use Rattle.disk_trait.specs.Disk.{HasCause};
 ghost use Rattle.disk_trait.specs.Image.{block_at};
-ghost use Rattle.image_blocks.specs.Layout.{epoch_in, gate_at, is_open as opens, pool_at};
-ghost use Rattle.log_reading.specs.Reads.{ReadsOnly};
+ghost use Rattle.image_blocks.specs.Layout.{epoch_in, gate_at};
+ghost use Rattle.image_blocks.specs.image_form.Layout.{is_open as opens, pool_at};
+ghost use Rattle.log_laws.specs.Reads.{ReadsOnly};
 
 use disk_trait::{Disk, DiskFault};
 use image_blocks::{Area, epoch_of, gate_of, header_of, is_open};

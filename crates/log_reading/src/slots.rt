@@ -1,11 +1,13 @@
 // The slots of an area.
 ghost use Rattle.std.specs.Prelude.{◌≡◌, ◌<◌, ◌≤◌, true, false, None, Some, AllPairs, length, IfOk, IsErrOf, MatchOption};
 ghost use Rattle.disk_trait.specs.Disk.{HasCause};
-ghost use Rattle.image_blocks.specs.Checks.{Bad as BadPlace, body_in, count_in, log_fault, log_in};
+ghost use Rattle.image_blocks.specs.Checks.{Bad as BadPlace, body_in, log_fault, log_in};
+ghost use Rattle.image_blocks.specs.image_form.Checks.{count_in};
 ghost use Rattle.disk_trait.specs.Counts.{Rose};
-ghost use Rattle.image_blocks.specs.Layout.{is_open as opens, pool_at, slot_count, slot_gate_at};
-ghost use Rattle.log_reading.specs.Logs.{AreInRange, IsOlder};
-ghost use Rattle.log_reading.specs.Reads.{ReadsOnly};
+ghost use Rattle.image_blocks.specs.image_form.Layout.{is_open as opens, pool_at, slot_count};
+ghost use Rattle.image_blocks.specs.Layout.{slot_gate_at};
+ghost use Rattle.log_laws.specs.Logs.{AreInRange, IsOlder};
+ghost use Rattle.log_laws.specs.Reads.{ReadsOnly};
 
 use crate::ReadingFault;
 use crate::looks::block_of;

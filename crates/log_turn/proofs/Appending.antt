@@ -6,14 +6,15 @@ use Rattle.disk_trait.specs.Image.{Image, SameOutside, block_at}
 use Rattle.disk_trait.specs.Moments.{LeavesOnly}
 use Rattle.disk_trait.proofs.Phases.{LeavesOnly-weaker, Moments}
 use Rattle.hop_base.specs.declared.records.Rec.{Rec}
-use Rattle.commit_log.specs.image_blocks.Layout.{epoch_in, first_number, gate_at, header_at, other}
+use Rattle.commit_log.specs.image_blocks.Layout.{epoch_in, gate_at, header_at, other}
+use Rattle.commit_log.specs.image_form.Layout.{first_number}
 use Rattle.commit_log.specs.image_blocks.Logs.{HasLog, IsActive, IsAppending, IsNextSlot, Place}
 use Rattle.commit_log.specs.image_blocks.declared.areas.Area.{Area}
 use Rattle.commit_log.specs.image_blocks.declared.areas.Area.TheVariants.{A, B}
 use Rattle.commit_log.specs.Standing.{area_of as log_area, Stands as LogStands}
 use Rattle.commit_log.specs.declared.log.Log.{Log}
 use Rattle.disk_tally.specs.declared.Tally.{Tally}
-use Rattle.log_turn.specs.Stages.{IsLogging}
+use Rattle.commit_log.specs.log_laws.Stages.{IsLogging}
 use Rattle.log_turn.specs.Standing.{Stands, area_of, place_of, used_of}
 use Rattle.log_turn.specs.declared.areas.Areas.{Areas}
 

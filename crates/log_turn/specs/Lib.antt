@@ -1,3 +1,3 @@
 pub mod Answers
-pub mod Stages
 pub mod Standing
+pub use Rattle.commit_log.specs.log_laws

@@ -2,19 +2,16 @@
 use Rattle.std.specs.Prelude.{◌≡◌, ℕ, ◌+◌, Bool, true, false, List, length, Result, OnOk, OnErr, IsErrOf}
 use Rattle.disk_trait.specs.Image.{Image, block_at}
 use Rattle.hop_base.specs.declared.records.Rec.{Rec}
-use Rattle.commit_log.specs.image_blocks.Layout.{closed_gate, gate_at, header_at, header_block, open_gate, other}
+use Rattle.commit_log.specs.image_form.Layout.{closed_gate, header_block, open_gate}
+use Rattle.commit_log.specs.image_blocks.Layout.{gate_at, header_at, other}
 use Rattle.commit_log.specs.image_blocks.Logs.{HasLog, Place}
 use Rattle.commit_log.specs.image_blocks.declared.areas.Area.{Area}
 use Rattle.commit_log.specs.Standing.{area_of as log_area, has_failed as log_failed, used_of as log_used}
 use Rattle.commit_log.specs.declared.log.LogFault.{LogFault}
 use Rattle.commit_log.specs.declared.log.LogFault.TheVariants.{WriteFault}
-use Rattle.log_turn.specs.Stages.{HasSlotGates}
+use Rattle.commit_log.specs.log_laws.Stages.{HasSlotGates}
 use Rattle.log_turn.specs.declared.areas.Areas.{Areas}
-
--- the headers and gates of both areas are the same
-pub record SameAreas (old new : Image) : Type 0 where
-  pub header : (area : Area) → block_at new (header_at area) ≡ block_at old (header_at area)
-  pub gate : (area : Area) → block_at new (gate_at area) ≡ block_at old (gate_at area)
+use Rattle.commit_log.specs.log_laws.Areas.{SameAreas}
 
 -- WHAT THE AREAS SHOW
 

@@ -6,9 +6,9 @@ ghost use Rattle.disk_trait.specs.Moments.{LeavesOnly, Quiet};
 ghost use Rattle.hop_base.specs.declared.records.Rec.{Rec as Record};
 ghost use Rattle.disk_tally.specs.Counts.{Begins, CountsOn, shown};
 ghost use Rattle.disk_trait.specs.Counts.{Rose};
-ghost use Rattle.commit_log.specs.image_blocks.Layout.{last_number, pool_at, slot_count};
+ghost use Rattle.commit_log.specs.image_form.Layout.{last_number, pool_at, slot_count};
 ghost use Rattle.commit_log.specs.image_blocks.Logs.{IsNextSlot, IsTurned, IsTurning};
-ghost use Rattle.log_turn.specs.Stages.{IsLogging};
+ghost use Rattle.commit_log.specs.log_laws.Stages.{IsLogging};
 
 use crate::filling::write_kept;
 use crate::gates::{close_area, switch};
@@ -30,7 +30,7 @@ impl Areas {
     ghost use Rattle.log_turn.specs.Answers.{TurnAnswers};
     ghost use Rattle.log_turn.specs.Standing.{HasCounted, HasGrown, HasTurned, IsTurnedTo, Stands, area_of, begun_of, epoch_of, has_failed, place_of, used_of};
     ghost use Rattle.commit_log.specs.Answers.{AppendAnswers};
-    ghost use Rattle.commit_log.specs.Standing.{HasGates};
+    ghost use Rattle.commit_log.specs.log_laws.Gates.{HasGates};
 
     /// The areas, of which this one is active, with this epoch up to 2^62 and so many slots used, up to 640. Writes and syncs are counted
     /// behind those of the tally.

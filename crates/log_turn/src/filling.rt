@@ -4,10 +4,11 @@ ghost use Rattle.disk_trait.specs.Disk.{HasCause, Only};
 ghost use Rattle.disk_trait.specs.Image.{SameOutside, block_at};
 ghost use Rattle.disk_trait.specs.Moments.{Quiet};
 ghost use Rattle.disk_tally.specs.Counts.{CountsOn};
-ghost use Rattle.commit_log.specs.image_blocks.Bodies.{body_block as block_of};
-ghost use Rattle.commit_log.specs.image_blocks.Layout.{body_at, closed_gate as closed_block, header_at, header_block as header_with, open_gate as open_block, pool_at, slot_count, slot_gate_at};
+ghost use Rattle.commit_log.specs.image_form.Bodies.{body_block as block_of};
+ghost use Rattle.commit_log.specs.image_blocks.Layout.{body_at, header_at, slot_gate_at};
+ghost use Rattle.commit_log.specs.image_form.Layout.{closed_gate as closed_block, header_block as header_with, open_gate as open_block, pool_at, slot_count};
 ghost use Rattle.commit_log.specs.image_blocks.Logs.{HasSlots};
-ghost use Rattle.log_turn.specs.Stages.{HasFilled, HasSlotGates, IsBehindGate, IsGateOf, IsOfSlot};
+ghost use Rattle.commit_log.specs.log_laws.Stages.{HasFilled, HasSlotGates, IsBehindGate, IsGateOf, IsOfSlot};
 
 use commit_log::image_blocks::{
     Area, SLOT_COUNT, body_block, body_of, closed_gate, header_block, header_of, open_gate,

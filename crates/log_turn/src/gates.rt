@@ -4,8 +4,9 @@ ghost use Rattle.disk_trait.specs.Disk.{HasCause, Only};
 ghost use Rattle.disk_trait.specs.Image.{SameOutside, block_at};
 ghost use Rattle.disk_trait.specs.Moments.{LeavesOnly, Quiet};
 ghost use Rattle.disk_tally.specs.Counts.{CountsOn};
-ghost use Rattle.commit_log.specs.image_blocks.Layout.{closed_gate as closed_block, gate_at, is_open as opens, open_gate as open_block, other, pool_at};
-ghost use Rattle.log_turn.specs.Stages.{IsClosing, IsEitherGate, IsSwitching};
+ghost use Rattle.commit_log.specs.image_form.Layout.{closed_gate as closed_block, is_open as opens, open_gate as open_block, pool_at};
+ghost use Rattle.commit_log.specs.image_blocks.Layout.{gate_at, other};
+ghost use Rattle.commit_log.specs.log_laws.Stages.{IsClosing, IsEitherGate, IsSwitching};
 
 use commit_log::image_blocks::{Area, closed_gate, gate_of, is_open, open_gate, other_area};
 use disk_tally::Tally;

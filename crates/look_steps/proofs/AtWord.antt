@@ -18,7 +18,7 @@ use Rattle.kernel_cells.specs.hop_model.Words.{covers}
 use Rattle.address_resolve.specs.locus_machine.Loci.{container_with, locus_of}
 use Rattle.address_resolve.specs.locus_machine.declared.loci.Head.{Head}
 use Rattle.address_resolve.specs.locus_machine.declared.loci.Locus.{Locus}
-use Rattle.address_resolve.proofs.locus_machine_lemmas.Alone.{wanted_says}
+use Rattle.address_resolve.proofs.wanted_laws_lemmas.Alone.{wanted_says}
 use Rattle.address_resolve.specs.invocation.Entries.{WantsBeside}
 use Rattle.address_resolve.proofs.invocation_lemmas.Entered.{instr_is, made_by}
 use Rattle.kernel_cells.specs.fault_paging.Words.{words_of}

@@ -14,7 +14,7 @@ use Rattle.kernel_cells.specs.hop_model.Refusals.{instr_at, refusal}
 use Rattle.kernel_cells.specs.hop_model.State.{Supply, LocusState, Cell as ModelCell, EntityState, LocusCell, KernelState, no_atlas}
 use Rattle.kernel_cells.specs.hop_model.Steps.{accesses_of, outcome_in, seen_atlas, seen_other, step, with_atlas_access, with_newborn_access, with_other_access}
 use Rattle.address_resolve.proofs.wanted_act_lemmas.Beside.{wanted_same}
-use Rattle.address_resolve.proofs.locus_machine_lemmas.Alone.{wanted_allowed, wanted_says}
+use Rattle.address_resolve.proofs.wanted_laws_lemmas.Alone.{wanted_allowed, wanted_says}
 use Rattle.address_resolve.specs.invocation.Entries.{WantsBeside}
 use Rattle.address_resolve.proofs.invocation_lemmas.Entered.{instr_is}
 use Rattle.address_resolve.specs.Looks.{is_look}

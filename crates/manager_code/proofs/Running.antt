@@ -10,7 +10,7 @@ use Rattle.locus_machine.specs.hop_model.State.{Supply, AtlasState, LocusState, 
 use Rattle.locus_machine.specs.hop_model.Acts.{alone, allowed, act_by, wanted}
 use Rattle.locus_machine.specs.hop_model.Outcomes.{Outcome, local_act, next, with_newborn, outcome}
 use Rattle.locus_machine.specs.hop_model.Refusals.{instr_at, reg, refusal}
-use Rattle.locus_machine.specs.Loci.{IsAlone}
+use Rattle.locus_machine.specs.wanted_laws.Loci.{IsAlone}
 use Rattle.manager_form.specs.Managing.{is_managing}
 use Rattle.locus_machine.specs.wanted_act.Views.{IsReadyLocus}
 use Rattle.manager_code.specs.Answering.{act, after_acts, beginning, goes}

@@ -15,7 +15,7 @@ use Rattle.beside_steps.specs.hop_model.State.{Supply, AtlasState, LocusState, C
 use Rattle.beside_steps.specs.hop_model.Steps.{accesses_of, atlas_in, outcome_in, seen_atlas, seen_other, step, with_atlas_access, with_newborn_access, with_other_access}
 use Rattle.beside_steps.proofs.wanted_act_lemmas.Beside.{wanted_same}
 use Rattle.beside_steps.specs.wanted_act.Views.{may_name_itself}
-use Rattle.beside_steps.proofs.locus_machine_lemmas.Alone.{wanted_allowed, wanted_says}
+use Rattle.beside_steps.proofs.wanted_laws_lemmas.Alone.{wanted_allowed, wanted_says}
 use Rattle.beside_steps.specs.kernel_calls.Calls.{is_map, is_unmap}
 use Rattle.beside_steps.specs.event_clocks.Clocks.{writing, CarriesThree}
 use Rattle.beside_steps.proofs.event_clocks_lemmas.Changing.{access_first, access_second, access_third}

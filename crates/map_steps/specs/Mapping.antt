@@ -5,7 +5,7 @@ use Rattle.hop_base.specs.declared.instructions.Instr.{Instr}
 use Rattle.beside_steps.specs.hop_model.Acts.{wanted}
 use Rattle.beside_steps.specs.hop_model.Outcomes.{Outcome}
 use Rattle.beside_steps.specs.hop_model.State.{LocusState, Cell, AtlasCell, LocusCell}
-use Rattle.atlas_dir.specs.Directory.{Directory, edges_of, IsBornContainer}
+use Rattle.atlas_dir.specs.directory_form.Directory.{Directory, edges_of, IsBornContainer}
 use Rattle.beside_steps.specs.locus_machine.declared.loci.Head.{Head}
 use Rattle.beside_steps.specs.fault_paging.declared.paged.PagedMemory.{PagedMemory}
 use Rattle.beside_steps.specs.kernel_calls.Calls.{is_map, is_unmap, NamesBorn}

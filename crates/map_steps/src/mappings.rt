@@ -1,6 +1,6 @@
 // The step of a locus that maps or unmaps.
 ghost use Rattle.std.specs.Prelude.{◌≡◌, ◌<◌, ◌^◌, ℕ, List};
-ghost use Rattle.atlas_dir.specs.Directory.{Directory};
+ghost use Rattle.atlas_dir.specs.directory_form.Directory.{Directory};
 ghost use Rattle.beside_steps.specs.hop_model.State.{KernelState, Supply};
 ghost use Rattle.beside_steps.specs.locus_machine.Loci.{locus_of};
 ghost use Rattle.beside_steps.specs.locus_machine.declared.loci.Head.{Head as AHead};

@@ -3,7 +3,7 @@ ghost use Rattle.std.specs.Prelude.{◌≡◌, ℕ, List, Some, None};
 ghost use Rattle.beside_steps.specs.hop_model.Acts.{wanted};
 ghost use Rattle.beside_steps.specs.hop_model.Outcomes.{outcome};
 ghost use Rattle.beside_steps.specs.hop_model.State.{AtlasState, AtlasCell, ContainerCell, LocusCell, LocusState, Supply};
-ghost use Rattle.atlas_dir.specs.Directory.{Directory};
+ghost use Rattle.atlas_dir.specs.directory_form.Directory.{Directory};
 ghost use Rattle.beside_steps.specs.wanted_act.Views.{IsReadyLocus};
 ghost use Rattle.beside_steps.specs.locus_machine.Loci.{locus_of, container_with};
 ghost use Rattle.beside_steps.specs.locus_machine.declared.loci.Head.{Head as AHead};

@@ -10,8 +10,8 @@ use Rattle.image_meaning.specs.hop_model.Choices.{Among, Commit, IsBelow, IsGrea
 use Rattle.image_meaning.specs.hop_model.State.{AtlasCell, Cell, ContainerCell, ContainerState, EntityState, KernelState, LocusCell, NotBorn, Supply, empty_state, no_atlas}
 use Rattle.image_meaning.specs.cut_laws.Agreeing.{nothing}
 use Rattle.image_meaning.specs.cut_laws.Records.{commit_of, commits_of}
-use Rattle.image_meaning.specs.image_blocks.Checks.{count_in}
-use Rattle.image_meaning.specs.image_blocks.Logs.{IsInRange}
+use Rattle.image_meaning.specs.image_form.Checks.{count_in}
+use Rattle.image_meaning.specs.image_form.Logs.{IsInRange}
 use Rattle.image_meaning.proofs.image_blocks_lemmas.Ranges.{ascending_law, in_range_law, rec_or}
 use Rattle.image_meaning.specs.Meaning.{Accepted, Means, entity_of, state_of}
 use Rattle.image_meaning.specs.Parts.{AtlasPart, ContainerPart, IsFormed, LocusPart, Part, Spells, cell_of, chosen, chosen_by, cut_of, word_in, words_in}

@@ -5,3 +5,4 @@ pub use Rattle.image_meaning.specs.cut_laws
 pub use Rattle.image_meaning.specs.hop_model
 pub use Rattle.image_meaning.specs.image_blocks
 pub use Rattle.image_meaning.specs as image_meaning
+pub use Rattle.image_meaning.specs.image_form

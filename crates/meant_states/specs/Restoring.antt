@@ -1,7 +1,7 @@
 -- Records and parts that make up a state, without an image.
 use Rattle.std.specs.Prelude.{◌≡◌, ℕ, ◌<◌, List, Option, Some, slice_get, take}
 use Rattle.hop_base.specs.declared.records.Rec.{Rec}
-use Rattle.image_meaning.specs.image_blocks.Logs.{IsInRange}
+use Rattle.image_meaning.specs.image_form.Logs.{IsInRange}
 use Rattle.image_meaning.specs.Fits.{IsFit}
 use Rattle.image_meaning.specs.Parts.{AreFormed, AreTaken, Part}
 

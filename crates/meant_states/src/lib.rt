@@ -8,7 +8,7 @@ ghost use Rattle.disk_trait.specs.Image.{Image};
 ghost use Rattle.hop_base.specs.declared.records.Rec.{Rec};
 ghost use Rattle.image_meaning.specs.hop_model.Choices.{IsGreatest};
 ghost use Rattle.image_meaning.specs.hop_model.State.{KernelState, Supply};
-ghost use Rattle.image_meaning.specs.image_blocks.Checks.{count_in};
+ghost use Rattle.image_meaning.specs.image_form.Checks.{count_in};
 ghost use Rattle.image_meaning.specs.Meaning.{Accepted, Means, state_of};
 ghost use Rattle.image_meaning.specs.Parts.{Part};
 ghost use Rattle.meant_states.specs.Restoring.{MakeUpState};

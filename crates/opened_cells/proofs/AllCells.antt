@@ -15,10 +15,12 @@ use Rattle.meant_states.specs.image_meaning.Meaning.{Means, entity_of, state_of}
 use Rattle.meant_states.specs.image_meaning.Parts.{Part, chosen, cut_of, table_in}
 use Rattle.meant_states.proofs.image_meaning_lemmas.Finding.{slot_of}
 use Rattle.meant_states.proofs.image_meaning_lemmas.Firsts.{clash}
-use Rattle.image_parts.specs.Parts.{ArePartsOf, IsAcceptedWith}
-use Rattle.image_parts.specs.Tables.{blocks_in}
+use Rattle.image_parts.specs.Parts.{ArePartsOf}
+use Rattle.image_parts.specs.chosen_laws.Parts.{IsAcceptedWith}
+use Rattle.image_parts.specs.chosen_laws.Tables.{blocks_in}
 use Rattle.image_parts.specs.declared.parts.ImageParts.{ImageParts}
-use Rattle.image_parts.specs.log_reading.Logs.{IsKnown, IsOlder}
+use Rattle.image_parts.specs.log_reading.Logs.{IsKnown}
+use Rattle.image_parts.specs.log_laws.Logs.{IsOlder}
 use Rattle.image_parts.specs.log_reading.declared.log.ImageLog.{ImageLog}
 use Rattle.meant_states.specs.Restoring.{MakeUpState}
 use Rattle.meant_states.proofs.Meant.{parts_sound}

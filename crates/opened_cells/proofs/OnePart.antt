@@ -7,15 +7,15 @@ use Rattle.hop_base.specs.Kinds.{kind_of}
 use Rattle.hop_base.specs.declared.entities.Kind.TheVariants as kinds
 use Rattle.hop_base.specs.declared.records.Rec.{Rec}
 use Rattle.cell_table.specs.hop_model.State.{AtlasCell, ContainerCell, Supply, empty_state, no_atlas}
-use Rattle.atlas_dir.specs.Directory.{Directory}
-use Rattle.image_parts.proofs.atlas_reading_lemmas.AtlasRead.{no_edges, no_rows}
-use Rattle.image_parts.proofs.atlas_reading_lemmas.AtlasWalk.{so_far}
+use Rattle.atlas_dir.specs.directory_form.Directory.{Directory}
+use Rattle.image_parts.proofs.blob_fields_lemmas.AtlasRead.{no_edges, no_rows}
+use Rattle.image_parts.proofs.blob_fields_lemmas.AtlasWalk.{so_far}
 use Rattle.record_laws.proofs.fault_paging_lemmas.Begun.{begun_clean, begun_table, begun_words}
 use Rattle.record_laws.specs.fault_paging.Words.{AreCleanTrue, AreHeldBlocks, words_of}
 use Rattle.record_laws.specs.fault_paging.declared.paged.PagedMemory.{PagedMemory}
 use Rattle.meant_states.specs.image_meaning.Parts.{IsFormed, word_in, words_in}
 use Rattle.image_parts.proofs.Placing.{zero_table}
-use Rattle.image_parts.specs.Tables.{IsTableOf}
+use Rattle.image_parts.specs.chosen_laws.Tables.{IsTableOf}
 use Rattle.record_laws.specs.kernel_calls.Calls.{atlas_state}
 use Rattle.record_laws.specs.kernel_cells.declared.cells.Part.TheVariants as part
 use Rattle.record_laws.specs.locus_machine.Loci.{container_with}

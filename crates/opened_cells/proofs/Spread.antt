@@ -1,7 +1,7 @@
 -- Any words are those that some bytes hold.
 use Rattle.std.proofs.Common.{◌≡◌, ℕ, zero, suc, ◌*◌, List, [], ◌∷◌, refl, sym, ap, ◌∙◌, arith}
 use Rattle.std.specs.Prelude.{slice_index}
-use Rattle.meant_states.specs.image_blocks.Bodies.{number_at}
+use Rattle.meant_states.specs.image_form.Bodies.{number_at}
 use Rattle.opened_cells.specs.Opened.{HoldWords}
 
 -- a word stands whole in the first of its eight places

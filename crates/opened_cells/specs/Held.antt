@@ -1,7 +1,7 @@
 -- Which blocks are held of an image that was opened.
 use Rattle.std.specs.Prelude.{◌≡◌, ◌≢◌, ℕ, Bool, true, Option, slice_index}
 use Rattle.meant_states.specs.image_meaning.Parts.{Part}
-use Rattle.image_parts.specs.Tables.{blocks_in}
+use Rattle.image_parts.specs.chosen_laws.Tables.{blocks_in}
 
 -- THE HELD BLOCKS are exactly those that the pages of these parts have
 pub record HoldsNamed (held : ℕ → Bool) (parts : ℕ → Option Part) : Type 0 where

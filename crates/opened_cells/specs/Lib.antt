@@ -7,3 +7,4 @@ pub use Rattle.image_parts.specs as image_parts
 pub use Rattle.image_parts.specs.page_shadow
 pub use Rattle.image_parts.specs.part_checks
 pub use Rattle.record_laws.specs as record_laws
+pub use Rattle.image_parts.specs.chosen_laws

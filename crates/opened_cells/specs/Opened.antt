@@ -4,10 +4,10 @@ use Rattle.record_laws.specs.fault_paging.Words.{AreCleanTrue, AreHeldBlocks}
 use Rattle.record_laws.specs.fault_paging.declared.paged.PagedMemory.{PagedMemory}
 use Rattle.frame_table.specs.FrameTable.{empty_table}
 use Rattle.cell_table.specs.hop_model.State.{Supply}
-use Rattle.meant_states.specs.image_blocks.Bodies.{number_at}
+use Rattle.meant_states.specs.image_form.Bodies.{number_at}
 use Rattle.meant_states.specs.image_meaning.Meaning.{entity_of}
 use Rattle.meant_states.specs.image_meaning.Parts.{IsFormed}
-use Rattle.image_parts.specs.Tables.{blocks_in}
+use Rattle.image_parts.specs.chosen_laws.Tables.{blocks_in}
 use Rattle.image_parts.specs.part_checks.Chosen.{entity_at, part_in, part_of as part_of_chosen, record_in}
 use Rattle.image_parts.specs.part_checks.declared.chosen.ChosenEntity.{ChosenEntity}
 use Rattle.cell_table.specs.beside_steps.Besides.{memory_of}

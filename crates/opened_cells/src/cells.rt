@@ -1,7 +1,7 @@
 // The cell of an entity.
 ghost use Rattle.std.specs.Prelude.{◌≡◌, ◌≤◌, ◌<◌, IfOk, None, Some, false};
 ghost use Rattle.meant_states.specs.image_meaning.Parts.{IsFormed, table_in};
-ghost use Rattle.image_parts.specs.Tables.{IsTableOf};
+ghost use Rattle.image_parts.specs.chosen_laws.Tables.{IsTableOf};
 ghost use Rattle.image_parts.specs.part_checks.Chosen.{part_of};
 ghost use Rattle.opened_cells.specs.Opened.{IsChosenCell, IsFormedEntity};
 

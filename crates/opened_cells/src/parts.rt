@@ -1,7 +1,7 @@
 // The part of a cell, from what is chosen of its entity.
 ghost use Rattle.std.specs.Prelude.{◌≡◌, ◌≤◌, ◌<◌, ℕ, IfOk, None, Some, slice_index};
 ghost use Rattle.meant_states.specs.image_meaning.Parts.{IsFormed, table_in};
-ghost use Rattle.image_parts.specs.Tables.{IsTableOf};
+ghost use Rattle.image_parts.specs.chosen_laws.Tables.{IsTableOf};
 ghost use Rattle.image_parts.specs.part_checks.Chosen.{part_of};
 ghost use Rattle.opened_cells.specs.Opened.{IsChosenPart, memory_with};
 

@@ -5,7 +5,8 @@ use Rattle.disk_trait.specs.Disk.{Ticks}
 use Rattle.disk_trait.specs.Image.{Image, block_at}
 use Rattle.restart.specs.hop_model.State.{empty_state}
 use Rattle.restart.specs.image_blocks.Checks.{active_area, active_by}
-use Rattle.restart.specs.image_blocks.Layout.{epoch_in, first_number, header_block, is_open}
+use Rattle.restart.specs.image_blocks.Layout.{epoch_in}
+use Rattle.restart.specs.image_form.Layout.{first_number, header_block, is_open}
 use Rattle.restart.specs.image_blocks.declared.areas.Area.{Area}
 use Rattle.restart.specs.image_blocks.declared.areas.Area.TheVariants.{A, B}
 use Rattle.restart.specs.image_meaning.Empty.{IsFormatted}

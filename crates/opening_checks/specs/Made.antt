@@ -3,7 +3,7 @@ use Rattle.std.specs.Prelude.{ℕ}
 use Rattle.disk_trait.specs.Image.{Image}
 use Rattle.restart.specs.hop_model.Histories.{Policy}
 use Rattle.restart.specs.hop_model.State.{Supply, empty_state}
-use Rattle.kernel_opening.specs.kernel_core.Kernels.{Held, Lives}
+use Rattle.kernel_opening.specs.core_laws.Kernels.{Held, Lives}
 use Rattle.kernel_opening.specs.kernel_laws.Opening.{empty_script}
 
 -- THE KERNEL BEGINS WITH NOTHING: with each supply and policy it is live in the run of nobody that begins in the state of nothing, with so

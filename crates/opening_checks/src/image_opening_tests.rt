@@ -46,9 +46,9 @@ fn an_image_without_a_record_is_opened(rt: HostRuntime) -> Result<(), Fail> {
         Ok(opened) => opened,
         Err(_) => return Err(DiskFault.into()),
     };
-    assert_eq!(rt; cells.len(), 64);
-    assert_eq!(rt; store.recs().len(), 0);
-    assert_eq!(rt; store.free(), 35);
+    assert!(rt; cells.len() == 64);
+    assert!(rt; store.recs().len() == 0);
+    assert!(rt; store.free() == 35);
     Ok(())
 }
 
@@ -63,9 +63,9 @@ fn the_chosen_record_is_kept(rt: HostRuntime) -> Result<(), Fail> {
         Err(_) => return Err(DiskFault.into()),
     };
     assert!(rt; store.recs() == [record()].as_slice());
-    assert_eq!(rt; store.free(), 34);
+    assert!(rt; store.free() == 34);
     if let Some(atlas) = cells.first() {
-        assert_eq!(rt; atlas.clock.version, 1);
+        assert!(rt; atlas.clock.version == 1);
     }
     Ok(())
 }

@@ -1,6 +1,6 @@
 // An empty image, opened.
 ghost use Rattle.std.specs.Prelude.{◌<◌, ◌≤◌, IfSome};
-ghost use Rattle.restart.specs.image_blocks.Layout.{least_blocks, most_blocks};
+ghost use Rattle.restart.specs.image_form.Layout.{least_blocks, most_blocks};
 ghost use Rattle.opening_checks.specs.Made.{GoesFromNothing};
 
 use disk_trait::Disk;

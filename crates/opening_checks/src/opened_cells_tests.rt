@@ -83,11 +83,11 @@ fn nothing_but_the_atlas_is_born(rt: HostRuntime) -> Result<(), Fail> {
     let mut disk = empty_image(rt.alloc())?;
     match cells(rt.alloc(), &mut disk) {
         Ok(cells) => {
-            assert_eq!(rt; cells.len(), 64);
+            assert!(rt; cells.len() == 64);
             for (number, cell) in cells.iter().enumerate() {
-                assert_eq!(rt; is_born(cell), number == 0);
-                assert_eq!(rt; cell.clock.version, 0);
-                assert_eq!(rt; cell.left, 9);
+                assert!(rt; is_born(cell) == (number == 0));
+                assert!(rt; cell.clock.version == 0);
+                assert!(rt; cell.left == 9);
             }
         }
         Err(fault) => assert!(rt; false, "{fault:?}"),
@@ -108,13 +108,13 @@ fn chosen_parts_are_in_their_cells(rt: HostRuntime) -> Result<(), Fail> {
         Ok(cells) => {
             for (number, cell) in cells.iter().enumerate() {
                 let chosen = number == 0 || number == 1 || number == 41;
-                assert_eq!(rt; is_born(cell), chosen);
+                assert!(rt; is_born(cell) == chosen);
                 let version = if chosen { 3 } else { 0 };
-                assert_eq!(rt; cell.clock.version, version);
-                assert_eq!(rt; cell.wish.newest, version);
+                assert!(rt; cell.clock.version == version);
+                assert!(rt; cell.wish.newest == version);
                 if let Part::Container(storage) = &cell.part {
                     let block = if chosen { 2570 } else { 0 };
-                    assert_eq!(rt; storage.memory.table()[1], block);
+                    assert!(rt; storage.memory.table()[1] == block);
                 }
             }
         }

@@ -28,9 +28,8 @@ fn are_told(
             block: *block,
             place: *place,
         };
-        assert_eq!(rt;
-            bad_with(alloc, *at, *in_block, *byte)?,
-            Some(bad),
+        assert!(rt;
+            bad_with(alloc, *at, *in_block, *byte)? == Some(bad),
             "block {at}, byte {in_block}"
         );
     }

@@ -15,16 +15,16 @@ use std::test::Fail;
 #[test]
 fn an_empty_image_has_nobody_to_snap(rt: HostRuntime) -> Result<(), Fail> {
     let mut kernel = opened(rt.alloc(), formatted(rt.alloc(), &[])?)?;
-    assert_eq!(rt; kernel.history().len(), 0);
-    assert_eq!(rt; kernel.marks().len(), 0);
+    assert!(rt; kernel.history().len() == 0);
+    assert!(rt; kernel.marks().len() == 0);
     assert!(rt; kernel.stopped().is_none());
     assert!(rt; kernel.atlas().name(Entity::of(1)).is_none());
     assert!(rt; kernel.atlas().name(Entity::of(41)).is_none());
     let gate = Gate::new(CountedWords, EveryVersions);
     let made = kernel.snap(Entity::ATLAS, &gate);
     assert!(rt; made == Ok(false));
-    assert_eq!(rt; kernel.history().len(), 0);
-    assert_eq!(rt; kernel.marks().len(), 0);
+    assert!(rt; kernel.history().len() == 0);
+    assert!(rt; kernel.marks().len() == 0);
     Ok(())
 }
 
@@ -40,7 +40,7 @@ fn what_the_chosen_records_tell_is_opened(rt: HostRuntime) -> Result<(), Fail> {
     let kernel = opened(rt.alloc(), with_abandoned(rt.alloc())?)?;
     assert!(rt; is_of_three(&kernel));
     assert!(rt; version_of(&kernel, 2) == Some(0));
-    assert_eq!(rt; kernel.history().len(), 0);
+    assert!(rt; kernel.history().len() == 0);
     Ok(())
 }
 
@@ -49,14 +49,14 @@ fn the_other_area_has_the_chosen_records_alone(rt: HostRuntime) -> Result<(), Fa
     let ended = opened(rt.alloc(), with_abandoned(rt.alloc())?)?.into_ended();
     let mut disk = ended.disk;
     // Area A's gate is closed, area B's is open with epoch 2; its slots begin at 1,285, and the fourth is closed.
-    assert_eq!(rt; number_in(&mut disk, 2)?, 0);
-    assert_eq!(rt; number_in(&mut disk, 3)?, 2);
-    assert_eq!(rt; number_in(&mut disk, 4)?, 1);
+    assert!(rt; number_in(&mut disk, 2)? == 0);
+    assert!(rt; number_in(&mut disk, 3)? == 2);
+    assert!(rt; number_in(&mut disk, 4)? == 1);
     assert!(rt; is_body(&mut disk, 1285, &record(Entity::ATLAS, 3, 9, 2566))?);
     assert!(rt; is_body(&mut disk, 1287, &record(Entity::of(1), 3, 27, 2565))?);
     assert!(rt; is_body(&mut disk, 1289, &record(Entity::of(41), 3, 77, 2567))?);
-    assert_eq!(rt; number_in(&mut disk, 1290)?, 1);
-    assert_eq!(rt; number_in(&mut disk, 1292)?, 0);
+    assert!(rt; number_in(&mut disk, 1290)? == 1);
+    assert!(rt; number_in(&mut disk, 1292)? == 0);
     Ok(())
 }
 
@@ -97,7 +97,7 @@ fn a_failing_disk_comes_back(rt: HostRuntime) -> Result<(), Fail> {
             Err(fault) => fault,
         };
         assert!(rt; fault.why == why, "call {failing}");
-        assert_eq!(rt; fault.disk.calls(), failing);
+        assert!(rt; fault.disk.calls() == failing);
     }
     Ok(())
 }

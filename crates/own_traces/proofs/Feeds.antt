@@ -17,7 +17,7 @@ use Rattle.trace_check.proofs.actor_laws_lemmas.sound_runs_lemmas.Standing.{IsSt
 use Rattle.trace_check.specs.actor_laws.history_model.sound_runs.Kinds.{NamesNoLocus}
 use Rattle.trace_check.specs.actor_laws.script_form.Rules.{IsScript}
 use Rattle.trace_check.proofs.entry_laws_lemmas.Splits.{Lacks, Lacks-append, Lacks-name}
-use Rattle.trace_check.proofs.Names.{word_of}
+use Rattle.trace_check.proofs.trace_laws_lemmas.Names.{word_of}
 use Rattle.trace_check.specs.trace_words.Traces.{Spells, spelled}
 use Rattle.trace_check.specs.trace_words.entry_lines.Entries.{answer_text, details, entry_line, entry_text, event_word, touch_text, touches_text}
 use Rattle.trace_check.specs.trace_words.entry_lines.hop_model.Histories.{IsLegalFrom, Policy, Run, goes_on, start_run}

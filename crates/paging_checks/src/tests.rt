@@ -14,32 +14,32 @@ use std::test::Fail;
 #[test]
 fn a_changed_page_stays_where_no_block_is_left(rt: HostRuntime) -> Result<(), Fail> {
     let mut own = OwnPages::new(rt.alloc(), 1, 0, Vec::new(rt.alloc()))?;
-    assert_eq!(rt; own.store(0, 7), Ok(()));
+    assert!(rt; own.store(0, 7) == Ok(()));
     let wanting = PageFault::NoBlocks(NoBlocks { need: 1, free: 0 });
-    assert_eq!(rt; own.load(128), Err(wanting));
-    assert_eq!(rt; own.load(0), Ok(7));
-    assert_eq!(rt; own.flush(), None);
+    assert!(rt; own.load(128) == Err(wanting));
+    assert!(rt; own.load(0) == Ok(7));
+    assert!(rt; own.flush() == None);
     Ok(())
 }
 
 #[test]
 fn a_store_whose_first_call_failed_is_shut(rt: HostRuntime) -> Result<(), Fail> {
     let mut own = OwnPages::new(rt.alloc(), 1, 1, vec![in rt.alloc(); 1u64]?)?;
-    assert_eq!(rt; own.store(0, 7), Ok(()));
-    assert_eq!(rt; own.load(128), Err(PageFault::WriteFault));
-    assert_eq!(rt; own.load(128), Err(PageFault::Shut));
-    assert_eq!(rt; own.load(0), Ok(7));
+    assert!(rt; own.store(0, 7) == Ok(()));
+    assert!(rt; own.load(128) == Err(PageFault::WriteFault));
+    assert!(rt; own.load(128) == Err(PageFault::Shut));
+    assert!(rt; own.load(0) == Ok(7));
     Ok(())
 }
 
 #[test]
 fn pages_without_blocks_are_filled_after_a_read_failed(rt: HostRuntime) -> Result<(), Fail> {
     let mut own = OwnPages::new(rt.alloc(), 1, 1, vec![in rt.alloc(); 2u64]?)?;
-    assert_eq!(rt; own.store(0, 7), Ok(()));
-    assert_eq!(rt; own.load(128), Ok(1128));
-    assert_eq!(rt; own.load(0), Err(PageFault::ReadFault));
-    assert_eq!(rt; own.load(128), Ok(1128));
-    assert_eq!(rt; own.load(0), Err(PageFault::Shut));
+    assert!(rt; own.store(0, 7) == Ok(()));
+    assert!(rt; own.load(128) == Ok(1128));
+    assert!(rt; own.load(0) == Err(PageFault::ReadFault));
+    assert!(rt; own.load(128) == Ok(1128));
+    assert!(rt; own.load(0) == Err(PageFault::Shut));
     Ok(())
 }
 
@@ -71,7 +71,7 @@ fn draw(
         let word = u64::from(draws.next_word());
         if word % 2 == 0 {
             match own.load(address) {
-                Ok(loaded) => assert_eq!(rt; loaded, word_of(words, address)),
+                Ok(loaded) => assert!(rt; loaded == word_of(words, address)),
                 Err(_) => failed = true,
             }
         } else {
@@ -91,7 +91,7 @@ fn compare(rt: &impl Abort, own: &mut OwnPages, words: &BTreeMap<u64, u64>) -> b
     let mut failed = false;
     for address in 0..u64::from(PAGES) * PAGE_WORDS {
         match own.load(address) {
-            Ok(loaded) => assert_eq!(rt; loaded, word_of(words, address)),
+            Ok(loaded) => assert!(rt; loaded == word_of(words, address)),
             Err(_) => failed = true,
         }
     }
@@ -141,9 +141,9 @@ fn words_stand_where_a_flush_fails(rt: HostRuntime) -> Result<(), Fail> {
     let mut own = OwnPages::new(rt.alloc(), 256, 5, vec![in rt.alloc(); 2u64]?)?;
     let mut words = BTreeMap::new(rt.alloc());
     assert!(rt; !draw(&rt, &mut own, &mut words)?);
-    assert_eq!(rt; own.flush(), Some(Err(PageFault::WriteFault)));
+    assert!(rt; own.flush() == Some(Err(PageFault::WriteFault)));
     assert!(rt; !compare(&rt, &mut own, &words));
-    assert_eq!(rt; own.flush(), Some(Err(PageFault::Shut)));
+    assert!(rt; own.flush() == Some(Err(PageFault::Shut)));
     assert!(rt; !compare(&rt, &mut own, &words));
     Ok(())
 }
@@ -229,7 +229,7 @@ fn a_private_region_comes_before_a_region_of_the_host(rt: HostRuntime) -> Result
     step_here(&rt, &mut scene, host, Answer::Reply(Reply::Ok));
     step_there(&rt, &mut scene, other, Answer::Reply(Reply::Ok));
     step_there(&rt, &mut scene, other, Answer::Read(77));
-    assert_eq!(rt; scene.there.load(263), Ok(77));
+    assert!(rt; scene.there.load(263) == Ok(77));
     Ok(())
 }
 

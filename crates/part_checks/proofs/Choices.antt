@@ -2,9 +2,9 @@
 use Rattle.std.proofs.Common.{◌≡◌, ℕ, zero, suc, ◌+◌, ◌<◌, ◌≤◌, Bool, true, false, ◌&&◌, List, [], ◌∷◌, Option, Some, None, length, get_or, refl, sym, ap, ◌∙◌, subst, ⊎_elim, arith}
 use Rattle.std.specs.Prelude.{IsTrue, is_some, not}
 use Rattle.std.proofs.lemmas.Bool.{cases_lt, false≢true}
-use Rattle.image_meaning.proofs.Fitting.{none_some}
+use Rattle.part_laws.proofs.image_meaning_lemmas.Fitting.{none_some}
 use Rattle.part_checks.specs.Fits.{AreFitBy, IsFirstUnfitBy, IsFitBy}
-use Rattle.image_meaning.specs.Parts.{Part}
+use Rattle.part_laws.specs.image_meaning.Parts.{Part}
 use Rattle.part_checks.specs.Chosen.{entity_at, part_in, part_of, parts_of}
 use Rattle.part_checks.specs.declared.chosen.ChosenEntity.{ChosenEntity}
 use Rattle.std.proofs.lemmas.Option.{same_Some}

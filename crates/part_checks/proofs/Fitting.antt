@@ -8,16 +8,18 @@ use Rattle.std.proofs.lemmas.Bool.Decides.{nat_tests}
 use Rattle.std.proofs.lemmas.List.Sums.{AllPass-from_list_all, list_all-from_AllPass}
 use Rattle.std.proofs.lemmas.Option.{get_or_from_slice_get, same_Some, slice_get-get_or, slice_get_within}
 use Rattle.hop_base.specs.declared.records.Rec.{Rec}
-use Rattle.image_meaning.specs.image_blocks.Bodies.{blob_blocks}
-use Rattle.image_meaning.specs.image_blocks.Layout.{pool_at}
-use Rattle.image_meaning.specs.Fits.{AreNamedOnce, IsFit}
-use Rattle.image_meaning.specs.Parts.{Part, chosen, table_in}
+use Rattle.part_laws.specs.image_meaning.image_form.Bodies.{blob_blocks}
+use Rattle.part_laws.specs.image_meaning.image_form.Layout.{pool_at}
+use Rattle.part_laws.specs.image_meaning.Fits.{AreNamedOnce, IsFit}
+use Rattle.part_laws.specs.image_meaning.Parts.{Part, chosen, table_in}
 use Rattle.part_checks.specs.Chosen.{entity_at, part_in, part_of, parts_of, record_in, records_of}
 use Rattle.part_checks.specs.Fits.{AreFit, AreFitBy, IsFirstUnfit, IsFirstUnfitBy, IsFitBy}
-use Rattle.part_checks.specs.Naming.{AreUses, block_passes, count_of, names_in, names_of}
+use Rattle.part_laws.specs.Naming.{AreUses, block_passes, count_of}
+use Rattle.part_checks.specs.Naming.{names_in, names_of}
 use Rattle.part_checks.specs.declared.chosen.ChosenEntity.{ChosenEntity}
 use Rattle.part_checks.proofs.Choices.{part_there}
-use Rattle.part_checks.proofs.Counting.{contained, counted, counted_once, one_of, only_of, twice, two_of, uncounted}
+use Rattle.part_laws.proofs.Counting.{contained, counted, counted_once, twice, uncounted}
+use Rattle.part_checks.proofs.Counting.{one_of, only_of, two_of}
 
 -- TESTS
 

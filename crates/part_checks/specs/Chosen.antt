@@ -1,7 +1,7 @@
 -- What is chosen of each entity, and what its parts are.
 use Rattle.std.specs.Prelude.{ℕ, List, Option, Some, None, take, slice_index_or}
 use Rattle.hop_base.specs.declared.records.Rec.{Rec}
-use Rattle.image_meaning.specs.Parts.{Part, AtlasPart, ContainerPart, LocusPart}
+use Rattle.part_laws.specs.image_meaning.Parts.{Part, AtlasPart, ContainerPart, LocusPart}
 use Rattle.atlas_reading.specs.kernel_calls.Calls.{atlas_state}
 use Rattle.atlas_reading.specs.locus_machine.Loci.{container_with, locus_of}
 use Rattle.part_checks.specs.declared.chosen.ChosenEntity.{ChosenEntity}

@@ -1,15 +1,15 @@
 -- Which chosen entities fit.
 use Rattle.std.specs.Prelude.{◌≡◌, ℕ, ◌<◌, IsTrue, List, Option, Some}
 use Rattle.std.specs.List.{list_all}
-use Rattle.atlas_dir.specs.Directory.{Directory}
+use Rattle.atlas_dir.specs.directory_form.Directory.{Directory}
 use Rattle.hop_base.specs.declared.records.Rec.{Rec}
-use Rattle.image_meaning.specs.hop_model.Soundness.{is_born}
-use Rattle.image_meaning.specs.hop_model.State.{AtlasState}
-use Rattle.image_meaning.specs.Fits.{IsFit, IsTied}
-use Rattle.image_meaning.specs.Parts.{Part, AtlasPart, chosen, table_in}
+use Rattle.part_laws.specs.image_meaning.hop_model.Soundness.{is_born}
+use Rattle.part_laws.specs.image_meaning.hop_model.State.{AtlasState}
+use Rattle.part_laws.specs.image_meaning.Fits.{IsFit, IsTied}
+use Rattle.part_laws.specs.image_meaning.Parts.{Part, AtlasPart, chosen, table_in}
 use Rattle.atlas_reading.specs.kernel_calls.Calls.{atlas_state}
 use Rattle.part_checks.specs.Chosen.{parts_of, records_of}
-use Rattle.part_checks.specs.Naming.{block_passes}
+use Rattle.part_laws.specs.Naming.{block_passes}
 use Rattle.part_checks.specs.declared.chosen.ChosenEntity.{ChosenEntity}
 
 -- the chosen records of these entities are those that the greatest closed choice over the records takes

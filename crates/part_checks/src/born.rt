@@ -1,10 +1,10 @@
 //! Who is born, and whether those that a list of capabilities names are.
 ghost use Rattle.std.specs.Prelude.{◌≡◌, ◌↔◌, ◌<◌, ℕ, IsTrue};
 ghost use Rattle.std.specs.List.{list_all};
-ghost use Rattle.image_meaning.specs.hop_model.Soundness.{is_born as born, is_born_container as born_container};
-ghost use Rattle.image_meaning.specs.Fits.{NamesBorn};
+ghost use Rattle.part_laws.specs.image_meaning.hop_model.Soundness.{is_born as born, is_born_container as born_container};
+ghost use Rattle.part_laws.specs.image_meaning.Fits.{NamesBorn};
 ghost use Rattle.atlas_reading.specs.kernel_calls.Calls.{atlas_state};
-ghost use Rattle.part_checks.specs.Ties.{slot_born};
+ghost use Rattle.part_laws.specs.Ties.{slot_born};
 
 use atlas_dir::Atlas;
 use cap_list::CapList;

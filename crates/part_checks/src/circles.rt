@@ -2,9 +2,9 @@
 ghost use Rattle.std.specs.Prelude.{◌≡◌, ◌↔◌, ◌<◌, IsTrue, IfSome, IfNone};
 ghost use Rattle.std.specs.List.{list_all};
 ghost use Rattle.circle_law.specs.Containers.{IsAmongContainers};
-ghost use Rattle.atlas_dir.specs.Directory.{edges_of};
-ghost use Rattle.image_meaning.specs.hop_model.Soundness.{HasNoCircle};
-ghost use Rattle.part_checks.specs.Circles.{IsLeaf, IsStuck, ShowsUnmarked};
+ghost use Rattle.atlas_dir.specs.directory_form.Directory.{edges_of};
+ghost use Rattle.part_laws.specs.image_meaning.hop_model.Soundness.{HasNoCircle};
+ghost use Rattle.part_laws.specs.Circles.{IsLeaf, IsStuck, ShowsUnmarked};
 
 use atlas_dir::{Atlas, SIDE};
 use hop_base::Entity;

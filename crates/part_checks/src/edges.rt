@@ -1,11 +1,12 @@
 //! Whether the atlas counts exactly the regions that containers show, and each entity that it names is chosen.
 ghost use Rattle.std.specs.Prelude.{◌≡◌, ◌↔◌, ◌≤◌, IsTrue, length};
-ghost use Rattle.atlas_dir.specs.Directory.{edges_of};
+ghost use Rattle.atlas_dir.specs.directory_form.Directory.{edges_of};
 ghost use Rattle.circle_law.specs.Containers.{IsAmongContainers};
-ghost use Rattle.image_meaning.specs.Fits.{IsTiedAtlas};
+ghost use Rattle.part_laws.specs.image_meaning.Fits.{IsTiedAtlas};
 ghost use Rattle.atlas_reading.specs.kernel_calls.Calls.{atlas_state};
 ghost use Rattle.part_checks.specs.Chosen.{parts_of};
-ghost use Rattle.part_checks.specs.Edges.{IsTally, IsRow, AreRows, AreAllChosen, regions_in};
+ghost use Rattle.part_laws.specs.Edges.{IsTally, IsRow};
+ghost use Rattle.part_checks.specs.Edges.{AreRows, AreAllChosen, regions_in};
 
 use crate::born::is_born;
 use crate::chosen::{ChosenEntity, ChosenPart};

@@ -1,7 +1,7 @@
 //! The first chosen entity that doesn't fit the others.
 ghost use Rattle.std.specs.Prelude.{◌≡◌, ◌↔◌, IsTrue, List, length, IfOk, IfSome, IfNone};
 ghost use Rattle.hop_base.specs.declared.records.Rec.{Rec as Record};
-ghost use Rattle.image_meaning.specs.Fits.{IsTied};
+ghost use Rattle.part_laws.specs.image_meaning.Fits.{IsTied};
 ghost use Rattle.atlas_reading.specs.kernel_calls.Calls.{atlas_state};
 ghost use Rattle.part_checks.specs.Chosen.{part_of, parts_of};
 ghost use Rattle.part_checks.specs.Fits.{AreChosen, AreFit, AreFitBy, HasAtlas, IsFirstUnfit, IsFirstUnfitBy, IsFitBy, NoAtlas};

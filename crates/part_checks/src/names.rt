@@ -1,14 +1,15 @@
 //! How often the blocks of pages and blobs are named.
 ghost use Rattle.std.specs.Prelude.{◌≡◌, ◌+◌, ℕ, IfOk, length, take};
 ghost use Rattle.std.specs.List.{list_all};
-ghost use Rattle.image_meaning.specs.image_blocks.Bodies.{blob_blocks};
-ghost use Rattle.image_meaning.specs.Parts.{table_in};
+ghost use Rattle.part_laws.specs.image_meaning.image_form.Bodies.{blob_blocks};
+ghost use Rattle.part_laws.specs.image_meaning.Parts.{table_in};
 ghost use Rattle.part_checks.specs.Chosen.{part_of};
-ghost use Rattle.part_checks.specs.Naming.{AreUses, block_passes, count_of, names_in, names_of, one_at};
+ghost use Rattle.part_laws.specs.Naming.{AreUses, block_passes, count_of, one_at};
+ghost use Rattle.part_checks.specs.Naming.{names_in, names_of};
 
 use crate::chosen::{ChosenEntity, ChosenPart};
 use hop_base::Rec;
-use image_meaning::image_blocks::{BLOCK_BYTES, POOL_AT};
+use part_laws::image_meaning::image_blocks::{BLOCK_BYTES, POOL_AT};
 use std::alloc::{AllocError, Global};
 
 // How often a block is named where it is named more than once.

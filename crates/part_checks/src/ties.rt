@@ -1,13 +1,13 @@
 //! Whether what a container or a locus names is born.
 ghost use Rattle.std.specs.Prelude.{◌≡◌, ◌&&◌, ◌↔◌, IsTrue};
 ghost use Rattle.std.specs.List.{list_all};
-ghost use Rattle.image_meaning.specs.hop_model.Refusals.{instr_at};
-ghost use Rattle.image_meaning.specs.hop_model.Soundness.{is_born_container as born_container, looks as looks_at};
-ghost use Rattle.image_meaning.specs.Fits.{IsTiedContainer, IsTiedLocus};
+ghost use Rattle.part_laws.specs.image_meaning.hop_model.Refusals.{instr_at};
+ghost use Rattle.part_laws.specs.image_meaning.hop_model.Soundness.{is_born_container as born_container, looks as looks_at};
+ghost use Rattle.part_laws.specs.image_meaning.Fits.{IsTiedContainer, IsTiedLocus};
 ghost use Rattle.atlas_reading.specs.kernel_calls.Calls.{atlas_state};
 ghost use Rattle.atlas_reading.specs.locus_machine.Loci.{container_with, locus_of};
 ghost use Rattle.part_checks.specs.Chosen.{no_words};
-ghost use Rattle.part_checks.specs.Ties.{IsTiedWalk};
+ghost use Rattle.part_laws.specs.Ties.{IsTiedWalk};
 
 use crate::born::{are_born, is_born_container};
 use atlas_dir::Atlas;

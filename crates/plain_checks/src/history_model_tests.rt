@@ -10,7 +10,9 @@ ghost use Rattle.plain_show.specs.history_model.Plains.{cells_of};
 
 use hop_base::{Answer, Cap, Entity, Entry, Instr, Reply, Rights};
 use plain_run::plain_steps::plain_step;
-use plain_show::history_model::{Plain, PlainAtlas, container_named, number_among, plain_birth};
+use plain_show::history_model::{
+    Plain, PlainAtlas, PlainLocus, container_named, number_among, plain_birth,
+};
 use script_read::script_form::{Script, ScriptContainer, ScriptLocus};
 use std::alloc::{AllocError, Global};
 use std::process::Abort;
@@ -113,22 +115,13 @@ fn a_locus_is_born_after_its_host_and_each_name_once(rt: HostRuntime) -> Result<
     let script = one_of_each(rt.alloc())?;
     let mut state = empty_state(rt.alloc());
     let mut versions = [0; 64];
-    assert_eq!(rt;
-        bear(&rt, rt.alloc(), &mut state, &mut versions, &script, "l")?,
-        None
-    );
+    assert!(rt; bear(&rt, rt.alloc(), &mut state, &mut versions, &script, "l")? == None);
     let of_a = bear(&rt, rt.alloc(), &mut state, &mut versions, &script, "a")?;
     assert!(rt; wrote(of_a, 1, &[(0, 1), (1, 1)]));
     let of_l = bear(&rt, rt.alloc(), &mut state, &mut versions, &script, "l")?;
     assert!(rt; wrote(of_l, 41, &[(0, 2), (1, 2), (41, 1)]));
-    assert_eq!(rt;
-        bear(&rt, rt.alloc(), &mut state, &mut versions, &script, "a")?,
-        None
-    );
-    assert_eq!(rt;
-        bear(&rt, rt.alloc(), &mut state, &mut versions, &script, "b")?,
-        None
-    );
+    assert!(rt; bear(&rt, rt.alloc(), &mut state, &mut versions, &script, "a")? == None);
+    assert!(rt; bear(&rt, rt.alloc(), &mut state, &mut versions, &script, "b")? == None);
     Ok(())
 }
 
@@ -168,7 +161,7 @@ fn a_locus_that_is_not_born_makes_no_step(rt: HostRuntime) -> Result<(), Fail> {
     let mut state = empty_state(rt.alloc());
     let mut versions = [0; 64];
     let locus = Entity::new(63).ok_or("a locus")?;
-    assert_eq!(rt; checked_step(&rt, &mut state, &mut versions, locus)?, None);
+    assert!(rt; checked_step(&rt, &mut state, &mut versions, locus)? == None);
     Ok(())
 }
 
@@ -190,31 +183,44 @@ fn last_answer(
     Ok(last.map(|entry| entry.answer))
 }
 
-#[test]
-fn a_spawned_locus_has_nothing_begun(rt: HostRuntime) -> Result<(), Fail> {
-    let script = one_of_each(rt.alloc())?;
-    let mut state = empty_state(rt.alloc());
+/// The state in which both are born and locus `l` has spawned another.
+fn spawned(rt: &impl Abort, alloc: Global) -> Result<Plain, Fail> {
+    let script = one_of_each(alloc)?;
+    let mut state = empty_state(alloc);
     let mut versions = [0; 64];
     for name in ["a", "l"] {
-        let born = bear(&rt, rt.alloc(), &mut state, &mut versions, &script, name)?;
+        let born = bear(rt, alloc, &mut state, &mut versions, &script, name)?;
         assert!(rt; born.is_some(), "{name}");
     }
     let first = Entity::new(41).ok_or("a locus")?;
-    let answer = last_answer(&rt, &mut state, &mut versions, first, 6)?;
-    assert_eq!(rt; answer, Some(Answer::Reply(Reply::Ok)));
-    let newborn = state.loci.get(1).ok_or("a locus")?;
-    assert_eq!(rt; (newborn.place, newborn.every, newborn.printed), (1, 5, 0));
-    assert_eq!(rt; newborn.registers, [5, 0, 5, 0, 0, 0, 0, 9]);
-    assert!(rt; newborn.caps.iter().all(|slot| slot.is_none()));
-    assert_eq!(rt; state.atlas.loci.len(), 2);
-    let name = state.atlas.loci.get(1).ok_or("a name")?;
-    assert_eq!(rt; name.as_str(), "#42");
+    let answer = last_answer(rt, &mut state, &mut versions, first, 6)?;
+    assert!(rt; answer == Some(Answer::Reply(Reply::Ok)));
+    Ok(state)
+}
+
+/// Whether a newborn has its spawner's registers, no capability, and nothing printed.
+fn has_nothing_begun(newborn: &PlainLocus) -> bool {
+    (newborn.place, newborn.every, newborn.printed) == (1, 5, 0)
+        && newborn.registers == [5, 0, 5, 0, 0, 0, 0, 9]
+        && newborn.caps.iter().all(|slot| slot.is_none())
+}
+
+/// Whether a locus that printed once holds a capability of locus 42 in slot 0.
+fn holds_newborn(l: &PlainLocus) -> Result<bool, Fail> {
     let held = Cap {
         entity: Entity::new(42).ok_or("a locus")?,
         rights: Rights(127),
     };
-    let l = state.loci.first().ok_or("a locus")?;
-    assert_eq!(rt; l.caps.first().copied(), Some(Some(held)));
-    assert_eq!(rt; l.printed, 1);
+    Ok(l.caps.first().copied() == Some(Some(held)) && l.printed == 1)
+}
+
+#[test]
+fn a_spawned_locus_has_nothing_begun(rt: HostRuntime) -> Result<(), Fail> {
+    let state = spawned(&rt, rt.alloc())?;
+    let (loci, names) = (state.loci.as_slice(), state.atlas.loci.as_slice());
+    assert!(rt; loci.len() == 2 && names.len() == 2);
+    assert!(rt; has_nothing_begun(&loci[1]));
+    assert!(rt; holds_newborn(&loci[0])?);
+    assert!(rt; names[1].as_str() == "#42");
     Ok(())
 }

@@ -19,14 +19,14 @@ fn picks_come_before_rounds(rt: HostRuntime) -> Result<(), Fail> {
     let played = played(rt.alloc(), TWO_OF_EACH)?;
     let actors = [1, 2, 41, 42, 0, 42, 41, 42, 41, 41];
     assert!(rt; played.whole);
-    assert_eq!(rt; played.history.len(), 10);
+    assert!(rt; played.history.len() == 10);
     for (entry, actor) in played.history.iter().zip(actors) {
-        assert_eq!(rt; entry.actor.number(), actor);
+        assert!(rt; entry.actor.number() == actor);
     }
     let printed = [(5, 0), (8, 5)];
     for (i, value) in printed {
         let entry = played.history.get(i).ok_or("an entry")?;
-        assert_eq!(rt; entry.answer, Answer::Print(value));
+        assert!(rt; entry.answer == Answer::Print(value));
     }
     Ok(())
 }
@@ -42,11 +42,11 @@ fn a_name_of_the_other_kind_clashes(rt: HostRuntime) -> Result<(), Fail> {
             edges: Vec::new(alloc),
         };
         match against(alloc, &script, &atlas) {
-            Ok(()) => assert_eq!(rt; key, ""),
+            Ok(()) => assert!(rt; key == ""),
             Err(ScriptFault::Memory) => assert!(rt; false, "memory"),
             Err(ScriptFault::Refused(refusal)) => {
-                assert_eq!(rt; refusal.why, Why::Clash);
-                assert_eq!(rt; refusal.key.as_str(), key);
+                assert!(rt; refusal.why == Why::Clash);
+                assert!(rt; refusal.key.as_str() == key);
             }
         }
     }

@@ -32,7 +32,7 @@ word a 0 7
 locus l a 3 running 0 7 0 0 0 0 0 0 0
 cap l 0 atlas t
 ";
-    assert_eq!(rt; sink.held(), lines.as_slice());
+    assert!(rt; sink.held() == lines.as_slice());
     Ok(())
 }
 
@@ -72,6 +72,6 @@ walk l d 130 2
 cap l 0 atlas t
 cap l 1 b rwi
 ";
-    assert_eq!(rt; sink.held(), lines.as_slice());
+    assert!(rt; sink.held() == lines.as_slice());
     Ok(())
 }

@@ -5,7 +5,7 @@ use Rattle.std.proofs.lemmas.Bool.{cases_lt}
 use Rattle.std.proofs.lemmas.Bool.Decides.{nat_tests}
 use Rattle.std.proofs.lemmas.Option.{slice_get_within}
 use Rattle.std.proofs.lemmas.List.{length-append}
-use Rattle.atlas_dir.specs.Directory.{Directory, name_of}
+use Rattle.atlas_dir.specs.directory_form.Directory.{Directory, name_of}
 use Rattle.plain_parts.specs.Names.{AreNames}
 
 -- lists as long as each other that have the same items are one

@@ -1,6 +1,6 @@
 -- Names of a directory, in the order of their numbers.
 use Rattle.std.specs.Prelude.{◌≡◌, ℕ, ◌+◌, ◌<◌, List, length, Some, slice_get}
-use Rattle.atlas_dir.specs.Directory.{Directory, name_of}
+use Rattle.atlas_dir.specs.directory_form.Directory.{Directory, name_of}
 
 -- these are the names of so many entities, from a number on, where they are born
 pub record AreNames (a : Directory) (first many : ℕ) (names : List (List ℕ)) : Type 0 where

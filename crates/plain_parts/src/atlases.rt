@@ -1,6 +1,6 @@
 //! The atlas.
 ghost use Rattle.std.specs.Prelude.{◌≡◌, ◌≤◌, ◌+◌, IfOk, map, string_bytes};
-ghost use Rattle.atlas_dir.specs.Directory.{edges_of as counts_of};
+ghost use Rattle.atlas_dir.specs.directory_form.Directory.{edges_of as counts_of};
 ghost use Rattle.history_model.specs.Born.{AreEdges};
 ghost use Rattle.history_model.specs.Plains.{atlas_of, edges_of};
 ghost use Rattle.kernel_calls.specs.Calls.{atlas_state};

@@ -3,26 +3,28 @@ use Rattle.std.proofs.Common.{◌≡◌, ℕ, zero, suc, ◌+◌, ◌-◌, ◌<�
 use Rattle.std.proofs.lemmas.Bool.Decides.{nat_tests}
 use Rattle.std.proofs.lemmas.List.{length-map}
 use Rattle.hop_base.specs.declared.histories.Entry.{Entry}
-use Rattle.history_model.specs.hop_model.Scripts.{Script}
-use Rattle.history_model.specs.hop_model.Serial.{can_step, owed_stable}
-use Rattle.history_model.specs.hop_model.Soundness.{IsSound}
-use Rattle.history_model.specs.hop_model.State.{Supply, Text, AtlasState, Cell, KernelState}
-use Rattle.history_model.specs.hop_model.Steps.{atlas_in, running}
-use Rattle.history_model.specs.Born.{AreEdges, HasFewNames}
-use Rattle.history_model.specs.Events.{Stays, StepsTo}
-use Rattle.history_model.specs.Lists.{KeepsNames}
-use Rattle.history_model.specs.Plains.{atlas_of, cells_of, locus_cell}
-use Rattle.history_model.specs.declared.plain.Plain.{Plain}
-use Rattle.history_model.proofs.CellLemmas.{high_cell}
-use Rattle.history_model.proofs.PlainBirths.{sound_here}
-use Rattle.plain_run.specs.Looking.{AllIdle, Stills, Turns, ended, owed_after, wants_stable}
-use Rattle.plain_run.specs.Standing.{GoesOn, IsAt, IsBearing, IsLow, IsStanding, Keeps, Reaches, Stands, names_born, run_from, settled}
+use Rattle.plain_steps.specs.history_model.hop_model.Scripts.{Script}
+use Rattle.plain_steps.specs.history_model.hop_model.Serial.{can_step, owed_stable}
+use Rattle.plain_steps.specs.history_model.hop_model.Soundness.{IsSound}
+use Rattle.plain_steps.specs.history_model.hop_model.State.{Supply, Text, AtlasState, Cell, KernelState}
+use Rattle.plain_steps.specs.history_model.hop_model.Steps.{atlas_in, running}
+use Rattle.plain_steps.specs.history_model.Born.{AreEdges, HasFewNames}
+use Rattle.plain_steps.specs.history_model.Events.{Stays, StepsTo}
+use Rattle.plain_steps.specs.history_model.sound_runs.Names.{KeepsNames}
+use Rattle.plain_steps.specs.history_model.Plains.{atlas_of, cells_of, locus_cell}
+use Rattle.plain_steps.specs.history_model.declared.plain.Plain.{Plain}
+use Rattle.plain_steps.proofs.history_model_lemmas.CellLemmas.{high_cell}
+use Rattle.plain_steps.proofs.history_model_lemmas.PlainBirths.{sound_here}
+use Rattle.plain_run.specs.Looking.{AllIdle, Stills, Turns, ended}
+use Rattle.plain_steps.specs.plain_laws.Looking.{owed_after, wants_stable}
+use Rattle.plain_run.specs.Standing.{GoesOn, IsAt, IsStanding, Keeps, Stands}
+use Rattle.plain_steps.specs.plain_laws.Standing.{IsBearing, IsLow, Reaches, names_born, run_from, settled}
 use Rattle.plain_run.specs.declared.serial.Place.{Place}
 use Rattle.plain_run.specs.declared.serial.Place.TheVariants.{Births, Pick, Round}
 use Rattle.plain_run.specs.declared.serial.SerialRun.{SerialRun}
 use Rattle.plain_run.proofs.Placing.{bearing, stands}
-use Rattle.plain_run.proofs.Stepping.{reaches_stay, step_made}
-use Rattle.serial_turns.specs.fitting_births.Fitting.{Fits}
+use Rattle.plain_steps.proofs.plain_laws_lemmas.Stepping.{reaches_stay, step_made}
+use Rattle.plain_steps.specs.serial_turns.fitting_births.Fitting.{Fits}
 
 -- RESULTS
 

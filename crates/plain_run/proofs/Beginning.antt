@@ -5,26 +5,27 @@ use Rattle.std.proofs.lemmas.List.Elements.{All-cons, All-nil}
 use Rattle.std.proofs.lemmas.List.Sums.{count_by-le-length}
 use Rattle.hop_base.specs.declared.histories.Entry.{Entry}
 use Rattle.hop_base.specs.declared.histories.Event.TheVariants.{Stable}
-use Rattle.history_model.specs.hop_model.Histories.{mark}
+use Rattle.plain_steps.specs.history_model.hop_model.Histories.{mark}
 use Rattle.std.proofs.lemmas.List.{length-append}
-use Rattle.plain_run.proofs.Stepping.{few_made}
-use Rattle.history_model.specs.hop_model.Output.{output_of}
-use Rattle.history_model.specs.hop_model.Scripts.{ContainerTable, LocusTable, Script, container_named, locus_named, number_of, place_of}
-use Rattle.history_model.specs.hop_model.State.{Supply, Text, AtlasState, Cell, NotBorn, AtlasCell, KernelState, empty_state, no_atlas}
-use Rattle.history_model.specs.hop_model.Steps.{atlas_in}
-use Rattle.history_model.specs.script_form.Rules.{IsScript}
-use Rattle.history_model.proofs.EmptyLemmas.{sound_empty}
-use Rattle.plain_steps.proofs.PlainSteps.{same_sound}
-use Rattle.history_model.specs.Born.{AreEdges}
-use Rattle.history_model.specs.Plains.{atlas_of, cells_by, cells_of, edges_of}
-use Rattle.history_model.specs.declared.plain.Edge.{Edge}
-use Rattle.history_model.specs.declared.plain.Plain.{Plain}
+use Rattle.plain_steps.proofs.plain_laws_lemmas.Stepping.{few_made}
+use Rattle.plain_steps.specs.history_model.hop_model.Output.{output_of}
+use Rattle.plain_steps.specs.history_model.hop_model.Scripts.{ContainerTable, LocusTable, Script, container_named, locus_named, number_of, place_of}
+use Rattle.plain_steps.specs.history_model.hop_model.State.{Supply, Text, AtlasState, Cell, NotBorn, AtlasCell, KernelState, empty_state, no_atlas}
+use Rattle.plain_steps.specs.history_model.hop_model.Steps.{atlas_in}
+use Rattle.plain_steps.specs.history_model.script_form.Rules.{IsScript}
+use Rattle.plain_steps.proofs.history_model_lemmas.EmptyLemmas.{sound_empty}
+use Rattle.plain_steps.proofs.plain_laws_lemmas.PlainSteps.{same_sound}
+use Rattle.plain_steps.specs.history_model.Born.{AreEdges}
+use Rattle.plain_steps.specs.history_model.Plains.{atlas_of, cells_by, cells_of, edges_of}
+use Rattle.plain_steps.specs.history_model.declared.plain.Edge.{Edge}
+use Rattle.plain_steps.specs.history_model.declared.plain.Plain.{Plain}
 use Rattle.plain_run.specs.Plays.{IsPlay}
-use Rattle.plain_run.specs.Snaps.{HasNoSnapTables, code_of, has_no_snap}
-use Rattle.plain_run.specs.Standing.{CanBegin, Stands, settled}
+use Rattle.plain_steps.specs.plain_laws.Snaps.{HasNoSnapTables, code_of, has_no_snap}
+use Rattle.plain_steps.specs.plain_laws.Standing.{CanBegin, settled}
+use Rattle.plain_run.specs.Standing.{Stands}
 use Rattle.plain_run.specs.declared.serial.SerialRun.{SerialRun}
 use Rattle.plain_run.proofs.Placing.{zeros_at}
-use Rattle.serial_turns.specs.fitting_births.Fitting.{Fits}
+use Rattle.plain_steps.specs.serial_turns.fitting_births.Fitting.{Fits}
 
 -- nothing but the atlas is born
 pub record IsEmpty (p : Plain) : Type 0 where

@@ -1,10 +1,10 @@
 -- The names to which the next table of a script refers.
 use Rattle.std.proofs.Common.{sym, subst}
-use Rattle.history_model.specs.hop_model.Scripts.{Script}
-use Rattle.history_model.specs.hop_model.State.{Text, AtlasState}
-use Rattle.history_model.specs.Born.{KnowsContainer, KnowsLocus, KnowsNames}
-use Rattle.serial_turns.proofs.fitting_births_lemmas.KnownNames.{NextName, OfContainer, OfLocus}
-pub use Rattle.serial_turns.proofs.fitting_births_lemmas.KnownNames.{next_name_is}
+use Rattle.plain_steps.specs.history_model.hop_model.Scripts.{Script}
+use Rattle.plain_steps.specs.history_model.hop_model.State.{Text, AtlasState}
+use Rattle.plain_steps.specs.history_model.Born.{KnowsContainer, KnowsLocus, KnowsNames}
+use Rattle.plain_steps.proofs.serial_turns_lemmas.fitting_births_lemmas.KnownNames.{NextName, OfContainer, OfLocus}
+pub use Rattle.plain_steps.proofs.serial_turns_lemmas.fitting_births_lemmas.KnownNames.{next_name_is}
 
 -- the names to which its table refers are known
 pub next_known : (a : AtlasState) (script : Script) (name : Text) → NextName a script name → KnowsNames a script name

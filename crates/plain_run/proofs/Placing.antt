@@ -1,61 +1,46 @@
 -- The place of a run in the serial history.
-use Rattle.std.proofs.Common.{◌≡◌, ℕ, zero, suc, ◌+◌, ◌-◌, ◌<◌, ◌≤◌, true, false, nat_lt, IsTrue, List, [], ◌∷◌, ◌++◌, length, take, drop, get_or, Option, Some, None, is_some, slice_index, replicate, refl, sym, ap, subst, ◌∙◌, arith, append_assoc, append-nil}
-use Rattle.std.proofs.Math.Seq.{get_or-append_seam}
-use Rattle.std.proofs.lemmas.Bool.Decides.{nat_tests}
-use Rattle.std.proofs.lemmas.List.{get_or-drop, get_or_append_left, length-append, take-append-drop, take_more}
+use Rattle.std.proofs.Common.{◌≡◌, ℕ, zero, suc, ◌+◌, ◌-◌, ◌<◌, ◌≤◌, true, false, IsTrue, List, [], ◌∷◌, ◌++◌, length, take, drop, get_or, Option, Some, None, is_some, slice_index, replicate, refl, sym, ap, subst, ◌∙◌, arith, append_assoc, append-nil}
+use Rattle.std.proofs.lemmas.List.{get_or-drop, length-append, take-append-drop, take_more}
 use Rattle.hop_base.specs.Edges.{upto}
 use Rattle.hop_base.specs.declared.histories.Entry.{Entry}
 use Rattle.hop_base.specs.declared.histories.Event.TheVariants.{Stable}
-use Rattle.history_model.specs.hop_model.Births.{birth}
-use Rattle.history_model.specs.hop_model.Histories.{births_owed, mark, run_after, start_run}
-use Rattle.history_model.specs.hop_model.Scripts.{Script, locus_named, next_name}
-use Rattle.history_model.specs.hop_model.Serial.{IsSerial, IsSerialFront, all_loci, births, can_step, looks_of, owed_stable, picks_of, rounds, turn, turns}
-use Rattle.history_model.specs.hop_model.Soundness.{IsSound}
-use Rattle.history_model.specs.hop_model.State.{Supply, Text, AtlasState, Cell, AtlasCell, KernelState}
-use Rattle.history_model.specs.hop_model.Steps.{atlas_in}
-use Rattle.history_model.specs.Born.{AreEdges}
-use Rattle.history_model.specs.Events.{Bears}
-use Rattle.history_model.specs.Lists.{KeepsNames}
-use Rattle.history_model.specs.Plains.{atlas_of, cells_of}
-use Rattle.history_model.specs.declared.plain.Plain.{Plain}
-use Rattle.history_model.proofs.PlainBirths.{sound_here}
+use Rattle.plain_steps.specs.history_model.hop_model.Births.{birth}
+use Rattle.plain_steps.specs.history_model.hop_model.Histories.{births_owed, mark, run_after, start_run}
+use Rattle.plain_steps.specs.history_model.hop_model.Scripts.{Script, locus_named, next_name}
+use Rattle.plain_steps.specs.history_model.hop_model.Serial.{IsSerial, IsSerialFront, all_loci, births, can_step, looks_of, owed_stable, picks_of, rounds, turn, turns}
+use Rattle.plain_steps.specs.history_model.hop_model.Soundness.{IsSound}
+use Rattle.plain_steps.specs.history_model.hop_model.State.{Supply, Text, AtlasState, Cell, AtlasCell, KernelState}
+use Rattle.plain_steps.specs.history_model.hop_model.Steps.{atlas_in}
+use Rattle.plain_steps.specs.history_model.Born.{AreEdges}
+use Rattle.plain_steps.specs.history_model.Events.{Bears}
+use Rattle.plain_steps.specs.history_model.sound_runs.Names.{KeepsNames}
+use Rattle.plain_steps.specs.history_model.Plains.{atlas_of, cells_of}
+use Rattle.plain_steps.specs.history_model.declared.plain.Plain.{Plain}
+use Rattle.plain_steps.proofs.history_model_lemmas.PlainBirths.{sound_here}
+use Rattle.plain_steps.proofs.history_model_lemmas.hop_model_lemmas.Lists.{upto_get}
 use Rattle.plain_run.specs.Looking.{IsReady, IsTurn, ended}
-use Rattle.plain_run.specs.Snaps.{HasNoSnaps, HasNoSnapTables, code_of, has_no_snap}
-use Rattle.plain_run.specs.Standing.{CanBegin, HasLooked, IsAt, IsBearing, IsInRound, IsLow, Reaches, Stands, names_born, opened_atlas, opening_from, run_from, settled}
+use Rattle.plain_steps.specs.plain_laws.Snaps.{HasNoSnaps, HasNoSnapTables, code_of, has_no_snap}
+use Rattle.plain_steps.specs.plain_laws.Standing.{CanBegin, HasLooked, IsBearing, IsInRound, IsLow, Reaches, names_born, opened_atlas, opening_from, run_from, settled}
+use Rattle.plain_run.specs.Standing.{IsAt, Stands}
 use Rattle.plain_run.specs.declared.serial.Place.{Place}
 use Rattle.plain_run.specs.declared.serial.Place.TheVariants.{Births, Pick, Round}
 use Rattle.plain_run.specs.declared.serial.SerialRun.{SerialRun}
-use Rattle.plain_run.proofs.Goings.{run_after-append, state_is, turn_idle, turns-append}
-use Rattle.plain_run.proofs.Growing.{born_atlas, one_more_name}
-use Rattle.plain_run.proofs.Coding.{birth_coded}
-use Rattle.plain_run.proofs.Keeping.{keeps_both, named_since}
-use Rattle.plain_run.proofs.Openings.{birth_made, births_more, births_split, opened, owed_then, reaches_stable, settled_born, settled_is, settled_state}
-use Rattle.serial_turns.specs.fitting_births.Fitting.{Fits}
-use Rattle.serial_turns.proofs.fitting_births_lemmas.Growing.{Grew, fits_after}
-use Rattle.serial_turns.proofs.fitting_births_lemmas.KnownNames.{NextName, next_name_is, next_new}
-use Rattle.serial_turns.proofs.Course.{picks-append, picked}
+use Rattle.plain_steps.proofs.plain_laws_lemmas.Goings.{run_after-append, state_is, turn_idle, turns-append}
+use Rattle.plain_steps.proofs.plain_laws_lemmas.DefinedBirths.{born_atlas, one_more_name}
+use Rattle.plain_steps.proofs.plain_laws_lemmas.Coding.{birth_coded}
+use Rattle.plain_steps.proofs.history_model_lemmas.sound_runs_lemmas.Naming.{keeps_then}
+use Rattle.plain_steps.proofs.plain_laws_lemmas.Keeping.{named_since}
+use Rattle.plain_steps.proofs.plain_laws_lemmas.Openings.{birth_made, births_more, births_split, opened, owed_then, reaches_stable, settled_born, settled_is, settled_state}
+use Rattle.plain_steps.specs.serial_turns.fitting_births.Fitting.{Fits}
+use Rattle.plain_steps.proofs.serial_turns_lemmas.fitting_births_lemmas.Growing.{Grew, fits_after}
+use Rattle.plain_steps.proofs.serial_turns_lemmas.fitting_births_lemmas.KnownNames.{NextName, next_name_is, next_new}
+use Rattle.plain_steps.proofs.serial_turns_lemmas.Course.{picks-append, picked}
 
 -- NUMBERS OF LOCI
 
-length-upto : (n : ℕ) → length (upto n) ≡ n
-length-upto zero = refl
-length-upto (suc n) = omega (arith, length-append (upto n) (n ∷ []), length-upto n)
-
-at_upto : (n i : ℕ) → i < n → get_or (upto n) i 0 ≡ i
-at_upto zero i h = absurd (omega arith)
-at_upto (suc n) i h =
-    elim (nat_lt i n) as (λ b. nat_lt i n ≡ b → get_or (upto n ++ n ∷ []) i 0 ≡ i) [
-      | true ↦ λ is.
-          let lt : i < n = grind (arith, nat_tests) in
-          get_or_append_left (upto n) (n ∷ []) 0 i (rw length-upto lt) ∙ at_upto n i lt
-      | false ↦ λ is.
-          let same : i ≡ n = grind (arith, nat_tests) in
-          subst (λ k. get_or (upto n ++ n ∷ []) k 0 ≡ k) (sym same) (subst (λ k. get_or (upto n ++ n ∷ []) k 0 ≡ n) (length-upto n) (get_or-append_seam (upto n) n [] 0))
-    ] refl
-
 -- the loci are 41 to 63
 pub locus_at : (i : ℕ) → i < 23 → get_or all_loci i 0 ≡ i + 41
-locus_at i h = get_or-drop 41 (upto 64) i 0 ∙ at_upto 64 (41 + i) (omega arith) ∙ (let e : 41 + i ≡ i + 41 = omega arith in e)
+locus_at i h = get_or-drop 41 (upto 64) i 0 ∙ upto_get 64 (41 + i) (omega arith) ∙ (let e : 41 + i ≡ i + 41 = omega arith in e)
 
 -- one more locus
 pub take_locus : (i : ℕ) → i < 23 → take (i + 1) all_loci ≡ take i all_loci ++ (i + 41) ∷ []
@@ -94,13 +79,13 @@ pub looked_on : (s : Supply) (script : Script) (w : KernelState) (cells new : �
     → KeepsNames (atlas_in (cells 0)) (atlas_in (new 0)) → HasLooked s script w new fs (looked ++ l ∷ [])
 looked_on s script w cells new es fs looked l h next born names = record {
   born = born;
-  names = keeps_both (opened_atlas s script w) (atlas_in (cells 0)) (atlas_in (new 0)) h.names names;
+  names = keeps_then (opened_atlas s script w) (atlas_in (cells 0)) (atlas_in (new 0)) h.names names;
   picks = h.picks;
   same = next ∙ ap (λ (gs : List Entry). es ++ gs) (sym (append-nil (turn s script (run_from s script w es) l))) ∙ looked_more s script w es looked (l ∷ []) h.same;
 }
 
 pub looked_stay : (s : Supply) (script : Script) (w : KernelState) (cells new : ℕ → Cell) (es : List Entry) (looked : List ℕ) → KeepsNames (atlas_in (cells 0)) (atlas_in (new 0)) → HasLooked s script w cells es looked → HasLooked s script w new es looked
-looked_stay s script w cells new es looked names h = record { born = h.born; names = keeps_both (opened_atlas s script w) (atlas_in (cells 0)) (atlas_in (new 0)) h.names names; picks = h.picks; same = h.same }
+looked_stay s script w cells new es looked names h = record { born = h.born; names = keeps_then (opened_atlas s script w) (atlas_in (cells 0)) (atlas_in (new 0)) h.names names; picks = h.picks; same = h.same }
 
 -- FRONTS OF THE SERIAL HISTORY
 

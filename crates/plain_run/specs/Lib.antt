@@ -1,9 +1,9 @@
-pub mod Snaps
 pub mod Standing
 pub mod Looking
 pub mod Plays
-pub use Rattle.history_model.specs as history_model
-pub use Rattle.history_model.specs.hop_model
-pub use Rattle.history_model.specs.script_form
-pub use Rattle.history_model.specs.sound_runs
-pub use Rattle.serial_turns.specs.fitting_births
+pub use Rattle.plain_steps.specs.history_model
+pub use Rattle.plain_steps.specs.history_model.hop_model
+pub use Rattle.plain_steps.specs.history_model.script_form
+pub use Rattle.plain_steps.specs.history_model.sound_runs
+pub use Rattle.plain_steps.specs.serial_turns.fitting_births
+pub use Rattle.plain_steps.specs.plain_laws

@@ -1,41 +1,17 @@
--- One look at a locus.
-use Rattle.std.specs.Prelude.{◌≡◌, ℕ, ◌<◌, ◌≤◌, Bool, true, false, List, [], ◌∷◌, ◌++◌, Option, Some, None}
-use Rattle.hop_base.specs.declared.histories.Answer.{Answer}
-use Rattle.hop_base.specs.declared.histories.Answer.TheVariants.{Reply as Replied}
+-- One look at a locus of a plain run.
+use Rattle.std.specs.Prelude.{◌≡◌, ℕ, ◌<◌, ◌≤◌, false, List, [], ◌∷◌, ◌++◌, Option, Some, None}
 use Rattle.hop_base.specs.declared.histories.Entry.{Entry}
-use Rattle.hop_base.specs.declared.instructions.Instr.{Instr}
-use Rattle.hop_base.specs.declared.instructions.Instr.TheVariants.{Stabilise}
-use Rattle.hop_base.specs.declared.instructions.Reply.TheVariants.{Ok}
-use Rattle.history_model.specs.hop_model.Histories.{births_owed, locus_in}
-use Rattle.history_model.specs.hop_model.Refusals.{instr_at}
-use Rattle.history_model.specs.hop_model.Scripts.{Script}
-use Rattle.history_model.specs.hop_model.Serial.{can_step, owed_stable, turn}
-use Rattle.history_model.specs.hop_model.State.{Supply, Text, LocusState, Cell, KernelState}
-use Rattle.history_model.specs.Born.{AreEdges}
-use Rattle.history_model.specs.Plains.{cells_of}
-use Rattle.plain_run.specs.Standing.{Reaches, Stands, run_from}
+use Rattle.plain_steps.specs.history_model.hop_model.Histories.{births_owed}
+use Rattle.plain_steps.specs.history_model.hop_model.Scripts.{Script}
+use Rattle.plain_steps.specs.history_model.hop_model.Serial.{can_step, owed_stable, turn}
+use Rattle.plain_steps.specs.history_model.hop_model.State.{Supply, Text, KernelState}
+use Rattle.plain_steps.specs.history_model.Born.{AreEdges}
+use Rattle.plain_steps.specs.history_model.Plains.{cells_of}
+use Rattle.plain_steps.specs.plain_laws.Standing.{Reaches, run_from}
+use Rattle.plain_run.specs.Standing.{Stands}
 use Rattle.plain_run.specs.declared.serial.Place.{Place}
 use Rattle.plain_run.specs.declared.serial.Place.TheVariants.{Births, Pick, Round}
 use Rattle.plain_run.specs.declared.serial.SerialRun.{SerialRun}
-
--- THE STABLE THAT A STEP OWES
-
-abbrev pub is_stabilise : Instr → Bool
-is_stabilise (Stabilise c) = true
-is_stabilise i = false
-
-abbrev pub stabilise_next : Option LocusState → Bool
-stabilise_next None = false
-stabilise_next (Some l) = is_stabilise (instr_at l)
-
--- the locus's next instruction is a stabilise
-abbrev pub wants_stable : Cell → Bool
-wants_stable cell = stabilise_next (locus_in cell)
-
--- a stabilise that was answered Ok owes the Stable of its locus
-abbrev pub owed_after : ℕ → Answer → Bool → Option ℕ
-owed_after l (Replied Ok) true = Some l
-owed_after l answer wants = None
 
 -- THE LOOK
 

@@ -1,14 +1,15 @@
 -- What a run of a script made.
 use Rattle.std.specs.Prelude.{◌≡◌, ℕ, ◌<◌, Bool, true, false, List, ◌++◌, length}
 use Rattle.hop_base.specs.declared.histories.Entry.{Entry}
-use Rattle.history_model.specs.hop_model.Histories.{IsLegalRun, never}
-use Rattle.history_model.specs.hop_model.Output.{output_of}
-use Rattle.history_model.specs.hop_model.Scripts.{Script}
-use Rattle.history_model.specs.hop_model.Serial.{IsSerial, IsSerialFront}
-use Rattle.history_model.specs.hop_model.Soundness.{IsSound}
-use Rattle.history_model.specs.hop_model.State.{Supply, Cell, KernelState, empty_state}
-use Rattle.history_model.specs.hop_model.Steps.{atlas_in}
-use Rattle.plain_run.specs.Standing.{Stands, run_from}
+use Rattle.plain_steps.specs.history_model.hop_model.Histories.{IsLegalRun, never}
+use Rattle.plain_steps.specs.history_model.hop_model.Output.{output_of}
+use Rattle.plain_steps.specs.history_model.hop_model.Scripts.{Script}
+use Rattle.plain_steps.specs.history_model.hop_model.Serial.{IsSerial, IsSerialFront}
+use Rattle.plain_steps.specs.history_model.hop_model.Soundness.{IsSound}
+use Rattle.plain_steps.specs.history_model.hop_model.State.{Supply, Cell, KernelState, empty_state}
+use Rattle.plain_steps.specs.history_model.hop_model.Steps.{atlas_in}
+use Rattle.plain_run.specs.Standing.{Stands}
+use Rattle.plain_steps.specs.plain_laws.Standing.{run_from}
 use Rattle.plain_run.specs.declared.serial.SerialRun.{SerialRun}
 
 -- the lines that these entries print by the names in this cell are those by the names that the run with them has

@@ -1,17 +1,19 @@
 //! Whether the names of a script can be born into an atlas.
 ghost use Rattle.std.specs.Prelude.{◌≡◌, ◌+◌, ◌≤◌, ◌++◌, OnOk, IfOk, IfErr, IfSome, IfNone, map, length, codes, decimal, string_bytes, is_some, count_by, is_none, Some, None};
-ghost use Rattle.history_model.specs.hop_model.Scripts.{container_named as container_number, locus_named as locus_number, number_of as number};
-ghost use Rattle.history_model.specs.Born.{HasFewNames};
-ghost use Rattle.history_model.specs.Plains.{atlas_of};
-ghost use Rattle.history_model.specs.script_form.Scripts.{container_of, locus_of, tables_of};
-ghost use Rattle.history_model.specs.script_form.declared.refusals.Why.{Why as AWhy};
-ghost use Rattle.serial_turns.specs.fitting_births.Fitting.{Fits, new_containers as new_of_containers, new_loci as new_of_loci};
-ghost use Rattle.serial_turns.specs.fitting_births.Misfits.{IsClash, IsMisfit, IsNoRoom, clash_key, container_clash as clash_of_containers, locus_clash as clash_of_loci, name_key as key_of_name, room_key};
+ghost use Rattle.plain_steps.specs.history_model.hop_model.Scripts.{container_named as container_number, locus_named as locus_number, number_of as number};
+ghost use Rattle.plain_steps.specs.history_model.Born.{HasFewNames};
+ghost use Rattle.plain_steps.specs.history_model.Plains.{atlas_of};
+ghost use Rattle.plain_steps.specs.history_model.script_form.Scripts.{container_of, locus_of, tables_of};
+ghost use Rattle.plain_steps.specs.history_model.script_form.declared.refusals.Why.{Why as AWhy};
+ghost use Rattle.plain_steps.specs.serial_turns.fitting_births.Fitting.{Fits, new_containers as new_of_containers, new_loci as new_of_loci};
+ghost use Rattle.plain_steps.specs.serial_turns.fitting_births.Misfits.{IsClash, IsMisfit, IsNoRoom, clash_key, container_clash as clash_of_containers, locus_clash as clash_of_loci, name_key as key_of_name, room_key};
 
-use history_model::script_form::{Refusal, Script, ScriptContainer, ScriptFault, ScriptLocus, Why};
-use history_model::{PlainAtlas, container_named, number_among, number_of};
 use hop_base::{FIRST_LOCUS, MOST_CONTAINERS, MOST_LOCI};
 use itoa::Buffer;
+use plain_steps::history_model::script_form::{
+    Refusal, Script, ScriptContainer, ScriptFault, ScriptLocus, Why,
+};
+use plain_steps::history_model::{PlainAtlas, container_named, number_among, number_of};
 use std::alloc::{AllocError, Global};
 
 /// The first container's table whose name is a locus.
@@ -76,23 +78,12 @@ fn new_loci(tables: &[ScriptLocus], atlas: &PlainAtlas) -> usize
     count
 }
 
-/// The refusal at this key.
-fn refusal(alloc: Global, why: Why, key: &str) -> Result<Refusal, AllocError>
-    ensures why { IfOk result (λ refusal. refusal.why ≡ why) }
-    ensures key { IfOk result (λ refusal. string_bytes refusal.key ≡ key.now) }
-{
-    Ok(Refusal {
-        why,
-        key: String::from_str(alloc, key)?,
-    })
-}
-
 /// A name's clash, at the table at this place.
 fn clash(alloc: Global, kind: &str, place: usize) -> Result<Refusal, AllocError>
     ensures why { IfOk result (λ refusal. refusal.why ≡ AWhy.Clash) }
     ensures key { IfOk result (λ refusal. string_bytes refusal.key ≡ key_of_name kind.now place) }
 {
-    let mut refusal = refusal(alloc, Why::Clash, kind)?;
+    let mut refusal = Refusal::new(alloc, Why::Clash, kind)?;
     let mut digits = Buffer::new();
     refusal.key.push_str(".")?;
     refusal.key.push_str(digits.format(place))?;
@@ -123,11 +114,11 @@ fn check_room(alloc: Global, script: &Script, atlas: &PlainAtlas) -> Result<(), 
 {
     let containers = new_containers(&script.containers, atlas);
     if atlas.containers.len() + containers > MOST_CONTAINERS {
-        return Err(ScriptFault::Refused(refusal(alloc, Why::NoRoom, "container")?));
+        return Err(ScriptFault::Refused(Refusal::new(alloc, Why::NoRoom, "container")?));
     }
     let loci = new_loci(&script.loci, atlas);
     if atlas.loci.len() + loci > MOST_LOCI {
-        return Err(ScriptFault::Refused(refusal(alloc, Why::NoRoom, "locus")?));
+        return Err(ScriptFault::Refused(Refusal::new(alloc, Why::NoRoom, "locus")?));
     }
     Ok(())
 }

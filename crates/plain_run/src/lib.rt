@@ -9,9 +9,9 @@ mod plays;
 mod serial;
 
 pub use fitting::against;
-pub use history_model;
-pub use history_model::script_form;
 pub use names::next_name;
 pub use plain_steps;
+pub use plain_steps::history_model;
+pub use plain_steps::history_model::script_form;
 pub use plays::{Played, finish, play, replay};
 pub use serial::SerialRun;

@@ -1,17 +1,19 @@
 //! Looks at loci: each that isn't idle makes one step.
 ghost use Rattle.std.specs.Prelude.{◌≡◌, ℕ, ◌-◌, ◌+◌, ◌<◌, ◌≤◌, ◌^◌, OnErr, OnOk, IfOk, IfSome, IfNone, Some, None, length, slice_get};
-ghost use Rattle.history_model.specs.hop_model.State.{Supply};
-ghost use Rattle.history_model.specs.Lists.{KeepsNames};
-ghost use Rattle.history_model.specs.Plains.{atlas_of, locus_cell};
-ghost use Rattle.plain_run.specs.Looking.{AllIdle, Idles, IsInRounds, IsPastBirths, IsReadySomewhere, Stills, Turns, owed_after, wants_stable as stable_wanted};
-ghost use Rattle.plain_run.specs.Standing.{GoesOn, IsLow, IsOver, IsStanding, Keeps};
+ghost use Rattle.plain_steps.specs.history_model.hop_model.State.{Supply};
+ghost use Rattle.plain_steps.specs.history_model.sound_runs.Names.{KeepsNames};
+ghost use Rattle.plain_steps.specs.history_model.Plains.{atlas_of, locus_cell};
+ghost use Rattle.plain_run.specs.Looking.{AllIdle, Idles, IsInRounds, IsPastBirths, IsReadySomewhere, Stills, Turns};
+ghost use Rattle.plain_steps.specs.plain_laws.Looking.{owed_after, wants_stable as stable_wanted};
+ghost use Rattle.plain_run.specs.Standing.{GoesOn, IsOver, IsStanding, Keeps};
+ghost use Rattle.plain_steps.specs.plain_laws.Standing.{IsLow};
 ghost use Rattle.plain_run.specs.declared.serial.Place.TheVariants.{Pick as AtPick, Round as AtRound};
-ghost use Rattle.history_model.specs.script_form.Scripts.{tables_of};
+ghost use Rattle.plain_steps.specs.history_model.script_form.Scripts.{tables_of};
 
 use crate::serial::{Place, SerialRun};
-use history_model::script_form::Script;
-use history_model::{PlainLocus, number_among};
 use hop_base::{Answer, Entity, Entry, FIRST_LOCUS, Instr, MOST_ENTITIES, Reply};
+use plain_steps::history_model::script_form::Script;
+use plain_steps::history_model::{PlainLocus, number_among};
 use plain_steps::plain_step;
 use std::alloc::AllocError;
 

@@ -1,12 +1,12 @@
 //! Names of a script that stand in the atlas, or don't yet.
 ghost use Rattle.std.specs.Prelude.{◌≡◌, IfSome, IfNone, Some, None, is_some, map};
-ghost use Rattle.history_model.specs.hop_model.Scripts.{next_name as next_of, next_container_name as next_of_containers, next_locus_name as next_of_loci, number_of as number};
-ghost use Rattle.history_model.specs.Born.{HasFewNames};
-ghost use Rattle.history_model.specs.Plains.{atlas_of};
-ghost use Rattle.history_model.specs.script_form.Scripts.{container_of, locus_of, tables_of};
+ghost use Rattle.plain_steps.specs.history_model.hop_model.Scripts.{next_name as next_of, next_container_name as next_of_containers, next_locus_name as next_of_loci, number_of as number};
+ghost use Rattle.plain_steps.specs.history_model.Born.{HasFewNames};
+ghost use Rattle.plain_steps.specs.history_model.Plains.{atlas_of};
+ghost use Rattle.plain_steps.specs.history_model.script_form.Scripts.{container_of, locus_of, tables_of};
 
-use history_model::script_form::{Script, ScriptContainer, ScriptLocus};
-use history_model::{PlainAtlas, number_of};
+use plain_steps::history_model::script_form::{Script, ScriptContainer, ScriptLocus};
+use plain_steps::history_model::{PlainAtlas, number_of};
 
 /// The first container's name that is not in the atlas.
 fn next_container<'a>(tables: &'a [ScriptContainer], atlas: &PlainAtlas) -> Option<&'a str>

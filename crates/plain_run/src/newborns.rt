@@ -1,23 +1,24 @@
 //! The births of a script's names, one after another.
 ghost use Rattle.std.specs.Prelude.{◌≡◌, ◌≤◌, ◌^◌, ◌<◌, OnErr, IfOk, IfSome, IfNone, Some, None};
-ghost use Rattle.history_model.specs.hop_model.Scripts.{next_name as next_of};
-ghost use Rattle.history_model.specs.hop_model.Soundness.{IsSound};
-ghost use Rattle.history_model.specs.hop_model.State.{Supply};
-ghost use Rattle.history_model.specs.Born.{AreEdges, HasFewNames};
-ghost use Rattle.history_model.specs.Events.{AreFewVersions, Bears, Stays};
-ghost use Rattle.history_model.specs.Plains.{atlas_of, cells_of};
-ghost use Rattle.plain_run.specs.Standing.{GoesOn, IsLow, IsStanding, Keeps};
+ghost use Rattle.plain_steps.specs.history_model.hop_model.Scripts.{next_name as next_of};
+ghost use Rattle.plain_steps.specs.history_model.hop_model.Soundness.{IsSound};
+ghost use Rattle.plain_steps.specs.history_model.hop_model.State.{Supply};
+ghost use Rattle.plain_steps.specs.history_model.Born.{AreEdges, HasFewNames};
+ghost use Rattle.plain_steps.specs.history_model.Events.{AreFewVersions, Bears, Stays};
+ghost use Rattle.plain_steps.specs.history_model.Plains.{atlas_of, cells_of};
+ghost use Rattle.plain_run.specs.Standing.{GoesOn, IsStanding, Keeps};
+ghost use Rattle.plain_steps.specs.plain_laws.Standing.{IsLow};
 ghost use Rattle.plain_run.specs.Looking.{IsPastBirths, ended};
 ghost use Rattle.plain_run.specs.declared.serial.Place.TheVariants.{Births as AtBirths};
-ghost use Rattle.history_model.specs.script_form.Rules.{IsScript};
-ghost use Rattle.history_model.specs.script_form.Scripts.{tables_of};
-ghost use Rattle.serial_turns.specs.fitting_births.Fitting.{Fits};
+ghost use Rattle.plain_steps.specs.history_model.script_form.Rules.{IsScript};
+ghost use Rattle.plain_steps.specs.history_model.script_form.Scripts.{tables_of};
+ghost use Rattle.plain_steps.specs.serial_turns.fitting_births.Fitting.{Fits};
 
 use crate::names::next_name;
 use crate::serial::{Place, SerialRun};
-use history_model::script_form::Script;
-use history_model::{Plain, plain_birth};
 use hop_base::{Entity, Entry};
+use plain_steps::history_model::script_form::Script;
+use plain_steps::history_model::{Plain, plain_birth};
 use std::alloc::{AllocError, Global};
 
 /// The birth of the script's next name. A script that fits always has one that is defined.

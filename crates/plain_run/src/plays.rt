@@ -1,19 +1,19 @@
 //! Runs to their end, or over so many entries.
 ghost use Rattle.std.specs.Prelude.{◌≡◌, ℕ, ◌<◌, ◌≤◌, ◌^◌, ◌++◌, OnOk, OnErr, IfOk, All, length, IsTrue, vec_len, vec_capacity, ◌∷◌, [], ◌+◌, false};
-ghost use Rattle.history_model.specs.hop_model.Serial.{IsSerial};
-ghost use Rattle.history_model.specs.hop_model.Scripts.{Script as Tables};
-ghost use Rattle.history_model.specs.hop_model.State.{Supply, KernelState, empty_state};
-ghost use Rattle.history_model.specs.Plains.{atlas_of, cells_of};
+ghost use Rattle.plain_steps.specs.history_model.hop_model.Serial.{IsSerial};
+ghost use Rattle.plain_steps.specs.history_model.hop_model.Scripts.{Script as Tables};
+ghost use Rattle.plain_steps.specs.history_model.hop_model.State.{Supply, KernelState, empty_state};
+ghost use Rattle.plain_steps.specs.history_model.Plains.{atlas_of, cells_of};
 ghost use Rattle.plain_run.specs.Plays.{IsPlay, Makes, Records, Replays};
-ghost use Rattle.plain_run.specs.Snaps.{HasNoSnapTables};
+ghost use Rattle.plain_steps.specs.plain_laws.Snaps.{HasNoSnapTables};
 ghost use Rattle.plain_run.specs.Standing.{IsStanding, Stands};
-ghost use Rattle.history_model.specs.script_form.Rules.{IsScript};
-ghost use Rattle.history_model.specs.script_form.Scripts.{tables_of};
+ghost use Rattle.plain_steps.specs.history_model.script_form.Rules.{IsScript};
+ghost use Rattle.plain_steps.specs.history_model.script_form.Scripts.{tables_of};
 
 use crate::serial::SerialRun;
-use history_model::script_form::Script;
-use history_model::{Plain, PlainAtlas};
 use hop_base::Entry;
+use plain_steps::history_model::script_form::Script;
+use plain_steps::history_model::{Plain, PlainAtlas};
 use std::alloc::{AllocError, Global};
 
 /// Goes on for so many entries. False exactly where the serial history has fewer left; then, and on want of memory, as many

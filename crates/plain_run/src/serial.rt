@@ -1,17 +1,18 @@
 //! A run that gives the entries of the serial history one after another.
 ghost use Rattle.std.specs.Prelude.{◌≡◌, ℕ, ◌<◌, ◌^◌, OnErr, IfOk, IfSome, IfNone, [], Some, None};
 ghost use Rattle.hop_base.specs.declared.histories.Event.TheVariants.{Stable};
-ghost use Rattle.history_model.specs.hop_model.Histories.{mark};
-ghost use Rattle.history_model.specs.hop_model.Scripts.{Script as Tables};
-ghost use Rattle.history_model.specs.hop_model.State.{Supply, KernelState};
-ghost use Rattle.plain_run.specs.Standing.{CanBegin, GoesOn, IsOver, IsStanding, Keeps, Stands};
-ghost use Rattle.history_model.specs.script_form.Scripts.{tables_of};
+ghost use Rattle.plain_steps.specs.history_model.hop_model.Histories.{mark};
+ghost use Rattle.plain_steps.specs.history_model.hop_model.Scripts.{Script as Tables};
+ghost use Rattle.plain_steps.specs.history_model.hop_model.State.{Supply, KernelState};
+ghost use Rattle.plain_steps.specs.plain_laws.Standing.{CanBegin};
+ghost use Rattle.plain_run.specs.Standing.{GoesOn, IsOver, IsStanding, Keeps, Stands};
+ghost use Rattle.plain_steps.specs.history_model.script_form.Scripts.{tables_of};
 
 use crate::looks::{next_in_rounds, next_pick};
 use crate::newborns::next_birth;
-use history_model::Plain;
-use history_model::script_form::Script;
 use hop_base::{Answer, Entity, Entry, Event, Touched};
+use plain_steps::history_model::Plain;
+use plain_steps::history_model::script_form::Script;
 use std::alloc::{AllocError, Global};
 
 /// What comes next in the serial history.

@@ -1,8 +1,3 @@
-pub mod LookLemmas
-pub mod PrivateLemmas
-pub mod BesideLemmas
-pub mod StepLemmas
-pub mod PlainSteps
-pub mod MapLemmas
-pub mod MadeLemmas
-pub mod AtlasSteps
+pub use Rattle.plain_laws.proofs.history_model_lemmas
+pub use Rattle.plain_laws.proofs as plain_laws_lemmas
+pub use Rattle.plain_laws.proofs.serial_turns_lemmas

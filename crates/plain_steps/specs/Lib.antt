@@ -1,2 +1,3 @@
-pub mod Acts
-pub mod AtlasActs
+pub use Rattle.plain_laws.specs.history_model
+pub use Rattle.plain_laws.specs as plain_laws
+pub use Rattle.plain_laws.specs.serial_turns

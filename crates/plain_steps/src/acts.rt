@@ -4,16 +4,16 @@ ghost use Rattle.hop_model.specs.Outcomes.{load as loaded, on_cell, store as sto
 ghost use Rattle.hop_model.specs.State.{Supply, ContainerCell, no_atlas};
 ghost use Rattle.hop_model.specs.Words.{denied};
 ghost use Rattle.wanted_act.specs.Views.{IsReadyLocus, ShowsPage};
-ghost use Rattle.history_model.specs.Plains.{container_of, locus_of};
-ghost use Rattle.history_model.specs.Readiness.{IsReadyContainer, leaves_atlas};
-ghost use Rattle.plain_steps.specs.Acts.{Acted};
+ghost use Rattle.plain_laws.specs.history_model.Plains.{container_of, locus_of};
+ghost use Rattle.plain_laws.specs.history_model.wanted_laws.Readiness.{IsReadyContainer, leaves_atlas};
+ghost use Rattle.plain_laws.specs.Acts.{Acted};
 
 use crate::beside_acts::{back, give, invoke, leave, take};
 use crate::local_acts::finish;
-use history_model::looks::{next_address, region_at};
-use history_model::reads::{given_cap, register};
-use history_model::{PlainContainer, PlainLocus};
 use hop_base::{Answer, Entity, Instr, PAGE_WORDS, Region, Reply, Rights};
+use plain_laws::history_model::looks::{next_address, region_at};
+use plain_laws::history_model::reads::{given_cap, register};
+use plain_laws::history_model::{PlainContainer, PlainLocus};
 use std::alloc::AllocError;
 use wanted_act::next_walk;
 

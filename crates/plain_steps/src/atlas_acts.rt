@@ -4,16 +4,16 @@ ghost use Rattle.std.specs.List.{list_any};
 ghost use Rattle.hop_model.specs.Outcomes.{edge_put, map_refusal as refused, map_region, unmap as unmapped};
 ghost use Rattle.hop_model.specs.State.{Supply, ContainerCell};
 ghost use Rattle.hop_model.specs.Words.{insert_region as inserted, overlaps};
-ghost use Rattle.history_model.specs.EdgeLists.{AreReadyEdges};
-ghost use Rattle.history_model.specs.Born.{AreEdges};
-ghost use Rattle.history_model.specs.Plains.{atlas_of, container_of, edges_of, locus_of};
-ghost use Rattle.plain_steps.specs.AtlasActs.{ActedOnBoth, with_regions};
+ghost use Rattle.plain_laws.specs.history_model.EdgeLists.{AreReadyEdges};
+ghost use Rattle.plain_laws.specs.history_model.Born.{AreEdges};
+ghost use Rattle.plain_laws.specs.history_model.Plains.{atlas_of, container_of, edges_of, locus_of};
+ghost use Rattle.plain_laws.specs.AtlasActs.{ActedOnBoth, with_regions};
 
 use crate::local_acts::finish;
-use history_model::circles::leads;
-use history_model::edges::{count_down, count_up};
-use history_model::{PlainAtlas, PlainContainer, PlainLocus, insert_region};
 use hop_base::{Answer, Entity, MOST_REGIONS, Region, Reply};
+use plain_laws::history_model::circles::leads;
+use plain_laws::history_model::edges::{count_down, count_up};
+use plain_laws::history_model::{PlainAtlas, PlainContainer, PlainLocus, insert_region};
 use std::alloc::AllocError;
 
 // MAPPINGS

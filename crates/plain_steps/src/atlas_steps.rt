@@ -7,20 +7,21 @@ ghost use Rattle.hop_model.specs.Outcomes.{on_cell};
 ghost use Rattle.hop_model.specs.Refusals.{refusal};
 ghost use Rattle.hop_model.specs.Soundness.{IsSound};
 ghost use Rattle.hop_model.specs.State.{Supply, ContainerCell};
-ghost use Rattle.history_model.specs.EdgeLists.{AreReadyEdges};
-ghost use Rattle.history_model.specs.Born.{AreEdges};
-ghost use Rattle.history_model.specs.Events.{AreFewVersions, StepsTo, Stays};
-ghost use Rattle.history_model.specs.Lists.{IsActingAt, KeepsNames};
-ghost use Rattle.history_model.specs.Plains.{atlas_of, cells_of, container_of, edges_of, locus_of};
-ghost use Rattle.history_model.specs.Readiness.{leaves_atlas};
-ghost use Rattle.plain_steps.specs.AtlasActs.{ActedOnBoth};
+ghost use Rattle.plain_laws.specs.history_model.EdgeLists.{AreReadyEdges};
+ghost use Rattle.plain_laws.specs.history_model.Born.{AreEdges};
+ghost use Rattle.plain_laws.specs.history_model.Events.{AreFewVersions, StepsTo, Stays};
+ghost use Rattle.plain_laws.specs.history_model.Lists.{IsActingAt};
+ghost use Rattle.plain_laws.specs.history_model.sound_runs.Names.{KeepsNames};
+ghost use Rattle.plain_laws.specs.history_model.Plains.{atlas_of, cells_of, container_of, edges_of, locus_of};
+ghost use Rattle.plain_laws.specs.history_model.wanted_laws.Readiness.{leaves_atlas};
+ghost use Rattle.plain_laws.specs.AtlasActs.{ActedOnBoth};
 
 use crate::atlas_acts::{map, unmap};
 use crate::program_births::{MadeContainer, SpawnedLocus, make, spawn};
-use history_model::entries::{entry_of_three, entry_of_two, wrote};
-use history_model::reads::{new_region, register};
-use history_model::{Plain, PlainAtlas, PlainContainer, PlainLocus, push_within};
 use hop_base::{Answer, Entity, Entry, Instr};
+use plain_laws::history_model::entries::{entry_of_three, entry_of_two, wrote};
+use plain_laws::history_model::reads::{new_region, register};
+use plain_laws::history_model::{Plain, PlainAtlas, PlainContainer, PlainLocus, push_within};
 use std::alloc::AllocError;
 
 // MAPPINGS

@@ -1,14 +1,14 @@
 ghost use Rattle.std.specs.Prelude.{◌≡◌, ◌<◌, ◌≤◌, IfOk, OnOk, OnErr, Some, None, slice_set};
 ghost use Rattle.hop_model.specs.Outcomes.{back as returned, give as given, going, invoke as invoked, leave as left, stopped, take_cap};
 ghost use Rattle.hop_model.specs.State.{Supply, ContainerCell};
-ghost use Rattle.history_model.specs.Plains.{container_of, locus_of};
-ghost use Rattle.plain_steps.specs.Acts.{Acted, going_on_in};
+ghost use Rattle.plain_laws.specs.history_model.Plains.{container_of, locus_of};
+ghost use Rattle.plain_laws.specs.Acts.{Acted, going_on_in};
 
 use crate::acts::{Made, read_only, written};
 use crate::local_acts::finish;
-use history_model::reads::{cap_at, free_slot};
-use history_model::{PlainContainer, PlainLocus};
 use hop_base::{Answer, Call, Cap, Condition, Entity, Instr, MOST_CALLS, Reply};
+use plain_laws::history_model::reads::{cap_at, free_slot};
+use plain_laws::history_model::{PlainContainer, PlainLocus};
 use std::alloc::AllocError;
 
 // INVOCATION

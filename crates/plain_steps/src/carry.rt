@@ -5,18 +5,18 @@ ghost use Rattle.hop_model.specs.Acts.{alone, beside};
 ghost use Rattle.hop_model.specs.Soundness.{IsSound};
 ghost use Rattle.hop_model.specs.State.{Supply};
 ghost use Rattle.wanted_act.specs.Views.{may_name_itself};
-ghost use Rattle.history_model.specs.Entries.{step_entry, versions_after};
-ghost use Rattle.history_model.specs.Events.{AreFewVersions, StepsTo, Stays};
-ghost use Rattle.history_model.specs.Lists.{IsActingAt};
-ghost use Rattle.history_model.specs.Plains.{atlas_of, cells_of, locus_of};
-ghost use Rattle.plain_steps.specs.Acts.{controlled as controlled_by};
+ghost use Rattle.plain_laws.specs.history_model.Entries.{step_entry, versions_after};
+ghost use Rattle.plain_laws.specs.history_model.Events.{AreFewVersions, StepsTo, Stays};
+ghost use Rattle.plain_laws.specs.history_model.Lists.{IsActingAt};
+ghost use Rattle.plain_laws.specs.history_model.Plains.{atlas_of, cells_of, locus_of};
+ghost use Rattle.plain_laws.specs.Acts.{controlled as controlled_by};
 
 use crate::acts::beside_container;
 use crate::beside_acts::{let_go_on, stop_other};
 use crate::local_acts::{finish, local};
-use history_model::entries::{Mark, entry_alone, entry_of_two, wrote};
-use history_model::{Plain, PlainLocus};
 use hop_base::{Answer, Entity, Entry, FIRST_LOCUS, Instr, Reply};
+use plain_laws::history_model::entries::{Mark, entry_alone, entry_of_two, wrote};
+use plain_laws::history_model::{Plain, PlainLocus};
 use std::alloc::AllocError;
 
 /// The step of a locus that refuses its act itself.

@@ -6,12 +6,12 @@ ghost use Rattle.hop_base.specs.declared.instructions.Reply.TheVariants.{Ok as O
 ghost use Rattle.hop_model.specs.Outcomes.{finish as finished, insert_private as inserted, local_act, next as gone_on, own_reply, with_private};
 ghost use Rattle.hop_model.specs.Refusals.{refusal};
 ghost use Rattle.wanted_act.specs.Views.{IsReadyLocus};
-ghost use Rattle.history_model.specs.Plains.{locus_of};
-ghost use Rattle.plain_steps.specs.Acts.{stands_before as is_before};
+ghost use Rattle.plain_laws.specs.history_model.Plains.{locus_of};
+ghost use Rattle.plain_laws.specs.Acts.{stands_before as is_before};
 
-use history_model::PlainLocus;
-use history_model::reads::{new_region, register};
 use hop_base::{Answer, Condition, Entity, Instr, MOST_PRINTED, Private, Region, Reply, Rights};
+use plain_laws::history_model::PlainLocus;
+use plain_laws::history_model::reads::{new_region, register};
 use std::alloc::AllocError;
 
 /// The next place, and nothing to tell.

@@ -2,13 +2,15 @@
 ghost use Rattle.std.specs.Prelude.{◌≡◌, ◌<◌, ◌≤◌, IfOk, OnErr, length, string_bytes};
 ghost use Rattle.hop_model.specs.Outcomes.{code_for as code_given, holding, made_container as container_made, made_name as name_made, make as made_by, spawn as spawned_by, spawned as locus_spawned};
 ghost use Rattle.hop_model.specs.State.{Supply};
-ghost use Rattle.history_model.specs.Plains.{atlas_of, container_of, locus_of};
-ghost use Rattle.plain_steps.specs.AtlasActs.{ActedOnAtlas, container_bears, locus_bears};
+ghost use Rattle.plain_laws.specs.history_model.Plains.{atlas_of, container_of, locus_of};
+ghost use Rattle.plain_laws.specs.AtlasActs.{ActedOnAtlas, container_bears, locus_bears};
 
 use crate::local_acts::finish;
-use history_model::reads::free_slot;
-use history_model::{PlainAtlas, PlainContainer, PlainLocus, free_container, free_locus};
 use hop_base::{Answer, Cap, Condition, Entity, Instr, MOST_CAPS, Reply, Rights};
+use plain_laws::history_model::reads::free_slot;
+use plain_laws::history_model::{
+    PlainAtlas, PlainContainer, PlainLocus, free_container, free_locus,
+};
 use std::alloc::{AllocError, Global};
 use std::collections::BTreeMap;
 

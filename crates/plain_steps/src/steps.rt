@@ -4,15 +4,16 @@ ghost use Rattle.hop_model.specs.State.{Supply};
 ghost use Rattle.hop_model.specs.Steps.{running};
 ghost use Rattle.hop_model.specs.Acts.{alone, beside};
 ghost use Rattle.wanted_act.specs.Views.{act_of, is_number, seen_by as act_seen_by};
-ghost use Rattle.history_model.specs.Born.{AreEdges};
-ghost use Rattle.history_model.specs.Events.{StepsTo, Stays, AreFewVersions};
-ghost use Rattle.history_model.specs.Lists.{IsActingAt, IsRunningAt, IsIdleIn, KeepsNames};
-ghost use Rattle.history_model.specs.Plains.{atlas_of, cells_of};
+ghost use Rattle.plain_laws.specs.history_model.Born.{AreEdges};
+ghost use Rattle.plain_laws.specs.history_model.Events.{StepsTo, Stays, AreFewVersions};
+ghost use Rattle.plain_laws.specs.history_model.Lists.{IsActingAt, IsRunningAt, IsIdleIn};
+ghost use Rattle.plain_laws.specs.history_model.sound_runs.Names.{KeepsNames};
+ghost use Rattle.plain_laws.specs.history_model.Plains.{atlas_of, cells_of};
 
 use crate::atlas_steps::{step_make, step_mapping, step_spawn};
 use crate::carry::{step_atlas, step_container, step_local, step_locus, step_refused};
-use history_model::{Plain, PlainLocus};
 use hop_base::{Condition, Entity, Entry, FIRST_LOCUS, Instr, Kind};
+use plain_laws::history_model::{Plain, PlainLocus};
 use std::alloc::AllocError;
 use wanted_act::{Act, wants};
 

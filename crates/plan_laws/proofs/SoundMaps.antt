@@ -6,11 +6,11 @@ use Rattle.history_model.specs.hop_model.Refusals.{instr_at}
 use Rattle.history_model.specs.hop_model.Soundness.{AreSound}
 use Rattle.history_model.specs.hop_model.State.{Supply, ContainerState, LocusState, Cell, LocusCell}
 use Rattle.history_model.specs.wanted_act.Views.{may_name_itself}
-use Rattle.atlas_dir.specs.Directory.{Directory}
+use Rattle.atlas_dir.specs.directory_form.Directory.{Directory}
 use Rattle.step_plans.specs.locus_machine.declared.loci.Head.{Head}
-use Rattle.step_plans.proofs.locus_machine_lemmas.Alone.{wanted_says}
+use Rattle.step_plans.proofs.wanted_laws_lemmas.Alone.{wanted_says}
 use Rattle.directory_laws.proofs.BirthLaws.{meets_mapping}
-use Rattle.history_model.proofs.WantLemmas.{Neighbour, OfContainer, OfNamed}
+use Rattle.history_model.proofs.wanted_laws_lemmas.WantLemmas.{Neighbour, OfContainer, OfNamed}
 use Rattle.directory_laws.specs.kernel_calls.Calls.{atlas_state, is_map, is_unmap}
 use Rattle.birth_steps.specs.kernel_cells.declared.cells.Part.{Part}
 use Rattle.birth_steps.specs.kernel_cells.Cells.{part_of}

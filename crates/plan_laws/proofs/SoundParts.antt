@@ -3,7 +3,7 @@ use Rattle.std.proofs.Common.{◌≡◌, ℕ, ◌+◌, ◌<◌, true, false, ◌
 use Rattle.std.proofs.lemmas.Bool.Decides.{nat_tests}
 use Rattle.history_model.specs.hop_model.Soundness.{AreSound}
 use Rattle.history_model.specs.hop_model.State.{Supply, AtlasState, ContainerState, LocusState, Cell, NotBorn, AtlasCell, ContainerCell, LocusCell}
-use Rattle.atlas_dir.specs.Directory.{Directory}
+use Rattle.atlas_dir.specs.directory_form.Directory.{Directory}
 use Rattle.step_plans.specs.locus_machine.Loci.{container_with}
 use Rattle.step_plans.specs.locus_machine.declared.loci.Head.{Head}
 use Rattle.step_plans.specs.fault_paging.declared.paged.PagedMemory.{PagedMemory}

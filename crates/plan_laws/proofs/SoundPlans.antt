@@ -12,10 +12,10 @@ use Rattle.history_model.specs.hop_model.Words.{first, is_locus}
 use Rattle.history_model.specs.wanted_act.Views.{may_name_itself}
 use Rattle.history_model.proofs.wanted_act_lemmas.Allowed.{first_none, unless_none}
 use Rattle.step_plans.specs.locus_machine.declared.loci.Head.{Head}
-use Rattle.step_plans.proofs.locus_machine_lemmas.Alone.{wanted_allowed, wanted_says}
+use Rattle.step_plans.proofs.wanted_laws_lemmas.Alone.{wanted_allowed, wanted_says}
 use Rattle.step_plans.specs.invocation.Entries.{WantsBeside}
 use Rattle.step_plans.specs.address_resolve.Looks.{is_look}
-use Rattle.history_model.proofs.WantLemmas.{Neighbour, OfContainer, OfNamed, neighbour, container_beside, locus_beside}
+use Rattle.history_model.proofs.wanted_laws_lemmas.WantLemmas.{Neighbour, OfContainer, OfNamed, neighbour, container_beside, locus_beside}
 use Rattle.birth_steps.specs.kernel_cells.declared.cells.Part.{Part}
 use Rattle.birth_steps.specs.kernel_cells.declared.cells.Part.TheVariants as part
 use Rattle.birth_steps.specs.kernel_cells.Cells.{container_cell, part_of}

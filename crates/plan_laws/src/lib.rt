@@ -5,7 +5,7 @@ ghost use Rattle.std.specs.Prelude.{◌≡◌, ◌≢◌, ◌<◌, ◌≤◌, �
 ghost use Rattle.hop_base.specs.declared.instructions.Instr.{Instr as AnInstr};
 ghost use Rattle.history_model.specs.hop_model.Soundness.{AreSound};
 ghost use Rattle.history_model.specs.hop_model.State.{AtlasState, Cell as ModelCell, ContainerCell, ContainerState, LocusCell, LocusState, Supply};
-ghost use Rattle.atlas_dir.specs.Directory.{Directory};
+ghost use Rattle.atlas_dir.specs.directory_form.Directory.{Directory};
 ghost use Rattle.step_plans.specs.locus_machine.declared.loci.Head.{Head as AHead};
 ghost use Rattle.step_plans.specs.invocation.Entries.{WantsBeside};
 ghost use Rattle.step_plans.specs.address_resolve.Looks.{is_look};

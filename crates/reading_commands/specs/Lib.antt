@@ -4,3 +4,4 @@ pub mod Shows
 pub use Rattle.command_parts.specs as command_parts
 pub use Rattle.image_tools.specs.image_blocks
 pub use Rattle.image_tools.specs.plain_show
+pub use Rattle.image_tools.specs.image_form

@@ -7,7 +7,7 @@ use Rattle.kernel_records.specs.kernel_cells.declared.cells.Cell.{Cell}
 use Rattle.kernel_records.specs.kernel_cells.declared.cells.Wish.{Wish}
 use Rattle.kernel_records.specs.kernel_cells.Cells.{part_of}
 use Rattle.kernel_records.specs.wish_laws.Founded.{IsFoundedCell, IsRecordedNow}
-use Rattle.kernel_records.specs.snapshot_store.State.{State, books}
+use Rattle.kernel_records.specs.store_laws.State.{State, books}
 use Rattle.kernel_records.specs.Snapping.{has_room, is_snapped}
 
 module _ {D : Type 0} (policy : Policy) (c d : Cell) (old new : State D)

@@ -7,8 +7,8 @@ use Rattle.hop_base.specs.declared.instructions.Condition.TheVariants.{Running}
 use Rattle.kernel_records.specs.hop_model.State.{LocusState}
 use Rattle.restart.specs.blob_grammar.Forms.{IsNumber}
 use Rattle.restart.specs.blob_grammar.Shapes.{IsLocusOver}
-use Rattle.restart.specs.image_blocks.Layout.{slot_count}
-use Rattle.kernel_records.specs.snapshot_store.Shelves.{is_from}
+use Rattle.restart.specs.image_form.Layout.{slot_count}
+use Rattle.kernel_records.specs.store_laws.Shelves.{is_from}
 use Rattle.kernel_records.specs.store_model.Books.{Books, Logged, cut_in, kept_in, logged_recs, recs_in}
 
 none_all : {A : Type 0} (P : A → Type 0) → All P []

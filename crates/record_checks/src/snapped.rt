@@ -4,7 +4,7 @@ ghost use Rattle.kernel_records.specs.hop_model.State.{Supply};
 ghost use Rattle.kernel_records.specs.Committing.{MayCommit};
 ghost use Rattle.kernel_records.specs.Snapping.{is_snapped};
 ghost use Rattle.record_checks.specs.Fit.{IsFit};
-ghost use Rattle.kernel_records.specs.snapshot_store.State.{books};
+ghost use Rattle.kernel_records.specs.store_laws.State.{books};
 ghost use Rattle.kernel_records.specs.store_model.Books.{AreTrue};
 ghost use Rattle.kernel_records.specs.wish_laws.Founded.{IsFoundedCell};
 

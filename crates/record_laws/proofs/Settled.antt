@@ -5,7 +5,7 @@ use Rattle.std.proofs.lemmas.List.{get_or-map, get_or_past, get_or-take, length-
 use Rattle.hop_base.specs.Edges.{upto}
 use Rattle.cell_blobs.specs.hop_model.State.{Supply}
 use Rattle.block_code.specs.Fields.{number_at}
-use Rattle.cell_blobs.proofs.image_blocks_lemmas.Rest.{upto_get, upto_len}
+use Rattle.kernel_model.proofs.hop_model_lemmas.Lists.{upto_get, upto_len}
 use Rattle.cell_blobs.specs.image_meaning.Parts.{words_in, word_in as image_word}
 use Rattle.kernel_model.specs.store_model.Books.{words_of_bytes}
 use Rattle.frame_table.specs.FrameTable.{Resident, page_at}

@@ -4,9 +4,9 @@ use Rattle.std.proofs.lemmas.Bool.{le-leb}
 use Rattle.std.proofs.lemmas.List.{get_or-set_other, get_or-set_same}
 use Rattle.disk_trait.specs.Image.{HasRun, Image, SameOutside, block_at}
 use Rattle.disk_trait.proofs.Images.{SameOutside-one, SameOutside-set, SameOutside-trans, SameOutside-weaker}
-use Rattle.image_meaning.specs.image_blocks.Checks.{is_count}
-use Rattle.image_meaning.specs.image_blocks.Layout.{closed_gate, first_number, header_block, is_open, open_gate, superblock}
-use Rattle.commit_log.proofs.Through.{gate_closed, gate_open}
+use Rattle.image_meaning.specs.image_form.Checks.{is_count}
+use Rattle.image_meaning.specs.image_form.Layout.{closed_gate, first_number, header_block, is_open, open_gate, superblock}
+use Rattle.commit_log.proofs.log_laws_lemmas.Through.{gate_closed, gate_open}
 use Rattle.image_meaning.specs.Empty.{IsFormatted}
 use Rattle.restart.specs.Formats.{HasEmptyFront, IsAreaGate, IsClosed, IsFrontBlock, IsMade}
 

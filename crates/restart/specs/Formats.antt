@@ -2,7 +2,8 @@
 use Rattle.std.specs.Prelude.{◌≡◌, ◌≢◌, ◌<◌, ◌⊎◌, ℕ, false}
 use Rattle.disk_trait.specs.Image.{Image, SameOutside, block_at}
 use Rattle.disk_trait.specs.Moments.{WasLeft}
-use Rattle.image_meaning.specs.image_blocks.Layout.{closed_gate, gate_at, header_at, header_block, is_open, slot_gate_at, superblock}
+use Rattle.image_meaning.specs.image_form.Layout.{closed_gate, header_block, is_open, superblock}
+use Rattle.image_meaning.specs.image_blocks.Layout.{gate_at, header_at, slot_gate_at}
 use Rattle.image_meaning.specs.image_blocks.declared.areas.Area.TheVariants.{A, B}
 use Rattle.image_meaning.specs.Empty.{IsFormatted}
 

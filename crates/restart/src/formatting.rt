@@ -4,7 +4,7 @@ ghost use Rattle.disk_trait.specs.Disk.{HasCause, Only};
 ghost use Rattle.disk_trait.specs.Image.{Image, SameOutside};
 ghost use Rattle.disk_trait.specs.Moments.{LeavesOnly, Quiet};
 ghost use Rattle.image_meaning.specs.hop_model.State.{Supply, empty_state};
-ghost use Rattle.image_meaning.specs.image_blocks.Layout.{least_blocks, most_blocks, pool_at};
+ghost use Rattle.image_meaning.specs.image_form.Layout.{least_blocks, most_blocks, pool_at};
 ghost use Rattle.image_meaning.specs.Meaning.{Means};
 ghost use Rattle.restart.specs.Formats.{HasEmptyFront, IsAreaGate, IsClosed, IsFormatting, IsFrontBlock, IsMade};
 

@@ -1,5 +1,1 @@
-pub mod Complete
-pub mod Drilled
-pub mod Leavings
 pub mod Nameless
-pub mod Played

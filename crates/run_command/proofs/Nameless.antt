@@ -1,11 +1,10 @@
 -- What is put of a history where no name is known.
-use Rattle.std.proofs.Common.{◌≡◌, ◌<◌, ◌≤◌, ℕ, zero, suc, List, [], ◌∷◌, get_or, length, replicate, refl, sym, ap, ◌∙◌, arith}
-use Rattle.std.specs.Prelude.{slice_index}
+use Rattle.std.proofs.Common.{◌≡◌, ◌<◌, ◌≤◌, List, [], ◌∷◌, get_or, length, replicate, refl, sym, ap, ◌∙◌, arith}
 use Rattle.hop_base.specs.declared.histories.Entry.{Entry}
 use Rattle.manager_code.specs.hop_model.State.{AtlasState, no_atlas}
 use Rattle.run_outcomes.specs.Runs.{Telling}
-use Rattle.atlas_dir.specs.Directory.{Directory}
-use Rattle.atlas_dir.specs.Reached.{edges_in}
+use Rattle.atlas_dir.specs.directory_form.Directory.{Directory}
+use Rattle.atlas_dir.proofs.directory_form_lemmas.Naming.{no_edges}
 use Rattle.printed_lines.specs.kernel_calls.Calls.{atlas_state}
 use Rattle.run_opening.specs.kernel_cells.declared.cells.Cell.{Cell}
 use Rattle.run_opening.specs.kernel_cells.declared.cells.Part.{Part}
@@ -21,20 +20,9 @@ pub no_directory : (cs : List Cell) (c : Cell) (p : Part) → 1 ≤ length cs �
 no_directory [] c p some first is none = absurd (omega (arith, some))
 no_directory (x ∷ xs) c p some first is none = ap (λ (y : Cell). atlas_state_by y.part) (sym first) ∙ (ap atlas_state_by is ∙ none)
 
--- rows of zeros have no edge
-zero_in : (n y : ℕ) → slice_index (replicate n 0) y ≡ 0
-zero_in zero y = refl
-zero_in (suc n) zero = refl
-zero_in (suc n) (suc y) = zero_in n y
-
-zeros_in : (m n x y : ℕ) → edges_in (replicate m (replicate n 0)) x y ≡ 0
-zeros_in zero n x y = refl
-zeros_in (suc m) n zero y = zero_in n y
-zeros_in (suc m) n (suc x) y = zeros_in m n x y
-
--- so a new directory is the atlas in which nothing is born
+-- a new directory is the atlas in which nothing is born
 new_atlas : (d : Directory) → d ≡ record { containers = []; loci = []; edges = replicate 41 (replicate 41 0) } → atlas_state d ≡ no_atlas
-new_atlas d is = ap atlas_state is ∙ (λ i. record { containers = []; loci = []; edges = λ x y. zeros_in 41 41 x y i })
+new_atlas d is = ap atlas_state is ∙ (λ i. record { containers = []; loci = []; edges = λ x y. no_edges 41 41 x y i })
 
 -- and then what is put is told by no names
 pub nameless : (telling : Telling) (cs : List Cell) (d : Directory) (es : List Entry) → d ≡ record { containers = []; loci = []; edges = replicate 41 (replicate 41 0) } → atlas_state_in cs ≡ no_atlas

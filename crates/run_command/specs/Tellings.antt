@@ -1,14 +1,10 @@
--- What a run puts of its history.
+-- The lines of a run, by how it is told.
 use Rattle.manager_code.specs.hop_model.Output.{output_of}
 use Rattle.run_outcomes.specs.Runs.{Telling}
 use Rattle.traced_lines.specs.entry_lines.Entries.{trace_of}
-use Rattle.traced_lines.specs.entry_lines.Summaries.{summary_line}
 use Rattle.run_command.specs.declared.putting.Lines.{Lines}
 use Rattle.run_command.specs.declared.putting.Lines.TheVariants.{Printed, Entries, Summary}
-
--- the summary has no names
-abbrev pub summary_of : Telling
-summary_of a es = summary_line es
+use Rattle.run_opening.specs.command_laws.Tellings.{summary_of}
 
 -- the printed lines, the trace, or the summary
 abbrev pub lines_of : Lines → Telling

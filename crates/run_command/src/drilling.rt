@@ -6,11 +6,11 @@ ghost use Rattle.drill_gen.specs.Drill.{drill};
 ghost use Rattle.manager_form.specs.Managing.{managers_of};
 ghost use Rattle.run_opening.specs.command_parts.Seen.{gave, seen_disk, seen_sink};
 ghost use Rattle.run_opening.specs.command_parts.Statuses.{IsComplete, ending};
-ghost use Rattle.run_opening.specs.Openings.{Managers};
+ghost use Rattle.run_opening.specs.command_laws.Openings.{Managers};
 ghost use Rattle.run_opening.specs.script_form.Rules.{IsScript};
 ghost use Rattle.run_opening.specs.script_form.Scripts.{tables_of};
-ghost use Rattle.run_command.specs.Booked.{none_brought};
-ghost use Rattle.run_command.specs.Drilling.{CanDrill, DrillLeaves};
+ghost use Rattle.run_opening.specs.command_laws.Booked.{none_brought};
+ghost use Rattle.run_opening.specs.command_laws.Drilling.{CanDrill, DrillLeaves};
 
 use crate::putting::Lines;
 use crate::watching::run_read;

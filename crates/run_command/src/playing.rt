@@ -5,12 +5,12 @@ ghost use Rattle.run_outcomes.specs.fitting_births.Fitting.{Fits};
 ghost use Rattle.run_opening.specs.Kernels.{StaysClean};
 ghost use Rattle.run_opening.specs.script_form.Rules.{IsScript};
 ghost use Rattle.run_opening.specs.script_form.Scripts.{tables_of};
-ghost use Rattle.run_opening.specs.snapshot_store.State.{books};
+ghost use Rattle.run_opening.specs.store_laws.State.{books};
 ghost use Rattle.kernel_runs.specs.table_births.Births.{atlas_state_in};
 ghost use Rattle.run_opening.specs.command_parts.Seen.{gave, seen_sink};
 ghost use Rattle.run_opening.specs.command_parts.Statuses.{ending};
 ghost use Rattle.run_command.specs.Tellings.{lines_of};
-ghost use Rattle.run_command.specs.Playing.{PlayLeaves, StartsRun};
+ghost use Rattle.run_opening.specs.command_laws.Playing.{PlayLeaves, StartsRun};
 
 use crate::putting::{Lines, put_run};
 use disk_trait::Disk;

@@ -7,7 +7,7 @@ ghost use Rattle.stream_edge.specs.Streams.{Puts};
 ghost use Rattle.run_opening.specs.command_parts.Faults.{fault_line};
 ghost use Rattle.run_opening.specs.command_parts.Seen.{seen_sink};
 ghost use Rattle.run_command.specs.Tellings.{lines_of};
-ghost use Rattle.run_command.specs.Playing.{IsPutBy, fault_of_stop as told_stop};
+ghost use Rattle.run_opening.specs.command_laws.Playing.{IsPutBy, fault_of_stop as told_stop};
 
 use atlas_dir::Atlas;
 use hop_base::Entry;

@@ -4,9 +4,9 @@ ghost use Rattle.disk_trait.specs.Counts.{Rose};
 ghost use Rattle.disk_trait.specs.declared.disk.NoBlocks.{NoBlocks};
 ghost use Rattle.run_opening.specs.command_parts.Seen.{gave, seen_disk, seen_sink, seen_source};
 ghost use Rattle.run_opening.specs.command_parts.Statuses.{IsComplete, ending};
-ghost use Rattle.run_command.specs.Leaving.{CanRun, RunLeaves};
+ghost use Rattle.run_opening.specs.command_laws.Leaving.{CanRun, RunLeaves};
 ghost use Rattle.run_command.specs.Tellings.{lines_of};
-ghost use Rattle.run_opening.specs.Openings.{Managers};
+ghost use Rattle.run_opening.specs.command_laws.Openings.{Managers};
 
 use crate::putting::Lines;
 use crate::watching::run_read;

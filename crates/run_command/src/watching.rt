@@ -6,10 +6,10 @@ ghost use Rattle.run_opening.specs.script_form.Scripts.{tables_of};
 ghost use Rattle.watched_disk.specs.Watching.{HasGoneOn};
 ghost use Rattle.run_opening.specs.command_parts.Seen.{gave, seen_disk, seen_sink};
 ghost use Rattle.run_opening.specs.command_parts.Statuses.{ending};
-ghost use Rattle.run_command.specs.Booked.{over};
+ghost use Rattle.run_opening.specs.command_laws.Booked.{over};
 ghost use Rattle.run_command.specs.Tellings.{lines_of};
-ghost use Rattle.run_command.specs.OfScript.{ScriptLeaves};
-ghost use Rattle.run_command.specs.Playing.{IsHandedIn};
+ghost use Rattle.run_opening.specs.command_laws.OfScript.{ScriptLeaves};
+ghost use Rattle.run_opening.specs.command_laws.Playing.{IsHandedIn};
 
 use crate::playing::run_opened;
 use crate::putting::Lines;

@@ -15,7 +15,8 @@ use Rattle.sound_runs.proofs.hop_model_lemmas.CommitStamps.{AllCommits, all_appe
 use Rattle.sound_runs.proofs.hop_model_lemmas.LegalRuns.{event_of_local, event_of_stamped, next_legal, legal_played, state_after}
 use Rattle.sound_runs.proofs.hop_model_lemmas.StableCuts.{commits_grow, legal_front, run_append, stable_closed, versions_rise}
 use Rattle.run_cuts.specs.Cuts.{EndsTried, IsCutState, IsKeptRun, all_commits, commits_with_uncertain, stable_commits, try_of, uncertain}
-use Rattle.run_cuts.proofs.Cutting.{ReachesTo, after_append, cut_state}
+use Rattle.sound_runs.proofs.run_laws_lemmas.Places.{after_append}
+use Rattle.run_cuts.proofs.Cutting.{ReachesTo, cut_state}
 
 -- LISTS
 

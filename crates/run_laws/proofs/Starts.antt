@@ -33,7 +33,7 @@ module _ (s : Supply) (policy : Policy) (script : Script) where
       let local = event_of_local s policy script in
       let stamped = event_of_stamped s policy script in
       let m = made.0 in
-      let rise = versions_rise_over act local stamped m.front w (played_front act local stamped m.front m.rest w (subst (IsPlayed act w) m.split played)) c.entity in
+      let rise = versions_rise_over act local stamped m.front w (played_front act m.front m.rest w (subst (IsPlayed act w) m.split played)) c.entity in
       let e = m.version in
       (omega (arith, rise, e), from_made w es cs played made.1)
 

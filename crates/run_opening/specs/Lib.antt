@@ -1,5 +1,3 @@
-pub mod Openings
-pub mod Ready
 pub use Rattle.kernel_opening.specs.Kernels
 pub use Rattle.kernel_opening.specs.Starts
 pub use Rattle.command_parts.specs as command_parts
@@ -14,3 +12,6 @@ pub use Rattle.kernel_opening.specs.record_laws
 pub use Rattle.command_parts.specs.script_form
 pub use Rattle.script_read.specs as script_read
 pub use Rattle.kernel_opening.specs.snapshot_store
+pub use Rattle.kernel_opening.specs.opening_laws
+pub use Rattle.kernel_opening.specs.store_laws
+pub use Rattle.command_laws.specs as command_laws

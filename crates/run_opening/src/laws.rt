@@ -1,6 +1,6 @@
 // What is known of a failed sync, of a disk that was watched: a law, without code.
 ghost use Rattle.command_parts.specs.Seen.{seen_disk};
-ghost use Rattle.run_opening.specs.Openings.{FailsAtSync, HasFailedSync};
+ghost use Rattle.command_laws.specs.Openings.{FailsAtSync, HasFailedSync};
 ghost use Rattle.watched_disk.specs.Watching.{HasGoneOn, start_of};
 
 use disk_trait::Disk;

@@ -8,13 +8,13 @@ ghost use Rattle.kernel_opening.specs.fitting_births.Fitting.{Fits};
 ghost use Rattle.command_parts.specs.hop_model.State.{KernelState, Supply};
 ghost use Rattle.command_parts.specs.hop_model.Steps.{atlas_in};
 ghost use Rattle.restart.specs.image_meaning.Meaning.{Means};
-ghost use Rattle.kernel_opening.specs.image_opening.Images.{HasBegun, IsOpenedTable};
+ghost use Rattle.kernel_opening.specs.opening_laws.Images.{HasBegun, IsOpenedTable};
 ghost use Rattle.kernel_opening.specs.Kernels.{StaysClean};
-ghost use Rattle.run_opening.specs.Ready.{IsFitFault, IsReady, StopsOpening, fault_of_opening as fault_by};
+ghost use Rattle.command_laws.specs.Ready.{IsFitFault, IsReady, StopsOpening, fault_of_opening as fault_by};
 ghost use Rattle.kernel_opening.specs.script_against.Misfits.{IsMisfit};
 ghost use Rattle.command_parts.specs.script_form.Rules.{IsScript};
 ghost use Rattle.command_parts.specs.script_form.Scripts.{tables_of};
-ghost use Rattle.kernel_opening.specs.snapshot_store.State.{books};
+ghost use Rattle.kernel_opening.specs.store_laws.State.{books};
 ghost use Rattle.kernel_opening.specs.table_births.Births.{atlas_state_in};
 
 use command_parts::Fault;

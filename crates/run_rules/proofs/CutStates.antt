@@ -14,16 +14,13 @@ use Rattle.run_laws.proofs.hop_model_lemmas.CommitStamps.{AllCommits, IsMadeIn, 
 use Rattle.run_laws.proofs.hop_model_lemmas.LegalRuns.{event_of_local, event_of_stamped, legal_played, legal_vectors}
 use Rattle.run_laws.proofs.hop_model_lemmas.PartStates.{part_state}
 use Rattle.run_laws.proofs.hop_model_lemmas.StableCuts.{versions_rise_over}
+use Rattle.run_laws.proofs.Places.{after_append}
 use Rattle.run_rules.specs.Records.{IsRecordOf}
 use Rattle.run_rules.proofs.Records.{record_of}
 
 at_once : (act : Entry → KernelState → Option (Entry × KernelState)) (es : List Entry) (w : KernelState) (x n : ℕ) → (w x).version ≡ n → thing_at act (λ (b : EntityState). b.version) w es x n ≡ w x
 at_once act [] w x n e = refl
 at_once act (d ∷ es) w x n e = (let t : ((w x).version == n) ≡ true = eq-eqb _ _ e in rw t refl)
-
-after_append : (act : Entry → KernelState → Option (Entry × KernelState)) (fs gs : List Entry) (w : KernelState) → after act w (fs ++ gs) ≡ after act (after act w fs) gs
-after_append act [] gs w = refl
-after_append act (e ∷ fs) gs w = after_append act fs gs (after_entry act w e)
 
 module _ (s : Supply) (policy : Policy) (script : Script) (w : KernelState) (es : List Entry) (legal : IsLegalRun s policy w script es) where
   -- a version that the entity had, with its clock there

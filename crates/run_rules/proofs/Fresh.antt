@@ -1,5 +1,5 @@
 -- What has a wish has changed since its newest commit.
-use Rattle.std.proofs.Common.{◌≡◌, ℕ, ◌+◌, ◌≤◌, ◌<◌, Bool, true, false, not, ◌||◌, ◌==◌, if◌then◌else◌, List, [], ◌∷◌, Option, Some, None, refl, sym, ap, subst, arith, inl, inr, ◌⊎◌, eqb-true}
+use Rattle.std.proofs.Common.{◌≡◌, ℕ, ◌+◌, ◌≤◌, ◌<◌, Bool, true, false, not, ◌||◌, ◌==◌, if◌then◌else◌, List, [], ◌∷◌, refl, ap, subst, arith, inl, inr, eqb-true}
 use Rattle.std.proofs.lemmas.Bool.{false≢true}
 use Rattle.hop_base.specs.declared.histories.Entry.{Entry}
 use Rattle.hop_base.specs.declared.histories.Event.TheVariants.{Birth, Step, Snap as SnapEvent, Stable, Tried}
@@ -7,10 +7,11 @@ use Rattle.run_laws.specs.hop_model.State.{Supply, KernelState}
 use Rattle.run_laws.specs.hop_model.Scripts.{Script}
 use Rattle.run_laws.specs.hop_model.Words.{put}
 use Rattle.run_laws.specs.hop_model.Parts.{after_entry}
-use Rattle.run_laws.specs.hop_model.Histories.{Policy, Run, event_of, writes, asked_by, with_asked, locus_in, version_of, may, May, goes_on, went_on, IsLegalFrom, start_run, run_after}
+use Rattle.run_laws.specs.hop_model.Histories.{Policy, Run, event_of, writes, asked_by, locus_in, version_of, may, May, goes_on, went_on, IsLegalFrom, start_run, run_after}
 use Rattle.run_laws.proofs.hop_model_lemmas.LegalRuns.{event_of_local, event_of_stamped, next_legal}
 use Rattle.run_laws.proofs.hop_model_lemmas.StableCuts.{versions_rise}
 use Rattle.run_laws.proofs.Tellings.{written_rises}
+use Rattle.run_laws.proofs.Wishes.{asked_or}
 use Rattle.run_laws.proofs.Writing.{step_is, step_writes_asked}
 use Rattle.run_laws.proofs.hop_model_lemmas.Basics.{and_right}
 
@@ -21,15 +22,6 @@ pub record IsFresh (r : Run) : Type 0 where
 
 pub fresh_start : (w : KernelState) → IsFresh (start_run w)
 fresh_start w = record { low = λ x. omega arith; by_step = λ x e. absurd (false≢true e); asked = λ x e. absurd (false≢true e) }
-
--- whom a set of flags names, or who is asked for
-pub asked_or : (o : Option ℕ) (f : ℕ → Bool) (x : ℕ) → with_asked o f x ≡ true → (o ≡ Some x) ⊎ (f x ≡ true)
-asked_or None f x h = inr h
-asked_or (Some y) f x h =
-    elim (x == y) as (λ b. (x == y) ≡ b → (if b then true else f x) ≡ true → (Some y ≡ Some x) ⊎ (f x ≡ true)) [
-      | true ↦ λ at _. inl (ap Some (sym (eqb-true _ _ at)))
-      | false ↦ λ _ h. inr h
-    ] refl h
 
 module _ (s : Supply) (policy : Policy) (script : Script) where
   rises : (r : Run) (e : Entry) → May s policy script r e → (x : ℕ) → version_of r x ≤ (after_entry (event_of s script) r.state e x).version

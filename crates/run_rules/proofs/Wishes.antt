@@ -13,11 +13,12 @@ use Rattle.run_laws.specs.hop_model.Parts.{after}
 use Rattle.run_laws.specs.hop_model.Histories.{Policy, Run, event_of, writes, every_of, asked_by, with_asked, locus_in, version_of, has_wish, has_changed, commit_of, commits_of, commits_in, may, goes_on, went_on, IsLegalFrom, IsLegalRun, start_run, run_after}
 use Rattle.run_laws.proofs.hop_model_lemmas.LegalRuns.{state_after}
 use Rattle.run_laws.proofs.Cuts.{chosen_same}
+use Rattle.run_laws.proofs.Wishes.{asked_or}
 use Rattle.run_rules.specs.Newest.{commit_count, newest_from, newest_in}
 use Rattle.run_rules.specs.Wishes.{HasOpenWish, IsNamedBySnap, IsWrittenByStep}
 use Rattle.run_rules.proofs.Counts.{count_append, count_other, count_own, count_picked, newest_append, newest_picked}
 use Rattle.run_rules.proofs.Flags.{IsFlag, IsSet, is_set, was_set}
-use Rattle.run_rules.proofs.Fresh.{IsFresh, asked_or, fresh_next, fresh_start}
+use Rattle.run_rules.proofs.Fresh.{IsFresh, fresh_next, fresh_start}
 use Rattle.run_laws.proofs.hop_model_lemmas.Basics.{and_right}
 
 not_true : (a b : Bool) → (not a && b) ≡ true → a ≡ false

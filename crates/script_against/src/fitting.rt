@@ -1,7 +1,7 @@
 // Whether the names of a script can be born into an atlas.
 ghost use Rattle.std.specs.Prelude.{◌≡◌, ◌+◌, ◌≤◌, ◌++◌, OnOk, IfOk, IfErr, IfSome, IfNone, map, length, codes, decimal, string_bytes, is_some, count_by, is_none, Some, None};
 ghost use Rattle.fitting_births.specs.hop_model.Scripts.{container_named as container_number, locus_named as locus_number, number_of as number};
-ghost use Rattle.atlas_dir.specs.Directory.{IsDirectory};
+ghost use Rattle.atlas_dir.specs.directory_form.Directory.{IsDirectory};
 ghost use Rattle.fitting_births.specs.Fitting.{Fits, new_containers as new_of_containers, new_loci as new_of_loci};
 ghost use Rattle.directory_laws.specs.kernel_calls.Calls.{atlas_state};
 ghost use Rattle.fitting_births.specs.Misfits.{IsClash, IsMisfit, IsNoRoom, clash_key, container_clash as clash_of_containers, locus_clash as clash_of_loci, name_key as key_of_name, room_key};
@@ -77,23 +77,12 @@ fn new_loci(tables: &[ScriptLocus], atlas: &Atlas) -> usize
     count
 }
 
-/// The refusal at this key.
-fn refusal(alloc: Global, why: Why, key: &str) -> Result<Refusal, AllocError>
-    ensures why { IfOk result (λ refusal. refusal.why ≡ why) }
-    ensures key { IfOk result (λ refusal. string_bytes refusal.key ≡ key.now) }
-{
-    Ok(Refusal {
-        why,
-        key: String::from_str(alloc, key)?,
-    })
-}
-
 /// A name's clash, at the table at this place.
 fn clash(alloc: Global, kind: &str, place: usize) -> Result<Refusal, AllocError>
     ensures why { IfOk result (λ refusal. refusal.why ≡ AWhy.Clash) }
     ensures key { IfOk result (λ refusal. string_bytes refusal.key ≡ key_of_name kind.now place) }
 {
-    let mut refusal = refusal(alloc, Why::Clash, kind)?;
+    let mut refusal = Refusal::new(alloc, Why::Clash, kind)?;
     let mut digits = Buffer::new();
     refusal.key.push_str(".")?;
     refusal.key.push_str(digits.format(place))?;
@@ -129,11 +118,11 @@ fn check_room(
 {
     let containers = new_containers(&script.containers, atlas);
     if born.0 as usize + containers > MOST_CONTAINERS {
-        return Err(ScriptFault::Refused(refusal(alloc, Why::NoRoom, "container")?));
+        return Err(ScriptFault::Refused(Refusal::new(alloc, Why::NoRoom, "container")?));
     }
     let loci = new_loci(&script.loci, atlas);
     if born.1 as usize + loci > MOST_LOCI {
-        return Err(ScriptFault::Refused(refusal(alloc, Why::NoRoom, "locus")?));
+        return Err(ScriptFault::Refused(Refusal::new(alloc, Why::NoRoom, "locus")?));
     }
     Ok(())
 }

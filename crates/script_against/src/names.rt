@@ -1,7 +1,7 @@
 // Names of an atlas by their kind.
 ghost use Rattle.std.specs.Prelude.{◌≡◌, is_some};
 ghost use Rattle.fitting_births.specs.hop_model.Scripts.{container_named, locus_named, number_of};
-ghost use Rattle.atlas_dir.specs.Directory.{IsDirectory};
+ghost use Rattle.atlas_dir.specs.directory_form.Directory.{IsDirectory};
 ghost use Rattle.directory_laws.specs.kernel_calls.Calls.{atlas_state};
 
 use atlas_dir::Atlas;

@@ -1,9 +1,9 @@
 //! Why a source is refused.
-ghost use Rattle.std.specs.Prelude.{◌≡◌};
+ghost use Rattle.std.specs.Prelude.{◌≡◌, IfOk, string_bytes};
 ghost use Rattle.script_form.specs.Refusals.{why_number};
 ghost use Rattle.script_form.specs.declared.refusals.ScriptFault.TheVariants.{Memory as OutOfMemory};
 
-use std::alloc::{AllocError, AllocFailed};
+use std::alloc::{AllocError, AllocFailed, Global};
 use std::error::Error;
 use std::fmt;
 
@@ -61,6 +61,19 @@ pub struct Refusal {
     pub why: Why,
     /// The key with dots and positions from 0, or `-` where no key is to blame.
     pub key: String,
+}
+
+impl Refusal {
+    /// The refusal at this key.
+    pub fn new(alloc: Global, why: Why, key: &str) -> Result<Refusal, AllocError>
+        ensures why { IfOk result (λ refusal. refusal.why ≡ why) }
+        ensures key { IfOk result (λ refusal. string_bytes refusal.key ≡ key.now) }
+    {
+        Ok(Refusal {
+            why,
+            key: String::from_str(alloc, key)?,
+        })
+    }
 }
 
 /// Why a source gave no script.

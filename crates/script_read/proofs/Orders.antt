@@ -7,7 +7,7 @@ use Rattle.script_form.specs.hop_model.State.{Text}
 use Rattle.toml.specs.Data.{Data, Members, no_members, member, is_before}
 use Rattle.toml.specs.View.{view, members_view}
 use Rattle.toml.proofs.Views.{Entry, is_before-sorted}
-use Rattle.script_read.specs.Ordered.{placed, in_order}
+use Rattle.script_meaning.specs.Ordered.{placed, in_order}
 
 placed_first : (key : Text) (d : Data) (ms : Members) → is_before key ms ≡ true → placed key d ms ≡ member key d ms
 placed_first key d no_members before = refl

@@ -10,14 +10,14 @@ use Rattle.script_form.specs.Rules.{IsScript}
 use Rattle.script_form.specs.Scripts.{tables_of}
 use Rattle.script_form.specs.declared.refusals.ScriptFault.{ScriptFault}
 use Rattle.script_form.specs.declared.refusals.Why.TheVariants.{NotToml, Long}
-use Rattle.script_read.specs.Fields.{only, number_or}
-use Rattle.script_read.specs.Meaning.{FramedTables, Source, programs_at, both_kinds, top_keys, entities_at, tree_meaning, script_meaning}
-use Rattle.script_read.specs.Reading.{Reading, Reads, ◌>>=◌, refused, or_refused}
+use Rattle.script_meaning.specs.Fields.{only, number_or}
+use Rattle.script_meaning.specs.Meaning.{FramedTables, Source, programs_at, both_kinds, top_keys, entities_at, tree_meaning, script_meaning}
+use Rattle.script_meaning.specs.Reading.{Reading, Reads, ◌>>=◌, refused, or_refused}
 use Rattle.script_read.specs.Views.{source_of}
 use Rattle.script_read.specs.declared.reading.ManagedScript.{ManagedScript}
-use Rattle.script_read.proofs.Allowed.{IsAllowed, programs_ok, entities_ok}
-use Rattle.script_read.proofs.Managed.{managers_ok}
-use Rattle.script_read.proofs.Readings.{then_ok, same_ok, err_is_not_ok, number_or_ok}
+use Rattle.script_meaning.proofs.Allowed.{IsAllowed, programs_ok, entities_ok}
+use Rattle.script_meaning.proofs.Managed.{managers_ok}
+use Rattle.script_meaning.proofs.Readings.{then_ok, same_ok, err_is_not_ok, number_or_ok}
 
 abbrev pub IsAllowedSource : Source → Type 0
 IsAllowedSource s = IsAllowed s.script × AreScriptManagers s.managers

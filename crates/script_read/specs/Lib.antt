@@ -1,7 +1,3 @@
-pub mod Reading
-pub mod Strings
-pub mod Fields
-pub mod Meaning
 pub mod Views
-pub mod Ordered
 pub use Rattle.script_form.specs as script_form
+pub use Rattle.script_meaning.specs as script_meaning

@@ -3,9 +3,9 @@ use Rattle.std.specs.Prelude.{◌≤◌, List, map, string_bytes}
 use Rattle.manager_form.specs.Managing.{managers_of}
 use Rattle.script_form.specs.hop_model.State.{Text}
 use Rattle.script_read.specs.declared.links.Known.{Known}
-use Rattle.script_read.specs.Meaning.{FramedTables, Program, Source, known_names}
+use Rattle.script_meaning.specs.Meaning.{FramedTables, Program, Source, known_names}
 use Rattle.script_form.specs.Scripts.{tables_of, container_of, locus_of}
-use Rattle.script_read.specs.Strings.{RegionForm, CapForm, ManagerForm}
+use Rattle.script_meaning.specs.Strings.{RegionForm, CapForm, ManagerForm}
 use Rattle.script_form.specs.declared.Script.{Script}
 use Rattle.script_read.specs.declared.reading.ManagedScript.{ManagedScript}
 use Rattle.script_read.specs.declared.programs.Program.{Program as CodeProgram}

@@ -2,8 +2,8 @@
 ghost use Rattle.std.specs.Prelude.{◌≡◌, ◌≤◌, option_map, IfOk, map};
 ghost use Rattle.toml.specs.Data.{get_member};
 ghost use Rattle.toml.specs.View.{view, table_view};
-ghost use Rattle.script_read.specs.Fields.{a_string, a_table, a_list, a_number, only, required, text_at, number_at, number_or, list_at, item_key};
-ghost use Rattle.script_read.specs.Reading.{dotted, Reads};
+ghost use Rattle.script_meaning.specs.Fields.{a_string, a_table, a_list, a_number, only, required, text_at, number_at, number_or, list_at, item_key};
+ghost use Rattle.script_meaning.specs.Reading.{dotted, Reads};
 ghost use Rattle.script_form.specs.Rules.{is_among};
 
 use crate::keys::{refuse, refuse_item};

@@ -1,7 +1,7 @@
 //! Keys of a source, and refusals at them.
 ghost use Rattle.std.specs.Prelude.{◌≡◌, IfOk, string_bytes};
-ghost use Rattle.script_read.specs.Fields.{item_key};
-ghost use Rattle.script_read.specs.Reading.{dotted, IsBlamed};
+ghost use Rattle.script_meaning.specs.Fields.{item_key};
+ghost use Rattle.script_meaning.specs.Reading.{dotted, IsBlamed};
 
 use itoa::Buffer;
 use script_form::{Refusal, ScriptFault, Why};

@@ -3,8 +3,8 @@ ghost use Rattle.std.specs.Prelude.{◌≡◌, ◌≤◌, List, length, map, not
 ghost use Rattle.std.specs.List.{list_all};
 ghost use Rattle.script_form.specs.hop_model.Scripts.{CapTable};
 ghost use Rattle.toml.specs.View.{view, table_view};
-ghost use Rattle.script_read.specs.Meaning.{overlap, is_within, fits, a_region, regions_at, a_cap, caps_at, names_of};
-ghost use Rattle.script_read.specs.Reading.{Reads};
+ghost use Rattle.script_meaning.specs.Meaning.{overlap, is_within, fits, a_region, regions_at, a_cap, caps_at, names_of};
+ghost use Rattle.script_meaning.specs.Reading.{Reads};
 ghost use Rattle.script_form.specs.Rules.{is_among, container_names, locus_names};
 ghost use Rattle.script_form.specs.Scripts.{region_of, cap_of, container_of, locus_of};
 ghost use Rattle.script_read.specs.Views.{region_form_of, AreSmall, names_known};

@@ -3,9 +3,9 @@ ghost use Rattle.std.specs.Prelude.{◌≡◌, map};
 ghost use Rattle.std.specs.List.{list_all};
 ghost use Rattle.toml.specs.View.{view, table_view};
 ghost use Rattle.manager_form.specs.Managing.{has_number, is_managing, manager_of, managers_of};
-ghost use Rattle.script_read.specs.Fields.{item_key};
-ghost use Rattle.script_read.specs.Meaning.{a_manager, both_kinds, managers_at, managing_code};
-ghost use Rattle.script_read.specs.Reading.{Reads};
+ghost use Rattle.script_meaning.specs.Fields.{item_key};
+ghost use Rattle.script_meaning.specs.Meaning.{a_manager, both_kinds, managers_at, managing_code};
+ghost use Rattle.script_meaning.specs.Reading.{Reads};
 ghost use Rattle.script_read.specs.Views.{program_of};
 
 use crate::fields::{list_at, string_item};

@@ -4,8 +4,8 @@ ghost use Rattle.hop_base.specs.declared.instructions.Instr.{Instr as AnInstr};
 ghost use Rattle.script_form.specs.hop_model.State.{Text};
 ghost use Rattle.toml.specs.View.{view, table_view};
 ghost use Rattle.instr_set.specs.Reader.{IsReader};
-ghost use Rattle.script_read.specs.Meaning.{a_line, a_program, programs_in, programs_at, code_named};
-ghost use Rattle.script_read.specs.Reading.{Reads};
+ghost use Rattle.script_meaning.specs.Meaning.{a_line, a_program, programs_in, programs_at, code_named};
+ghost use Rattle.script_meaning.specs.Reading.{Reads};
 ghost use Rattle.script_read.specs.Views.{program_of};
 
 use crate::fields::{a_list, a_table, find, string_item};

@@ -5,7 +5,7 @@ ghost use Rattle.script_form.specs.hop_model.State.{Text};
 ghost use Rattle.script_form.specs.hop_model.Scripts.{text_eq};
 ghost use Rattle.script_form.specs.hop_model.Soundness.{is_letter, is_name_byte, begins_with_letter, is_given_name};
 ghost use Rattle.instr_set.specs.Reader.{letters_set, rights_of};
-ghost use Rattle.script_read.specs.Strings.{is_name, is_digit, is_decimal, with_digit, decimal_value, number_of, region_number, access_of, cut, region_form, cap_form, manager_form, sized_form, placed_form, named_form};
+ghost use Rattle.script_meaning.specs.Strings.{is_name, is_digit, is_decimal, with_digit, decimal_value, number_of, region_number, access_of, cut, region_form, cap_form, manager_form, sized_form, placed_form, named_form};
 ghost use Rattle.script_read.specs.Views.{region_form_of, AreSmall, cap_form_of, manager_form_of};
 
 use hop_base::Rights;

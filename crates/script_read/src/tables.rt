@@ -1,9 +1,9 @@
 //! The tables of containers and loci.
 ghost use Rattle.std.specs.Prelude.{◌≤◌, IfOk, map, string_bytes};
 ghost use Rattle.toml.specs.View.{view, table_view};
-ghost use Rattle.script_read.specs.Fields.{name_at, only};
-ghost use Rattle.script_read.specs.Meaning.{names_of, every_at, code_at, entry_at, sized_container, coded_container, whole_container, container_keys, a_container, containers_at, host_at, whole_locus, locus_keys, a_locus, loci_at};
-ghost use Rattle.script_read.specs.Reading.{Reads};
+ghost use Rattle.script_meaning.specs.Fields.{name_at, only};
+ghost use Rattle.script_meaning.specs.Meaning.{names_of, every_at, code_at, entry_at, sized_container, coded_container, whole_container, container_keys, a_container, containers_at, host_at, whole_locus, locus_keys, a_locus, loci_at};
+ghost use Rattle.script_meaning.specs.Reading.{Reads};
 ghost use Rattle.script_form.specs.Scripts.{container_of, locus_of};
 ghost use Rattle.script_read.specs.Views.{program_of};
 

@@ -3,7 +3,7 @@ use Rattle.std.proofs.Common.{◌≡◌, ℕ, Option, Some, None, IfSome, sym, a
 use Rattle.command_parts.specs.hop_model.Scripts.{Script as Tables}
 use Rattle.command_parts.specs.hop_model.State.{Text}
 use Rattle.manager_form.specs.Managing.{ManagerTables}
-use Rattle.script_read.specs.Meaning.{script_meaning}
+use Rattle.script_read.specs.script_meaning.Meaning.{script_meaning}
 use Rattle.script_source.specs.Sources.{IsAccepted, MeansScript}
 
 pub means_whole : (had : Option Text) (all read : Text) (script : Tables) (frames : ℕ) (brought : ManagerTables) → IfSome had (λ bytes. all ≡ bytes) → read ≡ all → MeansScript read script frames brought

@@ -6,8 +6,8 @@ use Rattle.command_parts.specs.stream_edge.declared.reading.ReadStop.TheVariants
 use Rattle.command_parts.specs.hop_model.State.{Text}
 use Rattle.command_parts.specs.hop_model.Scripts.{Script as Tables}
 use Rattle.manager_form.specs.Managing.{ManagerTables}
-use Rattle.script_read.specs.Meaning.{script_meaning}
-use Rattle.script_read.specs.Reading.{refused}
+use Rattle.script_read.specs.script_meaning.Meaning.{script_meaning}
+use Rattle.script_read.specs.script_meaning.Reading.{refused}
 use Rattle.command_parts.specs.script_form.declared.refusals.Refusal.{Refusal}
 use Rattle.command_parts.specs.script_form.declared.refusals.Why.{Why}
 use Rattle.command_parts.specs.script_form.declared.refusals.Why.TheVariants.{Long}

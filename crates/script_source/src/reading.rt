@@ -18,10 +18,7 @@ fn too_long(alloc: Global) -> Result<Refusal, AllocError>
     ensures why { IfOk result (λ refusal. refusal.why ≡ Why.Long) }
     ensures key { IfOk result (λ refusal. string_bytes refusal.key ≡ codes "-") }
 {
-    Ok(Refusal {
-        why: Why::Long,
-        key: String::from_str(alloc, "-")?,
-    })
+    Refusal::new(alloc, Why::Long, "-")
 }
 
 /// The fault of a source whose reading stopped.

@@ -13,7 +13,8 @@ use Rattle.serial_runs.specs.hop_model.Steps.{atlas_in}
 use Rattle.serial_runs.specs.hop_model.Words.{or_else}
 use Rattle.serial_runs.specs.script_form.Rules.{AreLocusTables, IsScript, container_names, is_among, locus_names}
 use Rattle.serial_runs.proofs.run_laws_lemmas.Wishes.{legal_back}
-use Rattle.serial_runs.proofs.sound_runs_lemmas.Naming.{KeepsNames, names_over}
+use Rattle.serial_runs.specs.fitting_births.sound_runs.Names.{KeepsNames}
+use Rattle.serial_runs.proofs.sound_runs_lemmas.Naming.{names_over}
 use Rattle.serial_runs.proofs.sound_runs_lemmas.Standing.{standing_over}
 use Rattle.serial_runs.specs.fitting_births.Fitting.{Fits}
 use Rattle.serial_runs.proofs.fitting_births_lemmas.Ends.{all_births_done, births_ready, some_is}

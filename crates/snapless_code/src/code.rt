@@ -1,7 +1,7 @@
 //! Code without `snap`.
 ghost use Rattle.std.specs.Prelude.{◌≡◌, IsTrue};
 ghost use Rattle.std.specs.List.{list_all};
-ghost use Rattle.plain_run.specs.Snaps.{HasNoSnapTables, has_no_snap, is_no_snap};
+ghost use Rattle.plain_run.specs.plain_laws.Snaps.{HasNoSnapTables, has_no_snap, is_no_snap};
 ghost use Rattle.plain_run.specs.script_form.Scripts.{tables_of};
 
 use hop_base::Instr;

@@ -2,8 +2,8 @@
 ghost use Rattle.std.specs.Prelude.{◌≡◌, ◌≤◌, ◌+◌, ◌++◌, length};
 ghost use Rattle.block_code.specs.Blobs.{HasRoom};
 ghost use Rattle.blob_grammar.specs.Spelling.{atlas_blob, listed, text_bytes};
-ghost use Rattle.kernel_calls.specs.Calls.{atlas_state};
-ghost use Rattle.snapshot_form.specs.Pieces.{first_of, names_of};
+ghost use Rattle.blob_fields.specs.kernel_calls.Calls.{atlas_state};
+ghost use Rattle.blob_fields.specs.Pieces.{first_of, names_of};
 
 use crate::edges::put_edges;
 use atlas_dir::{Atlas, NAME_LENGTH};

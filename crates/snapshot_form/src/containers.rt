@@ -2,15 +2,15 @@
 ghost use Rattle.std.specs.Prelude.{◌≡◌, ◌≤◌, ◌+◌, ◌++◌, ℕ, length, take};
 ghost use Rattle.block_code.specs.Blobs.{HasRoom};
 ghost use Rattle.blob_grammar.specs.Spelling.{container_blob, entry_byte};
-ghost use Rattle.kernel_calls.specs.locus_machine.Loci.{container_with};
-ghost use Rattle.snapshot_form.specs.Pieces.{head_front};
+ghost use Rattle.blob_fields.specs.kernel_calls.locus_machine.Loci.{container_with};
+ghost use Rattle.blob_fields.specs.Pieces.{head_front};
 
 use crate::lists::{put_caps, put_code, put_regions};
 use crate::numbers::put_blocks;
+use blob_fields::kernel_calls::locus_machine::Head;
 use blob_grammar::{CONTAINER_BLOB, NO_ENTRY};
 use block_code::Blob;
 use hop_base::MOST_PAGES;
-use kernel_calls::locus_machine::Head;
 
 /// The bytes from the kind up to the entry.
 const FRONT_BYTES: usize = 16;

@@ -1,10 +1,10 @@
 // The edges between containers, ascending by both numbers.
 ghost use Rattle.std.specs.Prelude.{◌≡◌, ◌≤◌, ◌<◌, ◌+◌, ◌++◌, length};
 ghost use Rattle.std.specs.List.{flat_map};
-ghost use Rattle.atlas_dir.specs.Directory.{edges_of};
+ghost use Rattle.atlas_dir.specs.directory_form.Directory.{edges_of};
 ghost use Rattle.block_code.specs.Blobs.{HasRoom};
 ghost use Rattle.blob_grammar.specs.Spelling.{counted_edges, edge_bytes, edges_bytes};
-ghost use Rattle.snapshot_form.specs.Pieces.{row_edges, rows_edges};
+ghost use Rattle.blob_fields.specs.Pieces.{row_edges, rows_edges};
 
 use atlas_dir::Atlas;
 use block_code::Blob;

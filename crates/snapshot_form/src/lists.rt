@@ -5,10 +5,10 @@ ghost use Rattle.blob_grammar.specs.Spelling.{call_bytes, caps_bytes, instr_byte
 
 use crate::instructions::put_instr;
 use crate::parts::{put_call, put_private, put_region, put_slot};
+use blob_fields::kernel_calls::locus_machine::{Chain, Code, Privates};
 use block_code::Blob;
 use cap_list::{CapList, SLOTS};
 use hop_base::Cap;
-use kernel_calls::locus_machine::{Chain, Code, Privates};
 use region_map::RegionMap;
 
 /// The bytes of a code at most: one, and 16 for each of 128 instructions.

@@ -2,14 +2,14 @@
 ghost use Rattle.std.specs.Prelude.{◌≡◌, ◌≤◌, ◌+◌, ◌++◌, length};
 ghost use Rattle.block_code.specs.Blobs.{HasRoom};
 ghost use Rattle.blob_grammar.specs.Spelling.{condition_number, is_short, locus_blob, locus_front, locus_rest, walk_bytes};
-ghost use Rattle.kernel_calls.specs.locus_machine.Loci.{locus_of};
+ghost use Rattle.blob_fields.specs.kernel_calls.locus_machine.Loci.{locus_of};
 
 use crate::lists::{put_caps, put_chain, put_code, put_privates};
 use crate::numbers::put_registers;
+use blob_fields::kernel_calls::locus_machine::Locus;
 use blob_grammar::{LONG_LOCUS, SHORT_CALLS, SHORT_LOCUS, SHORT_PRIVATES};
 use block_code::Blob;
 use hop_base::{Condition, Walk};
-use kernel_calls::locus_machine::Locus;
 
 /// The bytes of a walk at most.
 const WALK_BYTES: usize = 11;

@@ -5,11 +5,12 @@ use Rattle.hop_base.specs.declared.instructions.Condition.{Condition}
 use Rattle.hop_base.specs.declared.instructions.Condition.TheVariants.{Running, Stopped, Halted}
 use Rattle.blob_grammar.specs.Spelling.{condition_number}
 use Rattle.blob_grammar.proofs.Fields.{condition_same}
-use Rattle.snapshot_reading.specs.Fields.{IsByteIn, IsRefused, Spells}
-use Rattle.snapshot_reading.specs.Loci.{IsConditionSpelled, IsFormSpelled, form_byte}
+use Rattle.blob_fields.specs.Fields.{IsByteIn, IsRefused, Spells}
+use Rattle.blob_fields.specs.Loci.{IsConditionSpelled}
+use Rattle.snapshot_reading.specs.Loci.{IsFormSpelled, form_byte}
 use Rattle.snapshot_reading.specs.declared.forms.Form.{Form}
 use Rattle.snapshot_reading.specs.declared.forms.Form.TheVariants.{Short, Long}
-use Rattle.snapshot_reading.proofs.Sequences.{TellsApart, refused_as}
+use Rattle.blob_fields.proofs.Sequences.{TellsApart, refused_as}
 
 module _ {A : Type 0} (code : A → ℕ) where
   abbrev pub Coded : A → List ℕ → Type 0

@@ -1,31 +1,8 @@
-pub mod Sequences
-pub mod Numbers
-pub mod ReadNumber
 pub mod Exits
-pub mod Bytes
-pub mod Items
-pub mod RegionFields
-pub mod RegionLists
-pub mod Adding
-pub mod RegionsRead
-pub mod InstrForms
-pub mod InstrFields
-pub mod Plain
-pub mod Tables
-pub mod SlotLists
-pub mod ContainerFields
-pub mod Entries
 pub mod Whole
 pub mod Codes
-pub mod Listed
-pub mod CallFields
-pub mod RegisterLists
-pub mod PrivateFields
-pub mod PrivateLists
-pub mod PrivatesRead
-pub mod WalkFields
 pub mod LocusForms
 pub mod LocusFields
-pub mod Texts
 pub use Rattle.blob_grammar.proofs as blob_grammar_lemmas
-pub use Rattle.locus_machine.proofs.hop_model_lemmas
+pub use Rattle.blob_fields.proofs.locus_machine_lemmas.hop_model_lemmas
+pub use Rattle.blob_fields.proofs as blob_fields_lemmas

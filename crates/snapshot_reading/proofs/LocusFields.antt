@@ -12,27 +12,28 @@ use Rattle.hop_base.specs.declared.instructions.Condition.{Condition}
 use Rattle.hop_base.specs.declared.instructions.Condition.TheVariants.{Running}
 use Rattle.hop_base.specs.declared.instructions.Instr.{Instr}
 use Rattle.hop_base.specs.declared.instructions.Walk.{Walk}
-use Rattle.locus_machine.specs.hop_model.State.{LocusState}
+use Rattle.blob_fields.specs.locus_machine.hop_model.State.{LocusState}
 use Rattle.blob_grammar.specs.Forms.{IsLocusForm, IsNumber, IsSpelling, SpellsLocus}
 use Rattle.blob_grammar.specs.Shapes.{IsCallOver}
 use Rattle.blob_grammar.specs.Spelling.{call_bytes, caps_bytes, condition_number, instr_bytes, is_short, listed, locus_blob, private_bytes, walk_bytes}
-use Rattle.locus_machine.specs.Loci.{locus_of}
-use Rattle.locus_machine.specs.declared.loci.Locus.{Locus as LocusValue}
-use Rattle.snapshot_reading.specs.Fields.{IsByteIn, IsFound, IsNumberIn, IsRefused, Spells, Then}
-use Rattle.snapshot_reading.specs.Loci.{AreCallsSpelled, ArePrivatesIn, AreRegistersSpelled, IsConditionSpelled, IsFormSpelled, IsLocusSpelled, IsPrintedSpelled, IsWalkSpelled, form_byte, least_privates, most_calls, most_privates, printed_width}
-use Rattle.snapshot_reading.specs.Parts.{AreCapsSpelled, IsCodeSpelled}
+use Rattle.blob_fields.specs.locus_machine.Loci.{locus_of}
+use Rattle.blob_fields.specs.locus_machine.declared.loci.Locus.{Locus as LocusValue}
+use Rattle.blob_fields.specs.Fields.{IsByteIn, IsFound, IsNumberIn, IsRefused, Spells, Then}
+use Rattle.blob_fields.specs.Loci.{AreCallsSpelled, ArePrivatesIn, AreRegistersSpelled, IsConditionSpelled, IsLocusSpelled, IsWalkSpelled}
+use Rattle.snapshot_reading.specs.Loci.{IsFormSpelled, IsPrintedSpelled, form_byte, least_privates, most_calls, most_privates, printed_width}
+use Rattle.blob_fields.specs.Parts.{AreCapsSpelled, IsCodeSpelled}
 use Rattle.snapshot_reading.specs.declared.forms.Form.{Form}
-use Rattle.snapshot_reading.proofs.Bytes.{byte_tells}
-use Rattle.snapshot_reading.proofs.CallFields.{calls_tell}
+use Rattle.blob_fields.proofs.Bytes.{byte_tells}
+use Rattle.blob_fields.proofs.CallFields.{calls_tell}
 use Rattle.snapshot_reading.proofs.Codes.{condition_tells, form_tells}
-use Rattle.snapshot_reading.proofs.ContainerFields.{caps_tells, code_tells}
-use Rattle.snapshot_reading.proofs.Numbers.{tells}
-use Rattle.snapshot_reading.proofs.PrivateLists.{privates_tell, some_list}
-use Rattle.snapshot_reading.proofs.RegisterLists.{registers_tell, some_registers}
-use Rattle.snapshot_reading.proofs.Sequences.{chain, joined, refused_as, refused_here, refused_later}
-use Rattle.snapshot_reading.proofs.SlotLists.{caps_spelled, not_filled}
-use Rattle.snapshot_reading.proofs.Tables.{last_block}
-use Rattle.snapshot_reading.proofs.WalkFields.{some_walk}
+use Rattle.blob_fields.proofs.ContainerFields.{caps_tells, code_tells}
+use Rattle.blob_fields.proofs.Numbers.{tells}
+use Rattle.blob_fields.proofs.PrivateLists.{privates_tell, some_list}
+use Rattle.blob_fields.proofs.RegisterLists.{registers_tell, some_registers}
+use Rattle.blob_fields.proofs.Sequences.{chain, joined, refused_as, refused_here, refused_later}
+use Rattle.blob_fields.proofs.SlotLists.{caps_spelled, not_filled}
+use Rattle.blob_fields.proofs.Tables.{last_block}
+use Rattle.blob_fields.proofs.WalkFields.{some_walk}
 use Rattle.snapshot_reading.proofs.LocusForms.{LocusHasForm, blob_is, bounds, has_form, printed_tells}
 
 -- WHAT FOLLOWS each field

@@ -3,14 +3,14 @@ use Rattle.std.proofs.Common.{◌≡◌, ◌<◌, ◌≤◌, ℕ, ◌^◌, ◌==
 use Rattle.std.proofs.lemmas.Bool.{false≢true, leb-true, le-leb}
 use Rattle.std.proofs.lemmas.Bool.Decides.{leb_tells}
 use Rattle.byteorder.specs.Endian.{little_bytes}
-use Rattle.locus_machine.specs.hop_model.State.{LocusState}
-use Rattle.locus_machine.proofs.hop_model_lemmas.Basics.{and_left, and_right}
+use Rattle.blob_fields.specs.locus_machine.hop_model.State.{LocusState}
+use Rattle.blob_fields.proofs.locus_machine_lemmas.hop_model_lemmas.Basics.{and_left, and_right}
 use Rattle.blob_grammar.specs.Spelling.{locus_blob, locus_front, locus_rest}
 use Rattle.snapshot_reading.specs.Loci.{IsPrintedSpelled, form_byte, least_privates, most_calls, most_printed, most_privates, printed_width}
 use Rattle.snapshot_reading.specs.declared.forms.Form.{Form}
 use Rattle.snapshot_reading.specs.declared.forms.Form.TheVariants.{Short, Long}
-use Rattle.snapshot_reading.proofs.Numbers.{tells}
-use Rattle.snapshot_reading.proofs.Sequences.{TellsApart}
+use Rattle.blob_fields.proofs.Numbers.{tells}
+use Rattle.blob_fields.proofs.Sequences.{TellsApart}
 
 -- what a form bounds is within the bounds of loci
 pub record FormBounds (form : Form) : Type 0 where

@@ -10,7 +10,7 @@ use Rattle.blob_grammar.specs.Places.{Begins, GoesPast, IsBadPlace}
 use Rattle.blob_grammar.proofs.KindSizes.{most}
 use Rattle.blob_grammar.proofs.Placing.{past_bad}
 use Rattle.blob_grammar.proofs.Values.{prefix_free}
-use Rattle.snapshot_reading.specs.Fields.{IsRefused, IsStuck}
+use Rattle.blob_fields.specs.Fields.{IsRefused, IsStuck}
 use Rattle.snapshot_reading.specs.Places.{IsBadBlob}
 use Rattle.snapshot_reading.specs.declared.places.BadBlob.TheVariants.{Malformed, TooLong}
 

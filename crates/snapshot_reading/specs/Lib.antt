@@ -1,9 +1,8 @@
-pub mod Fields
 pub mod Places
-pub mod Parts
-pub mod Instrs
 pub mod Containers
 pub mod Loci
 pub use Rattle.blob_grammar.specs as blob_grammar
-pub use Rattle.locus_machine.specs.hop_model
-pub use Rattle.locus_machine.specs as locus_machine
+pub use Rattle.blob_fields.specs.locus_machine.hop_model
+pub use Rattle.blob_fields.specs.locus_machine
+pub use Rattle.blob_fields.specs.directory_laws
+pub use Rattle.blob_fields.specs as blob_fields

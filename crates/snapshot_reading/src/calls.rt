@@ -1,11 +1,11 @@
 //! Registers, condition and calls of a locus.
 ghost use Rattle.std.specs.Prelude.{◌≡◌, ◌≤◌, [], IfOk, IfErr};
-ghost use Rattle.snapshot_reading.specs.Fields.{IsFound, IsRefused, Spells};
-ghost use Rattle.snapshot_reading.specs.Loci.{AreCallsSpelled, AreRegistersSpelled, IsCallSpelled, IsConditionSpelled};
+ghost use Rattle.blob_fields.specs.Fields.{IsFound, IsRefused, Spells};
+ghost use Rattle.blob_fields.specs.Loci.{AreCallsSpelled, AreRegistersSpelled, IsCallSpelled, IsConditionSpelled};
 
 use crate::fields::{Parsed, read_byte, read_number};
+use blob_fields::locus_machine::{Chain, MOST_INSTRS};
 use hop_base::{Call, Condition, Entity, MOST_CALLS, MOST_ENTITIES};
-use locus_machine::{Chain, MOST_INSTRS};
 
 /// The registers of a locus.
 const REGISTERS: usize = 8;

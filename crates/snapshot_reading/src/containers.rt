@@ -3,8 +3,8 @@ ghost use Rattle.std.specs.Prelude.{◌≡◌, ◌-◌, drop, length, replicate,
 ghost use Rattle.hop_base.specs.declared.entities.Kind.TheVariants.{Container};
 ghost use Rattle.blob_grammar.specs.Forms.{IsSpelling};
 ghost use Rattle.snapshot_reading.specs.Containers.{IsHeadSpelled};
-ghost use Rattle.snapshot_reading.specs.Fields.{IsFound, IsRefused, Spells};
-ghost use Rattle.snapshot_reading.specs.Parts.{IsEntrySpelled};
+ghost use Rattle.blob_fields.specs.Fields.{IsFound, IsRefused, Spells};
+ghost use Rattle.blob_fields.specs.Parts.{IsEntrySpelled};
 ghost use Rattle.snapshot_reading.specs.Places.{IsBadBlob};
 
 use crate::fields::{Parsed, Stuck, read_byte, read_number};
@@ -12,10 +12,10 @@ use crate::lists::{read_code, read_table};
 use crate::places::{BadBlob, place_of};
 use crate::regions::read_regions;
 use crate::slots::read_caps;
+use blob_fields::locus_machine::{Code, Head, MOST_INSTRS};
 use blob_grammar::{CONTAINER_BLOB, NO_ENTRY};
 use cap_list::CapList;
 use hop_base::{Instr, MOST_PAGES};
-use locus_machine::{Code, Head, MOST_INSTRS};
 use region_map::RegionMap;
 
 /// The place where a container is entered, or none.

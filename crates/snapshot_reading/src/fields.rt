@@ -1,6 +1,6 @@
 //! Numbers and bytes.
 ghost use Rattle.std.specs.Prelude.{◌≡◌, ◌<◌, ◌≤◌, ◌^◌, IfOk, IfErr};
-ghost use Rattle.snapshot_reading.specs.Fields.{IsByteIn, IsFound, IsNumberIn, IsRefused, Spells};
+ghost use Rattle.blob_fields.specs.Fields.{IsByteIn, IsFound, IsNumberIn, IsRefused, Spells};
 
 /// The bytes from the first on that is refused.
 #[derive(Clone, Copy)]

@@ -1,6 +1,6 @@
 //! The two forms of a locus's blob.
 ghost use Rattle.std.specs.Prelude.{◌≡◌, ◌≤◌, IfOk, IfErr};
-ghost use Rattle.snapshot_reading.specs.Fields.{IsFound, IsRefused, Spells};
+ghost use Rattle.blob_fields.specs.Fields.{IsFound, IsRefused, Spells};
 ghost use Rattle.snapshot_reading.specs.Loci.{IsFormSpelled, IsPrintedSpelled, least_privates as fewest_privates, most_calls as greatest_calls, most_privates as greatest_privates};
 
 use crate::fields::{Parsed, read_byte, read_number};

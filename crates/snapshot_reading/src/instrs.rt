@@ -1,8 +1,8 @@
 //! Instructions, 16 bytes each.
 ghost use Rattle.std.specs.Prelude.{◌≡◌, ◌≤◌, slice_index, IfOk, IfErr};
-ghost use Rattle.snapshot_reading.specs.Fields.{IsByteIn, IsFound, IsRefused, Spells};
-ghost use Rattle.snapshot_reading.specs.Instrs.{IsOperand, IsOperandSpelled, built, entry_of as entry_number_of, least_rights, make_code, most_number, most_register, most_rights};
-ghost use Rattle.snapshot_reading.specs.Parts.{IsInstrSpelled};
+ghost use Rattle.blob_fields.specs.Fields.{IsByteIn, IsFound, IsRefused, Spells};
+ghost use Rattle.blob_fields.specs.Instrs.{IsOperand, IsOperandSpelled, built, entry_of as entry_number_of, least_rights, make_code, most_number, most_register, most_rights};
+ghost use Rattle.blob_fields.specs.Parts.{IsInstrSpelled};
 
 use crate::fields::{Parsed, read_byte, read_number};
 use hop_base::{Instr, Rights};

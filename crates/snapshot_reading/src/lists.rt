@@ -1,12 +1,12 @@
 //! Codes and page tables.
 ghost use Rattle.std.specs.Prelude.{◌≡◌, ◌≤◌, take, drop, IfOk, IfErr};
-ghost use Rattle.snapshot_reading.specs.Fields.{IsFound, IsRefused, Spells};
-ghost use Rattle.snapshot_reading.specs.Parts.{IsCodeSpelled, IsTableSpelled};
+ghost use Rattle.blob_fields.specs.Fields.{IsFound, IsRefused, Spells};
+ghost use Rattle.blob_fields.specs.Parts.{IsCodeSpelled, IsTableSpelled};
 
 use crate::fields::{Parsed, read_byte, read_number};
 use crate::instrs::read_instr;
+use blob_fields::locus_machine::MOST_INSTRS;
 use hop_base::{Instr, MOST_PAGES};
-use locus_machine::MOST_INSTRS;
 
 /// Puts the instructions of a code at the front of these, and tells how many there are.
 pub(crate) fn read_code<'a>(bytes: &'a [u8], instrs: &mut [Instr; MOST_INSTRS]) -> Parsed<'a, u8>

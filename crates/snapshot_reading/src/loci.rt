@@ -2,8 +2,8 @@
 ghost use Rattle.std.specs.Prelude.{IfOk, IfErr};
 ghost use Rattle.hop_base.specs.declared.entities.Kind.TheVariants.{Locus as LocusKind};
 ghost use Rattle.blob_grammar.specs.Forms.{IsSpelling};
-ghost use Rattle.snapshot_reading.specs.Fields.{IsFound, IsRefused};
-ghost use Rattle.snapshot_reading.specs.Loci.{IsLocusSpelled};
+ghost use Rattle.blob_fields.specs.Fields.{IsFound, IsRefused};
+ghost use Rattle.blob_fields.specs.Loci.{IsLocusSpelled};
 ghost use Rattle.snapshot_reading.specs.Places.{IsBadBlob};
 
 use crate::calls::{read_calls, read_condition, read_registers};
@@ -14,9 +14,9 @@ use crate::places::{BadBlob, place_of};
 use crate::privates::read_privates;
 use crate::slots::read_caps;
 use crate::walks::read_walk;
+use blob_fields::locus_machine::{Chain, Code, Locus, MOST_INSTRS, Privates};
 use cap_list::CapList;
 use hop_base::{Entity, Instr, MOST_ENTITIES};
-use locus_machine::{Chain, Code, Locus, MOST_INSTRS, Privates};
 
 /// A locus.
 fn read_fields<'a>(bytes: &'a [u8]) -> Parsed<'a, Locus>

@@ -1,12 +1,12 @@
 //! The private regions of a locus.
 ghost use Rattle.std.specs.Prelude.{◌≡◌, ◌+◌, ◌-◌, ◌*◌, ◌<◌, ◌≤◌, [], IfOk, IfErr};
-ghost use Rattle.snapshot_reading.specs.Fields.{IsFound, IsRefused, Spells};
-ghost use Rattle.snapshot_reading.specs.Loci.{ArePrivatesIn, IsPrivateIn, end_page as end_page_of, first_page as first_page_of, least_host as least_host_of};
+ghost use Rattle.blob_fields.specs.Fields.{IsFound, IsRefused, Spells};
+ghost use Rattle.blob_fields.specs.Loci.{ArePrivatesIn, IsPrivateIn, end_page as end_page_of, first_page as first_page_of, least_host as least_host_of};
 
 use crate::fields::{Parsed, read_byte};
 use crate::regions::{end_of, read_region};
+use blob_fields::locus_machine::Privates;
 use hop_base::{Entity, MOST_ENTITIES, MOST_PAGES, MOST_PRIVATES, Private};
-use locus_machine::Privates;
 
 /// The last number of an entity.
 const LAST_HOST: u8 = MOST_ENTITIES - 1;

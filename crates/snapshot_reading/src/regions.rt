@@ -1,7 +1,7 @@
 //! The regions of a container.
 ghost use Rattle.std.specs.Prelude.{◌≡◌, ◌+◌, ◌<◌, ◌≤◌, [], IfOk, IfErr};
-ghost use Rattle.snapshot_reading.specs.Fields.{IsFound, IsRefused, Spells};
-ghost use Rattle.snapshot_reading.specs.Parts.{AreRegionsOf, IsRegionIn};
+ghost use Rattle.blob_fields.specs.Fields.{IsFound, IsRefused, Spells};
+ghost use Rattle.blob_fields.specs.Parts.{AreRegionsOf, IsRegionIn};
 
 use crate::fields::{Parsed, read_byte, read_number};
 use hop_base::{Entity, MOST_ENTITIES, MOST_PAGES, MOST_REGIONS, Region, Rights};

@@ -1,7 +1,7 @@
 //! Capabilities, each in its slot.
 ghost use Rattle.std.specs.Prelude.{◌≡◌, ◌≤◌, ◌<◌, replicate, None, IfOk, IfErr};
-ghost use Rattle.snapshot_reading.specs.Fields.{IsFound, IsRefused, Spells};
-ghost use Rattle.snapshot_reading.specs.Parts.{AreCapsSpelled, IsSlotIn, slot_with};
+ghost use Rattle.blob_fields.specs.Fields.{IsFound, IsRefused, Spells};
+ghost use Rattle.blob_fields.specs.Parts.{AreCapsSpelled, IsSlotIn, slot_with};
 
 use crate::fields::{Parsed, read_byte};
 use cap_list::{CapList, SLOTS};

@@ -1,7 +1,7 @@
 //! The walk of a locus.
 ghost use Rattle.std.specs.Prelude.{IfOk, IfErr};
-ghost use Rattle.snapshot_reading.specs.Fields.{IsFound, IsRefused, Spells};
-ghost use Rattle.snapshot_reading.specs.Loci.{IsWalkSpelled};
+ghost use Rattle.blob_fields.specs.Fields.{IsFound, IsRefused, Spells};
+ghost use Rattle.blob_fields.specs.Loci.{IsWalkSpelled};
 
 use crate::fields::{Parsed, read_byte, read_number};
 use hop_base::{Entity, MOST_ENTITIES, MOST_HOPS, Walk};

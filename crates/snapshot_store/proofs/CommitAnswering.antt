@@ -4,11 +4,11 @@ use Rattle.std.specs.Prelude.{Err, IsErrOf, OnErr, Result}
 use Rattle.std.proofs.lemmas.Bool.{false≢true}
 use Rattle.disk_trait.specs.Counts.{Rose}
 use Rattle.disk_trait.specs.declared.disk.NoBlocks.{NoBlocks as TooFew}
-use Rattle.log_reading.specs.image_blocks.Bodies.{blocks_for}
-use Rattle.page_words.specs.store_model.Books.{free_in}
+use Rattle.store_laws.specs.log_reading.image_form.Bodies.{blocks_for}
+use Rattle.store_laws.specs.page_words.store_model.Books.{free_in}
 use Rattle.snapshot_store.specs.CommitAnswers.{CommitAnswers, IsShort}
-use Rattle.snapshot_store.specs.Committed.{HasFailedShut}
-use Rattle.snapshot_store.specs.State.{State, books}
+use Rattle.store_laws.specs.Committed.{HasFailedShut}
+use Rattle.store_laws.specs.State.{State, books}
 use Rattle.snapshot_store.specs.declared.faults.StoreFault.{StoreFault as Fault}
 use Rattle.snapshot_store.specs.declared.faults.StoreFault.TheVariants.{NoBlocks, ReadFault, Shut, WriteFault}
 

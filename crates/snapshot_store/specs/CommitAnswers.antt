@@ -2,12 +2,12 @@
 use Rattle.std.specs.Prelude.{◌≡◌, ◌↔◌, ◌⊎◌, ℕ, ◌<◌, true, false, Result, IsErrOf}
 use Rattle.disk_trait.specs.Counts.{Rose}
 use Rattle.disk_trait.specs.declared.disk.NoBlocks.{NoBlocks as TooFew}
-use Rattle.log_reading.specs.image_blocks.Bodies.{blocks_for}
-use Rattle.snapshot_store.specs.Committed.{HasFailedShut}
-use Rattle.snapshot_store.specs.State.{State, books}
+use Rattle.store_laws.specs.log_reading.image_form.Bodies.{blocks_for}
+use Rattle.store_laws.specs.Committed.{HasFailedShut}
+use Rattle.store_laws.specs.State.{State, books}
 use Rattle.snapshot_store.specs.declared.faults.StoreFault.{StoreFault}
 use Rattle.snapshot_store.specs.declared.faults.StoreFault.TheVariants.{NoBlocks, ReadFault, Shut, WriteFault}
-use Rattle.page_words.specs.store_model.Books.{Books, free_in}
+use Rattle.store_laws.specs.page_words.store_model.Books.{Books, free_in}
 
 -- fewer blocks are free in a store that works than a blob of this length needs; both numbers
 pub record IsShort (b : Books) (length : ℕ) (n : TooFew) : Type 0 where

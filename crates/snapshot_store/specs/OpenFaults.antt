@@ -2,9 +2,9 @@
 use Rattle.std.specs.Prelude.{◌≡◌, ℕ, Some}
 use Rattle.disk_trait.specs.Counts.{Rose}
 use Rattle.disk_trait.specs.Image.{Image}
-use Rattle.log_reading.specs.image_blocks.Checks.{records_fault}
-use Rattle.log_reading.specs.declared.faults.ReadingFault.{ReadingFault}
-use Rattle.log_reading.specs.declared.faults.ReadingFault.TheVariants.{Disk as OfDisk, Foreign as OfForeign, Memory as OfMemory}
+use Rattle.store_laws.specs.log_reading.image_blocks.Checks.{records_fault}
+use Rattle.store_laws.specs.log_reading.declared.faults.ReadingFault.{ReadingFault}
+use Rattle.store_laws.specs.log_reading.declared.faults.ReadingFault.TheVariants.{Disk as OfDisk, Foreign as OfForeign, Memory as OfMemory}
 use Rattle.snapshot_store.specs.declared.opening.OpenWhy.{OpenWhy}
 use Rattle.snapshot_store.specs.declared.opening.OpenWhy.TheVariants.{Foreign, Memory, ReadFault, WriteFault}
 

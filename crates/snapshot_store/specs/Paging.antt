@@ -2,8 +2,8 @@
 use Rattle.std.specs.Prelude.{ℕ, ◌≤◌}
 use Rattle.std.proofs.Common.{arith}
 use Rattle.disk_trait.specs.Image.{Image}
-use Rattle.page_words.specs.store_model.Between.{Between-join, Between-stay, OnlyPages}
-use Rattle.snapshot_store.specs.State.{State, books}
+use Rattle.store_laws.specs.page_words.store_model.Between.{Between-join, Between-stay, OnlyPages}
+use Rattle.store_laws.specs.State.{State, books}
 
 module _ {D : Type 0} (tells : Type 0) (clock faults : D → ℕ) (reading : D → Image) (may_leave : D → Image → Type 0) (left_since : D → ℕ → Image → Type 0) where
   -- NOTHING WAS COMMITTED, and the disk's count of faults didn't fall

@@ -3,15 +3,15 @@ ghost use Rattle.std.specs.Prelude.{◌≡◌, ◌≤◌, ◌+◌, ◌++◌, IfO
 ghost use Rattle.std.specs.List.{concat};
 ghost use Rattle.disk_trait.specs.Disk.{HasCause};
 ghost use Rattle.disk_trait.specs.Image.{block_at};
-ghost use Rattle.log_reading.specs.image_blocks.Bodies.{blob_in, blob_room, blocks_for};
-ghost use Rattle.log_reading.specs.Reads.{ReadsOnly};
+ghost use Rattle.store_laws.specs.log_reading.image_form.Bodies.{blob_in, blob_room, blocks_for};
+ghost use Rattle.store_laws.specs.log_reading.log_laws.Reads.{ReadsOnly};
 ghost use Rattle.disk_trait.specs.Counts.{Rose};
-ghost use Rattle.snapshot_store.specs.Opening.{HasStableLog};
+ghost use Rattle.store_laws.specs.Opening.{HasStableLog};
 ghost use Rattle.snapshot_store.specs.ReadAnswers.{ReadAnswers};
-ghost use Rattle.snapshot_store.specs.Rests.{IsRest};
-ghost use Rattle.snapshot_store.specs.State.{books};
-ghost use Rattle.page_words.specs.store_model.Between.{OnlyPages};
-ghost use Rattle.page_words.specs.store_model.Books.{kept_in};
+ghost use Rattle.store_laws.specs.Rests.{IsRest};
+ghost use Rattle.store_laws.specs.State.{books};
+ghost use Rattle.store_laws.specs.page_words.store_model.Between.{OnlyPages};
+ghost use Rattle.store_laws.specs.page_words.store_model.Books.{kept_in};
 
 use crate::StoreFault;
 use crate::store::Store;

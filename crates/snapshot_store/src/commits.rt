@@ -6,17 +6,17 @@ ghost use Rattle.disk_trait.specs.Image.{SameOutside};
 ghost use Rattle.disk_trait.specs.Moments.{LeavesOnly};
 ghost use Rattle.disk_tally.specs.Counts.{Begins, shown};
 ghost use Rattle.hop_base.specs.declared.records.Rec.{Rec as Record};
-ghost use Rattle.log_reading.specs.image_blocks.Bodies.{blocks_for};
-ghost use Rattle.log_reading.specs.image_blocks.Layout.{most_length, slot_count};
-ghost use Rattle.page_words.specs.log_turn.Standing.{Stands, begun_of, epoch_of, used_of};
-ghost use Rattle.store_commit.specs.Storing.{HasBlob, HasLogged, HasPlaces, IsCommitBlock, IsReady, Next, StoresOneMore, new_of, roomy_log as roomy_recs};
+ghost use Rattle.store_laws.specs.log_reading.image_form.Bodies.{blocks_for};
+ghost use Rattle.store_laws.specs.log_reading.image_form.Layout.{most_length, slot_count};
+ghost use Rattle.store_laws.specs.page_words.log_turn.Standing.{Stands, begun_of, epoch_of, used_of};
+ghost use Rattle.store_laws.specs.store_commit.Storing.{HasBlob, HasLogged, HasPlaces, IsCommitBlock, IsReady, Next, StoresOneMore, new_of, roomy_log as roomy_recs};
 ghost use Rattle.snapshot_store.specs.CommitAnswers.{CommitAnswers};
-ghost use Rattle.snapshot_store.specs.Committed.{CommitsInFreeBlocks, HasFailedShut, HasNewRecord, SameUsed, StoresKeptOrMore};
-ghost use Rattle.snapshot_store.specs.Naming.{IsPlaced};
-ghost use Rattle.snapshot_store.specs.Putting.{HasFailed, HasPut, are_small};
-ghost use Rattle.snapshot_store.specs.State.{books};
+ghost use Rattle.store_laws.specs.Committed.{CommitsInFreeBlocks, HasFailedShut, HasNewRecord, SameUsed, StoresKeptOrMore};
+ghost use Rattle.store_laws.specs.Naming.{IsPlaced};
+ghost use Rattle.store_laws.specs.Putting.{HasFailed, HasPut, are_small};
+ghost use Rattle.store_laws.specs.State.{books};
 ghost use Rattle.snapshot_store.specs.declared.faults.StoreFault.{StoreFault as Fault};
-ghost use Rattle.page_words.specs.store_model.Books.{AreHeldPages, AreSmall, AreTrue, free_in, kept_in, logged_recs, recs_in};
+ghost use Rattle.store_laws.specs.page_words.store_model.Books.{AreHeldPages, AreSmall, AreTrue, free_in, kept_in, logged_recs, recs_in};
 
 use crate::StoreFault;
 use crate::numbers::is_small;
@@ -26,10 +26,10 @@ use crate::taking::{release_blocks, take_blocks};
 use block_code::Blob;
 use disk_trait::{Disk, NoBlocks};
 use hop_base::{Entity, Rec};
-use log_reading::image_blocks::SLOT_COUNT;
 use page_shadow::ShadowTable;
-use page_words::commit_log::LogFault;
-use store_commit::{commit_record, spelled_blocks};
+use store_laws::log_reading::image_blocks::SLOT_COUNT;
+use store_laws::page_words::commit_log::LogFault;
+use store_laws::store_commit::{commit_record, spelled_blocks};
 
 impl<D: Disk> Store<D> {
     // Writes a record's blob and appends the record, and keeps it in memory: the log is turned to the kept records where all slots

@@ -1,5 +1,5 @@
 // A law of stores. The function does nothing: its contract is the law.
-ghost use Rattle.snapshot_store.specs.Committed.{SameKeptLaw};
+ghost use Rattle.store_laws.specs.Committed.{SameKeptLaw};
 
 use disk_trait::Disk;
 

@@ -17,12 +17,11 @@ mod shelf;
 mod store;
 mod taking;
 
-pub use cut_finder;
 pub use faults::StoreFault;
 pub use laws::same_kept_law;
-pub use log_reading;
-pub use log_reading::image_blocks;
 pub use opening::{OpenFault, OpenWhy, SyncedLog};
 pub use page_shadow;
 pub use page_store;
 pub use store::Store;
+pub use store_laws::log_reading::image_blocks;
+pub use store_laws::{cut_finder, log_reading};

@@ -1,8 +1,8 @@
 // Naming the blocks of records, and taking that back.
 ghost use Rattle.std.specs.Prelude.{◌≡◌, ℕ, ◌+◌, ◌≤◌, All, filter, length, slice_index};
-ghost use Rattle.log_reading.specs.image_blocks.Bodies.{blob_blocks as blocks_of_blob};
-ghost use Rattle.log_reading.specs.image_blocks.Layout.{most_length};
-ghost use Rattle.snapshot_store.specs.Naming.{HasNamed, IsPlace, IsPlaced, IsRaised, is_below, times, uses, uses_in};
+ghost use Rattle.store_laws.specs.log_reading.image_form.Bodies.{blob_blocks as blocks_of_blob};
+ghost use Rattle.store_laws.specs.log_reading.image_form.Layout.{most_length};
+ghost use Rattle.store_laws.specs.Naming.{HasNamed, IsPlace, IsPlaced, IsRaised, is_below, times, uses, uses_in};
 
 use crate::shelf::Shelf;
 use hop_base::{Cut, Rec};

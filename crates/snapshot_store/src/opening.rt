@@ -1,26 +1,27 @@
 // What is read of an image before its store is made.
 ghost use Rattle.std.specs.Prelude.{◌≡◌, ◌⊎◌, ◌≤◌, ◌+◌, ◌++◌, [], true, false, AllPairs, length, map, slice_index, IfOk, IfErr, MatchResult};
-ghost use Rattle.log_reading.specs.image_blocks.Layout.{last_number, slot_count};
-ghost use Rattle.log_reading.specs.image_blocks.Logs.{HasRecords};
+ghost use Rattle.store_laws.specs.log_reading.image_form.Layout.{last_number, slot_count};
+ghost use Rattle.store_laws.specs.log_reading.image_blocks.Logs.{HasRecords};
 ghost use Rattle.disk_trait.specs.Disk.{Only};
-ghost use Rattle.log_reading.specs.Logs.{AreInRange, IsKnown, IsLogOf, IsOlder};
-ghost use Rattle.snapshot_store.specs.Keeping.{AreKept};
+ghost use Rattle.store_laws.specs.log_reading.log_laws.Logs.{AreInRange, IsOlder};
+ghost use Rattle.store_laws.specs.log_reading.Logs.{IsKnown, IsLogOf};
+ghost use Rattle.store_laws.specs.Keeping.{AreKept};
 ghost use Rattle.snapshot_store.specs.OpenFaults.{HasOpenCause};
-ghost use Rattle.snapshot_store.specs.Opening.{HasStableLog, IsFresh, IsOver, IsSynced, SyncsOnly, fresh_ledger, unread};
-ghost use Rattle.snapshot_store.specs.State.{books};
-ghost use Rattle.page_words.specs.store_model.Books.{AreTrue, recs_in};
+ghost use Rattle.store_laws.specs.Opening.{HasStableLog, IsFresh, IsOver, IsSynced, SyncsOnly, fresh_ledger, unread};
+ghost use Rattle.store_laws.specs.State.{books};
+ghost use Rattle.store_laws.specs.page_words.store_model.Books.{AreTrue, recs_in};
 
 use crate::shelf::Shelf;
 use crate::store::Store;
-use cut_finder::greatest;
 use disk_tally::Tally;
 use disk_trait::{Disk, DiskFault};
 use hop_base::{Cut, Rec};
-use log_reading::image_blocks::{Bad, POOL_AT};
-use log_reading::{ImageLog, ReadingFault, read_log};
 use page_shadow::{Ledger, ShadowTable};
-use page_words::log_turn::Areas;
 use std::alloc::{AllocError, Global};
+use store_laws::cut_finder::greatest;
+use store_laws::log_reading::image_blocks::{Bad, POOL_AT};
+use store_laws::log_reading::{ImageLog, ReadingFault, read_log};
+use store_laws::page_words::log_turn::Areas;
 
 /// Why an image was not opened.
 #[derive(Clone, Copy, Debug, PartialEq, Eq, Drop)]

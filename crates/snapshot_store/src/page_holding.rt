@@ -1,8 +1,8 @@
 // Holding the blocks of pages.
 ghost use Rattle.std.specs.Prelude.{◌≡◌, All, length};
 ghost use Rattle.std.specs.List.{list_any};
-ghost use Rattle.snapshot_store.specs.Holds.{HasHeld, names_page};
-ghost use Rattle.snapshot_store.specs.Naming.{IsPlace, IsPlaced, is_use};
+ghost use Rattle.store_laws.specs.Holds.{HasHeld, names_page};
+ghost use Rattle.store_laws.specs.Naming.{IsPlace, IsPlaced, is_use};
 
 use crate::shelf::Shelf;
 use page_shadow::Ledger;

@@ -5,7 +5,7 @@ use crate::paging::read_words;
 use crate::store::Store;
 use disk_trait::{Disk, NoBlocks};
 use page_store::{PageFault, PageStore};
-use page_words::block_with;
+use store_laws::page_words::block_with;
 
 /// Pages in the blocks of the image. A block that is held, or that a kept record names, holds the words that the disk reads; where
 /// there is no block on the disk they are zeros.
@@ -15,8 +15,8 @@ impl<D: Disk> PageStore for Store<D> {
     ghost use Rattle.disk_trait.specs.Image.{block_at};
     ghost use Rattle.page_shadow.specs.Ledger.{is_held};
     ghost use Rattle.snapshot_store.specs.Paging.{GoesByPages, GoesByPages-join, GoesByPages-stay};
-    ghost use Rattle.snapshot_store.specs.State.{State, books};
-    ghost use Rattle.page_words.specs.store_model.Books.{free_in, kept_names as kept_names_in, words_of_bytes};
+    ghost use Rattle.store_laws.specs.State.{State, books};
+    ghost use Rattle.store_laws.specs.page_words.store_model.Books.{free_in, kept_names as kept_names_in, words_of_bytes};
 
     ghost tells = { D.tells };
 

@@ -2,11 +2,11 @@
 ghost use Rattle.std.specs.Prelude.{◌≡◌, ◌≤◌, ◌<◌, ◌+◌, true, false, OnOk, OnErr, length};
 ghost use Rattle.disk_trait.specs.Disk.{HasCause};
 ghost use Rattle.disk_trait.specs.Image.{block_at};
-ghost use Rattle.log_reading.specs.Reads.{ReadsOnly};
-ghost use Rattle.page_words.specs.store_model.Books.{words_of_bytes};
+ghost use Rattle.store_laws.specs.log_reading.log_laws.Reads.{ReadsOnly};
+ghost use Rattle.store_laws.specs.page_words.store_model.Books.{words_of_bytes};
 
 use disk_trait::{Disk, DiskFault};
-use page_words::words_in;
+use store_laws::page_words::words_in;
 
 // The words of a block, zeros where the disk has no such block.
 pub(crate) fn read_words<D: Disk>(

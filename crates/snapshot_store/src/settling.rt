@@ -1,16 +1,16 @@
 // What a record that was committed changes in memory.
 ghost use Rattle.std.specs.Prelude.{◌≡◌, ◌++◌, ◌∷◌, [], ◌<◌, ◌≤◌, All, false, if◌then◌else◌, filter, length, slice_index};
-ghost use Rattle.log_reading.specs.image_blocks.Layout.{slot_count};
-ghost use Rattle.snapshot_store.specs.Keeping.{AreKept, AreListed, HasRecounted};
-ghost use Rattle.snapshot_store.specs.Naming.{IsPlaced};
-ghost use Rattle.snapshot_store.specs.Shelves.{is_from};
-ghost use Rattle.page_words.specs.store_model.Books.{logged_recs};
+ghost use Rattle.store_laws.specs.log_reading.image_form.Layout.{slot_count};
+ghost use Rattle.store_laws.specs.Keeping.{AreKept, AreListed, HasRecounted};
+ghost use Rattle.store_laws.specs.Naming.{IsPlaced};
+ghost use Rattle.store_laws.specs.Shelves.{is_from};
+ghost use Rattle.store_laws.specs.page_words.store_model.Books.{logged_recs};
 
 use crate::naming::{name_record, unname_below};
 use crate::shelf::Shelf;
-use cut_finder::raise;
 use hop_base::{Cut, Rec};
 use page_shadow::{Ledger, ShadowTable};
+use store_laws::cut_finder::raise;
 
 // A record is kept behind the others, and names its blocks.
 pub(crate) fn list_record(kept: &mut Shelf, ledger: &mut Ledger, rec: &Rec, table: &ShadowTable)

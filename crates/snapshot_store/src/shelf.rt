@@ -1,14 +1,14 @@
 // Records with the blocks of their pages, in room that is taken once.
 ghost use Rattle.std.specs.Prelude.{◌≡◌, ◌<◌, ◌≤◌, ◌++◌, ◌∷◌, [], length, filter, slice_index, slice_index_or, IfOk};
-ghost use Rattle.log_reading.specs.image_blocks.Layout.{slot_count};
-ghost use Rattle.snapshot_store.specs.Shelves.{AreTallied, is_from, nothing_logged, records_of};
-ghost use Rattle.page_words.specs.store_model.Books.{logged_recs};
+ghost use Rattle.store_laws.specs.log_reading.image_form.Layout.{slot_count};
+ghost use Rattle.store_laws.specs.Shelves.{AreTallied, is_from, nothing_logged, records_of};
+ghost use Rattle.store_laws.specs.page_words.store_model.Books.{logged_recs};
 
 use hop_base::{Cut, Entity, Rec};
-use log_reading::image_blocks::SLOT_COUNT;
 use page_shadow::ShadowTable;
 use std::alloc::{AllocError as Memory, Global};
 use std::marker::Model;
+use store_laws::log_reading::image_blocks::SLOT_COUNT;
 
 // Up to 640 records in order, each with the block of each page that its blob names. Memory is taken when it is made, and never
 // again.
@@ -23,9 +23,9 @@ pub(crate) struct Shelf {
 
 impl Model for Shelf {
     ghost use Rattle.std.specs.Prelude.{◌≡◌, ◌≤◌, List, length, take};
-    ghost use Rattle.log_reading.specs.image_blocks.Layout.{slot_count};
-    ghost use Rattle.snapshot_store.specs.Shelves.{AreTallied, logged_with};
-    ghost use Rattle.page_words.specs.store_model.Books.{Logged};
+    ghost use Rattle.store_laws.specs.log_reading.image_form.Layout.{slot_count};
+    ghost use Rattle.store_laws.specs.Shelves.{AreTallied, logged_with};
+    ghost use Rattle.store_laws.specs.page_words.store_model.Books.{Logged};
 
     ghost Value = { List Logged };
 

@@ -1,14 +1,14 @@
 // The records of an image, over its disk.
 ghost use Rattle.std.specs.Prelude.{◌≡◌, ℕ, slice_index};
-ghost use Rattle.snapshot_store.specs.Shelves.{records_of};
-ghost use Rattle.page_words.specs.store_model.Books.{cut_in, free_in, kept_in, recs_in};
+ghost use Rattle.store_laws.specs.Shelves.{records_of};
+ghost use Rattle.store_laws.specs.page_words.store_model.Books.{cut_in, free_in, kept_in, recs_in};
 
 use crate::shelf::Shelf;
 use disk_trait::Disk;
 use hop_base::{Cut, Entity, Rec};
 use page_shadow::Ledger;
-use page_words::log_turn::Areas;
 use std::marker::Model;
+use store_laws::page_words::log_turn::Areas;
 
 /// The records of an image, over its disk. In memory it has the records of the log, with the block of each page that their
 /// blobs name, once more those that are kept, the greatest closed choice of them, and for each block whether it is held and how
@@ -27,7 +27,7 @@ pub struct Store<D: Disk> {
 }
 
 impl<D: Disk> Model for Store<D> {
-    ghost use Rattle.snapshot_store.specs.State.{IsWhole, State, state_of};
+    ghost use Rattle.store_laws.specs.State.{IsWhole, State, state_of};
 
     ghost Value = { State D };
 
@@ -37,7 +37,7 @@ impl<D: Disk> Model for Store<D> {
 }
 
 impl<D: Disk> Store<D> {
-    ghost use Rattle.snapshot_store.specs.State.{HoldsPoolBlocks, State, books};
+    ghost use Rattle.store_laws.specs.State.{HoldsPoolBlocks, State, books};
 
     /// The law: each block that is held, of any store, is one of the pool. It does nothing.
     pub fn held_law(&self)

@@ -1,7 +1,7 @@
 // Taking free blocks for a blob, and giving them back.
 ghost use Rattle.std.specs.Prelude.{◌≡◌, ◌≢◌, ℕ, ◌<◌, ◌≤◌, true, length, slice_index};
 ghost use Rattle.page_shadow.specs.Ledger.{is_held, unused_blocks};
-ghost use Rattle.snapshot_store.specs.Taking.{HasReleased, HasTaken};
+ghost use Rattle.store_laws.specs.Taking.{HasReleased, HasTaken};
 
 use page_shadow::Ledger;
 

@@ -1,11 +1,12 @@
 -- A step takes no name from the atlas, so no birth is owed again.
-use Rattle.std.proofs.Common.{◌≡◌, ℕ, ◌+◌, ◌<◌, Bool, true, false, if◌then◌else◌, ◌==◌, List, [], ◌∷◌, ◌++◌, length, Option, Some, None, is_some, is_none, MatchOption, option_map, option_and_then, refl, sym, ap, subst, ◌∙◌, arith, inl, inr}
+use Rattle.std.proofs.Common.{◌≡◌, ℕ, ◌+◌, ◌<◌, Bool, true, false, if◌then◌else◌, ◌==◌, List, [], ◌∷◌, ◌++◌, Option, Some, None, is_some, is_none, option_map, option_and_then, refl, sym, ap, subst, ◌∙◌, arith, inl, inr}
 use Rattle.std.proofs.lemmas.Bool.{false≢true}
 use Rattle.std.proofs.lemmas.Bool.Decides.{nat_tests}
 use Rattle.std.proofs.lemmas.List.{append-nil, append_assoc}
 use Rattle.hop_base.specs.declared.histories.Entry.{Entry}
 use Rattle.hop_base.specs.declared.histories.Event.TheVariants.{Birth, Step, Snap as SnapEvent, Stable, Tried}
 use Rattle.hop_base.specs.declared.capabilities.Region.{Region}
+use Rattle.hop_base.specs.declared.capabilities.Rights.{Rights}
 use Rattle.hop_base.specs.declared.instructions.Instr.{Instr}
 use Rattle.hop_base.specs.declared.instructions.Instr.TheVariants.{Map, Unmap, Make, Spawn, Stop, Go, Snap}
 use Rattle.hop_base.specs.declared.instructions.Reply.{Reply}
@@ -22,7 +23,7 @@ use Rattle.sound_steps.specs.hop_model.Steps.{atlas_in, seen_atlas, seen_other, 
 use Rattle.sound_steps.specs.hop_model.Parts.{is_event, next_of}
 use Rattle.sound_steps.specs.hop_model.Histories.{Policy, Run, may, May, goes_on, event_of, births_owed, IsLegalFrom, IsLegalRun, start_run, run_after}
 use Rattle.sound_steps.proofs.hop_model_lemmas.Basics.{some_of_map}
-use Rattle.sound_steps.proofs.hop_model_lemmas.Faithful.{IsNewborn, wanted_is}
+use Rattle.sound_steps.proofs.hop_model_lemmas.Faithful.{wanted_is}
 use Rattle.sound_steps.proofs.hop_model_lemmas.LegalRuns.{state_goes_on}
 use Rattle.sound_steps.proofs.hop_model_lemmas.StepTallies.{other_atlas, put_atlas, put_atlas_0, put_newborn, put_other, running_is, step_cell}
 use Rattle.sound_steps.proofs.hop_model_lemmas.Writes.{cell_with, changed_cell}
@@ -30,15 +31,13 @@ use Rattle.script_form.specs.Rules.{IsScript}
 use Rattle.run_laws.proofs.Wishes.{legal_back}
 use Rattle.sound_steps.proofs.Cells.{locus_in}
 use Rattle.std.specs.List.{All}
+use Rattle.sound_runs.specs.Names.{KeepsNames}
+use Rattle.sound_runs.proofs.Acting.{newborn_is}
 use Rattle.sound_runs.proofs.Births.{NotLocus}
 use Rattle.sound_runs.proofs.Standing.{IsStanding, standing_next, standing_over}
 use Rattle.sound_steps.proofs.hop_model_lemmas.StableCuts.{legal_front, run_append}
 
 -- NAMES THAT ARE KEPT
-
-pub record KeepsNames (a b : AtlasState) : Type 0 where
-  pub containers : (us : List Text) × (b.containers ≡ a.containers ++ us)
-  pub loci : (us : List Text) × (b.loci ≡ a.loci ++ us)
 
 pub keeps_then : (a b c : AtlasState) → KeepsNames a b → KeepsNames b c → KeepsNames a c
 keeps_then a b c f g = record {
@@ -46,26 +45,50 @@ keeps_then a b c f g = record {
   loci = (f.loci.0 ++ g.loci.0, g.loci.1 ∙ ap (λ us. us ++ g.loci.0) f.loci.1 ∙ append_assoc a.loci f.loci.0 g.loci.0);
 }
 
-keeps_same : (a b : AtlasState) → b.containers ≡ a.containers → b.loci ≡ a.loci → KeepsNames a b
+pub keeps_same : (a b : AtlasState) → b.containers ≡ a.containers → b.loci ≡ a.loci → KeepsNames a b
 keeps_same a b c l = record { containers = ([], c ∙ sym (append-nil a.containers)); loci = ([], l ∙ sym (append-nil a.loci)) }
 
+-- an act that may change the atlas
+module _ (s : Supply) (l : LocusState) (a : AtlasState) where
+  map_by_keeps : (x : ℕ) (c : ContainerState) (r : Region) (why : Option Reply) → KeepsNames a (map_by l a x c r why).atlas
+  map_by_keeps x c r (Some why) = keeps_same a a refl refl
+  map_by_keeps x c r None = keeps_same a _ refl refl
+
+  unmap_at_keeps : (x : ℕ) (c : ContainerState) (at : ℕ) (r : Option Region) → KeepsNames a (unmap_at l a x c at r).atlas
+  unmap_at_keeps x c at None = keeps_same a a refl refl
+  unmap_at_keeps x c at (Some r) = keeps_same a _ refl refl
+
+  pub map_keeps : (x d r c b n : ℕ) (rights : Rights) (k : Cell) → KeepsNames a (on_cell s l a x (Map d r c b n rights) k).atlas
+  unfolding on_cell map_region
+  map_keeps x d r c b n rights NotBorn = keeps_same a a refl refl
+  map_keeps x d r c b n rights (AtlasCell z) = keeps_same a a refl refl
+  map_keeps x d r c b n rights (ContainerCell z) = map_by_keeps x z (new_region l r c b n rights) (map_refusal a x z (new_region l r c b n rights))
+  map_keeps x d r c b n rights (LocusCell z) = keeps_same a a refl refl
+
+  pub unmap_keeps : (x d r : ℕ) (k : Cell) → KeepsNames a (on_cell s l a x (Unmap d r) k).atlas
+  unfolding on_cell unmap
+  unmap_keeps x d r NotBorn = keeps_same a a refl refl
+  unmap_keeps x d r (AtlasCell z) = keeps_same a a refl refl
+  unmap_keeps x d r (ContainerCell z) = unmap_at_keeps x z (reg l r) _
+  unmap_keeps x d r (LocusCell z) = keeps_same a a refl refl
+
+  pub make_keeps : (d pages tag : ℕ) (entry : Option ℕ) → KeepsNames a (make s l a d pages tag entry).atlas
+  unfolding make
+  make_keeps d pages tag entry = at (free_container a)
+    where
+      at : (o : Option ℕ) → KeepsNames a (make_at s l a d pages tag entry o).atlas
+      at None = keeps_same a a refl refl
+      at (Some n) = record { containers = (_, refl); loci = ([], sym (append-nil a.loci)) }
+
+pub spawn_keeps : (l : LocusState) (a : AtlasState) (d place : ℕ) → KeepsNames a (spawn l a d place).atlas
+unfolding spawn
+spawn_keeps l a d place = at (free_locus a)
+  where
+    at : (o : Option ℕ) → KeepsNames a (spawn_at l a d place o).atlas
+    at None = keeps_same a a refl refl
+    at (Some n) = record { containers = ([], sym (append-nil a.containers)); loci = (_, refl) }
+
 module _ (s : Supply) (me : ℕ) (l : LocusState) (a : AtlasState) where
-  map_keeps : (x : ℕ) (c : ContainerState) (r : Region) (why : Option Reply) → KeepsNames a (map_by l a x c r why).atlas
-  map_keeps x c r (Some why) = keeps_same a a refl refl
-  map_keeps x c r None = keeps_same a _ refl refl
-
-  unmap_keeps : (x : ℕ) (c : ContainerState) (at : ℕ) (r : Option Region) → KeepsNames a (unmap_at l a x c at r).atlas
-  unmap_keeps x c at None = keeps_same a a refl refl
-  unmap_keeps x c at (Some r) = keeps_same a _ refl refl
-
-  make_keeps : (d pages tag : ℕ) (entry o : Option ℕ) → KeepsNames a (make_at s l a d pages tag entry o).atlas
-  make_keeps d pages tag entry None = keeps_same a a refl refl
-  make_keeps d pages tag entry (Some n) = record { containers = (_, refl); loci = ([], sym (append-nil a.loci)) }
-
-  spawn_keeps : (d place : ℕ) (o : Option ℕ) → KeepsNames a (spawn_at l a d place o).atlas
-  spawn_keeps d place None = keeps_same a a refl refl
-  spawn_keeps d place (Some n) = record { containers = ([], sym (append-nil a.containers)); loci = (_, refl) }
-
   module _ (cell : Cell) where
     abbrev pub Keeping : Act → Type 0
     Keeping act = act.atlas ≡ true → KeepsNames a (outcome s l act a cell).atlas
@@ -73,26 +96,12 @@ module _ (s : Supply) (me : ℕ) (l : LocusState) (a : AtlasState) where
     self_keeping : (i : Instr) (x : ℕ) → Keeping (beside_or_self me i x)
     self_keeping i x = elim (x == me) as (λ t. Keeping (if t then alone i None else beside i x)) [ true ↦ λ h. absurd (false≢true h) | false ↦ λ h. absurd (false≢true h) ]
 
-    map_cell : (x d r c b n : ℕ) (rights : Rattle.hop_base.specs.declared.capabilities.Rights.Rights) (k : Cell) → KeepsNames a (on_cell s l a x (Map d r c b n rights) k).atlas
-    unfolding on_cell map_region
-    map_cell x d r c b n rights NotBorn = keeps_same a a refl refl
-    map_cell x d r c b n rights (AtlasCell z) = keeps_same a a refl refl
-    map_cell x d r c b n rights (ContainerCell z) = map_keeps x z (new_region l r c b n rights) (map_refusal a x z (new_region l r c b n rights))
-    map_cell x d r c b n rights (LocusCell z) = keeps_same a a refl refl
-
-    unmap_cell : (x d r : ℕ) (k : Cell) → KeepsNames a (on_cell s l a x (Unmap d r) k).atlas
-    unfolding on_cell unmap
-    unmap_cell x d r NotBorn = keeps_same a a refl refl
-    unmap_cell x d r (AtlasCell z) = keeps_same a a refl refl
-    unmap_cell x d r (ContainerCell z) = unmap_keeps x z (reg l r) _
-    unmap_cell x d r (LocusCell z) = keeps_same a a refl refl
-
     allowed_keeping : (i : Instr) → Keeping (allowed me l i)
-    unfolding allowed outcome with_newborn make spawn
-    allowed_keeping (Make d n t e) h = make_keeps d (reg l n) (reg l t) e (free_container a)
-    allowed_keeping (Spawn d p) h = spawn_keeps d p (free_locus a)
-    allowed_keeping (Map d r c b n rights) h = map_cell (entity_of l d) d r c b n rights cell
-    allowed_keeping (Unmap d r) h = unmap_cell (entity_of l d) d r cell
+    unfolding allowed outcome with_newborn
+    allowed_keeping (Make d n t e) h = make_keeps s l a d (reg l n) (reg l t) e
+    allowed_keeping (Spawn d p) h = spawn_keeps l a d p
+    allowed_keeping (Map d r c b n rights) h = map_keeps s l a (entity_of l d) d r c b n rights cell
+    allowed_keeping (Unmap d r) h = unmap_keeps s l a (entity_of l d) d r cell
     allowed_keeping (Stop c) h = self_keeping (Stop c) (entity_of l c) h
     allowed_keeping (Go c) h = self_keeping (Go c) (entity_of l c) h
     allowed_keeping (Snap c) h = self_keeping (Snap c) (entity_of l c) h
@@ -181,10 +190,7 @@ module _ (s : Supply) (me : ℕ) (w : KernelState) (a : AtlasState) (there : (w 
   born_high : (b : ℕ × Cell) → (outcome_in s l (wanted me l) w).newborn ≡ Some b → 0 < b.0
   born_high b is =
       let act = wanted me l in
-      let seen = seen_atlas w act.atlas in
-      let o = outcome_in s l act w in
-      let f : IsNewborn act.atlas act.other seen o.atlas b =
-      subst (λ n. MatchOption n (act.atlas ≡ true → length o.atlas.loci ≡ length seen.loci) (λ b. IsNewborn act.atlas act.other seen o.atlas b)) is (wanted_is s me l seen (seen_other w act.other)).bears in
+      let f = newborn_is s me l (seen_atlas w act.atlas) (seen_other w act.other) b is in
       elim f.3 as (λ _. 0 < b.0) [ inl k ↦ k.0 | inr k ↦ (let e = k.0 in omega arith) ]
 
   chosen : (t : Bool) (o : Outcome) → (t ≡ true → KeepsNames (seen_atlas w t) o.atlas) → KeepsNames a (if◌then◌else◌ {A = AtlasState} t o.atlas a)

@@ -1,25 +1,26 @@
 -- What an event of a sound state touches has a number below 64.
-use Rattle.std.proofs.Common.{◌≡◌, ℕ, ◌+◌, ◌<◌, ◌≤◌, Bool, true, false, if◌then◌else◌, ◌==◌, nat_lt, IsTrue, List, [], ◌∷◌, length, Option, Some, None, is_some, MatchOption, unwrap_or, refl, ap, subst, arith}
-use Rattle.std.proofs.lemmas.Bool.{false≢true, ltb-true}
+use Rattle.std.proofs.Common.{◌≡◌, ℕ, ◌+◌, ◌<◌, ◌≤◌, Bool, true, false, if◌then◌else◌, ◌==◌, nat_lt, IsTrue, List, [], ◌∷◌, length, Option, Some, None, is_some, refl, arith}
+use Rattle.std.proofs.lemmas.Bool.{ltb-true}
 use Rattle.std.proofs.lemmas.Bool.Decides.{nat_tests}
 use Rattle.hop_base.specs.declared.instructions.Call.{Call}
 use Rattle.hop_base.specs.declared.instructions.Instr.{Instr}
-use Rattle.hop_base.specs.declared.instructions.Instr.TheVariants.{Load, Store, Invoke, Leave, Return, Map, Unmap, Take, Give, Make, Spawn, Stop, Go, Snap}
+use Rattle.hop_base.specs.declared.instructions.Instr.TheVariants.{Load, Store, Invoke, Leave, Return, Map, Unmap, Take, Give, Stop, Go, Snap}
 use Rattle.hop_base.specs.declared.instructions.Reply.{Reply}
 use Rattle.sound_steps.specs.hop_model.State.{Supply, AtlasState, LocusState, Cell, KernelState}
 use Rattle.sound_steps.specs.hop_model.Words.{last_call}
 use Rattle.sound_steps.specs.hop_model.Refusals.{reg, instr_at, entity_of, refusal}
-use Rattle.sound_steps.specs.hop_model.Acts.{Act, alone, beside, beside_or_self, caller, container_of_call, allowed, act_by, wanted}
-use Rattle.sound_steps.specs.hop_model.Outcomes.{outcome, free_container, free_locus, make, make_at, spawn, spawn_at, with_newborn}
+use Rattle.sound_steps.specs.hop_model.Acts.{alone, beside, beside_or_self, caller, container_of_call, allowed, act_by, wanted}
+use Rattle.sound_steps.specs.hop_model.Outcomes.{outcome}
 use Rattle.sound_steps.specs.hop_model.Changes.{Access, merged, insert_access, ordered, touches_of}
 use Rattle.sound_steps.specs.hop_model.LocalEvents.{touch_at}
 use Rattle.sound_steps.specs.hop_model.Soundness.{IsSoundAtlas, IsSoundLocus, IsSoundCall, is_born}
 use Rattle.sound_steps.specs.hop_model.Steps.{with_atlas_access, with_other_access, with_newborn_access, accesses_of}
-use Rattle.sound_steps.proofs.hop_model_lemmas.Faithful.{IsNewborn, free_container_is, wanted_is}
+use Rattle.sound_steps.proofs.hop_model_lemmas.Faithful.{free_container_is}
 use Rattle.sound_steps.proofs.Growth.{born_container}
 use Rattle.sound_steps.proofs.ContainerActs.{look_born}
 use Rattle.sound_steps.proofs.OwnActs.{entity_born}
 use Rattle.sound_steps.proofs.Lists.{last_of_all}
+use Rattle.sound_runs.proofs.Acting.{HoldsBorn, newborn_holds}
 
 -- ACCESSES
 
@@ -102,63 +103,19 @@ module _ (a : AtlasState) (l : LocusState) (sound : IsSoundLocus a l) where
       by_refusal None = allowed_born me (instr_at l)
 
 -- what is born
-module _ (s : Supply) (me : ℕ) (l : LocusState) (a : AtlasState) (cell : Cell) (b : ℕ × Cell) where
-  abbrev pub Small : Act → Type 0
-  Small act = act.atlas ≡ true → act.other ≡ None → (outcome s l act a cell).newborn ≡ Some b → b.0 < 64
+module _ (s : Supply) (me : ℕ) (l : LocusState) (a : AtlasState) (cell : Cell) where
+  small : HoldsBorn s l a (λ b. b.0 < 64)
+  small = record {
+    container = λ d pages tag entry n free. (let number = free_container_is a n free in omega (arith, number.1));
+    locus = λ d place n free. (
+        elim (nat_lt (length a.loci) 23) as (λ t. nat_lt (length a.loci) 23 ≡ t → (if t then Some (length a.loci + 41) else None) ≡ Some n → n < 64) [
+          | true ↦ λ is f. (let few = ltb-true _ _ is in let e : length a.loci + 41 ≡ n = cc in omega arith)
+          | false ↦ λ is f. cc
+        ] refl free);
+  }
 
-  make_small : (d pages tag : ℕ) (entry o : Option ℕ) → free_container a ≡ o → (make_at s l a d pages tag entry o).newborn ≡ Some b → b.0 < 64
-  make_small d pages tag entry None free e = cc
-  make_small d pages tag entry (Some n) free e = (let number = free_container_is a n free in let same : n ≡ b.0 = first_is n b _ e in omega (arith, number.1, same))
-    where
-      first_is : (n : ℕ) (b : ℕ × Cell) (c : Cell) → Some (n, c) ≡ Some b → n ≡ b.0
-      first_is n b c e = ap (λ (o : Option (ℕ × Cell)). (unwrap_or o b).0) e
-
-  spawn_small : (d place : ℕ) (o : Option ℕ) → free_locus a ≡ o → (spawn_at l a d place o).newborn ≡ Some b → b.0 < 64
-  spawn_small d place None free e = cc
-  spawn_small d place (Some n) free e = (let k = free_small n free in let same : n ≡ b.0 = first_is n b _ e in omega (arith, k, same))
-    where
-      first_is : (n : ℕ) (b : ℕ × Cell) (c : Cell) → Some (n, c) ≡ Some b → n ≡ b.0
-      first_is n b c e = ap (λ (o : Option (ℕ × Cell)). (unwrap_or o b).0) e
-
-      free_small : (n : ℕ) → free_locus a ≡ Some n → n < 64
-      free_small n free = elim (nat_lt (length a.loci) 23) as (λ t. nat_lt (length a.loci) 23 ≡ t → (if t then Some (length a.loci + 41) else None) ≡ Some n → n < 64) [
-        | true ↦ λ is f. (let few = ltb-true _ _ is in let e : length a.loci + 41 ≡ n = cc in omega arith)
-        | false ↦ λ is f. cc
-      ] refl free
-
-  self_small : (i : Instr) (x : ℕ) → Small (beside_or_self me i x)
-  self_small i x = elim (x == me) as (λ t. Small (if t then alone i None else beside i x)) [ true ↦ λ h. absurd (false≢true h) | false ↦ λ h. absurd (false≢true h) ]
-
-  allowed_small : (i : Instr) → Small (allowed me l i)
-  unfolding allowed outcome with_newborn make spawn
-  allowed_small (Make d n t e) h k is = make_small d (reg l n) (reg l t) e (free_container a) refl is
-  allowed_small (Spawn d p) h k is = spawn_small d p (free_locus a) refl is
-  allowed_small (Map d r c b n rights) h k is = absurd (some_none _ k)
-    where
-      some_none : (x : ℕ) → Some x ≡ None → ⊥
-      some_none x e = cc
-  allowed_small (Unmap d r) h k is = absurd (some_none _ k)
-    where
-      some_none : (x : ℕ) → Some x ≡ None → ⊥
-      some_none x e = cc
-  allowed_small (Stop c) h k is = self_small (Stop c) (entity_of l c) h k is
-  allowed_small (Go c) h k is = self_small (Go c) (entity_of l c) h k is
-  allowed_small (Snap c) h k is = self_small (Snap c) (entity_of l c) h k is
-  allowed_small i h k is = absurd (false≢true h)
-
-  wanted_small : Small (wanted me l)
-  unfolding wanted
-  wanted_small = by_refusal (refusal l (instr_at l))
-    where
-      by_refusal : (o : Option Reply) → Small (act_by me l (instr_at l) o)
-      by_refusal (Some why) = λ h. absurd (false≢true h)
-      by_refusal None = allowed_small (instr_at l)
-
-  newborn_under : (outcome s l (wanted me l) a cell).newborn ≡ Some b → b.0 < 64
-  newborn_under is =
-      let f : IsNewborn (wanted me l).atlas (wanted me l).other a (outcome s l (wanted me l) a cell).atlas b =
-      subst (λ o. MatchOption o ((wanted me l).atlas ≡ true → length (outcome s l (wanted me l) a cell).atlas.loci ≡ length a.loci) (λ b. IsNewborn (wanted me l).atlas (wanted me l).other a (outcome s l (wanted me l) a cell).atlas b)) is (wanted_is s me l a cell).bears in
-      wanted_small f.0 f.1 is
+  newborn_under : (b : ℕ × Cell) → (outcome s l (wanted me l) a cell).newborn ≡ Some b → b.0 < 64
+  newborn_under = newborn_holds s me l a cell (λ b. b.0 < 64) small
 
 newborn_accesses : (newborn : Option (ℕ × Cell)) (rest : List Access) → ((b : ℕ × Cell) → newborn ≡ Some b → b.0 < 64) → AllUnder rest → AllUnder (with_newborn_access newborn rest)
 newborn_accesses None rest h all = all
@@ -177,4 +134,4 @@ pub step_under : (s : Supply) (me : ℕ) (a seen : AtlasState) (l : LocusState) 
 step_under s me a seen l cell names sound small =
     let act = wanted me l in
     let o = outcome s l act seen cell in
-    atlas_accesses act.atlas o.atlas _ (other_accesses a act.other o.other _ names (wanted_born a l sound me) (newborn_accesses o.newborn _ (λ b is. newborn_under s me l seen cell b is) (small, tt)))
+    atlas_accesses act.atlas o.atlas _ (other_accesses a act.other o.other _ names (wanted_born a l sound me) (newborn_accesses o.newborn _ (newborn_under s me l seen cell) (small, tt)))

@@ -50,6 +50,19 @@ actor_range s me w e sound k =
 none_in : (e : Entry) (x : ℕ) → e.touched ≡ [] → touch_at e.touched x ≡ None
 none_in e x is = ap (λ ts. touch_at ts x) is
 
+-- what is no birth
+pub apart_step : Step ≡ Birth → ⊥
+apart_step e = cc
+
+pub apart_snap : SnapEvent ≡ Birth → ⊥
+apart_snap e = cc
+
+pub apart_stable : Stable ≡ Birth → ⊥
+apart_stable e = cc
+
+pub apart_tried : Tried ≡ Birth → ⊥
+apart_tried e = cc
+
 module _ (s : Supply) (policy : Policy) (script : Script) (rules : IsScript script) where
   pub made_birth : (r : Run) (e : Entry) → r.began ≡ true → option_map (λ (q : Entry × KernelState). q.0) (next_birth s script r.state) ≡ Some e → IsStanding script r
       → (q : Entry × KernelState) × (next_birth s script r.state ≡ Some q) × (q.0 ≡ e) × Born script r.state q
@@ -89,18 +102,6 @@ module _ (s : Supply) (policy : Policy) (script : Script) (rules : IsScript scri
               (subst (λ (w : KernelState). All (NotLocus (atlas_in (w 0).cell)) script.containers) (sym (same_state r e (ap is_event is))) (k.kinds (sym (ap (λ ev. (went_on s script r e ev).began) is) ∙ began)));
         }
       ] refl
-    where
-      apart_step : Step ≡ Birth → ⊥
-      apart_step e = cc
-
-      apart_snap : SnapEvent ≡ Birth → ⊥
-      apart_snap e = cc
-
-      apart_stable : Stable ≡ Birth → ⊥
-      apart_stable e = cc
-
-      apart_tried : Tried ≡ Birth → ⊥
-      apart_tried e = cc
 
   below_over : (es : List Entry) (r : Run) → IsLegalFrom s policy script r es → IsStanding script r → AllBelow64 es
   below_over [] r legal k = tt

@@ -1,5 +1,6 @@
 -- New cells of a change, and what they leave at a number.
 use Rattle.std.proofs.Common.{◌≡◌, ℕ, ◌+◌, true, false, ◌==◌, nat_lt, if◌then◌else◌, ◌⊎◌, inl, inr, List, [], ◌∷◌, Option, Some, None, is_some, refl, subst}
+use Rattle.std.specs.Prelude.{IfSome}
 use Rattle.sound_runs.specs.hop_model.Changes.{Access, access_at, accessed, changed, insert_access, joined, merged, ordered, touches_of, written}
 use Rattle.sound_runs.specs.hop_model.State.{AtlasCell, Cell, ContainerCell, KernelState, LocusCell, NotBorn, Supply}
 use Rattle.sound_states.specs.States.{IsSupplied}
@@ -12,8 +13,7 @@ IsGoodCell s (ContainerCell c) = IsSupplied s c
 IsGoodCell s (LocusCell l) = Unit {0}
 
 abbrev pub IsGoodNew : Supply → Option Cell → Type 0
-IsGoodNew s None = Unit {0}
-IsGoodNew s (Some c) = IsGoodCell s c
+IsGoodNew s new = IfSome new (IsGoodCell s)
 
 abbrev pub AreGood : Supply → List Access → Type 0
 AreGood s [] = Unit {0}

@@ -14,6 +14,7 @@ use Rattle.hop_base.specs.declared.instructions.Reply.{Reply}
 use Rattle.hop_model.specs.State.{AtlasState}
 use Rattle.hop_model.specs.Outcomes.{insert_private}
 use Rattle.hop_model.specs.Soundness.{AreOrdered, AreSoundCaps, IsBefore, is_born}
+use Rattle.hop_model.proofs.Lists.{all_private}
 use Rattle.hop_model.specs.Words.{but_last, cap_at, first, flat, last_call, overlaps, unless}
 
 -- OPTIONS
@@ -89,14 +90,6 @@ cap_born a caps slot cap h is = by_slot (slice_get caps slot) refl is
     by_slot (Some o) at e = h.each slot cap (at ∙ ap Some e)
 
 -- PRIVATE REGIONS
-
-pub all_private : (P : Private → Type 0) (p : Private) (ps : List Private) → P p → All P ps → All P (insert_private p ps)
-all_private P p [] h all = All-cons P p [] h all
-all_private P p (q ∷ ps) h all =
-    elim (nat_lt p.made q.made || p.made == q.made && nat_lt p.region.at q.region.at) as (λ b. All P (if b then p ∷ q ∷ ps else q ∷ insert_private p ps)) [
-      | true ↦ All-cons P p (q ∷ ps) h all
-      | false ↦ All-cons P q (insert_private p ps) (All-head P q ps all) (all_private P p ps h (All-tail P q ps all))
-    ]
 
 pub length_private : (p : Private) (ps : List Private) → length (insert_private p ps) ≡ suc (length ps)
 length_private p [] = refl

@@ -19,7 +19,8 @@ use Rattle.hop_model.specs.State.{AtlasState, ContainerState, LocusState}
 use Rattle.hop_model.specs.Outcomes.{enter, finish, hop_to, holding, insert_private, look_hops, one_more_printed, set_reg, spawned, with_private, without_private}
 use Rattle.hop_model.specs.Refusals.{instr_at, overlaps_private}
 use Rattle.hop_model.specs.Soundness.{AreOrdered, AreSoundCaps, IsSoundCall, IsSoundCode, IsSoundLocus, IsSoundPrivate, IsSoundRegion, IsSoundWalk, is_born, is_born_container, looks}
-use Rattle.sound_steps.proofs.Lists.{all_private, caps_put, fewer_kept, length_private, one_named, ordered_kept, ordered_private}
+use Rattle.hop_model.proofs.Lists.{all_private}
+use Rattle.sound_steps.proofs.Lists.{caps_put, fewer_kept, length_private, one_named, ordered_kept, ordered_private}
 
 module _ (a : AtlasState) (l : LocusState) (h : IsSoundLocus a l) where
   -- the locus's instruction keeps the ranges of operands

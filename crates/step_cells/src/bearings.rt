@@ -1,6 +1,6 @@
 // Steps of a locus that write the atlas.
 ghost use Rattle.std.specs.Prelude.{◌≡◌, ◌+◌, ◌<◌, ◌^◌, ℕ, List, [], ◌∷◌, length, Some};
-ghost use Rattle.atlas_dir.specs.Directory.{Directory};
+ghost use Rattle.atlas_dir.specs.directory_form.Directory.{Directory};
 ghost use Rattle.look_steps.specs.hop_model.State.{Supply};
 ghost use Rattle.step_plans.specs.locus_machine.Loci.{locus_of};
 ghost use Rattle.step_plans.specs.locus_machine.declared.loci.Head.{Head as AHead};

@@ -6,7 +6,7 @@ use Rattle.hop_base.specs.declared.instructions.Instr.TheVariants.{Load, Store, 
 use Rattle.address_resolve.specs.hop_model.Acts.{Act, allowed, wanted}
 use Rattle.address_resolve.specs.hop_model.State.{LocusState}
 use Rattle.address_resolve.specs.wanted_act.Views.{may_name_itself}
-use Rattle.address_resolve.specs.locus_machine.Loci.{IsAlone}
+use Rattle.address_resolve.specs.wanted_laws.Loci.{IsAlone}
 use Rattle.map_steps.specs.beside_steps.Besides.{WantsOther}
 use Rattle.step_plans.specs.Plans.{BearsNone, IsCallBeside}
 use Rattle.map_steps.proofs.beside_steps_lemmas.Touching.{act_is, allowed_none, apart_by, called}

@@ -6,7 +6,8 @@ use Rattle.hop_base.specs.declared.instructions.Instr.{Instr}
 use Rattle.address_resolve.specs.hop_model.Acts.{wanted}
 use Rattle.address_resolve.specs.hop_model.State.{LocusState, Cell, NotBorn, AtlasCell, ContainerCell, LocusCell}
 use Rattle.address_resolve.specs.wanted_act.Views.{may_name_itself}
-use Rattle.address_resolve.specs.locus_machine.Loci.{IsAlone, locus_of}
+use Rattle.address_resolve.specs.wanted_laws.Loci.{IsAlone}
+use Rattle.address_resolve.specs.locus_machine.Loci.{locus_of}
 use Rattle.address_resolve.specs.locus_machine.declared.loci.Locus.{Locus}
 use Rattle.address_resolve.specs.invocation.Entries.{WantsBeside}
 use Rattle.address_resolve.specs.Looks.{is_look}

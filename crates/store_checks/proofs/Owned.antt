@@ -5,8 +5,8 @@ use Rattle.std.proofs.lemmas.Bool.{false≢true}
 use Rattle.disk_trait.specs.Image.{Image}
 use Rattle.disk_trait.specs.declared.disk.NoBlocks.{NoBlocks as TooFew}
 use Rattle.snapshot_store.specs.store_model.Books.{AreTrue}
-use Rattle.snapshot_store.specs.Committed.{HasFailedShut, HasNewRecord}
-use Rattle.snapshot_store.specs.State.{State, books}
+use Rattle.snapshot_store.specs.store_laws.Committed.{HasFailedShut, HasNewRecord}
+use Rattle.snapshot_store.specs.store_laws.State.{State, books}
 use Rattle.snapshot_store.specs.declared.faults.StoreFault.{StoreFault as Fault}
 use Rattle.snapshot_store.specs.declared.faults.StoreFault.TheVariants.{NoBlocks, ReadFault, Shut, WriteFault}
 use Rattle.store_checks.specs.Own.{IsOwn}

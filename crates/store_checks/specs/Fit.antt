@@ -1,7 +1,7 @@
 -- What a commit asks of a record.
 use Rattle.std.specs.Prelude.{◌≡◌, ℕ, ◌<◌, ◌≤◌, List, All, length, slice_index}
 use Rattle.hop_base.specs.declared.records.Rec.{Rec}
-use Rattle.snapshot_store.specs.image_blocks.Layout.{slot_count}
+use Rattle.snapshot_store.specs.image_form.Layout.{slot_count}
 use Rattle.snapshot_store.specs.store_model.Books.{Books, kept_in, recs_in}
 
 -- the record is in form and newer than its entity's newest, and there is room for one more that is kept

@@ -2,7 +2,7 @@ ghost use Rattle.std.specs.Prelude.{◌≤◌, length};
 ghost use Rattle.cut_laws.specs.hop_model.Choices.{IsGreatest};
 ghost use Rattle.cut_laws.specs.Agreeing.{nothing};
 ghost use Rattle.cut_laws.specs.Records.{commits_of};
-ghost use Rattle.cut_finder.specs.Records.{choice, IsAscending};
+ghost use Rattle.cut_finder.specs.cut_searches.Records.{choice, IsAscending};
 
 use cut_finder::{MOST_RECORDS, greatest, is_ascending, raise};
 use hop_base::{Cut, Entity, Rec};

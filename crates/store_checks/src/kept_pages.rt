@@ -3,13 +3,13 @@ ghost use Rattle.std.specs.Prelude.{◌≡◌, ◌<◌, ◌^◌, ◌||◌, ℕ, 
 ghost use Rattle.std.specs.List.{AllByRecursion, list_any};
 ghost use Rattle.snapshot_store.specs.hop_model.Words.{put};
 ghost use Rattle.restart.specs.image_meaning.Stores.{IsHeld};
-ghost use Rattle.snapshot_store.specs.log_reading.Logs.{AreInRange, IsOlder};
+ghost use Rattle.snapshot_store.specs.log_laws.Logs.{AreInRange, IsOlder};
 ghost use Rattle.snapshot_store.specs.page_shadow.Ledger.{is_held};
-ghost use Rattle.snapshot_store.specs.Choosing.{are_chosen, books_kept, kept_rows, with_tables};
-ghost use Rattle.snapshot_store.specs.Holds.{names_page};
-ghost use Rattle.snapshot_store.specs.Naming.{IsPlaced};
-ghost use Rattle.snapshot_store.specs.Opening.{HasStableLog};
-ghost use Rattle.snapshot_store.specs.State.{books};
+ghost use Rattle.snapshot_store.specs.store_laws.Choosing.{are_chosen, books_kept, kept_rows, with_tables};
+ghost use Rattle.snapshot_store.specs.store_laws.Holds.{names_page};
+ghost use Rattle.snapshot_store.specs.store_laws.Naming.{IsPlaced};
+ghost use Rattle.snapshot_store.specs.store_laws.Opening.{HasStableLog};
+ghost use Rattle.snapshot_store.specs.store_laws.State.{books};
 ghost use Rattle.snapshot_store.specs.store_model.Books.{kept_of, recs_in};
 
 use disk_trait::Disk;

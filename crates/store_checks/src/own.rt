@@ -1,7 +1,7 @@
 // A store over an image that had no record.
 ghost use Rattle.std.specs.Prelude.{◌≡◌, ◌<◌, [], true, All, IfOk, count_by, nat_le, slice_index};
 ghost use Rattle.snapshot_store.specs.store_model.Books.{recs_in};
-ghost use Rattle.snapshot_store.specs.State.{books};
+ghost use Rattle.snapshot_store.specs.store_laws.State.{books};
 ghost use Rattle.store_checks.specs.Fit.{IsFit};
 
 use block_code::Blob;
@@ -31,7 +31,7 @@ pub struct OwnStore<D: Disk> {
 }
 
 impl<D: Disk> Model for OwnStore<D> {
-    ghost use Rattle.snapshot_store.specs.State.{State};
+    ghost use Rattle.snapshot_store.specs.store_laws.State.{State};
     ghost use Rattle.store_checks.specs.Own.{IsOwn};
 
     ghost Value = { State D };

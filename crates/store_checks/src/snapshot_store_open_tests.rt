@@ -42,9 +42,9 @@ fn an_image_without_records_has_all_blocks_free(rt: HostRuntime) -> Result<(), F
         Ok(store) => store,
         Err(_) => return Err(DiskFault.into()),
     };
-    assert_eq!(rt; store.recs().len(), 0);
-    assert_eq!(rt; store.free(), 35);
-    assert_eq!(rt; store.begun(), 1);
+    assert!(rt; store.recs().len() == 0);
+    assert!(rt; store.free() == 35);
+    assert!(rt; store.begun() == 1);
     Ok(())
 }
 
@@ -59,10 +59,10 @@ fn a_record_that_was_found_is_read(rt: HostRuntime) -> Result<(), Fail> {
         Err(_) => return Err(DiskFault.into()),
     };
     assert!(rt; store.recs() == [record()].as_slice());
-    assert_eq!(rt; store.free(), 0);
+    assert!(rt; store.free() == 0);
     let mut blob = Blob::new(rt.alloc())?;
     // The byte behind the nine isn't 0.
-    assert_eq!(rt; store.read_blob(&record(), &mut blob), Ok(Some(9)));
+    assert!(rt; store.read_blob(&record(), &mut blob) == Ok(Some(9)));
     assert!(rt; blob.as_slice() == [7; 9].as_slice());
     Ok(())
 }
@@ -76,7 +76,7 @@ fn a_call_that_fails_hands_the_disk_back(rt: HostRuntime) -> Result<(), Fail> {
             Err(fault) => fault,
         };
         assert!(rt; fault.why == why);
-        assert_eq!(rt; fault.disk.moments(), 4);
+        assert!(rt; fault.disk.moments() == 4);
     }
     Ok(())
 }

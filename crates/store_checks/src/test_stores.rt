@@ -1,6 +1,6 @@
 // Stores over images in memory, and what tests commit to them.
 ghost use Rattle.std.specs.Prelude.{◌≤◌};
-ghost use Rattle.snapshot_store.specs.image_blocks.Layout.{least_blocks, most_blocks};
+ghost use Rattle.snapshot_store.specs.image_form.Layout.{least_blocks, most_blocks};
 
 use crate::own::OwnStore;
 use block_code::Blob;

@@ -1,5 +1,5 @@
 ghost use Rattle.std.specs.Prelude.{◌≤◌};
-ghost use Rattle.snapshot_store.specs.image_blocks.Layout.{least_blocks, most_blocks};
+ghost use Rattle.snapshot_store.specs.image_form.Layout.{least_blocks, most_blocks};
 
 use crate::test_stores::{commit_versions, empty_store, ends_of, last_is_spelt, stamp_of};
 use block_code::Blob;

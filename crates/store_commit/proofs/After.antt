@@ -10,11 +10,13 @@ use Rattle.store_model.proofs.hop_model_lemmas.Lowering.{greatest_is}
 use Rattle.store_model.specs.hop_model.Choices.{IsBelow, IsClosedChoice}
 use Rattle.store_model.specs.cut_laws.Agreeing.{nothing}
 use Rattle.store_model.specs.cut_laws.Records.{commits_of}
-use Rattle.store_model.specs.image_blocks.Layout.{slot_count}
-use Rattle.store_model.specs.image_blocks.Logs.{AreFitting, HasLog, Place}
+use Rattle.store_model.specs.image_form.Layout.{slot_count}
+use Rattle.store_model.specs.image_form.Logs.{AreFitting}
+use Rattle.store_model.specs.image_blocks.Logs.{HasLog, Place}
 use Rattle.store_model.specs.image_meaning.Parts.{cut_of}
 use Rattle.store_model.specs.image_meaning.Stores.{IsFound, IsHeld, Page}
-use Rattle.store_model.specs.log_turn.Standing.{SameAreas, epoch_of, place_of, used_of}
+use Rattle.store_model.specs.log_laws.Areas.{SameAreas}
+use Rattle.store_model.specs.log_turn.Standing.{epoch_of, place_of, used_of}
 use Rattle.store_model.specs.log_turn.declared.areas.Areas.{Areas}
 use Rattle.store_model.specs.Books.{AreSmall, AreStored, Books, IsApart, IsBeforePool, Logged, cut_in, is_small, kept_for, kept_in, kept_of, logged_recs, page_for, recs_in}
 use Rattle.store_model.proofs.Keeping.{at_or_above, kept_agree}

@@ -10,12 +10,14 @@ use Rattle.disk_trait.proofs.Images.{SameOutside-trans, SameOutside-weaker}
 use Rattle.disk_trait.proofs.Phases.{LeavesOnly-then, LeavesOnly-weaker, Moments}
 use Rattle.hop_base.specs.declared.records.Rec.{Rec}
 use Rattle.store_model.specs.cut_laws.Records.{AgreeInRecs}
-use Rattle.store_model.specs.image_blocks.Bodies.{blob_blocks, blocks_for}
-use Rattle.store_model.specs.image_blocks.Layout.{last_number, other, pool_at, slot_count}
-use Rattle.store_model.specs.image_blocks.Logs.{AreFitting, HasLog, IsNextSlot, IsTurned, Place}
+use Rattle.store_model.specs.image_form.Bodies.{blob_blocks, blocks_for}
+use Rattle.store_model.specs.image_form.Layout.{last_number, pool_at, slot_count}
+use Rattle.store_model.specs.image_blocks.Layout.{other}
+use Rattle.store_model.specs.image_form.Logs.{AreFitting}
+use Rattle.store_model.specs.image_blocks.Logs.{HasLog, IsNextSlot, IsTurned, Place}
 use Rattle.store_model.specs.image_blocks.declared.areas.Area.{Area}
 use Rattle.store_model.specs.image_meaning.Stores.{IsHeld, Kept, Page, recs_of}
-use Rattle.store_model.specs.log_turn.Stages.{IsLogging}
+use Rattle.store_model.specs.log_laws.Stages.{IsLogging}
 use Rattle.store_model.specs.log_turn.Standing.{HasCounted, IsTurnedTo, Stands, area_of, epoch_of, place_of, used_of}
 use Rattle.store_model.specs.log_turn.declared.areas.Areas.{Areas}
 use Rattle.store_model.specs.Books.{AreStored, IsApart, IsBeforePool}

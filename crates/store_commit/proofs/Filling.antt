@@ -9,7 +9,7 @@ use Rattle.disk_trait.specs.Image.{Image, SameOutside, block_at}
 use Rattle.disk_trait.specs.Moments.{Quiet}
 use Rattle.disk_tally.specs.Counts.{Begins, CountsOn, shown}
 use Rattle.hop_base.specs.declared.records.Rec.{Rec}
-use Rattle.store_model.specs.image_blocks.Bodies.{blob_blocks, blob_room, blocks_for}
+use Rattle.store_model.specs.image_form.Bodies.{blob_blocks, blob_room, blocks_for}
 use Rattle.store_model.specs.image_meaning.Stores.{IsFound, IsHeld, Kept}
 use Rattle.store_model.specs.log_turn.Standing.{HasCounted, begun_of}
 use Rattle.store_model.specs.log_turn.declared.areas.Areas.{Areas}

@@ -13,12 +13,12 @@ use Rattle.std.proofs.lemmas.List.{get_or_past, length-map}
 use Rattle.hop_base.specs.Edges.{upto}
 use Rattle.store_model.specs.hop_model.Choices.{IsNarrow}
 use Rattle.store_model.specs.hop_model.Words.{first}
-use Rattle.store_model.proofs.image_blocks_lemmas.Rest.{upto_len}
+use Rattle.store_model.proofs.hop_model_lemmas.Lists.{upto_len}
 use Rattle.store_model.specs.cut_laws.Records.{is_rec_from, commits_of, recs_from}
-use Rattle.store_model.specs.image_blocks.Bodies.{body_block, number_at, record_in}
-use Rattle.store_model.specs.image_blocks.Checks.{is_epoch, last_version, unless_at}
-use Rattle.store_model.specs.image_blocks.Logs.{IsFitting, AreFitting}
-use Rattle.store_model.proofs.image_blocks_lemmas.LastVersions.{last_version-more}
+use Rattle.store_model.specs.image_form.Bodies.{body_block, number_at, record_in}
+use Rattle.store_model.specs.image_form.Checks.{is_epoch, last_version, unless_at}
+use Rattle.store_model.specs.image_form.Logs.{IsFitting, AreFitting}
+use Rattle.store_model.proofs.image_form_lemmas.LastVersions.{last_version-more}
 use Rattle.store_commit.specs.Agreed.{KeptFitLaw}
 use Rattle.std.proofs.Math.Bool.{or-false}
 

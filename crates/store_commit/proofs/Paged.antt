@@ -8,12 +8,13 @@ use Rattle.disk_trait.specs.Image.{Image, SameOutside, block_at}
 use Rattle.disk_trait.specs.Moments.{LeavesOnly}
 use Rattle.disk_trait.proofs.Phases.{LeavesOnly-call, LeavesOnly-start, Moments}
 use Rattle.store_model.specs.cut_laws.Records.{AgreeInRecs}
-use Rattle.store_model.specs.image_blocks.Bodies.{blob_blocks, blob_in}
-use Rattle.store_model.specs.image_blocks.Layout.{gate_at, header_at, pool_at}
+use Rattle.store_model.specs.image_form.Bodies.{blob_blocks, blob_in}
+use Rattle.store_model.specs.image_blocks.Layout.{gate_at, header_at}
+use Rattle.store_model.specs.image_form.Layout.{pool_at}
 use Rattle.store_model.specs.image_blocks.Logs.{HasFront, HasLog}
 use Rattle.store_model.specs.image_blocks.declared.areas.Area.{Area}
 use Rattle.store_model.specs.image_meaning.Stores.{IsHeld, Kept, Page, Stores, recs_of}
-use Rattle.store_model.specs.log_turn.Standing.{SameAreas}
+use Rattle.store_model.specs.log_laws.Areas.{SameAreas}
 use Rattle.store_commit.proofs.Stays.{front_same, gate_low, header_low, held_same, log_stays}
 use Rattle.store_commit.proofs.Unused.{apart_unnamed}
 use Rattle.store_model.specs.Between.{OnlyPages, stores_left}

@@ -7,12 +7,15 @@ use Rattle.disk_trait.specs.Moments.{LeavesOnly, Quiet}
 use Rattle.disk_trait.proofs.Phases.{LeavesOnly-from_quiet, LeavesOnly-now, LeavesOnly-weaker, Moments}
 use Rattle.hop_base.specs.declared.records.Rec.{Rec}
 use Rattle.store_model.specs.cut_laws.Records.{AgreeInRecs}
-use Rattle.store_model.specs.image_blocks.Layout.{gate_at, header_at, header_block, last_number, other, pool_at, slot_count}
-use Rattle.store_model.specs.image_blocks.Logs.{AreFitting, HasFront, HasLog, IsNextSlot, IsTurned, IsTurning, Place, next_place}
+use Rattle.store_model.specs.image_blocks.Layout.{gate_at, header_at, other}
+use Rattle.store_model.specs.image_form.Layout.{header_block, last_number, pool_at, slot_count}
+use Rattle.store_model.specs.image_form.Logs.{AreFitting}
+use Rattle.store_model.specs.image_blocks.Logs.{HasFront, HasLog, IsNextSlot, IsTurned, IsTurning, Place, next_place}
 use Rattle.store_model.proofs.image_blocks_lemmas.Reading.{log_law}
 use Rattle.store_model.specs.image_meaning.Stores.{IsHeld, Kept, Stores, recs_of}
-use Rattle.store_model.specs.log_turn.Stages.{IsLogging}
-use Rattle.store_model.specs.log_turn.Standing.{SameAreas, Stands, place_of, used_of}
+use Rattle.store_model.specs.log_laws.Stages.{IsLogging}
+use Rattle.store_model.specs.log_laws.Areas.{SameAreas}
+use Rattle.store_model.specs.log_turn.Standing.{Stands, place_of, used_of}
 use Rattle.store_model.specs.log_turn.declared.areas.Areas.{Areas}
 use Rattle.store_model.specs.Between.{stored_each}
 use Rattle.store_model.specs.Books.{AreApartFrom, AreStored, IsApart, IsBeforePool}

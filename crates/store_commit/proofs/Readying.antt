@@ -8,10 +8,11 @@ use Rattle.hop_base.specs.declared.records.Rec.{Rec}
 use Rattle.store_model.proofs.hop_model_lemmas.Lowering.{greatest_is}
 use Rattle.store_model.specs.cut_laws.Agreeing.{nothing}
 use Rattle.store_model.specs.cut_laws.Records.{AgreeInRecs, commits_of, recs_from}
-use Rattle.store_model.specs.image_blocks.Bodies.{blocks_for}
-use Rattle.store_model.specs.image_blocks.Layout.{pool_at}
-use Rattle.store_model.specs.image_blocks.Logs.{AreFitting, IsFitting, Place}
-use Rattle.store_model.proofs.image_blocks_lemmas.Fits.{fitting_law}
+use Rattle.store_model.specs.image_form.Bodies.{blocks_for}
+use Rattle.store_model.specs.image_form.Layout.{pool_at}
+use Rattle.store_model.specs.image_form.Logs.{AreFitting, IsFitting}
+use Rattle.store_model.specs.image_blocks.Logs.{Place}
+use Rattle.store_model.proofs.image_form_lemmas.Fits.{fitting_law}
 use Rattle.store_model.specs.image_meaning.Parts.{cut_of}
 use Rattle.store_model.specs.image_meaning.Stores.{IsFound, Kept, Page, recs_of}
 use Rattle.store_model.specs.log_turn.Standing.{epoch_of}

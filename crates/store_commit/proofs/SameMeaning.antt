@@ -9,9 +9,10 @@ use Rattle.std.proofs.lemmas.Option.{slice_get-get_or}
 use Rattle.disk_trait.specs.Image.{Image, SameOutside, block_at}
 use Rattle.hop_base.specs.declared.records.Rec.{Rec}
 use Rattle.store_model.specs.hop_model.State.{KernelState, Supply}
-use Rattle.store_model.specs.image_blocks.Bodies.{blob_blocks, blob_in, blob_room, blocks_for}
-use Rattle.store_model.specs.image_blocks.Checks.{count_in}
-use Rattle.store_model.specs.image_blocks.Logs.{HasRecords, IsInRange}
+use Rattle.store_model.specs.image_form.Bodies.{blob_blocks, blob_in, blob_room, blocks_for}
+use Rattle.store_model.specs.image_form.Checks.{count_in}
+use Rattle.store_model.specs.image_blocks.Logs.{HasRecords}
+use Rattle.store_model.specs.image_form.Logs.{IsInRange}
 use Rattle.store_model.proofs.image_blocks_lemmas.Ranges.{in_range_law}
 use Rattle.store_model.specs.image_meaning.Fits.{AreNamedOnce, IsFit, IsNamedOnce}
 use Rattle.store_model.specs.image_meaning.Meaning.{Means, entity_of}

@@ -2,8 +2,8 @@
 use Rattle.std.proofs.Common.{◌≡◌, ◌≢◌, ℕ, zero, suc, Bool, true, false, not, ◌==◌, if◌then◌else◌, List, [], ◌∷◌, ◌++◌, map, Contains, refl, sym, ap, ◌∙◌, eq-eqb, arith}
 use Rattle.std.specs.List.{AllByRecursion, flat_map, list_any}
 use Rattle.disk_trait.specs.Image.{Image, block_at}
-use Rattle.store_model.specs.image_blocks.Bodies.{blob_blocks}
-use Rattle.store_model.proofs.image_blocks_lemmas.Firsts.{ne_test}
+use Rattle.store_model.specs.image_form.Bodies.{blob_blocks}
+use Rattle.store_model.proofs.image_form_lemmas.Firsts.{ne_test}
 use Rattle.store_model.specs.image_meaning.Stores.{Page}
 use Rattle.store_model.specs.Books.{AreApartFrom, Logged, kept_for, names, page_for}
 use Rattle.std.proofs.lemmas.Bool.{and_from, or_left, or_right}

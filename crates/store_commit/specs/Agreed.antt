@@ -4,7 +4,7 @@ use Rattle.hop_base.specs.declared.records.Rec.{Rec}
 use Rattle.store_model.specs.hop_model.Choices.{IsBelow, IsGreatest}
 use Rattle.store_model.specs.cut_laws.Agreeing.{nothing}
 use Rattle.store_model.specs.cut_laws.Records.{AgreeInRecs, commits_of, recs_from}
-use Rattle.store_model.specs.image_blocks.Logs.{AreFitting}
+use Rattle.store_model.specs.image_form.Logs.{AreFitting}
 
 -- the log agrees with the kept records, which agree with themselves, and so it goes on with one record more
 pub record AreAgreed (recs kept : List Rec) (r : Rec) : Type 0 where

@@ -4,9 +4,9 @@ use Rattle.std.specs.List.{concat, flat_map}
 use Rattle.disk_trait.specs.Disk.{Only}
 use Rattle.disk_trait.specs.Image.{Image}
 use Rattle.hop_base.specs.declared.records.Rec.{Rec}
-use Rattle.store_model.specs.image_blocks.Bodies.{blocks_for}
-use Rattle.store_model.specs.image_blocks.Layout.{most_blocks, pool_at, slot_count}
-use Rattle.store_model.specs.image_blocks.Logs.{IsInRange}
+use Rattle.store_model.specs.image_form.Bodies.{blocks_for}
+use Rattle.store_model.specs.image_form.Layout.{most_blocks, pool_at, slot_count}
+use Rattle.store_model.specs.image_form.Logs.{IsInRange}
 use Rattle.store_model.specs.log_turn.Standing.{Stands, begun_of, epoch_of, place_of, used_of}
 use Rattle.store_model.specs.log_turn.declared.areas.Areas.{Areas}
 use Rattle.store_model.specs.Books.{AreHeldPages, AreSmall, AreTrue, Books, Logged, is_small, is_used, kept_in, kept_of, logged_recs, page_for, recs_in}

@@ -4,9 +4,9 @@ use Rattle.std.specs.List.{AllByRecursion, concat}
 use Rattle.disk_trait.specs.Image.{Image, block_at}
 use Rattle.hop_base.specs.declared.records.Rec.{Rec}
 use Rattle.store_model.specs.cut_laws.Records.{AgreeInRecs}
-use Rattle.store_model.specs.image_blocks.Bodies.{blocks_for}
-use Rattle.store_model.specs.image_blocks.Layout.{last_number, pool_at, slot_count}
-use Rattle.store_model.specs.image_blocks.Logs.{AreFitting}
+use Rattle.store_model.specs.image_form.Bodies.{blocks_for}
+use Rattle.store_model.specs.image_form.Layout.{last_number, pool_at, slot_count}
+use Rattle.store_model.specs.image_form.Logs.{AreFitting}
 use Rattle.store_model.specs.image_meaning.Stores.{IsFound, Kept, Page, Stores, recs_of}
 use Rattle.store_model.specs.log_turn.Standing.{epoch_of, place_of, used_of}
 use Rattle.store_model.specs.log_turn.declared.areas.Areas.{Areas}

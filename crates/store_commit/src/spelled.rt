@@ -1,7 +1,7 @@
 // The bytes of a blob as its blocks.
 ghost use Rattle.std.specs.Prelude.{◌≡◌, ◌≤◌, ◌-◌, ◌++◌, length, replicate, take};
-ghost use Rattle.store_model.specs.image_blocks.Bodies.{blocks_for};
-ghost use Rattle.store_model.specs.image_blocks.Layout.{most_length};
+ghost use Rattle.store_model.specs.image_form.Bodies.{blocks_for};
+ghost use Rattle.store_model.specs.image_form.Layout.{most_length};
 ghost use Rattle.store_commit.specs.BlobBytes.{HoldsBytes};
 
 use disk_trait::BLOCK_BYTES;

@@ -6,7 +6,7 @@ use Rattle.std.specs.Prelude.{Contains, slice_get, slice_index}
 use Rattle.disk_trait.specs.Image.{Image}
 use Rattle.hop_base.specs.declared.records.Rec.{Rec}
 use Rattle.image_meaning.proofs.hop_model_lemmas.Basics.{and_left}
-use Rattle.image_meaning.specs.image_blocks.Bodies.{blob_blocks}
+use Rattle.image_meaning.specs.image_form.Bodies.{blob_blocks}
 use Rattle.image_meaning.specs.Parts.{chosen, chosen_by, cut_of, table_in}
 use Rattle.image_meaning.specs.Stores.{recs_of}
 use Rattle.image_meaning.proofs.Finding.{passes}

@@ -5,7 +5,7 @@ use Rattle.disk_trait.specs.Image.{Image}
 use Rattle.disk_trait.specs.Moments.{LeavesOnly}
 use Rattle.hop_base.specs.declared.records.Rec.{Rec}
 use Rattle.image_blocks.proofs.Reading.{log_law}
-use Rattle.image_meaning.specs.image_blocks.Layout.{last_number}
+use Rattle.image_meaning.specs.image_form.Layout.{last_number}
 use Rattle.image_meaning.specs.image_blocks.Logs.{Place}
 use Rattle.image_meaning.specs.Stores.{Kept, Stores}
 use Rattle.disk_tally.specs.Counts.{CountsOn}

@@ -5,12 +5,13 @@ use Rattle.disk_trait.specs.Image.{Image, block_at}
 use Rattle.image_meaning.specs.cut_laws.Records.{AgreeInRecs}
 use Rattle.hop_base.specs.Edges.{upto}
 use Rattle.hop_base.specs.declared.records.Rec.{Rec}
-use Rattle.image_meaning.specs.image_blocks.Bodies.{blob_blocks, blob_in, number_at}
-use Rattle.image_meaning.specs.image_blocks.Layout.{last_number, pool_at}
-use Rattle.image_meaning.specs.image_blocks.Logs.{AreFitting, HasFront, HasLog, Place}
+use Rattle.image_meaning.specs.image_form.Bodies.{blob_blocks, blob_in, number_at}
+use Rattle.image_meaning.specs.image_form.Layout.{last_number, pool_at}
+use Rattle.image_meaning.specs.image_form.Logs.{AreFitting}
+use Rattle.image_meaning.specs.image_blocks.Logs.{HasFront, HasLog, Place}
 use Rattle.image_meaning.specs.Parts.{cut_of}
 use Rattle.image_meaning.specs.Stores.{IsHeld, Kept, Page, Stores, recs_of}
-use Rattle.log_turn.specs.Standing.{SameAreas}
+use Rattle.log_turn.specs.log_laws.Areas.{SameAreas}
 
 -- a record of the log, with the block of each page that its blob names, 0 for none
 pub record Logged : Type 0 where

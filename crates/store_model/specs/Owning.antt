@@ -1,8 +1,8 @@
 -- Which blocks belong to which entity.
 use Rattle.std.specs.Prelude.{◌≡◌, ◌≢◌, ◌↔◌, ℕ, ◌≤◌, ◌<◌, true, List, Contains, Option, Some, slice_index}
 use Rattle.disk_trait.specs.Image.{Image}
-use Rattle.image_meaning.specs.image_blocks.Bodies.{blob_blocks}
-use Rattle.image_meaning.specs.image_blocks.Layout.{pool_at}
+use Rattle.image_meaning.specs.image_form.Bodies.{blob_blocks}
+use Rattle.image_meaning.specs.image_form.Layout.{pool_at}
 use Rattle.image_meaning.specs.Fits.{AreNamedOnce}
 use Rattle.image_meaning.specs.Parts.{Part, chosen, table_in}
 use Rattle.image_meaning.specs.Stores.{recs_of}

@@ -2,7 +2,7 @@
 use Rattle.std.specs.Prelude.{◌≡◌, ℕ, ◌+◌, ◌≤◌, List, slice_get, Some}
 use Rattle.disk_trait.specs.Image.{Image}
 use Rattle.kernel_views.specs.snapshot_store.Paging.{GoesByPages}
-use Rattle.kernel_views.specs.snapshot_store.State.{State, books}
+use Rattle.kernel_views.specs.store_laws.State.{State, books}
 use Rattle.kernel_views.specs.kernel_cells.declared.cells.Cell.{Cell}
 use Rattle.kernel_views.specs.cell_table.Tables.{IsOrderly}
 

@@ -9,7 +9,7 @@ ghost use Rattle.table_steps.specs.step_plans.Plans.{idle_of};
 ghost use Rattle.table_steps.specs.step_plans.declared.idle.Idle.{Idle as AnIdle};
 ghost use Rattle.kernel_views.specs.cell_table.Steps.{EntersStep};
 ghost use Rattle.kernel_views.specs.cell_table.Tables.{left_of, state_in, AreClean, AreFewWrites, IsOrderly};
-ghost use Rattle.kernel_views.specs.snapshot_store.State.{books};
+ghost use Rattle.kernel_views.specs.store_laws.State.{books};
 ghost use Rattle.kernel_views.specs.store_model.Books.{free_in};
 ghost use Rattle.kernel_views.specs.record_laws.Cells.{words_on};
 ghost use Rattle.table_steps.specs.Wanting.{WantsWord};

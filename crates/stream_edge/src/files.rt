@@ -40,10 +40,11 @@ impl FileDisk {
 impl Disk for FileDisk {
     ghost use Rattle.stream_edge.specs.Files.{begun_on, faults_of_disk};
     ghost use Rattle.stream_edge.specs.FileLaws.{file_countable};
+    ghost use Rattle.stream_edge.specs.declared.files.TheConstants.{FILE_BLOCKS};
 
     ghost tells = { ⊥ };
 
-    ghost block_count = { λ d. 65536 };
+    ghost block_count = { λ d. FILE_BLOCKS };
 
     ghost reading = { λ d. [] };
 

@@ -15,10 +15,10 @@ use std::test::Fail;
 pub const FORMAT_CALLS: u64 = 10;
 
 /// How many bytes a call may put.
-const TEXT: u32 = 262_144;
+const MOST_PUT: u32 = 262_144;
 
 /// How many writes and syncs a disk keeps where nothing else is said; those beyond fail.
-const ROOM: u32 = 3000;
+const KEPT_CALLS: u32 = 3000;
 
 /// Calls `hopper` with the program's managers: words count up from the tag, and a snapshot is wished every so many versions.
 fn call(
@@ -41,9 +41,9 @@ fn call(
 
 /// A disk of zero blocks with room for 3,000 writes and syncs, whose calls with these numbers fail.
 pub fn disk_of(alloc: Global, blocks: u32, fails: &[u64]) -> Result<MemoryDisk, AllocError>
-    ensures { IfOk result (StartsWith (replicate blocks (replicate 1024 0)) ROOM fails.now) }
+    ensures { IfOk result (StartsWith (replicate blocks (replicate 1024 0)) KEPT_CALLS fails.now) }
 {
-    MemoryDisk::new(alloc, blocks, ROOM, fails.to_vec(alloc)?)
+    MemoryDisk::new(alloc, blocks, KEPT_CALLS, fails.to_vec(alloc)?)
 }
 
 /// What a command puts, and what it leaves, where these takes of the source and puts of the sink fail.
@@ -58,7 +58,7 @@ pub fn put_failing(
 {
     let (takes, puts) = fails;
     let mut source = MemorySource::new(text.to_vec(alloc)?, takes.to_vec(alloc)?);
-    let mut sink = MemorySink::new(alloc, TEXT, puts.to_vec(alloc)?)?;
+    let mut sink = MemorySink::new(alloc, MOST_PUT, puts.to_vec(alloc)?)?;
     let outcome = call(alloc, words, &mut source, &mut sink, disk)?;
     let held = std::str::from_utf8(sink.held()).ok().ok_or("text")?;
     Ok((String::from_str(alloc, held)?, outcome))

@@ -59,7 +59,7 @@ container = [
 locus = [{ name = 'l', host = 'a' }]
 ";
 
-pub const NO_ENTRY: &[u8] =
+pub const INVOKES_WITHOUT_ENTRY: &[u8] =
     b"program.p = ['invoke r0', 'print r7', 'set r0 1', 'invoke r0', 'print r7', 'halt']
 container = [
     { name = 'b', pages = 1 },
@@ -84,7 +84,7 @@ container = [{ name = 'a', pages = 256, program = 'p' }]
 locus = [{ name = 'l', host = 'a' }]
 ";
 
-pub const LAST_NUMBER: &[u8] = b"steps = 100
+pub const SPAWNS_TO_THE_LAST: &[u8] = b"steps = 100
 program.p = ['spawn r1 @5', 'jz r7 @0', 'print r7', 'halt', 'halt', 'halt']
 container = [{ name = 'a', pages = 1, program = 'p' }]
 locus = [{ name = 'l', host = 'a' }]
@@ -130,13 +130,7 @@ container = [{ name = 'a', pages = 1, program = 'p' }]
 locus = [{ name = 'l', host = 'a', caps = ['atlas t'] }]
 ";
 
-// What an image shows of the births of `STABILISES`.
-pub const BORN_WITH_A_RIGHT: &str = "container a 1 0 0 -
-locus l a 0 running 0 0 0 0 0 0 0 0 0
-cap l 0 atlas t
-";
-
-// What it shows of the last Stable of `STABILISES` and of `COUNTS_ON`.
+// What an image shows of the last Stable of `STABILISES` and of `COUNTS_ON`.
 pub const STABLE: &str = "container a 1 0 0 -
 word a 0 7
 locus l a 3 running 0 7 0 0 0 0 0 0 0

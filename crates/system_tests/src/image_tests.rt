@@ -22,9 +22,9 @@ fn a_state_is_shown_as_it_was_made_stable(rt: HostRuntime) -> Result<(), Fail> {
     ];
     for (script, kept) in runs {
         let (lines, outcome) = run(alloc, script)?;
-        assert_eq!(rt; lines.as_str(), "");
+        assert!(rt; lines.as_str() == "");
         assert!(rt; matches!(outcome.status, Status::Done));
-        assert_eq!(rt; shown(alloc, outcome.disk)?.as_str(), kept);
+        assert!(rt; shown(alloc, outcome.disk)?.as_str() == kept);
     }
     Ok(())
 }
@@ -36,8 +36,8 @@ fn runs_go_on_from_the_image(rt: HostRuntime) -> Result<(), Fail> {
     // What was not made stable is done again.
     for _time in 0..2 {
         let (lines, outcome) = put(alloc, &["run"], FIVE, disk)?;
-        assert_eq!(rt; lines.as_str(), "l 5\n");
-        assert_eq!(rt; outcome.status.number(), 0);
+        assert!(rt; lines.as_str() == "l 5\n");
+        assert!(rt; outcome.status.number() == 0);
         disk = outcome.disk;
     }
     Ok(())
@@ -58,12 +58,12 @@ fn an_abandoned_record_is_not_taken(rt: HostRuntime) -> Result<(), Fail> {
     let alloc = rt.alloc();
     let (_, outcome) = run(alloc, WISHED)?;
     let (lines, outcome) = put(alloc, &["run"], WISHED_BY_TWO, outcome.disk)?;
-    assert_eq!(rt; lines.as_str(), "");
+    assert!(rt; lines.as_str() == "");
     let birth = outcome.history.first().ok_or("a birth")?;
     let touched = Touched::three(write(0, 3)?, write(1, 3)?, write(42, 1)?);
-    assert_eq!(rt; birth.event, Event::Birth);
-    assert_eq!(rt; birth.touched, touched);
-    assert_eq!(rt; shown(alloc, outcome.disk)?.as_str(), WISHED_BY_TWO_KEPT);
+    assert!(rt; birth.event == Event::Birth);
+    assert!(rt; birth.touched == touched);
+    assert!(rt; shown(alloc, outcome.disk)?.as_str() == WISHED_BY_TWO_KEPT);
     Ok(())
 }
 
@@ -80,7 +80,7 @@ cut 0 2
 cut 1 2
 cut 41 1
 ";
-    assert_eq!(rt; text.as_str(), report);
+    assert!(rt; text.as_str() == report);
     assert!(rt; matches!(outcome.status, Status::Done));
     Ok(())
 }
@@ -90,7 +90,7 @@ fn a_full_log_is_turned(rt: HostRuntime) -> Result<(), Fail> {
     let alloc = rt.alloc();
     let disk = formatted_with(alloc, 4096, 6000)?;
     let (_, outcome) = put(alloc, &["run"], ALWAYS_STABLE, disk)?;
-    assert_eq!(rt; outcome.marks.len(), 701);
+    assert!(rt; outcome.marks.len() == 701);
     let (text, _) = put(alloc, &["report"], b"", outcome.disk)?;
     let front = "area A epoch 3 used 66
 rec 0 0 2 chosen
@@ -115,10 +115,10 @@ fn too_few_blocks_stop_a_run_and_keep_its_births(rt: HostRuntime) -> Result<(), 
     let mut script = b"frames = 1\n".to_vec(alloc)?;
     script.extend_from_slice(ALL_PAGES)?;
     let (lines, outcome) = put(alloc, &["run"], &script, disk)?;
-    assert_eq!(rt; lines.as_str(), "fault 9 1 0\n");
-    assert_eq!(rt; outcome.status.number(), 9);
+    assert!(rt; lines.as_str() == "fault 9 1 0\n");
+    assert!(rt; outcome.status.number() == 9);
     let born = "container a 256 0 0 -\nlocus l a 0 running 0 0 0 0 0 0 0 0 0\n";
-    assert_eq!(rt; shown(alloc, outcome.disk)?.as_str(), born);
+    assert!(rt; shown(alloc, outcome.disk)?.as_str() == born);
     Ok(())
 }
 
@@ -128,8 +128,8 @@ fn an_image_that_is_made_anew_is_empty(rt: HostRuntime) -> Result<(), Fail> {
     let (_, outcome) = run(alloc, STABILISES)?;
     let before = outcome.disk.moments();
     let (lines, outcome) = put(alloc, &["format", "4096"], b"", outcome.disk)?;
-    assert_eq!(rt; lines.as_str(), "");
-    assert_eq!(rt; outcome.disk.moments(), before.saturating_add(FORMAT_CALLS));
-    assert_eq!(rt; shown(alloc, outcome.disk)?.as_str(), "");
+    assert!(rt; lines.as_str() == "");
+    assert!(rt; outcome.disk.moments() == before.saturating_add(FORMAT_CALLS));
+    assert!(rt; shown(alloc, outcome.disk)?.as_str() == "");
     Ok(())
 }

@@ -47,8 +47,8 @@ fn each_fault_has_its_last_line(rt: HostRuntime) -> Result<(), Fail> {
     ];
     for (fault, line) in faults {
         let mut sink = MemorySink::new(alloc, 100, Vec::new(alloc))?;
-        assert_eq!(rt; put_fault(&mut sink, &fault), Ok(()));
-        assert_eq!(rt; sink.held(), line.as_bytes());
+        assert!(rt; put_fault(&mut sink, &fault) == Ok(()));
+        assert!(rt; sink.held() == line.as_bytes());
     }
     Ok(())
 }
@@ -58,7 +58,7 @@ fn a_sink_with_no_room_for_the_key_holds_a_front_of_the_line(rt: HostRuntime) ->
     let alloc = rt.alloc();
     let fault = refused(alloc, Why::BadCode, "program.p.0")?;
     let mut sink = MemorySink::new(alloc, 12, Vec::new(alloc))?;
-    assert_eq!(rt; put_fault(&mut sink, &fault), Err(SinkFault));
-    assert_eq!(rt; sink.held(), b"fault 3 8 ".as_slice());
+    assert!(rt; put_fault(&mut sink, &fault) == Err(SinkFault));
+    assert!(rt; sink.held() == b"fault 3 8 ".as_slice());
     Ok(())
 }

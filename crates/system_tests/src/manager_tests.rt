@@ -15,7 +15,7 @@ fn a_program_makes_the_words_of_its_tag(rt: HostRuntime) -> Result<(), Fail> {
     ];
     for (script, lines) in runs {
         let (text, _) = run(rt.alloc(), script)?;
-        assert_eq!(rt; text.as_str(), lines);
+        assert!(rt; text.as_str() == lines);
     }
     Ok(())
 }
@@ -27,10 +27,7 @@ fn a_program_says_when_a_snapshot_is_wished(rt: HostRuntime) -> Result<(), Fail>
     let (_, by_number) = run(alloc, WISHED)?;
     assert!(rt; matches!(by_program.status, Status::Done));
     assert!(rt; by_program.history.as_slice() == by_number.history.as_slice());
-    assert_eq!(rt;
-        shown(alloc, by_program.disk)?.as_str(),
-        BORN_WISHED_BY_PROGRAM
-    );
+    assert!(rt; shown(alloc, by_program.disk)?.as_str() == BORN_WISHED_BY_PROGRAM);
     Ok(())
 }
 
@@ -40,11 +37,8 @@ fn an_image_keeps_no_managers(rt: HostRuntime) -> Result<(), Fail> {
     let alloc = rt.alloc();
     let (_, outcome) = run(alloc, NEVER_HALTS)?;
     let (text, outcome) = put(alloc, &["run"], PAGE_AND_PLACE, outcome.disk)?;
-    assert_eq!(rt; text.as_str(), "l 3\n");
+    assert!(rt; text.as_str() == "l 3\n");
     let (text, _) = put(alloc, &["show"], b"", outcome.disk)?;
-    assert_eq!(rt;
-        text.as_str(),
-        "container a 2 7 0 -\nlocus l a 0 running 0 0 0 0 0 0 0 0 0\n"
-    );
+    assert!(rt; text.as_str() == "container a 2 7 0 -\nlocus l a 0 running 0 0 0 0 0 0 0 0 0\n");
     Ok(())
 }

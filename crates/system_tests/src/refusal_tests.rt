@@ -5,26 +5,28 @@ use system_calls::hopper_top::command_parts::Status;
 use system_calls::scripts::FIVE;
 use system_calls::{disk_of, formatted, put, run};
 
+// Lists of words that are no command.
+const OTHERS: [&[&str]; 12] = [
+    &["run", "run"],
+    &[],
+    &["walk"],
+    &["Run"],
+    &["run "],
+    &["run", "--workers", "0"],
+    &["run", "--trace", "--trace"],
+    &["format"],
+    &["show", "--"],
+    &["report", "report"],
+    &["format", "4096", "run"],
+    &["run", "show"],
+];
+
 #[test]
 fn other_words_are_refused(rt: HostRuntime) -> Result<(), Fail> {
     let alloc = rt.alloc();
-    let commands: [&[&str]; 12] = [
-        &["run", "run"],
-        &[],
-        &["walk"],
-        &["Run"],
-        &["run "],
-        &["run", "--workers", "0"],
-        &["run", "--trace", "--trace"],
-        &["format"],
-        &["show", "--"],
-        &["report", "report"],
-        &["format", "4096", "run"],
-        &["run", "show"],
-    ];
-    for words in commands {
+    for words in OTHERS {
         let (lines, outcome) = put(alloc, words, FIVE, formatted(alloc, &[])?)?;
-        assert_eq!(rt; lines.as_str(), "fault 2 usage\n");
+        assert!(rt; lines.as_str() == "fault 2 usage\n");
         assert!(rt; matches!(outcome.status, Status::Usage));
         assert!(rt; outcome.history.is_empty());
     }
@@ -34,7 +36,7 @@ fn other_words_are_refused(rt: HostRuntime) -> Result<(), Fail> {
 #[test]
 fn a_refused_source_is_told_by_its_key(rt: HostRuntime) -> Result<(), Fail> {
     let (lines, outcome) = run(rt.alloc(), b"steps = 0")?;
-    assert_eq!(rt; lines.as_str(), "fault 3 6 steps\n");
+    assert!(rt; lines.as_str() == "fault 3 6 steps\n");
     assert!(rt; matches!(outcome.status, Status::Script(_)));
     assert!(rt; outcome.history.is_empty());
     Ok(())
@@ -47,8 +49,8 @@ fn a_source_past_a_mebibyte_is_too_long(rt: HostRuntime) -> Result<(), Fail> {
         let mut bytes = Vec::new(alloc);
         bytes.resize(len, b'\n')?;
         let (lines, outcome) = run(alloc, &bytes)?;
-        assert_eq!(rt; lines.as_str(), line);
-        assert_eq!(rt; outcome.status.number(), status);
+        assert!(rt; lines.as_str() == line);
+        assert!(rt; outcome.status.number() == status);
     }
     Ok(())
 }
@@ -61,8 +63,8 @@ fn a_script_that_does_not_fit_the_image_is_refused(rt: HostRuntime) -> Result<()
 locus = [{ name = 'a', host = 'x' }]
 ";
     let (lines, outcome) = put(alloc, &["run"], clash, outcome.disk)?;
-    assert_eq!(rt; lines.as_str(), "fault 3 11 locus.0.name\n");
-    assert_eq!(rt; outcome.status.number(), 3);
+    assert!(rt; lines.as_str() == "fault 3 11 locus.0.name\n");
+    assert!(rt; outcome.status.number() == 3);
     assert!(rt; outcome.history.is_empty());
     Ok(())
 }
@@ -76,11 +78,11 @@ fn a_forty_first_container_has_no_room(rt: HostRuntime) -> Result<(), Fail> {
         script.push_str(table.as_str())?;
     }
     let (_, outcome) = run(alloc, script.as_bytes())?;
-    assert_eq!(rt; outcome.status.number(), 0);
+    assert!(rt; outcome.status.number() == 0);
     let one_more = b"container = [{ name = 'x', pages = 1 }]";
     let (lines, outcome) = put(alloc, &["run"], one_more, outcome.disk)?;
-    assert_eq!(rt; lines.as_str(), "fault 3 10 container\n");
-    assert_eq!(rt; outcome.status.number(), 3);
+    assert!(rt; lines.as_str() == "fault 3 10 container\n");
+    assert!(rt; outcome.status.number() == 3);
     Ok(())
 }
 
@@ -88,8 +90,8 @@ fn a_forty_first_container_has_no_room(rt: HostRuntime) -> Result<(), Fail> {
 fn a_disk_that_is_too_small_takes_no_image(rt: HostRuntime) -> Result<(), Fail> {
     let alloc = rt.alloc();
     let (lines, outcome) = put(alloc, &["format", "4096"], b"", disk_of(alloc, 3000, &[])?)?;
-    assert_eq!(rt; lines.as_str(), "fault 9 4096 3000\n");
-    assert_eq!(rt; outcome.status.number(), 9);
-    assert_eq!(rt; outcome.disk.calls(), 0);
+    assert!(rt; lines.as_str() == "fault 9 4096 3000\n");
+    assert!(rt; outcome.status.number() == 9);
+    assert!(rt; outcome.disk.calls() == 0);
     Ok(())
 }

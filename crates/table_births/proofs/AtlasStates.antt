@@ -2,7 +2,7 @@
 use Rattle.std.proofs.Common.{◌≡◌, ℕ, List, slice_get, Option, Some, None, refl, ap, ◌∙◌}
 use Rattle.table_steps.specs.hop_model.State.{Supply}
 use Rattle.table_steps.specs.hop_model.Steps.{atlas_in}
-use Rattle.atlas_dir.specs.Directory.{Directory}
+use Rattle.atlas_dir.specs.directory_form.Directory.{Directory}
 use Rattle.table_steps.specs.kernel_calls.Calls.{atlas_state}
 use Rattle.table_steps.specs.locus_machine.declared.loci.Head.{Head}
 use Rattle.table_steps.specs.locus_machine.declared.loci.Locus.{Locus}

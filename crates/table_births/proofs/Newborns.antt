@@ -7,7 +7,7 @@ use Rattle.table_steps.specs.hop_model.Scripts.{ContainerTable, LocusTable, Scri
 use Rattle.table_steps.specs.hop_model.State.{KernelState, Supply, Text}
 use Rattle.table_steps.specs.script_form.Rules.{IsScript}
 use Rattle.cell_births.specs.fitting_births.Fitting.{Fits}
-use Rattle.atlas_dir.specs.Directory.{Directory}
+use Rattle.atlas_dir.specs.directory_form.Directory.{Directory}
 use Rattle.cell_births.specs.kernel_cells.declared.cells.Cell.{Cell}
 use Rattle.cell_births.specs.kernel_cells.declared.cells.Part.TheVariants as part
 use Rattle.cell_births.specs.kernel_cells.Cells.{HasCell}

@@ -9,7 +9,7 @@ use Rattle.table_steps.specs.hop_model.State.{KernelState, Supply}
 use Rattle.table_steps.specs.hop_model.Steps.{atlas_in}
 use Rattle.table_steps.specs.script_form.Rules.{IsScript}
 use Rattle.cell_births.specs.fitting_births.Fitting.{Fits}
-use Rattle.atlas_dir.specs.Directory.{Directory, IsDirectory, entity_named}
+use Rattle.atlas_dir.specs.directory_form.Directory.{Directory, IsDirectory, entity_named}
 use Rattle.table_steps.specs.kernel_calls.Calls.{atlas_state}
 use Rattle.table_steps.proofs.directory_laws_lemmas.NameLaws.{numbers_same}
 use Rattle.cell_births.specs.kernel_cells.declared.cells.Cell.{Cell}

@@ -4,7 +4,7 @@ ghost use Rattle.table_steps.specs.hop_model.Scripts.{Script as Tables};
 ghost use Rattle.table_steps.specs.script_form.Rules.{IsScript};
 ghost use Rattle.table_steps.specs.script_form.Scripts.{container_of, locus_of};
 ghost use Rattle.cell_births.specs.fitting_births.Fitting.{Fits};
-ghost use Rattle.atlas_dir.specs.Directory.{Directory};
+ghost use Rattle.atlas_dir.specs.directory_form.Directory.{Directory};
 ghost use Rattle.cell_births.specs.script_against.NextTables.{IsNextContainer, IsNextLocus};
 ghost use Rattle.cell_births.specs.Bearing.{MayBearContainer, MayBearLocus};
 ghost use Rattle.table_steps.specs.cell_table.Steps.{HasDirectory, IsInOrder};

@@ -1,6 +1,6 @@
 // Steps of a locus over the table that write the atlas.
 ghost use Rattle.std.specs.Prelude.{◌≡◌, ◌+◌, ◌<◌, ◌≤◌, ◌⊎◌, length};
-ghost use Rattle.atlas_dir.specs.Directory.{Directory, number_born};
+ghost use Rattle.atlas_dir.specs.directory_form.Directory.{Directory, number_born};
 ghost use Rattle.cell_table.specs.step_plans.declared.plans.Plan.TheVariants as plan;
 ghost use Rattle.cell_table.specs.Steps.{HasDirectory, IsInOrder, IsPlannedAt, StepsQuietly};
 ghost use Rattle.cell_table.specs.Tables.{AreFewWrites};

@@ -15,7 +15,7 @@ use Rattle.sound_runs.specs.hop_model.Steps.{accesses_of, atlas_in, change_of, o
 use Rattle.sound_runs.proofs.hop_model_lemmas.Faithful.{wanted_is, IsNewborn}
 use Rattle.step_plans.specs.wanted_act.Views.{may_name_itself}
 use Rattle.step_plans.proofs.wanted_act_lemmas.Beside.{wanted_same}
-use Rattle.step_plans.proofs.locus_machine_lemmas.Alone.{wanted_allowed, wanted_says}
+use Rattle.step_plans.proofs.wanted_laws_lemmas.Alone.{wanted_allowed, wanted_says}
 use Rattle.wish_laws.specs.kernel_calls.Calls.{WantsBirth, is_make, is_spawn}
 use Rattle.wish_laws.proofs.kernel_calls_lemmas.BirthLemmas.{birth_instr, make_made, spawn_made}
 use Rattle.wish_laws.proofs.run_laws_lemmas.Writing.{IsStep}

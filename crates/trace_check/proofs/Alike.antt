@@ -2,19 +2,20 @@
 use Rattle.std.proofs.Common.{◌≡◌, ℕ, List, [], ◌∷◌, ◌++◌, Option, Some, None, MatchOption, refl, sym, ap, subst, ◌∙◌, arith}
 use Rattle.clock_laws.specs.Alike.{AreAlike}
 use Rattle.clock_laws.proofs.Runs.{AreLikeRuns, legal_alike, may_same, next_same_run, runs_over, start_like}
-use Rattle.entry_laws.specs.entry_lines.Entries.{entry_line, entry_text, event_word}
+use Rattle.trace_laws.specs.entry_laws.entry_lines.Entries.{entry_line, entry_text, event_word}
 use Rattle.hop_base.specs.declared.histories.Entry.{Entry}
 use Rattle.text_lines.specs.hop_model.Histories.{IsLegalFrom, IsLegalRun, May, Policy, Run, goes_on, run_after, start_run}
 use Rattle.text_lines.specs.hop_model.Scripts.{Script}
 use Rattle.text_lines.specs.hop_model.State.{AtlasState, KernelState, Supply, Text}
 use Rattle.text_lines.specs.hop_model.Steps.{atlas_in}
 use Rattle.text_lines.specs.hop_model.Vectors.{StampsBelow}
-use Rattle.actor_laws.specs.history_model.Plains.{cells_of}
-use Rattle.actor_laws.specs.history_model.declared.plain.Plain.{Plain}
+use Rattle.trace_laws.specs.actor_laws.history_model.Plains.{cells_of}
+use Rattle.trace_laws.specs.actor_laws.history_model.declared.plain.Plain.{Plain}
 use Rattle.text_lines.specs.Lines.{name_in, word}
-use Rattle.trace_steps.specs.Standing.{fresh}
-use Rattle.trace_words.specs.Traces.{Begins, BeginsWith, GoesOnWith, GoesWrong, IsWanted, Spells, WantText, first_line, names_after, spelled}
-use Rattle.trace_check.specs.Reading.{IsFault, SpellsNone}
+use Rattle.trace_laws.specs.trace_steps.trace_rules.Standing.{fresh}
+use Rattle.trace_laws.specs.trace_words.Traces.{Begins, BeginsWith, GoesOnWith, GoesWrong, IsWanted, Spells, WantText, first_line, names_after, spelled}
+use Rattle.trace_check.specs.Reading.{IsFault}
+use Rattle.trace_laws.specs.Reading.{SpellsNone}
 use Rattle.trace_check.specs.declared.faults.TraceFault.{TraceFault}
 use Rattle.trace_check.specs.declared.faults.TraceFault.TheVariants.{At, Memory}
 

@@ -2,25 +2,27 @@
 ghost use Rattle.std.specs.Prelude.{◌≡◌, ◌≤◌, ◌<◌, ◌^◌, ◌++◌, ◌∷◌, ◌↔◌, ℕ, All, Bool, IfErr, IfNone, IfOk, IfSome, IsTrue};
 ghost use Rattle.text_lines.specs.hop_model.Soundness.{IsSound};
 ghost use Rattle.text_lines.specs.hop_model.State.{KernelState, Supply, Text};
-ghost use Rattle.actor_laws.specs.history_model.Born.{AreEdges, AreOfOneKind};
-ghost use Rattle.actor_laws.specs.history_model.Plains.{atlas_of, cells_of};
-ghost use Rattle.actor_laws.specs.script_form.Rules.{IsScript};
-ghost use Rattle.actor_laws.specs.script_form.Scripts.{tables_of};
-ghost use Rattle.trace_check.specs.Reading.{IsFault, IsPlayedFault, IsStop, IsUnwanted, ReadsOn};
-ghost use Rattle.trace_steps.specs.Standing.{IsStanding, Managers};
-ghost use Rattle.trace_words.specs.Traces.{Begins, IsPlayed, Spells};
+ghost use Rattle.trace_laws.specs.actor_laws.history_model.Born.{AreEdges, AreOfOneKind};
+ghost use Rattle.trace_laws.specs.actor_laws.history_model.Plains.{atlas_of, cells_of};
+ghost use Rattle.trace_laws.specs.actor_laws.script_form.Rules.{IsScript};
+ghost use Rattle.trace_laws.specs.actor_laws.script_form.Scripts.{tables_of};
+ghost use Rattle.trace_check.specs.Reading.{IsFault, IsPlayedFault, IsStop, IsUnwanted};
+ghost use Rattle.trace_laws.specs.Reading.{ReadsOn};
+ghost use Rattle.trace_laws.specs.trace_steps.Standing.{IsStanding};
+ghost use Rattle.trace_laws.specs.trace_steps.trace_rules.Standing.{Managers};
+ghost use Rattle.trace_laws.specs.trace_words.Traces.{Begins, IsPlayed, Spells};
 
 use crate::faults::TraceFault;
 use crate::lines::{no_text, text_of};
 use crate::reading::wanted;
 use crate::words::before;
-use actor_laws::history_model::Plain;
-use actor_laws::script_form::Script;
 use arrayvec::ArrayString;
 use hop_base::{Entry, Event};
 use std::alloc::{AllocError, Global};
 use text_lines::LINE;
-use trace_steps::{Checker, begin};
+use trace_laws::actor_laws::history_model::Plain;
+use trace_laws::actor_laws::script_form::Script;
+use trace_laws::trace_steps::{Checker, begin};
 
 fn is_same(a: &[u8], b: &[u8]) -> bool
     ensures { IsTrue result ↔ (a.now ≡ b.now) }

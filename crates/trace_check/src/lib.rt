@@ -11,4 +11,4 @@ mod words;
 pub use checks::check;
 pub use faults::TraceFault;
 pub use text_lines;
-pub use trace_steps::plain_run;
+pub use trace_laws::trace_steps::plain_run;

@@ -1,14 +1,14 @@
 //! The line of an entry, by the names of a plain atlas.
 ghost use Rattle.std.specs.Prelude.{◌≡◌, codes};
-ghost use Rattle.entry_laws.specs.entry_lines.Entries.{entry_text};
-ghost use Rattle.actor_laws.specs.history_model.Plains.{atlas_of};
+ghost use Rattle.trace_laws.specs.entry_laws.entry_lines.Entries.{entry_text};
+ghost use Rattle.trace_laws.specs.actor_laws.history_model.Plains.{atlas_of};
 ghost use Rattle.text_lines.specs.Lines.{HasShortNames};
 
-use actor_laws::history_model::PlainAtlas;
 use arrayvec::ArrayString;
-use entry_laws::entry_lines::write_entry;
 use hop_base::{Entity, Entry};
 use text_lines::{LINE, NameLists, Names};
+use trace_laws::actor_laws::history_model::PlainAtlas;
+use trace_laws::entry_laws::entry_lines::write_entry;
 
 /// The names of a plain atlas.
 #[derive(Clone, Copy)]

@@ -1,12 +1,12 @@
 //! Born entities by their names.
 ghost use Rattle.std.specs.Prelude.{◌≡◌, ◌<◌, ◌↔◌, ℕ, IfNone, IfSome, IsTrue, false, map, option_map, slice_get, string_bytes};
 ghost use Rattle.text_lines.specs.hop_model.Soundness.{is_born};
-ghost use Rattle.actor_laws.specs.history_model.Born.{HasFewNames};
-ghost use Rattle.actor_laws.specs.history_model.Plains.{atlas_of};
-ghost use Rattle.trace_check.specs.Words.{IsNamed};
+ghost use Rattle.trace_laws.specs.actor_laws.history_model.Born.{HasFewNames};
+ghost use Rattle.trace_laws.specs.actor_laws.history_model.Plains.{atlas_of};
+ghost use Rattle.trace_laws.specs.Words.{IsNamed};
 
-use actor_laws::history_model::PlainAtlas;
 use hop_base::{Entity, FIRST_CONTAINER, FIRST_LOCUS, Kind};
+use trace_laws::actor_laws::history_model::PlainAtlas;
 
 /// The name at a place of a list.
 fn name_at(names: &[String], place: u8) -> Option<&str>

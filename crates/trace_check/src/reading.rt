@@ -1,15 +1,16 @@
 //! The entry that a line names.
 ghost use Rattle.std.specs.Prelude.{◌≡◌, ◌<◌, ◌^◌, ℕ, Bool, IfNone, IfOk, IfSome, false};
-ghost use Rattle.actor_laws.specs.script_form.Scripts.{tables_of};
-ghost use Rattle.trace_check.specs.Reading.{NamesAlone, NamesBirth, NamesNoBirth, NamesNone, WantsFrom};
-ghost use Rattle.trace_steps.specs.Standing.{IsStanding, Managers};
+ghost use Rattle.trace_laws.specs.actor_laws.script_form.Scripts.{tables_of};
+ghost use Rattle.trace_laws.specs.Reading.{NamesAlone, NamesBirth, NamesNoBirth, NamesNone, WantsFrom};
+ghost use Rattle.trace_laws.specs.trace_steps.Standing.{IsStanding};
+ghost use Rattle.trace_laws.specs.trace_steps.trace_rules.Standing.{Managers};
 
 use crate::naming::{entity_named, is_named};
 use crate::words::{before, behind, event_named};
-use actor_laws::script_form::Script;
 use hop_base::{Entry, Event};
 use std::alloc::{AllocError, Global};
-use trace_steps::{Checker, birth, next};
+use trace_laws::actor_laws::script_form::Script;
+use trace_laws::trace_steps::{Checker, birth, next};
 
 /// The next birth, if it is of this name. After None or want of memory the checker stands nowhere.
 fn birth_named(

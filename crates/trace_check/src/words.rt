@@ -2,7 +2,7 @@
 ghost use Rattle.std.specs.Prelude.{◌≡◌, ◌==◌, ◌≤◌, IfNone, IfSome, length};
 ghost use Rattle.std.specs.List.{after_first, before_first, position_or_len};
 ghost use Rattle.hop_base.specs.declared.histories.Event.{Event as AnEvent};
-ghost use Rattle.entry_laws.specs.entry_lines.Entries.{event_word};
+ghost use Rattle.trace_laws.specs.entry_laws.entry_lines.Entries.{event_word};
 
 use hop_base::Event;
 

@@ -10,9 +10,9 @@ use std::test::Fail;
 fn first_words_of_the_first_drill(rt: HostRuntime) -> Result<(), Fail> {
     let script = drill_script(rt.alloc(), 1)?;
     let table = script.containers.first().ok_or("no container")?;
-    assert_eq!(rt; table.pages, 10);
-    assert_eq!(rt; table.tag, 440);
-    assert_eq!(rt; table.every, 39);
+    assert!(rt; table.pages == 10);
+    assert!(rt; table.tag == 440);
+    assert!(rt; table.every == 39);
     assert!(rt; table.regions.is_empty());
     let code = [
         Instr::Set(6, 3),
@@ -22,7 +22,7 @@ fn first_words_of_the_first_drill(rt: HostRuntime) -> Result<(), Fail> {
         Instr::Snap(6),
     ];
     assert!(rt; table.code.as_slice().starts_with(&code));
-    assert_eq!(rt; table.code.get(39), Some(&Instr::Jump(0)));
+    assert!(rt; table.code.get(39) == Some(&Instr::Jump(0)));
     Ok(())
 }
 
@@ -30,16 +30,16 @@ fn first_words_of_the_first_drill(rt: HostRuntime) -> Result<(), Fail> {
 fn last_container_of_the_first_drill(rt: HostRuntime) -> Result<(), Fail> {
     let script = drill_script(rt.alloc(), 1)?;
     let table = script.containers.get(11).ok_or("no container")?;
-    assert_eq!(rt; table.name.as_str(), "c11");
-    assert_eq!(rt; table.pages, 8);
-    assert_eq!(rt; table.tag, 353);
-    assert_eq!(rt; table.every, 38);
+    assert!(rt; table.name.as_str() == "c11");
+    assert!(rt; table.pages == 8);
+    assert!(rt; table.tag == 353);
+    assert!(rt; table.every == 38);
     let region = table.regions.first().ok_or("no region")?;
-    assert_eq!(rt; region.target.as_str(), "c10");
-    assert_eq!(rt; table.code.first(), Some(&Instr::Snap(6)));
-    assert_eq!(rt; table.code.get(37), Some(&Instr::Load(5, 1)));
-    assert_eq!(rt; table.code.get(38), Some(&Instr::Invoke(6)));
-    assert_eq!(rt; table.code.get(39), Some(&Instr::Jump(0)));
+    assert!(rt; region.target.as_str() == "c10");
+    assert!(rt; table.code.first() == Some(&Instr::Snap(6)));
+    assert!(rt; table.code.get(37) == Some(&Instr::Load(5, 1)));
+    assert!(rt; table.code.get(38) == Some(&Instr::Invoke(6)));
+    assert!(rt; table.code.get(39) == Some(&Instr::Jump(0)));
     Ok(())
 }
 
@@ -47,15 +47,15 @@ fn last_container_of_the_first_drill(rt: HostRuntime) -> Result<(), Fail> {
 fn last_words_of_the_first_drill(rt: HostRuntime) -> Result<(), Fail> {
     let script = drill_script(rt.alloc(), 1)?;
     let table = script.loci.last().ok_or("no locus")?;
-    assert_eq!(rt; table.name.as_str(), "l5");
-    assert_eq!(rt; table.host.as_str(), "c5");
-    assert_eq!(rt; table.every, 2);
+    assert!(rt; table.name.as_str() == "l5");
+    assert!(rt; table.host.as_str() == "c5");
+    assert!(rt; table.every == 2);
     let first = table.caps.first().ok_or("no capability")?;
-    assert_eq!(rt; first.rights, Rights(110));
+    assert!(rt; first.rights == Rights(110));
     let last = table.caps.get(11).ok_or("too few")?;
-    assert_eq!(rt; last.rights, Rights(71));
+    assert!(rt; last.rights == Rights(71));
     let atlas = table.caps.get(12).ok_or("not on the atlas")?;
-    assert_eq!(rt; atlas.entity.as_str(), "atlas");
-    assert_eq!(rt; atlas.rights, Rights(128));
+    assert!(rt; atlas.entity.as_str() == "atlas");
+    assert!(rt; atlas.rights == Rights(128));
     Ok(())
 }

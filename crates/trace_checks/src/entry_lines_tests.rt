@@ -77,7 +77,7 @@ fn events(rt: HostRuntime) -> Result<(), Fail> {
     )?;
     let text =
         b"birth a atlas:1\nstable atlas\nsnap b-2 3\ntried l 12\nentries 4 prints 0 refused 0 snaps 1 stables 1 sum 0\n";
-    assert_eq!(rt; sink.held(), text.as_slice());
+    assert!(rt; sink.held() == text.as_slice());
     Ok(())
 }
 
@@ -97,6 +97,6 @@ fn answers(rt: HostRuntime) -> Result<(), Fail> {
     )?;
     let text =
         b"step l l:2 quiet\nstep l l:3 reply 0\nstep l l:4 reply 17\nstep l l:5 read 0\nstep l l:6 print 18446744073709551615\nstep l l:7 print 3\nstep l atlas:2,b-2=1,l:8 hop\nentries 7 prints 2 refused 1 snaps 0 stables 0 sum 2\n";
-    assert_eq!(rt; sink.held(), text.as_slice());
+    assert!(rt; sink.held() == text.as_slice());
     Ok(())
 }

@@ -67,10 +67,10 @@ fn a_run_s_trace_is_accepted(rt: HostRuntime) -> Result<(), Fail> {
     let alloc = rt.alloc();
     let source = format!(in alloc; "{STORED}---\n{STORED_TRACE}")?;
     let (outcome, line) = checked(alloc, source.as_str(), &[], image(alloc, &[])?)?;
-    assert_eq!(rt; line.as_str(), "ok 8\n");
-    assert_eq!(rt; outcome.status.number(), 0);
-    assert_eq!(rt; outcome.history.len(), 0);
-    assert_eq!(rt; outcome.disk.moments(), 3);
+    assert!(rt; line.as_str() == "ok 8\n");
+    assert!(rt; outcome.status.number() == 0);
+    assert!(rt; outcome.history.len() == 0);
+    assert!(rt; outcome.disk.moments() == 3);
     Ok(())
 }
 
@@ -99,7 +99,7 @@ fn one_word_changed_goes_wrong_in_its_line(rt: HostRuntime) -> Result<(), Fail> 
     for (old, new, line) in rows {
         let (front, back) = STORED_TRACE.split_once(old).ok_or("the words")?;
         let source = format!(in alloc; "{STORED}---\n{front}{new}{back}")?;
-        assert_eq!(rt; told(alloc, source.as_str())?.as_str(), line);
+        assert!(rt; told(alloc, source.as_str())?.as_str() == line);
     }
     let source = format!(in alloc; "{STORED}---\nsnap a 1\n")?;
     let (outcome, _) = checked(alloc, source.as_str(), &[], image(alloc, &[])?)?;
@@ -163,7 +163,7 @@ fn a_due_snapshot_stands_behind_its_store(rt: HostRuntime) -> Result<(), Fail> {
     ];
     for (locus_every, rest, line) in rows {
         let source = twice(alloc, 1, locus_every, rest)?;
-        assert_eq!(rt; told(alloc, source.as_str())?.as_str(), line);
+        assert!(rt; told(alloc, source.as_str())?.as_str() == line);
     }
     Ok(())
 }
@@ -200,9 +200,8 @@ fn words_are_by_the_script_s_suppliers(rt: HostRuntime) -> Result<(), Fail> {
         let source = format!(in alloc;
             "{managers}\n{LOADED}step l a=2,l:2 read {word}\nstep l l:3 quiet\n"
         )?;
-        assert_eq!(rt;
-            told(alloc, source.as_str())?.as_str(),
-            line,
+        assert!(rt;
+            told(alloc, source.as_str())?.as_str() == line,
             "at {managers}, {word}"
         );
     }
@@ -227,9 +226,8 @@ fn snapshots_are_by_the_script_s_policies(rt: HostRuntime) -> Result<(), Fail> {
         let source = format!(in alloc;
             "{managers}\nprogram.always = ['set r3 1', 'halt']\n{source}"
         )?;
-        assert_eq!(rt;
-            told(alloc, source.as_str())?.as_str(),
-            line,
+        assert!(rt;
+            told(alloc, source.as_str())?.as_str() == line,
             "at {managers}"
         );
     }
@@ -249,7 +247,7 @@ fn sources_are_refused_as_scripts_are(rt: HostRuntime) -> Result<(), Fail> {
         ("---\n---\n", "fault 10 1 want none\n"),
     ];
     for (source, line) in rows {
-        assert_eq!(rt; told(alloc, source)?.as_str(), line, "at {source}");
+        assert!(rt; told(alloc, source)?.as_str() == line, "at {source}");
     }
     Ok(())
 }
@@ -258,20 +256,11 @@ fn sources_are_refused_as_scripts_are(rt: HostRuntime) -> Result<(), Fail> {
 fn what_stops_first_is_told(rt: HostRuntime) -> Result<(), Fail> {
     let alloc = rt.alloc();
     let (outcome, line) = checked(alloc, "---\n", &[1], image(alloc, &[])?)?;
-    assert_eq!(rt;
-        (outcome.status.number(), line.as_str()),
-        (6, "fault 6 source\n")
-    );
+    assert!(rt; (outcome.status.number(), line.as_str()) == (6, "fault 6 source\n"));
     let (outcome, line) = checked(alloc, "---\n", &[], image(alloc, &[4])?)?;
-    assert_eq!(rt;
-        (outcome.status.number(), line.as_str()),
-        (5, "fault 5 disk\n")
-    );
+    assert!(rt; (outcome.status.number(), line.as_str()) == (5, "fault 5 disk\n"));
     let bare = MemoryDisk::new(alloc, 8, 4, Vec::new(alloc))?;
     let (outcome, line) = checked(alloc, "---\n", &[], bare)?;
-    assert_eq!(rt;
-        (outcome.status.number(), line.as_str()),
-        (4, "fault 4 0 0\n")
-    );
+    assert!(rt; (outcome.status.number(), line.as_str()) == (4, "fault 4 0 0\n"));
     Ok(())
 }

@@ -5,17 +5,17 @@ use Rattle.std.specs.Io.KnownBytes.{IsAtEnd}
 use Rattle.disk_trait.specs.Image.{Image}
 use Rattle.trace_check.specs.hop_model.State.{Text}
 use Rattle.script_source.specs.script_form.declared.refusals.Refusal.{Refusal}
-use Rattle.script_source.specs.script_read.Reading.{refused}
-use Rattle.trace_check.specs.trace_steps.Standing.{Managers}
+use Rattle.script_source.specs.script_meaning.Reading.{refused}
+use Rattle.trace_check.specs.trace_rules.Standing.{Managers}
 use Rattle.script_source.specs.command_parts.Ends.{IsUnrun}
 use Rattle.script_source.specs.command_parts.Seen.{Gave, IsOnlyRead, SeenDisk, SeenSink, SeenSource, seen_disk}
 use Rattle.script_source.specs.command_parts.Statuses.{Ending, Stopped as StoppedBy, Unput, Whole, Wrong as WrongIn, ending, status_by}
 use Rattle.script_source.specs.command_parts.declared.faults.Fault.{Fault}
 use Rattle.script_source.specs.command_parts.declared.faults.Fault.TheVariants.{Script, Foreign, Disk, Source, Memory}
 use Rattle.script_source.proofs.command_parts_lemmas.Endings.{by_done, by_fault, by_sink}
-use Rattle.trace_command.specs.Booked.{over}
-use Rattle.trace_command.specs.Leaving.{StopsTrace, TraceEnds, TraceLeaves}
-use Rattle.trace_command.specs.Sources.{IsRefusalOf, MeansTraced, OfBytes, OfSource, ReadFrom, StopsTraced, Traced, from_parts, from_source, traced_meaning}
+use Rattle.command_laws.specs.TraceBooked.{over}
+use Rattle.command_laws.specs.TraceLeaving.{StopsTrace, TraceEnds, TraceLeaves}
+use Rattle.command_laws.specs.Sources.{IsRefusalOf, MeansTraced, OfBytes, OfSource, ReadFrom, StopsTraced, Traced, from_parts, from_source, traced_meaning}
 use Rattle.trace_command.specs.Verdicts.{EndsWith, IsJudged}
 use Rattle.trace_command.specs.declared.judging.Verdict.{Verdict}
 use Rattle.trace_command.specs.declared.judging.Verdict.TheVariants.{Legal, Wrong, Stopped}

@@ -1,5 +1,4 @@
-pub mod Complete
 pub mod Ending
-pub mod Meaning
 pub mod Ruling
 pub mod Verdicts
+pub use Rattle.command_laws.proofs as command_laws_lemmas

@@ -4,7 +4,7 @@ use Rattle.std.proofs.Math.Seq.{drop-cons, take-length}
 use Rattle.std.proofs.Math.Numerals.{add-one}
 use Rattle.std.proofs.Math.ListN.{length-drop}
 use Rattle.trace_check.specs.hop_model.State.{Text}
-use Rattle.trace_command.specs.Parts.{is_rule, rule_from}
+use Rattle.command_laws.specs.SourceParts.{is_rule, rule_from}
 
 rule_cons : (begins : Bool) (b : ℕ) (bytes : Text) (at : ℕ) (o : Bool) → (begins && is_rule (b ∷ bytes)) ≡ o → rule_from begins (b ∷ bytes) at ≡ (if o then Some at else rule_from (b == 10) bytes (at + 1))
 unfolding rule_from

@@ -9,13 +9,13 @@ use Rattle.trace_check.specs.hop_model.State.{AtlasState, KernelState, Text}
 use Rattle.trace_check.specs.hop_model.Steps.{atlas_in}
 use Rattle.image_tools.specs.image_blocks.Checks.{Bad}
 use Rattle.image_tools.specs.image_meaning.Foreign.{IsForeign}
-use Rattle.image_tools.specs.Facts.{MeansState}
+use Rattle.image_tools.specs.shown_states.Facts.{MeansState}
 use Rattle.script_source.specs.log_reading.declared.faults.ReadingFault.{ReadingFault}
 use Rattle.script_source.specs.log_reading.declared.faults.ReadingFault.TheVariants as reading
 use Rattle.image_tools.proofs.meant_states_lemmas.Meant.{meant_state}
 use Rattle.script_source.specs.script_form.declared.refusals.ScriptFault.{ScriptFault}
 use Rattle.script_source.specs.script_form.declared.refusals.ScriptFault.TheVariants as refusal
-use Rattle.trace_check.specs.trace_steps.Standing.{Managers}
+use Rattle.trace_check.specs.trace_rules.Standing.{Managers}
 use Rattle.trace_check.specs.Reading.{IsFault}
 use Rattle.trace_check.specs.declared.faults.TraceFault.{TraceFault}
 use Rattle.trace_check.specs.declared.faults.TraceFault.TheVariants as checked

@@ -1,7 +1,5 @@
-pub mod Booked
-pub mod Leaving
-pub mod Parts
 pub mod Sources
-pub mod Traces
 pub mod Verdicts
 pub use Rattle.trace_check.specs.trace_steps.Standing as Checkers
+pub use Rattle.command_laws.specs as command_laws
+pub use Rattle.trace_check.specs.trace_rules

@@ -5,10 +5,10 @@ use Rattle.trace_check.specs.hop_model.State.{KernelState, Text}
 use Rattle.trace_check.specs.hop_model.Steps.{atlas_in}
 use Rattle.image_tools.specs.image_meaning.Foreign.{IsForeign}
 use Rattle.script_source.specs.script_form.declared.refusals.ScriptFault.TheVariants.{Refused}
-use Rattle.trace_check.specs.Reading.{SpellsNone}
+use Rattle.trace_check.specs.trace_laws.Reading.{SpellsNone}
 use Rattle.trace_check.specs.declared.faults.TraceFault.{TraceFault}
 use Rattle.trace_check.specs.declared.faults.TraceFault.TheVariants as checked
-use Rattle.trace_check.specs.trace_steps.Standing.{Managers}
+use Rattle.trace_check.specs.trace_rules.Standing.{Managers}
 use Rattle.trace_check.specs.trace_words.Traces.{GoesWrong, Spells}
 use Rattle.script_source.specs.command_parts.Ends.{Gains, IsEmpty, IsPut, IsUnrun}
 use Rattle.script_source.specs.command_parts.Faults.{wrong_line}
@@ -17,8 +17,8 @@ use Rattle.script_source.specs.command_parts.Statuses.{status_by}
 use Rattle.script_source.specs.command_parts.declared.faults.Fault.{Fault}
 use Rattle.script_source.specs.command_parts.declared.faults.Fault.TheVariants.{Script, Foreign, Disk, Memory}
 use Rattle.script_source.specs.command_parts.declared.statuses.Status.TheVariants.{TraceWrong}
-use Rattle.trace_command.specs.Leaving.{ok_line}
-use Rattle.trace_command.specs.Traces.{HasMisfit, IsLegal, IsWrong}
+use Rattle.command_laws.specs.TraceLeaving.{ok_line}
+use Rattle.command_laws.specs.Traces.{HasMisfit, IsLegal, IsWrong}
 use Rattle.trace_command.specs.declared.judging.Verdict.{Verdict}
 use Rattle.trace_command.specs.declared.judging.Verdict.TheVariants.{Legal, Wrong, Stopped}
 use Rattle.trace_check.specs.plain_run.fitting_births.Fitting.{Fits}

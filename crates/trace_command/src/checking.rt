@@ -4,12 +4,13 @@ ghost use Rattle.disk_trait.specs.Counts.{Rose};
 ghost use Rattle.manager_form.specs.Managing.{AreScriptManagers, managers_of};
 ghost use Rattle.script_source.specs.script_form.Rules.{IsScript};
 ghost use Rattle.script_source.specs.script_form.Scripts.{tables_of};
-ghost use Rattle.trace_check.specs.trace_steps.Standing.{Managers};
+ghost use Rattle.trace_check.specs.trace_rules.Standing.{Managers};
 ghost use Rattle.script_source.specs.command_parts.Seen.{gave, seen_disk, seen_sink, seen_source};
 ghost use Rattle.script_source.specs.command_parts.Statuses.{IsComplete, ending};
-ghost use Rattle.trace_command.specs.Booked.{over};
-ghost use Rattle.trace_command.specs.Leaving.{CanCheck, TraceLeaves};
-ghost use Rattle.trace_command.specs.Sources.{from_bytes, from_parts, from_source, most_bytes, traced_of};
+ghost use Rattle.command_laws.specs.TraceBooked.{over};
+ghost use Rattle.command_laws.specs.TraceLeaving.{CanCheck, TraceLeaves};
+ghost use Rattle.command_laws.specs.Sources.{from_bytes, from_parts, from_source, most_bytes};
+ghost use Rattle.trace_command.specs.Sources.{traced_of};
 
 use crate::judging::judge_by;
 use crate::putting::end_by;

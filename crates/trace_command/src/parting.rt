@@ -1,7 +1,7 @@
 // Where a source parts into a script and a trace.
 ghost use Rattle.std.specs.Prelude.{◌≡◌, ◌&&◌, ◌+◌, ◌<◌, ◌≤◌, ◌==◌, IfSome, drop, length, true};
 ghost use Rattle.std.specs.List.{before_first, position_or_len};
-ghost use Rattle.trace_command.specs.Parts.{is_rule as is_a_rule, rule_from};
+ghost use Rattle.command_laws.specs.SourceParts.{is_rule as is_a_rule, rule_from};
 
 /// The line between a script and its trace.
 const RULE: &[u8] = b"---";

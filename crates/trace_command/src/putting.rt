@@ -5,7 +5,7 @@ ghost use Rattle.image_tools.specs.stream_edge.Streams.{Puts};
 ghost use Rattle.script_source.specs.command_parts.Ends.{IsPut};
 ghost use Rattle.script_source.specs.command_parts.Faults.{wrong_line};
 ghost use Rattle.script_source.specs.command_parts.Seen.{gave, seen_sink};
-ghost use Rattle.trace_command.specs.Leaving.{ok_line};
+ghost use Rattle.command_laws.specs.TraceLeaving.{ok_line};
 ghost use Rattle.trace_command.specs.Verdicts.{EndsWith};
 
 use crate::judging::Verdict;

@@ -4,10 +4,11 @@ ghost use Rattle.std.specs.Io.KnownBytes.{IsAtEnd};
 ghost use Rattle.manager_form.specs.Managing.{AreScriptManagers, managers_of};
 ghost use Rattle.script_source.specs.script_form.Rules.{IsScript};
 ghost use Rattle.script_source.specs.script_form.Scripts.{tables_of};
-ghost use Rattle.script_source.specs.script_read.Reading.{IsBlamed, IsFaultOf};
+ghost use Rattle.script_source.specs.script_meaning.Reading.{IsBlamed, IsFaultOf};
 ghost use Rattle.script_source.specs.command_parts.Seen.{seen_source};
-ghost use Rattle.trace_command.specs.Parts.{rule_from};
-ghost use Rattle.trace_command.specs.Sources.{MeansTraced, StopsTraced, most_bytes, traced_meaning, traced_of};
+ghost use Rattle.command_laws.specs.SourceParts.{rule_from};
+ghost use Rattle.command_laws.specs.Sources.{MeansTraced, StopsTraced, most_bytes, traced_meaning};
+ghost use Rattle.trace_command.specs.Sources.{traced_of};
 
 use crate::parting::{behind_rule, rule_place};
 use image_tools::stream_edge::{Source, read_all};
@@ -31,11 +32,8 @@ pub(crate) struct Traced<'a> {
 fn no_rule(alloc: Global) -> ScriptFault
     ensures { IsBlamed Why.Missing (codes "---") result }
 {
-    match String::from_str(alloc, "---") {
-        Ok(key) => ScriptFault::Refused(Refusal {
-            why: Why::Missing,
-            key,
-        }),
+    match Refusal::new(alloc, Why::Missing, "---") {
+        Ok(refusal) => ScriptFault::Refused(refusal),
         Err(_) => ScriptFault::Memory,
     }
 }

@@ -2,9 +2,9 @@
 ghost use Rattle.std.specs.Prelude.{◌≡◌, ℕ, ◌≤◌, ◌<◌, ◌++◌, ◌∷◌, [], OnOk, OnErr, length, nat_le};
 ghost use Rattle.cut_finder.specs.hop_model.Choices.{IsGreatest};
 ghost use Rattle.cut_finder.specs.cut_laws.Records.{commits_of, recs_from};
-ghost use Rattle.cut_finder.specs.Records.{choice, IsAscending};
+ghost use Rattle.cut_finder.specs.cut_searches.Records.{choice, IsAscending};
 ghost use Rattle.trace_parts.specs.Cuts.{records_of};
-ghost use Rattle.trace_parts.specs.Flags.{mark_at};
+ghost use Rattle.cut_finder.specs.cut_searches.Searches.{mark_at};
 
 use cut_finder::{MOST_RECORDS, greatest_from};
 use hop_base::{Cut, Rec};

@@ -2,7 +2,8 @@
 ghost use Rattle.std.specs.Prelude.{◌≡◌, ℕ, ◌<◌, ◌&&◌, ◌||◌, ◌-◌, ◌^◌, Bool, not, false, true, slice_index};
 ghost use Rattle.cut_finder.specs.hop_model.Histories.{with_asked};
 ghost use Rattle.cut_finder.specs.hop_model.Words.{put};
-ghost use Rattle.trace_parts.specs.Flags.{mark_at, wrote_in};
+ghost use Rattle.cut_finder.specs.cut_searches.Searches.{mark_at};
+ghost use Rattle.trace_parts.specs.Flags.{wrote_in};
 
 use crate::touches::writes;
 use hop_base::{Entity, Touch, Touched};

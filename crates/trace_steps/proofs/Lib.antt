@@ -1,7 +1,3 @@
-pub mod Cutting
-pub mod Clocking
-pub mod Wishing
-pub mod Recording
 pub mod Running
 pub mod Wanting
 pub mod Marking
@@ -9,6 +5,7 @@ pub mod Stepping
 pub mod Stabling
 pub mod Bearing
 pub mod Beginning
-pub use Rattle.plain_run.proofs as plain_run_lemmas
+pub use Rattle.trace_rules.proofs.plain_run_lemmas
 pub use Rattle.run_rules.proofs.run_laws_lemmas
 pub use Rattle.run_rules.proofs as run_rules_lemmas
+pub use Rattle.trace_rules.proofs.plain_run_lemmas.plain_laws_lemmas

@@ -5,24 +5,26 @@ use Rattle.hop_base.specs.Edges.{upto}
 use Rattle.hop_base.specs.declared.histories.Entry.{Entry}
 use Rattle.hop_base.specs.declared.histories.Event.TheVariants.{Stable}
 use Rattle.hop_base.specs.declared.records.Rec.{Rec}
-use Rattle.plain_run.specs.hop_model.Choices.{IsGreatest}
-use Rattle.plain_run.specs.hop_model.Histories.{May, Policy, after_stable, commits_of, goes_on, has_changed, is_full, mark}
-use Rattle.plain_run.specs.hop_model.Scripts.{Script}
-use Rattle.plain_run.specs.hop_model.State.{KernelState, Supply}
-use Rattle.trace_parts.specs.cut_finder.Records.{IsAscending, choice}
-use Rattle.trace_parts.specs.cut_laws.Records.{commits_of as rec_commits, recs_from}
-use Rattle.trace_parts.specs.Clocks.{clock_at}
-use Rattle.trace_parts.specs.Cuts.{records_of}
-use Rattle.trace_parts.specs.Flags.{mark_at}
-use Rattle.trace_parts.specs.declared.cuts.Cuts.{Cuts}
-use Rattle.trace_parts.specs.declared.wishes.Wishes.{Wishes}
-use Rattle.trace_steps.specs.Recording.{Appends}
-use Rattle.trace_steps.specs.Standing.{Keeps, Stands, run_of}
+use Rattle.trace_rules.specs.plain_run.hop_model.Choices.{IsGreatest}
+use Rattle.trace_rules.specs.plain_run.hop_model.Histories.{May, Policy, after_stable, commits_of, goes_on, has_changed, is_full, mark}
+use Rattle.trace_rules.specs.plain_run.hop_model.Scripts.{Script}
+use Rattle.trace_rules.specs.plain_run.hop_model.State.{KernelState, Supply}
+use Rattle.trace_rules.specs.trace_parts.cut_searches.Records.{IsAscending, choice}
+use Rattle.trace_rules.specs.trace_parts.cut_laws.Records.{commits_of as rec_commits, recs_from}
+use Rattle.trace_rules.specs.trace_parts.Clocks.{clock_at}
+use Rattle.trace_rules.specs.trace_parts.Cuts.{records_of}
+use Rattle.trace_rules.specs.trace_parts.cut_searches.Searches.{mark_at}
+use Rattle.trace_rules.specs.trace_parts.declared.cuts.Cuts.{Cuts}
+use Rattle.trace_rules.specs.trace_parts.declared.wishes.Wishes.{Wishes}
+use Rattle.trace_rules.specs.Recording.{Appends}
+use Rattle.trace_steps.specs.Standing.{Keeps, Stands}
+use Rattle.trace_rules.specs.Standing.{run_of}
 use Rattle.trace_steps.specs.declared.checker.Checker.{Checker}
 use Rattle.trace_steps.proofs.Marking.{none_of}
-use Rattle.trace_steps.proofs.Recording.{changed_same, few_new}
-use Rattle.trace_steps.proofs.Running.{ascending_next, cuts_next, few_kept, full_of, stands_on}
-use Rattle.trace_steps.proofs.Wishing.{stable_wishes}
+use Rattle.trace_rules.proofs.Recording.{changed_same, few_new}
+use Rattle.trace_rules.proofs.Running.{ascending_next, cuts_next, few_kept, full_of}
+use Rattle.trace_steps.proofs.Running.{stands_on}
+use Rattle.trace_rules.proofs.Wishing.{stable_wishes}
 
 module _ (s : Supply) (policy : Policy) (script : Script) (w : KernelState) (es : List Entry) (old : Checker) (h : Stands s policy script w old es) (untried : old.tried ≡ false) (actor : ℕ) (owed : old.owed ≡ Some actor) (whole : old.short ≡ false) where
   abbrev stabled : Entry

@@ -3,9 +3,9 @@ use Rattle.std.specs.Prelude.{ℕ, ◌-◌, ◌&&◌, ◌||◌, Bool, not, List,
 use Rattle.hop_base.specs.declared.histories.Answer.{Answer}
 use Rattle.hop_base.specs.declared.histories.Answer.TheVariants.{Quiet, Hop, Reply as Replied, Read, Print}
 use Rattle.hop_base.specs.declared.instructions.Reply.TheVariants.{Ok}
-use Rattle.plain_run.specs.hop_model.Histories.{Policy}
-use Rattle.trace_parts.specs.Flags.{mark_at}
-use Rattle.trace_parts.specs.declared.wishes.Wishes.{Wishes}
+use Rattle.trace_rules.specs.plain_run.hop_model.Histories.{Policy}
+use Rattle.trace_rules.specs.trace_parts.cut_searches.Searches.{mark_at}
+use Rattle.trace_rules.specs.trace_parts.declared.wishes.Wishes.{Wishes}
 
 -- this, where the answer is Ok
 abbrev pub if_ok : Answer → Option ℕ → Option ℕ

@@ -1,5 +1,4 @@
-pub mod Keeping
-pub mod Recording
 pub mod Standing
 pub mod Asking
-pub use Rattle.plain_run.specs as plain_run
+pub use Rattle.trace_rules.specs.plain_run
+pub use Rattle.trace_rules.specs as trace_rules

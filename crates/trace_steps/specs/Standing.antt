@@ -1,31 +1,17 @@
 -- Where a checker stands: behind a legal run, with all that the rules look at.
-use Rattle.std.specs.Prelude.{◌≡◌, ℕ, ◌<◌, ◌≤◌, ◌^◌, true, false, Option, None, Some, List, [], ◌∷◌, ◌++◌, is_some, slice_index}
+use Rattle.std.specs.Prelude.{◌≡◌, ℕ, ◌<◌, ◌≤◌, true, false, Option, None, Some, List, [], ◌∷◌, ◌++◌, is_some, slice_index}
 use Rattle.hop_base.specs.declared.histories.Entry.{Entry}
 use Rattle.hop_base.specs.declared.histories.Event.{Event}
-use Rattle.plain_run.specs.history_model.Born.{AreEdges, AreOfOneKind}
-use Rattle.plain_run.specs.history_model.Events.{Has, state_with}
-use Rattle.plain_run.specs.history_model.Plains.{atlas_of, cells_of}
-use Rattle.plain_run.specs.history_model.declared.plain.Plain.{Plain}
-use Rattle.plain_run.specs.hop_model.Histories.{IsLegalRun, May, MayCommit, Policy, Run, births_owed, run_after, start_run}
-use Rattle.plain_run.specs.hop_model.Scripts.{Script}
-use Rattle.plain_run.specs.hop_model.Soundness.{IsSound}
-use Rattle.plain_run.specs.hop_model.State.{KernelState, Supply, Text}
-use Rattle.plain_run.specs.hop_model.Vectors.{StampsBelow}
-use Rattle.run_rules.specs.run_laws.Versions.{OnlyBelow64}
-use Rattle.plain_run.specs.script_form.Rules.{IsScript}
-use Rattle.plain_run.specs.sound_runs.Kinds.{NamesNoLocus}
-use Rattle.trace_steps.specs.Keeping.{HasClocks, HasCuts, HasWishes}
+use Rattle.trace_rules.specs.plain_run.history_model.Born.{AreEdges, AreOfOneKind}
+use Rattle.trace_rules.specs.plain_run.history_model.Events.{Has}
+use Rattle.trace_rules.specs.plain_run.history_model.Plains.{atlas_of, cells_of}
+use Rattle.trace_rules.specs.plain_run.hop_model.Histories.{May, MayCommit, Policy, Run, births_owed}
+use Rattle.trace_rules.specs.plain_run.hop_model.Scripts.{Script}
+use Rattle.trace_rules.specs.plain_run.hop_model.Soundness.{IsSound}
+use Rattle.trace_rules.specs.plain_run.hop_model.State.{KernelState, Supply, Text}
+use Rattle.trace_rules.specs.Keeping.{HasClocks, HasCuts, HasWishes}
 use Rattle.trace_steps.specs.declared.checker.Checker.{Checker}
-
--- a legal run of an allowed script, from a sound state whose versions can rise
-pub record IsRunFrom (s : Supply) (policy : Policy) (script : Script) (w : KernelState) (es : List Entry) : Type 0 where
-  pub rules : IsScript script
-  pub kinds : NamesNoLocus script w
-  pub sound : IsSound (λ x. (w x).cell)
-  pub below : StampsBelow w
-  pub narrow : OnlyBelow64 (λ x. (w x).version)
-  pub low : (x : ℕ) → (w x).version ≤ 2 ^ 62
-  pub legal : IsLegalRun s policy w script es
+use Rattle.trace_rules.specs.Standing.{IsRunFrom, run_of}
 
 -- what the rules look at beside the state
 pub record HasMarks (script : Script) (r : Run) (c : Checker) : Type 0 where
@@ -46,10 +32,6 @@ pub record Keeps (s : Supply) (script : Script) (r : Run) (c : Checker) : Type 0
   pub cuts : HasCuts r c.cuts
   pub marks : HasMarks script r c
   pub kinds : r.began ≡ true → AreOfOneKind (atlas_of c.state.atlas) script
-
--- what the rules look at after these entries, from this state
-abbrev pub run_of : Supply → Script → KernelState → List Entry → Run
-run_of s script w es = run_after s script (start_run w) es
 
 -- THE CHECKER STANDS behind these entries, from this state
 pub record Stands (s : Supply) (policy : Policy) (script : Script) (w : KernelState) (c : Checker) (es : List Entry) : Type 0 where
@@ -92,11 +74,6 @@ pub record CanStep (c : Checker) (steps l : ℕ) : Type 0 where
   pub locus : 41 ≤ l
   pub made : slice_index c.made l < steps
 
--- the answers of a supplier and a policy
-pub record Managers : Type 0 where
-  pub word : Supply
-  pub wish : Policy
-
 -- a Stable of the actor is owed where the checker stands, and was not cut short
 pub record OwesStable (policy : Policy) (c : Checker) (actor : ℕ) : Type 0 where
   pub supply : Supply
@@ -106,10 +83,6 @@ pub record OwesStable (policy : Policy) (c : Checker) (actor : ℕ) : Type 0 whe
   pub stands : Stands supply policy script start c entries
   pub owed : c.owed ≡ Some actor
   pub whole : c.short ≡ false
-
--- the state with these cells and versions, and clocks that tell nothing
-abbrev pub fresh : Supply → Plain → List ℕ → KernelState
-fresh s p versions = state_with (cells_of s p) versions (λ _ _. 0)
 
 -- with this name left to be born, or none: then the Stable of the atlas is owed
 abbrev pub owing : Option Text → Checker → Checker

@@ -1,18 +1,19 @@
 //! A birth of the script's next name.
 ghost use Rattle.std.specs.Prelude.{◌≡◌, ℕ, IfNone, IfOk, IfSome, Some, None, false};
 ghost use Rattle.hop_base.specs.declared.histories.Event.TheVariants.{Birth as BirthEvent};
-ghost use Rattle.plain_run.specs.hop_model.Scripts.{next_name as next_of};
-ghost use Rattle.plain_run.specs.history_model.Plains.{atlas_of};
-ghost use Rattle.plain_run.specs.script_form.Scripts.{tables_of};
-ghost use Rattle.trace_steps.specs.Standing.{GoesOn, IsStanding, Managers, Refuses, owing};
-ghost use Rattle.plain_run.specs.history_model.Born.{HasFewNames};
+ghost use Rattle.trace_rules.specs.plain_run.hop_model.Scripts.{next_name as next_of};
+ghost use Rattle.trace_rules.specs.plain_run.history_model.Plains.{atlas_of};
+ghost use Rattle.trace_rules.specs.plain_run.script_form.Scripts.{tables_of};
+ghost use Rattle.trace_steps.specs.Standing.{GoesOn, IsStanding, Refuses, owing};
+ghost use Rattle.trace_rules.specs.Standing.{Managers};
+ghost use Rattle.trace_rules.specs.plain_run.history_model.Born.{HasFewNames};
 
 use crate::checker::Checker;
 use hop_base::{Entity, Entry};
-use plain_run::history_model::plain_birth;
-use plain_run::next_name;
-use plain_run::script_form::Script;
 use std::alloc::{AllocError, Global};
+use trace_rules::plain_run::history_model::plain_birth;
+use trace_rules::plain_run::next_name;
+use trace_rules::plain_run::script_form::Script;
 
 /// Whether names are left to be born. After the last birth the Stable of the atlas is owed.
 fn owe_births(checker: &mut Checker, script: &Script)

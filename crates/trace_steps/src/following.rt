@@ -1,8 +1,9 @@
 //! The entry that follows, by its event and actor.
 ghost use Rattle.std.specs.Prelude.{◌≡◌, ◌<◌, ◌^◌, ℕ, Bool, IfNone, IfOk, IfSome, false};
 ghost use Rattle.hop_base.specs.declared.histories.Event.TheVariants.{Birth as BirthEvent};
-ghost use Rattle.plain_run.specs.script_form.Scripts.{tables_of};
-ghost use Rattle.trace_steps.specs.Standing.{GoesOn, IsStanding, Managers, Refuses};
+ghost use Rattle.trace_rules.specs.plain_run.script_form.Scripts.{tables_of};
+ghost use Rattle.trace_steps.specs.Standing.{GoesOn, IsStanding, Refuses};
+ghost use Rattle.trace_rules.specs.Standing.{Managers};
 
 use crate::births::birth;
 use crate::checker::Checker;
@@ -10,8 +11,8 @@ use crate::snaps::{snap, try_record};
 use crate::stables::stable;
 use crate::steps::step;
 use hop_base::{Entity, Entry, Event};
-use plain_run::script_form::Script;
 use std::alloc::{AllocError, Global};
+use trace_rules::plain_run::script_form::Script;
 
 /// The birth of this entity, if it is the next one.
 fn birth_of(

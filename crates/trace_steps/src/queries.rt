@@ -1,15 +1,15 @@
 //! What may be committed next.
 ghost use Rattle.std.specs.Prelude.{◌≡◌, ◌<◌, ◌^◌, ◌↔◌, ℕ, Bool, IsTrue, Some};
-ghost use Rattle.plain_run.specs.hop_model.Histories.{Policy as AnyPolicy, MayCommit, Run, every_of, has_wish as model_wish};
-ghost use Rattle.plain_run.specs.hop_model.Scripts.{Script};
-ghost use Rattle.plain_run.specs.hop_model.State.{Supply};
-ghost use Rattle.plain_run.specs.history_model.Plains.{cells_of};
-ghost use Rattle.trace_steps.specs.Recording.{first_changed};
+ghost use Rattle.trace_rules.specs.plain_run.hop_model.Histories.{Policy as AnyPolicy, MayCommit, Run, every_of, has_wish as model_wish};
+ghost use Rattle.trace_rules.specs.plain_run.hop_model.Scripts.{Script};
+ghost use Rattle.trace_rules.specs.plain_run.hop_model.State.{Supply};
+ghost use Rattle.trace_rules.specs.plain_run.history_model.Plains.{cells_of};
+ghost use Rattle.trace_rules.specs.Recording.{first_changed};
 ghost use Rattle.trace_steps.specs.Standing.{Keeps};
 
 use crate::checker::Checker;
 use hop_base::{Entity, FIRST_CONTAINER, FIRST_LOCUS, Kind};
-use plain_run::history_model::Plain;
+use trace_rules::plain_run::history_model::Plain;
 
 /// The interval of an entity's snapshots, 0 where it is not born. The atlas's is 1.
 pub fn every_at(state: &Plain, entity: Entity) -> u32

@@ -2,10 +2,11 @@
 ghost use Rattle.std.specs.Prelude.{◌≡◌, ◌<◌, ◌^◌, ◌++◌, ◌∷◌, [], ℕ, Bool, false, List, IfNone, IfOk, IfSome, OnOk, slice_index};
 ghost use Rattle.hop_base.specs.declared.histories.Entry.{Entry as AnEntry};
 ghost use Rattle.hop_base.specs.declared.histories.Event.TheVariants.{Snap as SnapEvent, Tried as TriedEvent};
-ghost use Rattle.plain_run.specs.hop_model.Histories.{MayCommit, Policy as AnyPolicy, mark as model_mark};
-ghost use Rattle.plain_run.specs.hop_model.Scripts.{Script};
-ghost use Rattle.plain_run.specs.hop_model.State.{KernelState, Supply};
-ghost use Rattle.trace_steps.specs.Standing.{CanCommit, GoesOn, IsStanding, Refuses, Stands, run_of};
+ghost use Rattle.trace_rules.specs.plain_run.hop_model.Histories.{MayCommit, Policy as AnyPolicy, mark as model_mark};
+ghost use Rattle.trace_rules.specs.plain_run.hop_model.Scripts.{Script};
+ghost use Rattle.trace_rules.specs.plain_run.hop_model.State.{KernelState, Supply};
+ghost use Rattle.trace_steps.specs.Standing.{CanCommit, GoesOn, IsStanding, Refuses, Stands};
+ghost use Rattle.trace_rules.specs.Standing.{run_of};
 
 use crate::checker::Checker;
 use crate::commits::{commit_one, record_of};

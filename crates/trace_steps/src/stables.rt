@@ -2,11 +2,11 @@
 ghost use Rattle.std.specs.Prelude.{◌≡◌, ◌++◌, ◌∷◌, [], ◌↔◌, ℕ, List, IfNone, IfOk, IfSome, IsTrue, OnOk, Some, false};
 ghost use Rattle.hop_base.specs.declared.histories.Entry.{Entry as AnEntry};
 ghost use Rattle.hop_base.specs.declared.histories.Event.TheVariants.{Stable as StableEvent};
-ghost use Rattle.plain_run.specs.hop_model.Histories.{Policy as AnyPolicy, mark as model_mark};
-ghost use Rattle.plain_run.specs.hop_model.Scripts.{Script};
-ghost use Rattle.plain_run.specs.hop_model.State.{KernelState, Supply};
-ghost use Rattle.trace_parts.specs.Clocks.{clock_at};
-ghost use Rattle.trace_steps.specs.Recording.{Appends};
+ghost use Rattle.trace_rules.specs.plain_run.hop_model.Histories.{Policy as AnyPolicy, mark as model_mark};
+ghost use Rattle.trace_rules.specs.plain_run.hop_model.Scripts.{Script};
+ghost use Rattle.trace_rules.specs.plain_run.hop_model.State.{KernelState, Supply};
+ghost use Rattle.trace_rules.specs.trace_parts.Clocks.{clock_at};
+ghost use Rattle.trace_rules.specs.Recording.{Appends};
 ghost use Rattle.trace_steps.specs.Standing.{GoesOn, IsStanding, OwesStable, Refuses, Stands};
 
 use crate::checker::Checker;
@@ -14,7 +14,7 @@ use crate::commits::record_of;
 use crate::snaps::mark;
 use hop_base::{Entity, Entry, Event};
 use std::alloc::AllocError;
-use trace_parts::{Clocks, Cuts};
+use trace_rules::trace_parts::{Clocks, Cuts};
 
 /// Appends the record of each entity that has changed since its newest commit, ascending. The cut stays as it was.
 pub(crate) fn append_changed(

@@ -1,24 +1,25 @@
 //! A checker before the first entry.
 ghost use Rattle.std.specs.Prelude.{◌≡◌, ◌≤◌, ◌^◌, [], All, IfOk, false};
-ghost use Rattle.plain_run.specs.hop_model.Histories.{Policy as AnyPolicy};
-ghost use Rattle.plain_run.specs.hop_model.Soundness.{IsSound};
-ghost use Rattle.plain_run.specs.hop_model.State.{Supply};
-ghost use Rattle.plain_run.specs.history_model.Born.{AreEdges, AreOfOneKind};
-ghost use Rattle.plain_run.specs.history_model.Plains.{atlas_of, cells_of};
-ghost use Rattle.plain_run.specs.script_form.Rules.{IsScript};
-ghost use Rattle.plain_run.specs.script_form.Scripts.{tables_of};
-ghost use Rattle.trace_parts.specs.Clocks.{clock_at};
-ghost use Rattle.trace_steps.specs.Recording.{Opens};
-ghost use Rattle.trace_steps.specs.Standing.{Stands, fresh};
+ghost use Rattle.trace_rules.specs.plain_run.hop_model.Histories.{Policy as AnyPolicy};
+ghost use Rattle.trace_rules.specs.plain_run.hop_model.Soundness.{IsSound};
+ghost use Rattle.trace_rules.specs.plain_run.hop_model.State.{Supply};
+ghost use Rattle.trace_rules.specs.plain_run.history_model.Born.{AreEdges, AreOfOneKind};
+ghost use Rattle.trace_rules.specs.plain_run.history_model.Plains.{atlas_of, cells_of};
+ghost use Rattle.trace_rules.specs.plain_run.script_form.Rules.{IsScript};
+ghost use Rattle.trace_rules.specs.plain_run.script_form.Scripts.{tables_of};
+ghost use Rattle.trace_rules.specs.trace_parts.Clocks.{clock_at};
+ghost use Rattle.trace_rules.specs.Recording.{Opens};
+ghost use Rattle.trace_steps.specs.Standing.{Stands};
+ghost use Rattle.trace_rules.specs.Standing.{fresh};
 
 use crate::checker::Checker;
 use crate::stables::append_changed;
 use hop_base::Cut;
-use plain_run::history_model::Plain;
-use plain_run::next_name;
-use plain_run::script_form::Script;
 use std::alloc::{AllocError, Global};
-use trace_parts::{Clocks, Cuts, Wishes};
+use trace_rules::plain_run::history_model::Plain;
+use trace_rules::plain_run::next_name;
+use trace_rules::plain_run::script_form::Script;
+use trace_rules::trace_parts::{Clocks, Cuts, Wishes};
 
 /// The cut at the start, and a record of each entity that has a version there.
 fn opened(alloc: Global, clocks: &Clocks, versions: &[u64; 64]) -> Result<Cuts, AllocError>

@@ -1,16 +1,17 @@
 //! A step of a locus.
 ghost use Rattle.std.specs.Prelude.{◌≡◌, ◌+◌, ◌<◌, ◌^◌, ◌↔◌, ℕ, Bool, IfNone, IfOk, IfSome, IsTrue, false, slice_index};
 ghost use Rattle.hop_base.specs.declared.histories.Event.TheVariants.{Step as StepEvent};
-ghost use Rattle.plain_run.specs.hop_model.Words.{put};
-ghost use Rattle.plain_run.specs.script_form.Scripts.{tables_of};
-ghost use Rattle.trace_steps.specs.Standing.{CanStep, GoesOn, IsStanding, Managers, Refuses};
+ghost use Rattle.trace_rules.specs.plain_run.hop_model.Words.{put};
+ghost use Rattle.trace_rules.specs.plain_run.script_form.Scripts.{tables_of};
+ghost use Rattle.trace_steps.specs.Standing.{CanStep, GoesOn, IsStanding, Refuses};
+ghost use Rattle.trace_rules.specs.Standing.{Managers};
 
 use crate::checker::Checker;
 use crate::wants::{asked_at, intervals, is_any_due, owed_at, where_ok};
 use hop_base::{Entity, Entry, FIRST_LOCUS};
-use plain_run::plain_steps::plain_step;
-use plain_run::script_form::Script;
 use std::alloc::AllocError;
+use trace_rules::plain_run::plain_steps::plain_step;
+use trace_rules::plain_run::script_form::Script;
 
 /// Counts one more step of the locus.
 fn count_step(made: &mut [u32; 64], x: usize)

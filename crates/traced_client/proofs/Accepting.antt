@@ -6,7 +6,7 @@ use Rattle.disk_trait.specs.MemoryDisk.{moments_of}
 use Rattle.disk_trait.specs.declared.memory.MemoryDisk.{MemoryDisk}
 use Rattle.client_calls.proofs.Carried.{HadMemory, command_leaves}
 use Rattle.client_calls.proofs.Fresh.{means_nothing, run_fits, run_holds}
-use Rattle.client_calls.proofs.hopper_top_lemmas.trace_command_lemmas.Complete.{legal_here, may_end}
+use Rattle.client_calls.proofs.hopper_top_lemmas.command_laws_lemmas.Traced.{legal_here, may_end}
 use Rattle.client_calls.specs.Calls.{IsCalled, managers, seen_by, seen_memory}
 use Rattle.client_calls.specs.Images.{HasNewImage}
 use Rattle.client_calls.specs.declared.calling.Called.{Called}
@@ -23,8 +23,8 @@ use Rattle.client_calls.specs.hopper_top.entry_lines.Entries.{trace_of}
 use Rattle.client_calls.specs.hopper_top.hop_model.State.{Text, empty_state}
 use Rattle.client_calls.specs.hopper_top.kernel_model.Beginnings.{Beginning}
 use Rattle.client_calls.specs.hopper_top.run_outcomes.Runs.{IsServed}
-use Rattle.client_calls.specs.hopper_top.trace_command.Leaving.{CanCheck, TraceLeaves, ok_line}
-use Rattle.client_calls.specs.hopper_top.trace_command.Sources.{from_source}
+use Rattle.client_calls.specs.hopper_top.command_laws.TraceLeaving.{CanCheck, TraceLeaves, ok_line}
+use Rattle.client_calls.specs.hopper_top.command_laws.Sources.{from_source}
 use Rattle.own_traces.proofs.Feeds.{count_feeds, feeds}
 use Rattle.own_traces.proofs.Lasting.{own_spells}
 use Rattle.own_traces.specs.trace_check.trace_words.Traces.{Spells}

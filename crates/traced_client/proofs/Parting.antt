@@ -3,14 +3,14 @@ use Rattle.std.proofs.Common.{◌≡◌, ℕ, suc, ◌+◌, ◌≤◌, ◌==◌,
 use Rattle.std.specs.List.{before_first, position_or_len}
 use Rattle.std.proofs.Math.Seq.{drop-append_seam, take-append_seam}
 use Rattle.std.proofs.lemmas.List.{length-append}
-use Rattle.client_calls.proofs.hopper_top_lemmas.trace_command_lemmas.Meaning.{meaning_ok}
+use Rattle.client_calls.proofs.hopper_top_lemmas.command_laws_lemmas.TracedMeaning.{meaning_ok}
 use Rattle.client_calls.specs.hopper_top.hop_model.Scripts.{Script as Tables}
 use Rattle.client_calls.specs.hopper_top.hop_model.State.{Text}
 use Rattle.client_calls.specs.hopper_top.script_source.Sources.{IsAccepted}
-use Rattle.client_calls.specs.hopper_top.trace_command.Parts.{is_rule, rule_from}
-use Rattle.client_calls.specs.hopper_top.trace_command.Sources.{MeansTraced}
+use Rattle.client_calls.specs.hopper_top.command_laws.SourceParts.{is_rule, rule_from}
+use Rattle.client_calls.specs.hopper_top.command_laws.Sources.{MeansTraced}
 use Rattle.manager_form.specs.Managing.{ManagerTables}
-use Rattle.script_read.specs.Meaning.{Source as ScriptSource, script_meaning}
+use Rattle.script_read.specs.script_meaning.Meaning.{Source as ScriptSource, script_meaning}
 use Rattle.traced_client.specs.Promise.{IsTraceable, most_bytes, traced_source}
 
 -- THE FIRST LINE

@@ -16,9 +16,9 @@ use Rattle.client_calls.specs.hopper_top.kernel_model.Beginnings.{Beginning, IsL
 use Rattle.client_calls.specs.hopper_top.run_outcomes.Runs.{told}
 use Rattle.client_calls.specs.hopper_top.script_source.Sources.{IsAccepted}
 use Rattle.client_calls.specs.hopper_top.serial_runs.Serial.{IsWhole}
-use Rattle.client_calls.specs.hopper_top.trace_command.Leaving.{ok_line}
-use Rattle.client_calls.specs.hopper_top.trace_command.Parts.{rule_from}
-use Rattle.client_calls.specs.hopper_top.trace_command.Sources.{most_bytes as most}
+use Rattle.client_calls.specs.hopper_top.command_laws.TraceLeaving.{ok_line}
+use Rattle.client_calls.specs.hopper_top.command_laws.SourceParts.{rule_from}
+use Rattle.client_calls.specs.hopper_top.command_laws.Sources.{most_bytes as most}
 use Rattle.manager_form.specs.Managing.{ManagerTables}
 use Rattle.traced_client.specs.declared.tracing.Checked.{Checked}
 

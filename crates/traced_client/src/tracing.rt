@@ -44,10 +44,7 @@ pub fn trace_and_check(alloc: Global, script: &str) -> Result<Checked, AllocErro
     ensures accepted { IfOk result (λ c. c.formatted ≡ Status.Done → c.ran ≡ Status.Done → c.formatted_again ≡ Status.Done
         → IsTraceable script.now → length (traced_source script.now c.trace.items) ≤ most_bytes → AcceptsOwn c) }
 {
-    let Called {
-        outcome: formatted,
-        ..
-    } = new_image(alloc)?;
+    let formatted = new_image(alloc)?.outcome;
     let Called {
         outcome: ran,
         text: trace,
@@ -59,10 +56,7 @@ pub fn trace_and_check(alloc: Global, script: &str) -> Result<Checked, AllocErro
         formatted.disk,
     )?;
     let traced = with_rule(alloc, script.as_bytes(), &trace)?;
-    let Called {
-        outcome: formatted_again,
-        ..
-    } = new_image(alloc)?;
+    let formatted_again = new_image(alloc)?.outcome;
     let Called {
         outcome: checked,
         text: verdict,

@@ -4,7 +4,7 @@ use Rattle.std.specs.Prelude.{IfSome, decimal, slice_get}
 use Rattle.std.proofs.lemmas.Bool.{eqb-false}
 use Rattle.std.proofs.lemmas.Fmt.{length-decimal-le}
 use Rattle.std.proofs.lemmas.Option.{slice_get_within}
-use Rattle.atlas_dir.specs.Directory.{Directory, IsDirectory, IsNameOf, name_of}
+use Rattle.atlas_dir.specs.directory_form.Directory.{Directory, IsDirectory, IsNameOf, name_of}
 use Rattle.text_lines.specs.hop_model.Scripts.{atlas_name}
 use Rattle.text_lines.specs.hop_model.State.{Text}
 use Rattle.kernel_calls.specs.Calls.{atlas_state}

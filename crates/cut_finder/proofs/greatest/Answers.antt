@@ -1,8 +1,8 @@
 use Rattle.std.proofs.Common.{ℕ, subst}
 use Rattle.cut_laws.specs.hop_model.Choices.{IsGreatest}
 use Rattle.cut_laws.specs.Records.{commits_of}
-use Rattle.cut_finder.specs.Records.{choice}
-use Rattle.cut_finder.proofs.Fronts.{zeros}
+use Rattle.cut_searches.specs.Records.{choice}
+use Rattle.cut_searches.proofs.Fronts.{zeros}
 use Rattle.cut_finder.proofs.greatest.Goals as goal
 
 pub returns : goal.returns

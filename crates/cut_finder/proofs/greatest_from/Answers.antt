@@ -2,8 +2,8 @@ use Rattle.std.proofs.Common.{subst}
 use Rattle.hop_base.specs.declared.records.Cut.{Cut}
 use Rattle.cut_laws.specs.hop_model.Choices.{IsGreatest}
 use Rattle.cut_laws.specs.Records.{commits_of}
-use Rattle.cut_finder.specs.Records.{choice}
-use Rattle.cut_finder.proofs.Lowering.{ends}
+use Rattle.cut_searches.specs.Records.{choice}
+use Rattle.cut_searches.proofs.Lowering.{ends}
 use Rattle.cut_finder.proofs.greatest_from.Goals as goal
 
 pub returns : goal.returns

@@ -1,6 +1,6 @@
 use Rattle.vector_stamps.specs.Stamps.{component}
-use Rattle.cut_finder.specs.Records.{choice}
-use Rattle.cut_finder.specs.Searches.{IsSearch, place_at, mark_at, falls_left}
+use Rattle.cut_searches.specs.Records.{choice}
+use Rattle.cut_searches.specs.Searches.{IsSearch, place_at, mark_at, falls_left}
 use Rattle.cut_finder.proofs.greatest_from.Given as goal
 
 abbrev pub invariant-loop-x : goal.invariant-loop-x

@@ -2,8 +2,8 @@ use Rattle.std.proofs.Common.{◌≡◌, ℕ, ◌<◌, List, length, get_or, ari
 use Rattle.std.proofs.lemmas.List.{get_or_default}
 use Rattle.std.proofs.lemmas.Bool.{false≢true}
 use Rattle.hop_base.specs.declared.records.Rec.{Rec}
-use Rattle.cut_finder.specs.Searches.{no_record, record_at}
-use Rattle.cut_finder.proofs.Ascending.{IsAscendingTo, none_read, one_more_read, falls_below, all_read}
+use Rattle.cut_searches.specs.Searches.{no_record, record_at}
+use Rattle.cut_searches.proofs.Ascending.{IsAscendingTo, none_read, one_more_read, falls_below, all_read}
 use Rattle.cut_finder.proofs.is_ascending.Goals as goal
 
 pub loop-rec-init : goal.loop-rec-init

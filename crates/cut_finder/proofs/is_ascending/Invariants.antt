@@ -1,4 +1,4 @@
-use Rattle.cut_finder.proofs.Ascending.{IsAscendingTo}
+use Rattle.cut_searches.proofs.Ascending.{IsAscendingTo}
 use Rattle.cut_finder.proofs.is_ascending.Given as goal
 
 abbrev pub invariant-loop-rec : goal.invariant-loop-rec

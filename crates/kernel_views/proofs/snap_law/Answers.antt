@@ -1,4 +1,4 @@
-use Rattle.kernel_records.specs.snapshot_store.State.{State, books}
+use Rattle.kernel_records.specs.store_laws.State.{State, books}
 use Rattle.kernel_records.specs.Committing.{HasPages}
 use Rattle.cell_table.specs.Tables.{IsOrderly}
 use Rattle.kernel_views.proofs.Leaving.{LeftCell}

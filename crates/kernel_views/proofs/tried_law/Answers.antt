@@ -1,5 +1,5 @@
 use Rattle.std.proofs.Common.{sym, subst}
-use Rattle.kernel_records.specs.snapshot_store.State.{State}
+use Rattle.kernel_records.specs.store_laws.State.{State}
 use Rattle.kernel_records.specs.wish_laws.Founded.{IsFoundedCell}
 use Rattle.kernel_views.proofs.Leaving.{LeftCell}
 use Rattle.kernel_views.proofs.Behind.{pages_order}

@@ -1,5 +1,5 @@
 use Rattle.std.proofs.Common.{arith, refl}
-use Rattle.atlas_dir.specs.Directory.{edges_of}
+use Rattle.atlas_dir.specs.directory_form.Directory.{edges_of}
 use Rattle.act_checks.proofs.EdgeLemmas.{all_counted}
 use Rattle.act_checks.proofs.edges.is_counted.Goals as goal
 

@@ -1,6 +1,6 @@
 use Rattle.std.proofs.Common.{◌≡◌, ℕ, ◌<◌, ◌==◌}
 use Rattle.std.specs.Prelude.{count_by}
-use Rattle.atlas_dir.specs.Directory.{edges_of}
+use Rattle.atlas_dir.specs.directory_form.Directory.{edges_of}
 use Rattle.act_checks.proofs.edges.is_counted.Given as goal
 
 abbrev pub invariant-loop-target : goal.invariant-loop-target

@@ -1,8 +1,8 @@
 -- The new name is a given one that leads to no number yet, or the made one of the lowest free number.
 use Rattle.std.proofs.Common.{◌≡◌, ◌+◌, ◌<◌, length, None, refl, sym, ap, ◌∙◌, arith}
 use Rattle.hop_base.specs.declared.entities.Kind.TheVariants.{Container, Locus}
-use Rattle.atlas_dir.specs.Directory.{Directory, name_of}
-use Rattle.atlas_dir.proofs.Naming.{NewName, has_room, given_new, made_new, born_container, born_locus, free_container_none, free_locus_none}
+use Rattle.directory_form.specs.Directory.{Directory, name_of}
+use Rattle.directory_form.proofs.Naming.{NewName, has_room, given_new, made_new, born_container, born_locus, free_container_none, free_locus_none}
 use Rattle.atlas_dir.proofs.Atlas.birth.Goals as goal
 use Rattle.atlas_dir.proofs.Atlas.birth.Goals.{in-Container, in-Locus, in-Some, in-None}
 

@@ -1,6 +1,5 @@
 use Rattle.std.proofs.Common.{arith}
-use Rattle.atlas_dir.proofs.Naming.{nothing_born}
-use Rattle.atlas_dir.proofs.Paths.{no_edges}
+use Rattle.directory_form.proofs.Naming.{no_edges, nothing_born}
 use Rattle.atlas_dir.proofs.Atlas.new.Goals as goal
 
 pub invariant_of-result : goal.invariant_of-result

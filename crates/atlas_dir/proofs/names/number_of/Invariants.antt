@@ -1,5 +1,5 @@
 use Rattle.std.proofs.Common.{◌≡◌, ◌+◌, drop}
-use Rattle.atlas_dir.specs.Directory.{number_from}
+use Rattle.directory_form.specs.Directory.{number_from}
 use Rattle.atlas_dir.proofs.names.number_of.Given as goal
 
 abbrev pub invariant-loop-place : goal.invariant-loop-place

@@ -2,9 +2,10 @@
 use Rattle.std.proofs.Common.{ℕ, List, true, false, sym, ◌∙◌, arith, length-set, get_or-set_same}
 use Rattle.std.specs.Prelude.{replicate}
 use Rattle.hop_base.specs.Edges.{IsPath}
-use Rattle.std.proofs.lemmas.Bool.{false≢true}
-use Rattle.atlas_dir.specs.Reached.{edges_in, is_marked}
-use Rattle.atlas_dir.proofs.Paths.{one_marked, unmarked_less, still_marked, reached_more, closed_path, on_false}
+use Rattle.std.proofs.lemmas.Bool.{OnFalse_from, false≢true}
+use Rattle.circle_law.specs.Marks.{is_marked}
+use Rattle.circle_law.proofs.Marks.{one_marked, unmarked_less, still_marked, reached_more, closed_path}
+use Rattle.directory_form.specs.Reached.{edges_in}
 use Rattle.atlas_dir.proofs.reached.leads.Goals as goal
 
 pub loop-y-init : goal.loop-y-init
@@ -28,4 +29,4 @@ loop-y-preserved c =
 
 pub returns-clause-none : goal.returns-clause-none
 returns-clause-none c =
-    on_false (is_marked c.loop-y.marks c.args.to) ((path : List ℕ) → IsPath (edges_in c.args.edges.now) c.args.from path c.args.to → ⊥) (λ e path p. false≢true (sym e ∙ closed_path c.args.edges.now c.loop-y.marks c.in_default.ensures.none c.args.from c.args.to path c.loop-y.invariant.first p))
+    OnFalse_from (is_marked c.loop-y.marks c.args.to) ((path : List ℕ) → IsPath (edges_in c.args.edges.now) c.args.from path c.args.to → ⊥) (λ e path p. false≢true (sym e ∙ closed_path (edges_in c.args.edges.now) c.loop-y.marks c.in_default.ensures.none c.args.from c.args.to path c.loop-y.invariant.first p))

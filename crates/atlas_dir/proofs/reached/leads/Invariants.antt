@@ -1,6 +1,7 @@
 use Rattle.std.proofs.Common.{◌≡◌, true, length}
-use Rattle.atlas_dir.specs.Reached.{edges_in, is_marked}
-use Rattle.atlas_dir.proofs.Paths.{AllReached, unmarked}
+use Rattle.circle_law.specs.Marks.{is_marked}
+use Rattle.circle_law.proofs.Marks.{AllReached, unmarked}
+use Rattle.directory_form.specs.Reached.{edges_in}
 use Rattle.atlas_dir.proofs.reached.leads.Given as goal
 
 abbrev pub invariant-loop-y : goal.invariant-loop-y

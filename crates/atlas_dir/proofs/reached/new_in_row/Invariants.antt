@@ -1,5 +1,5 @@
 use Rattle.std.proofs.Common.{◌≡◌, ℕ, ◌<◌, true, get_or}
-use Rattle.atlas_dir.specs.Reached.{is_marked}
+use Rattle.circle_law.specs.Marks.{is_marked}
 use Rattle.atlas_dir.proofs.reached.new_in_row.Given as goal
 
 abbrev pub invariant-loop-y : goal.invariant-loop-y

@@ -1,5 +1,6 @@
 use Rattle.std.proofs.Common.{◌≡◌, ℕ, ◌<◌, true}
-use Rattle.atlas_dir.specs.Reached.{edges_in, is_marked}
+use Rattle.circle_law.specs.Marks.{is_marked}
+use Rattle.directory_form.specs.Reached.{edges_in}
 use Rattle.atlas_dir.proofs.reached.new_number.Given as goal
 
 abbrev pub invariant-loop-x : goal.invariant-loop-x

@@ -1,8 +1,8 @@
 use Rattle.std.proofs.Common.{length}
 use Rattle.hop_base.specs.declared.entities.Kind.TheVariants.{Atlas}
-use Rattle.directory_laws.specs.kernel_calls.Calls.{atlas_state}
+use Rattle.snapshot_reading.specs.directory_laws.kernel_calls.Calls.{atlas_state}
 use Rattle.snapshot_reading.proofs.Whole.{all, malformed, near, near_past, none_left, not_none, too_long}
-use Rattle.atlas_reading.specs.Atlases.{IsAtlasSpelled}
+use Rattle.snapshot_reading.specs.blob_fields.Atlases.{IsAtlasSpelled}
 use Rattle.atlas_reading.proofs.atlases.read_atlas.Goals as goal
 
 pub place_of-requires-clause-near : goal.place_of-requires-clause-near

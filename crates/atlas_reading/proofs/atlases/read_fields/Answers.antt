@@ -1,11 +1,11 @@
 use Rattle.std.proofs.Common.{[], subst}
 use Rattle.hop_base.specs.declared.entities.Kind.TheVariants.{Container, Locus}
-use Rattle.atlas_dir.specs.Directory.{Directory, edges_of}
-use Rattle.snapshot_reading.specs.Fields.{IsRefused, Spells}
+use Rattle.atlas_dir.specs.directory_form.Directory.{Directory, edges_of}
+use Rattle.snapshot_reading.specs.blob_fields.Fields.{IsRefused, Spells}
 use Rattle.snapshot_reading.proofs.Exits.{hands_on}
-use Rattle.atlas_reading.specs.Names.{AreNamesSpelled}
-use Rattle.atlas_reading.proofs.AtlasFields.{atlas_found, containers_refused, count_refused, edges_refused, kind_refused, loci_refused, locus_count_refused}
-use Rattle.atlas_reading.proofs.AtlasRead.{containers_found, loci_found, named_is, no_edges, no_rows, whole}
+use Rattle.snapshot_reading.specs.blob_fields.Names.{AreNamesSpelled}
+use Rattle.snapshot_reading.proofs.blob_fields_lemmas.AtlasFields.{atlas_found, containers_refused, count_refused, edges_refused, kind_refused, loci_refused, locus_count_refused}
+use Rattle.snapshot_reading.proofs.blob_fields_lemmas.AtlasRead.{containers_found, loci_found, named_is, no_edges, no_rows, whole}
 use Rattle.atlas_reading.proofs.atlases.read_fields.Goals as goal
 
 pub returns-in_err-kind-clause-refused : goal.returns-in_err-kind-clause-refused

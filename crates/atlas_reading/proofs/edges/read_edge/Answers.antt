@@ -1,7 +1,7 @@
 use Rattle.std.proofs.Common.{[]}
-use Rattle.snapshot_reading.specs.Fields.{IsByteIn, IsFound, IsRefused, Spells}
+use Rattle.snapshot_reading.specs.blob_fields.Fields.{IsByteIn, IsFound, IsRefused, Spells}
 use Rattle.snapshot_reading.proofs.Exits.{bounds_as, hands_on}
-use Rattle.atlas_reading.proofs.EdgeFields.{count_refused, edge_found, from_refused, to_refused}
+use Rattle.snapshot_reading.proofs.blob_fields_lemmas.EdgeFields.{count_refused, edge_found, from_refused, to_refused}
 use Rattle.atlas_reading.proofs.edges.read_edge.Goals as goal
 
 pub returns-in_err-from-clause-refused : goal.returns-in_err-from-clause-refused

@@ -1,10 +1,10 @@
 use Rattle.std.proofs.Common.{◌≡◌, ◌+◌, [], refl, sym, ap, subst, ◌∙◌, arith}
-use Rattle.atlas_dir.specs.Directory.{Directory, edges_of}
-use Rattle.atlas_dir.specs.Reached.{with_edge}
+use Rattle.atlas_dir.specs.directory_form.Directory.{Directory, edges_of}
+use Rattle.atlas_dir.specs.directory_form.Reached.{with_edge}
 use Rattle.snapshot_reading.proofs.Exits.{bounds_as, hands_on}
 use Rattle.atlas_reading.specs.Edges.{counted_as}
-use Rattle.atlas_reading.proofs.EdgeLists.{edges_found, items_refused, number_refused}
-use Rattle.atlas_reading.proofs.EdgesRead.{SoFar, all_added, begun, edge_added, edge_refused}
+use Rattle.snapshot_reading.proofs.blob_fields_lemmas.EdgeLists.{edges_found, items_refused, number_refused}
+use Rattle.snapshot_reading.proofs.blob_fields_lemmas.EdgesRead.{SoFar, all_added, begun, edge_added, edge_refused}
 use Rattle.atlas_reading.proofs.edges.read_edges.Goals as goal
 
 pub returns-in_err-number-clause-refused : goal.returns-in_err-number-clause-refused

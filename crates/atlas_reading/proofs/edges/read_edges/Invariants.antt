@@ -1,6 +1,6 @@
 use Rattle.std.proofs.Common.{◌≡◌}
-use Rattle.atlas_dir.specs.Directory.{edges_of}
-use Rattle.atlas_reading.proofs.EdgesRead.{SoFar}
+use Rattle.atlas_dir.specs.directory_form.Directory.{edges_of}
+use Rattle.snapshot_reading.proofs.blob_fields_lemmas.EdgesRead.{SoFar}
 use Rattle.atlas_reading.proofs.edges.read_edges.Given as goal
 
 abbrev pub invariant-loop-place : goal.invariant-loop-place

@@ -1,4 +1,4 @@
-use Rattle.atlas_reading.proofs.ShortNames.{NoneBelow}
+use Rattle.snapshot_reading.proofs.blob_fields_lemmas.ShortNames.{NoneBelow}
 use Rattle.atlas_reading.proofs.names.has_short_name.Given as goal
 
 abbrev pub invariant-loop-byte : goal.invariant-loop-byte

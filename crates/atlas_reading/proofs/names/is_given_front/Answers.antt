@@ -1,7 +1,7 @@
 use Rattle.std.proofs.Common.{List, ℕ, sym, ap, ◌∙◌}
 use Rattle.std.specs.List.{list_all}
-use Rattle.atlas_dir.specs.Directory.{is_name_byte}
-use Rattle.atlas_reading.proofs.NameTests.{given_front}
+use Rattle.atlas_dir.specs.directory_form.Directory.{is_name_byte}
+use Rattle.snapshot_reading.proofs.blob_fields_lemmas.NameTests.{given_front}
 use Rattle.atlas_reading.proofs.names.is_given_front.Goals as goal
 
 pub returns-then-is_letter : goal.returns-then-is_letter

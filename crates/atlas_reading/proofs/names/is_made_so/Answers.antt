@@ -1,5 +1,5 @@
 use Rattle.std.proofs.Common.{sym, ◌∙◌}
-use Rattle.atlas_reading.proofs.NameTests.{made_so}
+use Rattle.snapshot_reading.proofs.blob_fields_lemmas.NameTests.{made_so}
 use Rattle.atlas_reading.proofs.names.is_made_so.Goals as goal
 
 pub returns-then-len-size : goal.returns-then-len-size

@@ -1,6 +1,6 @@
 use Rattle.std.proofs.Common.{sym}
-use Rattle.atlas_reading.proofs.NameFronts.{ascii}
-use Rattle.atlas_reading.proofs.NameTests.{no_ascii}
+use Rattle.snapshot_reading.proofs.blob_fields_lemmas.NameFronts.{ascii}
+use Rattle.snapshot_reading.proofs.blob_fields_lemmas.NameTests.{no_ascii}
 use Rattle.atlas_reading.proofs.names.longer.Goals as goal
 
 pub returns-then-not-is_ascii-clause-none : goal.returns-then-not-is_ascii-clause-none

@@ -1,6 +1,6 @@
 use Rattle.std.proofs.Common.{[]}
 use Rattle.snapshot_reading.proofs.Exits.{hands_on}
-use Rattle.atlas_reading.proofs.NameFields.{begins_size, name_found, size_refused, text_refused}
+use Rattle.snapshot_reading.proofs.blob_fields_lemmas.NameFields.{begins_size, name_found, size_refused, text_refused}
 use Rattle.atlas_reading.proofs.names.read_name.Goals as goal
 
 pub returns-in_err-size-clause-refused : goal.returns-in_err-size-clause-refused

@@ -1,8 +1,8 @@
 use Rattle.std.proofs.Common.{◌≡◌, ◌<◌, None, sym, subst}
-use Rattle.atlas_dir.specs.Directory.{name_of}
-use Rattle.snapshot_reading.specs.Fields.{IsFound, IsRefused, Spells}
-use Rattle.atlas_reading.specs.Names.{IsNameIn}
-use Rattle.atlas_reading.proofs.NamesRead.{all_added, begun, in_range, name_added, name_refused, next_free, room}
+use Rattle.atlas_dir.specs.directory_form.Directory.{name_of}
+use Rattle.snapshot_reading.specs.blob_fields.Fields.{IsFound, IsRefused, Spells}
+use Rattle.snapshot_reading.specs.blob_fields.Names.{IsNameIn}
+use Rattle.snapshot_reading.proofs.blob_fields_lemmas.NamesRead.{all_added, begun, in_range, name_added, name_refused, next_free, room}
 use Rattle.atlas_reading.proofs.names.read_names.Goals as goal
 
 pub loop-place-init : goal.loop-place-init

@@ -1,4 +1,4 @@
-use Rattle.atlas_reading.proofs.NamesRead.{SoFar}
+use Rattle.snapshot_reading.proofs.blob_fields_lemmas.NamesRead.{SoFar}
 use Rattle.atlas_reading.proofs.names.read_names.Given as goal
 
 abbrev pub invariant-loop-place : goal.invariant-loop-place

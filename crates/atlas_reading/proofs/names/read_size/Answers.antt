@@ -1,4 +1,4 @@
-use Rattle.atlas_reading.proofs.ShortNames.{size_refused, size_wanting}
+use Rattle.snapshot_reading.proofs.blob_fields_lemmas.ShortNames.{size_refused, size_wanting}
 use Rattle.atlas_reading.proofs.names.read_size.Goals as goal
 
 pub returns-in_default-clause-refused : goal.returns-in_default-clause-refused

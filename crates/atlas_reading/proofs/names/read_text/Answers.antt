@@ -1,5 +1,5 @@
 use Rattle.std.proofs.Common.{arith}
-use Rattle.atlas_reading.proofs.TextsRead.{all_read, begun, longer, refused, wanting}
+use Rattle.snapshot_reading.proofs.blob_fields_lemmas.TextsRead.{all_read, begun, longer, refused, wanting}
 use Rattle.atlas_reading.proofs.names.read_text.Goals as goal
 
 pub loop-place-init : goal.loop-place-init

@@ -1,4 +1,4 @@
-use Rattle.atlas_reading.proofs.TextsRead.{SoFar}
+use Rattle.snapshot_reading.proofs.blob_fields_lemmas.TextsRead.{SoFar}
 use Rattle.atlas_reading.proofs.names.read_text.Given as goal
 
 abbrev pub invariant-loop-place : goal.invariant-loop-place

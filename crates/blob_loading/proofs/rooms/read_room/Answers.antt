@@ -1,6 +1,6 @@
 use Rattle.std.proofs.Common.{◌++◌, get_or, ap, ◌∙◌, arith}
 use Rattle.disk_trait.specs.Image.{Image, block_at}
-use Rattle.log_reading.proofs.ReadSoFar.{ReadsOnly-trans}
+use Rattle.log_reading.proofs.log_laws_lemmas.ReadSoFar.{ReadsOnly-trans}
 use Rattle.blob_loading.proofs.Joining.{room_more}
 use Rattle.blob_loading.proofs.rooms.read_room.Goals as goal
 

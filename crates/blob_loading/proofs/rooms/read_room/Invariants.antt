@@ -1,7 +1,7 @@
 use Rattle.std.proofs.Common.{◌≡◌, ◌≤◌, ◌*◌, length, map, take}
 use Rattle.std.specs.List.{concat}
 use Rattle.disk_trait.specs.Image.{block_at}
-use Rattle.log_reading.specs.Reads.{ReadsOnly}
+use Rattle.log_reading.specs.log_laws.Reads.{ReadsOnly}
 use Rattle.blob_loading.proofs.rooms.read_room.Given as goal
 
 abbrev pub invariant-loop-at : goal.invariant-loop-at

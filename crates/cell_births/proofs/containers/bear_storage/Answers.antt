@@ -7,7 +7,7 @@ use Rattle.wish_laws.specs.hop_model.Scripts.{number_in}
 use Rattle.wish_laws.specs.hop_model.State.{ContainerCell}
 use Rattle.script_against.proofs.sound_steps_lemmas.RegionLists.{shown}
 use Rattle.script_against.specs.script_form.Scripts.{region_of}
-use Rattle.atlas_dir.specs.Directory.{edges_of}
+use Rattle.atlas_dir.specs.directory_form.Directory.{edges_of}
 use Rattle.wish_laws.specs.locus_machine.Loci.{container_with}
 use Rattle.wish_laws.specs.kernel_calls.Calls.{atlas_state}
 use Rattle.cell_births.proofs.Linking.{same_atlas, targets_small}

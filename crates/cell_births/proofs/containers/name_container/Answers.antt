@@ -1,6 +1,6 @@
 use Rattle.std.proofs.Common.{◌≡◌, List, ℕ, Bor, None, subst, ◌∙◌}
 use Rattle.std.proofs.lemmas.Option.{same_Some}
-use Rattle.atlas_dir.specs.Directory.{IsName, entity_named}
+use Rattle.atlas_dir.specs.directory_form.Directory.{IsName, entity_named}
 use Rattle.script_against.proofs.directory_laws_lemmas.NameLaws.{given_names_same, numbers_same}
 use Rattle.cell_births.proofs.containers.name_container.Goals as goal
 

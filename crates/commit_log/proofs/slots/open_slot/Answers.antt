@@ -2,7 +2,7 @@ use Rattle.std.proofs.Common.{◌≡◌, inl, inr, subst}
 use Rattle.disk_trait.specs.Image.{Image, SameOutside}
 use Rattle.disk_trait.proofs.Phases.{LeavesOnly-quiet, LeavesOnly-start, LeavesOnly-sync, told}
 use Rattle.disk_tally.proofs.Counting.{CountsOn-then}
-use Rattle.commit_log.specs.Bodies.{IsOpening}
+use Rattle.log_laws.specs.Bodies.{IsOpening}
 use Rattle.commit_log.proofs.slots.open_slot.Goals as goal
 
 pub returns-in_err-sync-clause-any_moment : goal.returns-in_err-sync-clause-any_moment

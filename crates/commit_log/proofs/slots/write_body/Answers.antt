@@ -2,9 +2,10 @@ use Rattle.std.proofs.Common.{◌≡◌, ◌<◌, ◌+◌, inl, inr, length, [],
 use Rattle.std.proofs.lemmas.List.{get_or-set_same}
 use Rattle.disk_trait.specs.Image.{Image, block_at}
 use Rattle.disk_trait.proofs.Phases.{IsImage-reading, Quiet-start, Quiet-write, told}
-use Rattle.image_blocks.specs.Layout.{closed_gate, slot_count, slot_gate_at}
-use Rattle.commit_log.specs.Bodies.{IsBodyBlock}
-use Rattle.commit_log.proofs.Through.{gate_low}
+use Rattle.image_blocks.specs.image_form.Layout.{closed_gate, slot_count}
+use Rattle.image_blocks.specs.Layout.{slot_gate_at}
+use Rattle.log_laws.specs.Bodies.{IsBodyBlock}
+use Rattle.log_laws.proofs.Through.{gate_low}
 use Rattle.commit_log.proofs.slots.write_body.Goals as goal
 
 pub returns-in_err-write-clause-any_moment : goal.returns-in_err-write-clause-any_moment

@@ -1,7 +1,7 @@
 use Rattle.std.proofs.Common.{ℕ, ◌<◌, Some, IfSome}
 use Rattle.vector_stamps.specs.Stamps.{component}
-use Rattle.cut_finder.specs.Records.{choice}
-use Rattle.cut_finder.specs.Searches.{entity_at, count_to, IsOf, IsAfter, IsCovered}
+use Rattle.cut_searches.specs.Records.{choice}
+use Rattle.cut_searches.specs.Searches.{entity_at, count_to, IsOf, IsAfter, IsCovered}
 use Rattle.cut_finder.proofs.search.lowered.Given as goal
 
 -- no record after the place is covered

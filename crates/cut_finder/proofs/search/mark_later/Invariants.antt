@@ -1,5 +1,5 @@
 use Rattle.std.proofs.Common.{◌≡◌, ℕ, ◌<◌, ◌≤◌, ◌||◌}
-use Rattle.cut_finder.specs.Searches.{needs_more, place_at, mark_at}
+use Rattle.cut_searches.specs.Searches.{needs_more, place_at, mark_at}
 use Rattle.cut_finder.proofs.search.mark_later.Given as goal
 
 abbrev pub invariant-loop-y : goal.invariant-loop-y

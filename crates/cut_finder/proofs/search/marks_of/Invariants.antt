@@ -1,6 +1,6 @@
 use Rattle.std.proofs.Common.{◌≡◌, ℕ, ◌<◌, ◌≤◌, false}
 use Rattle.vector_stamps.specs.Stamps.{component}
-use Rattle.cut_finder.specs.Searches.{IsMarked, place_at, mark_at}
+use Rattle.cut_searches.specs.Searches.{IsMarked, place_at, mark_at}
 use Rattle.cut_finder.proofs.search.marks_of.Given as goal
 
 abbrev pub invariant-loop-x : goal.invariant-loop-x

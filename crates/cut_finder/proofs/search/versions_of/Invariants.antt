@@ -1,6 +1,6 @@
 use Rattle.std.proofs.Common.{◌≡◌, ℕ, ◌<◌, ◌≤◌, slice_index}
-use Rattle.cut_finder.specs.Records.{choice}
-use Rattle.cut_finder.specs.Searches.{version_at, place_at}
+use Rattle.cut_searches.specs.Records.{choice}
+use Rattle.cut_searches.specs.Searches.{version_at, place_at}
 use Rattle.cut_finder.proofs.search.versions_of.Given as goal
 
 abbrev pub invariant-loop-x : goal.invariant-loop-x

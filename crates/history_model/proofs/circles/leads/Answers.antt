@@ -1,8 +1,10 @@
 use Rattle.std.proofs.Common.{◌≡◌, true, false, find, None, replicate, set, sym, subst, ap, ◌∙◌, arith, length-set, get_or-set_same}
 use Rattle.hop_base.specs.Edges.{IsPath}
-use Rattle.history_model.specs.EdgeLists.{is_marked, leads_out}
+use Rattle.circle_law.specs.Marks.{is_marked}
+use Rattle.circle_law.proofs.Marks.{one_marked, still_marked}
+use Rattle.history_model.specs.EdgeLists.{leads_out}
 use Rattle.history_model.specs.Plains.{edges_of}
-use Rattle.history_model.proofs.MarkLemmas.{marks_tell, none_by, one_marked, still_marked, way_fewer, way_found, way_marks}
+use Rattle.history_model.proofs.MarkLemmas.{marks_tell, none_by, way_fewer, way_found, way_marks}
 use Rattle.history_model.proofs.circles.leads.Goals as goal
 
 pub loop-edge-init : goal.loop-edge-init

@@ -1,7 +1,7 @@
 use Rattle.std.proofs.Common.{◌≡◌, true, length}
-use Rattle.history_model.specs.EdgeLists.{is_marked}
+use Rattle.circle_law.specs.Marks.{is_marked}
+use Rattle.circle_law.proofs.Marks.{AllReached, unmarked}
 use Rattle.history_model.specs.Plains.{edges_of}
-use Rattle.history_model.proofs.MarkLemmas.{AllReached, unmarked}
 use Rattle.history_model.proofs.circles.leads.Given as goal
 
 abbrev pub invariant-loop-edge : goal.invariant-loop-edge

@@ -4,7 +4,8 @@ use Rattle.history_model.specs.EdgeLists.{edge_more, is_edge, is_reached}
 use Rattle.history_model.specs.Born.{AreEdges}
 use Rattle.history_model.specs.Plains.{edges_of}
 use Rattle.history_model.specs.declared.plain.Edge.{Edge}
-use Rattle.history_model.proofs.CountLemmas.{count_at, edge, more_edges, more_new_at, more_there_at, same_pair, same_read}
+use Rattle.history_model.proofs.EdgeLemmas.{edge}
+use Rattle.history_model.proofs.CountLemmas.{count_at, more_edges, more_new_at, more_there_at, same_pair, same_read}
 use Rattle.history_model.proofs.edges.count_up.Goals.{else-place-len-via-then-place-len+else-is_edge, else-place-len-via-else-place-len}
 use Rattle.history_model.proofs.edges.count_up.Goals as goal
 

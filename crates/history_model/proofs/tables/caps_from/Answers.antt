@@ -4,7 +4,7 @@ use Rattle.hop_model.specs.Births.{number_or_0}
 use Rattle.hop_model.specs.Scripts.{number_in}
 use Rattle.sound_runs.specs.script_form.Scripts.{cap_of}
 use Rattle.history_model.specs.Plains.{atlas_of}
-use Rattle.history_model.proofs.TableLemmas.{caps_more}
+use Rattle.wanted_laws.proofs.TableLemmas.{caps_more}
 use Rattle.history_model.proofs.tables.caps_from.Goals as goal
 
 pub loop-slot-preserved : goal.loop-slot-preserved

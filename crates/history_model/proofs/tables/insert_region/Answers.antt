@@ -1,6 +1,6 @@
 use Rattle.std.proofs.Common.{nat_lt, ap, ◌∙◌}
 use Rattle.std.specs.List.{insert, position_or_len}
-use Rattle.history_model.proofs.TableLemmas.{inserted_at}
+use Rattle.wanted_laws.proofs.TableLemmas.{inserted_at}
 use Rattle.history_model.proofs.tables.insert_region.Goals as goal
 
 pub returns-clause-ok : goal.returns-clause-ok

@@ -3,7 +3,7 @@ use Rattle.hop_model.specs.Births.{number_or_0}
 use Rattle.hop_model.specs.Scripts.{number_in}
 use Rattle.sound_runs.specs.script_form.Scripts.{region_of}
 use Rattle.history_model.specs.Plains.{atlas_of}
-use Rattle.history_model.proofs.TableLemmas.{regions_more}
+use Rattle.wanted_laws.proofs.TableLemmas.{regions_more}
 use Rattle.history_model.proofs.tables.regions_from.Goals as goal
 
 pub loop-i-preserved : goal.loop-i-preserved

@@ -1,4 +1,4 @@
-use Rattle.image_blocks.specs.Layout.{header_block}
+use Rattle.image_form.specs.Layout.{header_block}
 use Rattle.block_code.proofs.Filling.{ok_gives}
 use Rattle.image_blocks.proofs.blocks.header_block.Goals as goal
 

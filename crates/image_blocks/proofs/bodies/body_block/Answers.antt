@@ -1,5 +1,5 @@
 use Rattle.std.proofs.Common.{◌≡◌, refl, length, replicate, arith}
-use Rattle.image_blocks.proofs.Filling.{filled_block, filled_head, filled_middle, filled_stamp, filled_whole}
+use Rattle.image_form.proofs.Filling.{filled_block, filled_head, filled_middle, filled_stamp, filled_whole}
 use Rattle.block_code.proofs.Filling.{ok_gives}
 use Rattle.image_blocks.proofs.bodies.body_block.Goals as goal
 

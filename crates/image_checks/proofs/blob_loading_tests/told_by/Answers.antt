@@ -3,7 +3,7 @@ use Rattle.std.specs.Prelude.{All}
 use Rattle.std.proofs.lemmas.List.{get_or-take, length-take}
 use Rattle.std.proofs.lemmas.List.Elements.{All-from_get_or}
 use Rattle.hop_base.specs.declared.records.Rec.{Rec}
-use Rattle.log_reading.specs.image_blocks.Bodies.{blob_blocks, blocks_for}
+use Rattle.log_reading.specs.image_form.Bodies.{blob_blocks, blocks_for}
 use Rattle.image_checks.proofs.blob_loading_tests.told_by.Goals as goal
 
 -- a blob of one block

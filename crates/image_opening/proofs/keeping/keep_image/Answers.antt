@@ -6,14 +6,14 @@ use Rattle.disk_trait.specs.Disk.{Only}
 use Rattle.disk_trait.specs.Image.{Image}
 use Rattle.disk_trait.specs.Moments.{LeavesOnly}
 use Rattle.disk_trait.proofs.Phases.{LeavesOnly-now, LeavesOnly-weaker, told}
-use Rattle.opened_cells.specs.image_parts.Parts.{IsAcceptedWith}
-use Rattle.opened_cells.specs.part_checks.Chosen.{parts_of}
-use Rattle.kernel_views.specs.snapshot_store.State.{books}
-use Rattle.kernel_views.specs.snapshot_store.declared.opening.OpenWhy.TheVariants as why
-use Rattle.image_opening.specs.Images.{HasBegun, HasImageCause, HasKeepCause, HasTurnLeft, HoldsImage, MeansSame, MeansSince, StopsShort, WasRefused}
-use Rattle.image_opening.proofs.Clauses.{begins_behind, both, foreign_not_failed, keep_cause, keep_not_foreign, match_weaker, open_not_foreign, settled, since_sync}
+use Rattle.opening_laws.specs.opened_cells.chosen_laws.Parts.{IsAcceptedWith}
+use Rattle.opening_laws.specs.opened_cells.part_checks.Chosen.{parts_of}
+use Rattle.opening_laws.specs.kernel_views.store_laws.State.{books}
+use Rattle.opening_laws.specs.kernel_views.snapshot_store.declared.opening.OpenWhy.TheVariants as why
+use Rattle.opening_laws.specs.Images.{HasBegun, HasImageCause, HasKeepCause, HasTurnLeft, HoldsImage, MeansSame, MeansSince, StopsShort, WasRefused}
+use Rattle.opening_laws.proofs.Clauses.{begins_behind, both, foreign_not_failed, keep_cause, keep_not_foreign, match_weaker, open_not_foreign, settled, since_sync}
 use Rattle.image_opening.proofs.keeping.keep_image.Goals as goal
-use Rattle.kernel_views.proofs.snapshot_store_lemmas.Holding.{err_weaker}
+use Rattle.opening_laws.proofs.kernel_views_lemmas.store_laws_lemmas.Holding.{err_weaker}
 
 pub kept-requires-clause-accepted : goal.kept-requires-clause-accepted
 kept-requires-clause-accepted g c t =

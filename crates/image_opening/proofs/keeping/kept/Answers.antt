@@ -5,15 +5,16 @@ use Rattle.disk_tally.specs.Counts.{Begins, shown}
 use Rattle.disk_trait.specs.Image.{SameOutside}
 use Rattle.disk_trait.specs.Moments.{LeavesOnly}
 use Rattle.disk_trait.proofs.Phases.{LeavesOnly-now, told}
-use Rattle.opened_cells.specs.image_meaning.Stores.{IsHeld}
-use Rattle.kernel_views.specs.log_reading.Logs.{AreInRange, IsLogOf}
-use Rattle.kernel_views.specs.snapshot_store.Choosing.{IsKeeping, are_chosen, books_kept}
-use Rattle.kernel_views.specs.snapshot_store.State.{State, books}
-use Rattle.kernel_views.specs.store_model.Books.{IsBeforePool, kept_of, recs_in}
-use Rattle.image_opening.specs.Images.{AreReadOf, HasBegun, MeansSame}
-use Rattle.image_opening.specs.Opened.{IsRead}
-use Rattle.image_opening.proofs.Clauses.{holds, is_read, low_epoch, moments, opened, settled}
-use Rattle.image_opening.proofs.Stored.{rows_placed, rows_spelt}
+use Rattle.opening_laws.specs.opened_cells.image_meaning.Stores.{IsHeld}
+use Rattle.opening_laws.specs.kernel_views.log_laws.Logs.{AreInRange}
+use Rattle.opening_laws.specs.kernel_views.log_reading.Logs.{IsLogOf}
+use Rattle.opening_laws.specs.kernel_views.store_laws.Choosing.{IsKeeping, are_chosen, books_kept}
+use Rattle.opening_laws.specs.kernel_views.store_laws.State.{State, books}
+use Rattle.opening_laws.specs.kernel_views.store_model.Books.{IsBeforePool, kept_of, recs_in}
+use Rattle.opening_laws.specs.Images.{AreReadOf, HasBegun, MeansSame}
+use Rattle.opening_laws.specs.Opened.{IsRead}
+use Rattle.opening_laws.proofs.Clauses.{holds, is_read, low_epoch, moments, opened, settled}
+use Rattle.opening_laws.proofs.Stored.{rows_placed, rows_spelt}
 use Rattle.image_opening.proofs.keeping.kept.Goals as goal
 
 pub returns-in-Err-clause-moments : goal.returns-in-Err-clause-moments

@@ -1,4 +1,4 @@
-use Rattle.image_opening.proofs.Moments.{keeping_law}
+use Rattle.opening_laws.proofs.Moments.{keeping_law}
 use Rattle.image_opening.proofs.laws.keeping_law.Goals as goal
 
 pub returns : goal.returns

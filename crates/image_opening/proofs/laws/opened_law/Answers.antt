@@ -1,5 +1,5 @@
-use Rattle.image_opening.proofs.Owned.{rows_owned}
-use Rattle.image_opening.proofs.Stored.{rows_chosen, rows_placed, rows_spelt}
+use Rattle.opening_laws.proofs.Owned.{rows_owned}
+use Rattle.opening_laws.proofs.Stored.{rows_chosen, rows_placed, rows_spelt}
 use Rattle.image_opening.proofs.laws.opened_law.Goals as goal
 
 pub returns-clause-placed : goal.returns-clause-placed

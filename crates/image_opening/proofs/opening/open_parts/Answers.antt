@@ -1,12 +1,12 @@
 use Rattle.std.proofs.Common.{◌⊎◌, inr, List, sym, subst, ap, ◌∙◌}
 use Rattle.disk_trait.specs.Image.{Image}
 use Rattle.disk_trait.specs.Moments.{LeavesOnly}
-use Rattle.kernel_views.specs.snapshot_store.State.{State, books}
-use Rattle.kernel_views.specs.kernel_cells.declared.cells.Cell.{Cell}
-use Rattle.kernel_views.specs.store_model.Books.{logged_recs}
-use Rattle.image_opening.specs.Images.{HasBegun, IsOpened, MeansSame, MeansSince}
-use Rattle.image_opening.proofs.Newest.{newest_in_books}
-use Rattle.image_opening.proofs.Starting.{starts}
+use Rattle.opening_laws.specs.kernel_views.store_laws.State.{State, books}
+use Rattle.opening_laws.specs.kernel_views.kernel_cells.declared.cells.Cell.{Cell}
+use Rattle.opening_laws.specs.kernel_views.store_model.Books.{logged_recs}
+use Rattle.opening_laws.specs.Images.{HasBegun, IsOpened, MeansSame, MeansSince}
+use Rattle.opening_laws.proofs.Newest.{newest_in_books}
+use Rattle.opening_laws.proofs.Starting.{starts}
 use Rattle.image_opening.proofs.opening.open_parts.Goals as goal
 
 pub returns-in-Ok-cells_of-clause-table : goal.returns-in-Ok-cells_of-clause-table

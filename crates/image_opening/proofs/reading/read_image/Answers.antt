@@ -1,10 +1,10 @@
 use Rattle.std.proofs.Common.{subst}
 use Rattle.disk_trait.specs.Image.{Image}
 use Rattle.disk_trait.proofs.Phases.{told}
-use Rattle.opened_cells.specs.image_parts.Parts.{IsAcceptedWith}
-use Rattle.opened_cells.specs.part_checks.Chosen.{parts_of}
-use Rattle.kernel_views.proofs.snapshot_store_lemmas.Opened.{read_behind}
-use Rattle.image_opening.proofs.Clauses.{image_cause, still_synced}
+use Rattle.opening_laws.specs.opened_cells.chosen_laws.Parts.{IsAcceptedWith}
+use Rattle.opening_laws.specs.opened_cells.part_checks.Chosen.{parts_of}
+use Rattle.opening_laws.proofs.kernel_views_lemmas.store_laws_lemmas.Opened.{read_behind}
+use Rattle.opening_laws.proofs.Clauses.{image_cause, still_synced}
 use Rattle.image_opening.proofs.reading.read_image.Goals as goal
 
 pub returns-in-Ok-read_tables-clause-synced : goal.returns-in-Ok-read_tables-clause-synced

@@ -1,7 +1,7 @@
-use Rattle.kernel_views.specs.snapshot_store.OpenFaults.{why}
-use Rattle.kernel_views.proofs.snapshot_store_lemmas.Opened.{why_not}
-use Rattle.image_opening.specs.Images.{HasPartsCause}
-use Rattle.image_opening.proofs.Clauses.{parts_cause}
+use Rattle.opening_laws.specs.kernel_views.snapshot_store.OpenFaults.{why}
+use Rattle.opening_laws.proofs.kernel_views_lemmas.snapshot_store_lemmas.Opened.{why_not}
+use Rattle.opening_laws.specs.Images.{HasPartsCause}
+use Rattle.opening_laws.proofs.Clauses.{parts_cause}
 use Rattle.image_opening.proofs.reading.read_tables.Goals as goal
 
 pub returns-in_err-parts-clause-cause : goal.returns-in_err-parts-clause-cause

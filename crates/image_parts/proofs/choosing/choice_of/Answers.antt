@@ -1,5 +1,5 @@
 use Rattle.std.specs.Prelude.{slice_index}
-use Rattle.image_parts.proofs.Slots.{cut_is}
+use Rattle.chosen_laws.proofs.Slots.{cut_is}
 use Rattle.image_parts.proofs.choosing.choice_of.Goals as goal
 
 pub returns : goal.returns

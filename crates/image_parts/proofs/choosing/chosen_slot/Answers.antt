@@ -2,7 +2,7 @@ use Rattle.std.proofs.Common.{◌≡◌, ◌≤◌, ◌∙◌, Some, ap, sym, le
 use Rattle.std.specs.Prelude.{slice_get, slice_index}
 use Rattle.std.proofs.lemmas.Option.{slice_get-get_or}
 use Rattle.hop_base.specs.declared.records.Rec.{Rec}
-use Rattle.image_parts.proofs.Slots.{found_slot, none_taken, not_more}
+use Rattle.chosen_laws.proofs.Slots.{found_slot, none_taken, not_more}
 use Rattle.image_parts.proofs.choosing.chosen_slot.Goals as goal
 
 pub returns-then-is_at-clause-some : goal.returns-then-is_at-clause-some

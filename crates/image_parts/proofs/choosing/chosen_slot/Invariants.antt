@@ -1,5 +1,5 @@
 use Rattle.std.specs.Prelude.{slice_index}
-use Rattle.image_parts.proofs.Slots.{NotYet}
+use Rattle.chosen_laws.proofs.Slots.{NotYet}
 use Rattle.image_parts.proofs.choosing.chosen_slot.Given as goal
 
 abbrev pub invariant-loop-slot : goal.invariant-loop-slot

@@ -2,13 +2,13 @@ use Rattle.std.proofs.Common.{◌≡◌, ◌+◌, ◌++◌, ◌∷◌, [], ℕ, 
 use Rattle.std.proofs.lemmas.List.{length-append}
 use Rattle.disk_trait.specs.Image.{Image}
 use Rattle.hop_base.specs.declared.records.Rec.{Rec}
-use Rattle.blob_loading.specs.image_meaning.Parts.{chosen}
-use Rattle.blob_loading.proofs.log_reading_lemmas.ReadSoFar.{ReadsOnly-trans}
-use Rattle.blob_loading.specs.part_checks.Chosen.{record_in}
-use Rattle.blob_loading.specs.part_checks.Fits.{AreChosen}
-use Rattle.blob_loading.specs.part_checks.declared.chosen.ChosenEntity.{ChosenEntity}
-use Rattle.image_parts.specs.Choosing.{IsBadEntity}
-use Rattle.image_parts.proofs.Reading.{ChosenTo, FormedTo, IsFormedEntity, IsSpeltEntity, SpeltTo, all_chosen, all_formed, all_spelt, first_bad_blob, with_one}
+use Rattle.chosen_laws.specs.blob_loading.image_meaning.Parts.{chosen}
+use Rattle.chosen_laws.proofs.blob_loading_lemmas.log_laws_lemmas.ReadSoFar.{ReadsOnly-trans}
+use Rattle.chosen_laws.specs.blob_loading.part_checks.Chosen.{record_in}
+use Rattle.chosen_laws.specs.blob_loading.part_checks.Fits.{AreChosen}
+use Rattle.chosen_laws.specs.blob_loading.part_checks.declared.chosen.ChosenEntity.{ChosenEntity}
+use Rattle.chosen_laws.specs.Choosing.{IsBadEntity}
+use Rattle.chosen_laws.proofs.Reading.{ChosenTo, FormedTo, IsFormedEntity, IsSpeltEntity, SpeltTo, all_chosen, all_formed, all_spelt, first_bad_blob, with_one}
 use Rattle.image_parts.proofs.Verdicts.{handed_on}
 use Rattle.image_parts.proofs.entities.read_entities.Goals as goal
 

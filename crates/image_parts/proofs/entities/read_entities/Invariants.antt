@@ -1,6 +1,6 @@
 use Rattle.std.proofs.Common.{◌≡◌, ◌≤◌, length}
-use Rattle.blob_loading.specs.log_reading.Reads.{ReadsOnly}
-use Rattle.image_parts.proofs.Reading.{ChosenTo, FormedTo, SpeltTo}
+use Rattle.chosen_laws.specs.blob_loading.log_laws.Reads.{ReadsOnly}
+use Rattle.chosen_laws.proofs.Reading.{ChosenTo, FormedTo, SpeltTo}
 use Rattle.image_parts.proofs.entities.read_entities.Given as goal
 
 abbrev pub invariant-loop-number : goal.invariant-loop-number

@@ -1,10 +1,10 @@
 use Rattle.std.proofs.Common.{ℕ, List, subst}
 use Rattle.std.specs.Prelude.{slice_index}
 use Rattle.hop_base.specs.declared.records.Rec.{Rec}
-use Rattle.blob_loading.specs.image_meaning.Parts.{IsFormed, IsSpelt}
-use Rattle.blob_loading.specs.part_checks.Chosen.{part_of}
-use Rattle.image_parts.specs.Choosing.{IsChosenSlot}
-use Rattle.image_parts.proofs.Reading.{slot_bad, slot_entity}
+use Rattle.chosen_laws.specs.blob_loading.image_meaning.Parts.{IsFormed, IsSpelt}
+use Rattle.chosen_laws.specs.blob_loading.part_checks.Chosen.{part_of}
+use Rattle.chosen_laws.specs.Choosing.{IsChosenSlot}
+use Rattle.chosen_laws.proofs.Reading.{slot_bad, slot_entity}
 use Rattle.image_parts.proofs.Verdicts.{handed_on}
 use Rattle.image_parts.proofs.entities.read_entity.Goals as goal
 

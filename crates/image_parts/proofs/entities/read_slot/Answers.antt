@@ -2,10 +2,10 @@ use Rattle.std.proofs.Common.{◌≡◌, ◌∙◌, Some, ap, subst, sym}
 use Rattle.std.specs.Prelude.{slice_get}
 use Rattle.std.proofs.lemmas.Option.{slice_get-get_or}
 use Rattle.disk_trait.specs.Image.{Image}
-use Rattle.blob_loading.specs.Loading.{IsBadRecord}
+use Rattle.chosen_laws.specs.blob_loading.Loading.{IsBadRecord}
 use Rattle.hop_base.specs.declared.records.Rec.{Rec}
-use Rattle.blob_loading.specs.image_blocks.Checks.{Bad}
-use Rattle.image_parts.proofs.Reading.{blocks_there}
+use Rattle.chosen_laws.specs.blob_loading.image_blocks.Checks.{Bad}
+use Rattle.chosen_laws.proofs.Reading.{blocks_there}
 use Rattle.image_parts.proofs.Verdicts.{if_err, told_bad}
 use Rattle.image_parts.proofs.entities.read_slot.Goals as goal
 

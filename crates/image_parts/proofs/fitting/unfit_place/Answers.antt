@@ -1,12 +1,12 @@
 use Rattle.std.proofs.Common.{ℕ, List, length, ap, sym, subst, ◌∙◌, arith}
 use Rattle.std.specs.Prelude.{slice_index}
 use Rattle.hop_base.specs.declared.records.Rec.{Rec}
-use Rattle.blob_loading.specs.image_meaning.Parts.{chosen_by}
-use Rattle.blob_loading.specs.part_checks.Chosen.{parts_of}
-use Rattle.blob_loading.specs.part_checks.Fits.{IsFirstUnfit}
-use Rattle.image_parts.specs.Choosing.{IsChosenSlot}
-use Rattle.image_parts.proofs.Slots.{slot_few}
-use Rattle.image_parts.proofs.Unfit.{bad_at, told_chosen, unfit_at}
+use Rattle.chosen_laws.specs.blob_loading.image_meaning.Parts.{chosen_by}
+use Rattle.chosen_laws.specs.blob_loading.part_checks.Chosen.{parts_of}
+use Rattle.chosen_laws.specs.blob_loading.part_checks.Fits.{IsFirstUnfit}
+use Rattle.chosen_laws.specs.Choosing.{IsChosenSlot}
+use Rattle.chosen_laws.proofs.Slots.{slot_few}
+use Rattle.chosen_laws.proofs.Unfit.{bad_at, told_chosen, unfit_at}
 use Rattle.image_parts.proofs.Verdicts.{if_none, if_some}
 use Rattle.image_parts.proofs.fitting.unfit_place.Goals as goal
 

@@ -1,15 +1,15 @@
 use Rattle.std.proofs.Common.{List, Option, sym, subst}
 use Rattle.disk_trait.specs.Image.{Image}
 use Rattle.hop_base.specs.declared.records.Rec.{Rec}
-use Rattle.blob_loading.specs.image_blocks.Checks.{Bad}
-use Rattle.blob_loading.specs.image_meaning.Foreign.{IsUnfit}
-use Rattle.blob_loading.specs.image_meaning.Parts.{AreSpelt}
-use Rattle.blob_loading.specs.log_reading.Logs.{AreInRange}
-use Rattle.blob_loading.specs.log_reading.declared.log.ImageLog.{ImageLog}
-use Rattle.blob_loading.specs.part_checks.Chosen.{parts_of}
-use Rattle.blob_loading.specs.part_checks.Fits.{AreFit}
-use Rattle.blob_loading.specs.part_checks.declared.chosen.ChosenEntity.{ChosenEntity}
-use Rattle.image_parts.proofs.Unfit.{accepted_with, blob_meaning, unfit_meaning}
+use Rattle.chosen_laws.specs.blob_loading.image_blocks.Checks.{Bad}
+use Rattle.chosen_laws.specs.blob_loading.image_meaning.Foreign.{IsUnfit}
+use Rattle.chosen_laws.specs.blob_loading.image_meaning.Parts.{AreSpelt}
+use Rattle.chosen_laws.specs.blob_loading.log_laws.Logs.{AreInRange}
+use Rattle.chosen_laws.specs.blob_loading.log_reading.declared.log.ImageLog.{ImageLog}
+use Rattle.chosen_laws.specs.blob_loading.part_checks.Chosen.{parts_of}
+use Rattle.chosen_laws.specs.blob_loading.part_checks.Fits.{AreFit}
+use Rattle.chosen_laws.specs.blob_loading.part_checks.declared.chosen.ChosenEntity.{ChosenEntity}
+use Rattle.chosen_laws.proofs.Unfit.{accepted_with, blob_meaning, unfit_meaning}
 use Rattle.image_parts.proofs.Verdicts.{handed_on, if_none, if_some, memory_not_told, not_told, told_bad}
 use Rattle.image_parts.proofs.parts.read_parts.Goals as goal
 

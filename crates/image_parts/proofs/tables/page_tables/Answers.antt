@@ -1,9 +1,9 @@
 use Rattle.std.proofs.Common.{◌≡◌, ◌+◌, ◌++◌, ◌∷◌, [], ℕ, List, Option, length, ap, sym, subst, arith}
 use Rattle.std.proofs.lemmas.List.{length-append}
 use Rattle.page_shadow.specs.declared.ShadowTable.{ShadowTable}
-use Rattle.blob_loading.specs.part_checks.Chosen.{entity_at, part_in}
-use Rattle.blob_loading.specs.part_checks.declared.chosen.ChosenEntity.{ChosenEntity}
-use Rattle.image_parts.specs.Tables.{IsTableOf, blocks_in}
+use Rattle.chosen_laws.specs.blob_loading.part_checks.Chosen.{entity_at, part_in}
+use Rattle.chosen_laws.specs.blob_loading.part_checks.declared.chosen.ChosenEntity.{ChosenEntity}
+use Rattle.chosen_laws.specs.Tables.{IsTableOf, blocks_in}
 use Rattle.image_parts.proofs.Placing.{TablesTo, read_entity_at, tables_more, tables_placed, tables_whole}
 use Rattle.image_parts.proofs.tables.page_tables.Goals as goal
 

@@ -1,6 +1,6 @@
 use Rattle.std.proofs.Common.{Option, subst, sym}
-use Rattle.blob_loading.specs.part_checks.Chosen.{part_in}
-use Rattle.image_parts.specs.Tables.{IsTableOf, blocks_in}
+use Rattle.chosen_laws.specs.blob_loading.part_checks.Chosen.{part_in}
+use Rattle.chosen_laws.specs.Tables.{IsTableOf, blocks_in}
 use Rattle.image_parts.proofs.Placing.{empty_table}
 use Rattle.image_parts.proofs.tables.table_for.Goals as goal
 

@@ -1,5 +1,5 @@
 use Rattle.std.proofs.Common.{List, ℕ, subst, sym}
-use Rattle.image_parts.specs.Tables.{IsTableOf}
+use Rattle.chosen_laws.specs.Tables.{IsTableOf}
 use Rattle.image_parts.proofs.Placing.{empty_table, no_pages}
 use Rattle.image_parts.proofs.tables.table_of.Goals as goal
 

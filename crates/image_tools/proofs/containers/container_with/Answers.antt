@@ -1,9 +1,9 @@
 use Rattle.std.proofs.Common.{◌≡◌, ◌*◌, ℕ, ap, subst, sym, ◌∙◌}
-use Rattle.plain_parts.specs.history_model.Plains.{container_of}
-use Rattle.plain_parts.specs.hop_model.State.{ContainerCell, ContainerState}
-use Rattle.plain_parts.specs.locus_machine.Loci.{container_with}
-use Rattle.plain_parts.specs.Words.{words_with}
-use Rattle.image_tools.specs.Words.{IsSparse}
+use Rattle.shown_states.specs.plain_parts.history_model.Plains.{container_of}
+use Rattle.shown_states.specs.plain_parts.hop_model.State.{ContainerCell, ContainerState}
+use Rattle.shown_states.specs.plain_parts.locus_machine.Loci.{container_with}
+use Rattle.shown_states.specs.plain_parts.Words.{words_with}
+use Rattle.shown_states.specs.Words.{IsSparse}
 use Rattle.image_tools.proofs.containers.container_with.Goals as goal
 
 pub returns-clause-cell : goal.returns-clause-cell

@@ -3,15 +3,15 @@ use Rattle.std.specs.Prelude.{All}
 use Rattle.std.proofs.lemmas.List.{length-append}
 use Rattle.std.proofs.lemmas.List.Elements.{All-push}
 use Rattle.disk_trait.specs.Image.{block_at}
-use Rattle.plain_parts.specs.history_model.Plains.{container_cell, container_of}
-use Rattle.plain_parts.specs.history_model.declared.plain.PlainContainer.{PlainContainer}
-use Rattle.plain_parts.specs.hop_model.State.{ContainerCell}
-use Rattle.meant_states.specs.image_meaning.Parts.{Part}
-use Rattle.image_parts.proofs.log_reading_lemmas.ReadSoFar.{ReadsOnly-trans}
-use Rattle.image_parts.specs.part_checks.Chosen.{part_in, parts_of}
-use Rattle.image_parts.specs.part_checks.declared.chosen.ChosenEntity.{ChosenEntity}
-use Rattle.image_tools.specs.States.{IsCellOf, IsSparseContainer}
-use Rattle.image_tools.proofs.Listing.{more, read_part, same_bytes}
+use Rattle.shown_states.specs.plain_parts.history_model.Plains.{container_cell, container_of}
+use Rattle.shown_states.specs.plain_parts.history_model.declared.plain.PlainContainer.{PlainContainer}
+use Rattle.shown_states.specs.plain_parts.hop_model.State.{ContainerCell}
+use Rattle.shown_states.specs.meant_states.image_meaning.Parts.{Part}
+use Rattle.shown_states.proofs.image_parts_lemmas.log_laws_lemmas.ReadSoFar.{ReadsOnly-trans}
+use Rattle.shown_states.specs.image_parts.part_checks.Chosen.{part_in, parts_of}
+use Rattle.shown_states.specs.image_parts.part_checks.declared.chosen.ChosenEntity.{ChosenEntity}
+use Rattle.shown_states.specs.States.{IsCellOf, IsSparseContainer}
+use Rattle.shown_states.proofs.Listing.{more, read_part, same_bytes}
 use Rattle.image_tools.proofs.containers.containers_of.Goals as goal
 
 pub loop-place-preserved : goal.loop-place-preserved

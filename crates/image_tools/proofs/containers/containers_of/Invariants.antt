@@ -2,10 +2,10 @@
 use Rattle.std.proofs.Common.{◌≡◌, ◌<◌, ◌≤◌, ◌+◌, ℕ, length, slice_get}
 use Rattle.std.specs.Prelude.{All}
 use Rattle.disk_trait.specs.Image.{block_at}
-use Rattle.plain_parts.specs.history_model.Plains.{container_cell}
-use Rattle.image_parts.specs.log_reading.Reads.{ReadsOnly}
-use Rattle.image_parts.specs.part_checks.Chosen.{parts_of}
-use Rattle.image_tools.specs.States.{IsCellOf, IsSparseContainer}
+use Rattle.shown_states.specs.plain_parts.history_model.Plains.{container_cell}
+use Rattle.shown_states.specs.image_parts.log_laws.Reads.{ReadsOnly}
+use Rattle.shown_states.specs.image_parts.part_checks.Chosen.{parts_of}
+use Rattle.shown_states.specs.States.{IsCellOf, IsSparseContainer}
 use Rattle.image_tools.proofs.containers.containers_of.Given as goal
 
 abbrev pub ghost-container_at : goal.ghost-container_at

@@ -1,19 +1,20 @@
 use Rattle.std.proofs.Common.{◌≡◌, ℕ, List, Option, inr, sym, ap, subst, ◌∙◌}
 use Rattle.disk_trait.specs.Image.{Image, block_at}
-use Rattle.plain_parts.specs.history_model.Plains.{cells_of}
+use Rattle.shown_states.specs.plain_parts.history_model.Plains.{cells_of}
 use Rattle.hop_base.specs.declared.records.Rec.{Rec}
-use Rattle.meant_states.specs.image_meaning.Foreign.{IsBadMeaning}
-use Rattle.meant_states.specs.image_meaning.Parts.{Part, cut_of}
-use Rattle.image_parts.proofs.Verdicts.{handed_on}
-use Rattle.image_parts.specs.Parts.{ArePartsOf, IsAcceptedWith}
-use Rattle.image_parts.proofs.log_reading_lemmas.ReadSoFar.{ReadsOnly-trans}
-use Rattle.image_parts.specs.log_reading.Logs.{IsKnown, IsLogOf}
-use Rattle.image_parts.specs.log_reading.declared.log.ImageLog.{ImageLog}
-use Rattle.image_parts.specs.part_checks.Chosen.{parts_of}
-use Rattle.image_parts.specs.part_checks.declared.chosen.ChosenEntity.{ChosenEntity}
-use Rattle.image_tools.specs.States.{cell_in}
-use Rattle.image_tools.proofs.Aside.{accepted_means, sound_cells, taken_of}
-use Rattle.image_tools.proofs.Low.{all_low}
+use Rattle.shown_states.specs.meant_states.image_meaning.Foreign.{IsBadMeaning}
+use Rattle.shown_states.specs.meant_states.image_meaning.Parts.{Part, cut_of}
+use Rattle.shown_states.proofs.image_parts_lemmas.Verdicts.{handed_on}
+use Rattle.shown_states.specs.image_parts.Parts.{ArePartsOf}
+use Rattle.shown_states.specs.image_parts.chosen_laws.Parts.{IsAcceptedWith}
+use Rattle.shown_states.proofs.image_parts_lemmas.log_laws_lemmas.ReadSoFar.{ReadsOnly-trans}
+use Rattle.shown_states.specs.image_parts.log_reading.Logs.{IsKnown, IsLogOf}
+use Rattle.shown_states.specs.image_parts.log_reading.declared.log.ImageLog.{ImageLog}
+use Rattle.shown_states.specs.image_parts.part_checks.Chosen.{parts_of}
+use Rattle.shown_states.specs.image_parts.part_checks.declared.chosen.ChosenEntity.{ChosenEntity}
+use Rattle.shown_states.specs.States.{cell_in}
+use Rattle.shown_states.proofs.Aside.{accepted_means, sound_cells, taken_of}
+use Rattle.shown_states.proofs.Low.{all_low}
 use Rattle.image_tools.proofs.image.read_image.Goals as goal
 
 pub returns-in_err-parts-clause-foreign : goal.returns-in_err-parts-clause-foreign

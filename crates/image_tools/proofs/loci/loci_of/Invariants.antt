@@ -1,8 +1,8 @@
 -- The loci so far are there.
 use Rattle.std.proofs.Common.{◌≡◌, ◌<◌, ◌+◌, ℕ, length, slice_get}
-use Rattle.plain_parts.specs.history_model.Plains.{locus_cell}
-use Rattle.image_parts.specs.part_checks.Chosen.{parts_of}
-use Rattle.image_tools.specs.States.{cell_with}
+use Rattle.shown_states.specs.plain_parts.history_model.Plains.{locus_cell}
+use Rattle.shown_states.specs.image_parts.part_checks.Chosen.{parts_of}
+use Rattle.shown_states.specs.States.{cell_with}
 use Rattle.image_tools.proofs.loci.loci_of.Given as goal
 
 abbrev pub invariant-loop-place : goal.invariant-loop-place

@@ -1,5 +1,5 @@
 use Rattle.std.proofs.Common.{ap, ◌∙◌}
-use Rattle.page_words.specs.store_model.Books.{words_of_bytes}
+use Rattle.shown_states.specs.page_words.store_model.Books.{words_of_bytes}
 use Rattle.image_tools.proofs.pages.read_words.Goals as goal
 
 pub returns-clause-words : goal.returns-clause-words

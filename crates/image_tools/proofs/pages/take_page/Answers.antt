@@ -1,6 +1,6 @@
 use Rattle.std.proofs.Common.{◌∙◌}
 use Rattle.disk_trait.specs.Image.{block_at}
-use Rattle.image_tools.proofs.Reading.{block_word}
+use Rattle.shown_states.proofs.Reading.{block_word}
 use Rattle.image_tools.proofs.pages.take_page.Goals as goal
 
 pub returns-clause-here : goal.returns-clause-here

@@ -1,11 +1,11 @@
 use Rattle.std.proofs.Common.{◌≡◌, ◌+◌, ◌*◌, ◌<◌, ℕ, List, length, min, refl, sym, subst, arith}
 use Rattle.disk_trait.specs.Image.{Image, block_at}
 use Rattle.std.specs.Prelude.{slice_index}
-use Rattle.meant_states.specs.image_meaning.Parts.{word_in}
-use Rattle.image_parts.proofs.log_reading_lemmas.ReadSoFar.{ReadsOnly-trans}
-use Rattle.plain_parts.specs.Words.{words_with}
-use Rattle.image_tools.specs.Words.{IsSparse}
-use Rattle.image_tools.proofs.Reading.{all_read, page_read, there_at}
+use Rattle.shown_states.specs.meant_states.image_meaning.Parts.{word_in}
+use Rattle.shown_states.proofs.image_parts_lemmas.log_laws_lemmas.ReadSoFar.{ReadsOnly-trans}
+use Rattle.shown_states.specs.plain_parts.Words.{words_with}
+use Rattle.shown_states.specs.Words.{IsSparse}
+use Rattle.shown_states.proofs.Reading.{all_read, page_read, there_at}
 use Rattle.image_tools.proofs.pages.words_of.Goals as goal
 
 pub take_page-requires : goal.take_page-requires

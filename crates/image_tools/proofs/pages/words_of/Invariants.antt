@@ -1,9 +1,9 @@
 -- The words of the pages so far are kept.
 use Rattle.std.proofs.Common.{◌≤◌, ◌*◌}
 use Rattle.disk_trait.specs.Image.{block_at}
-use Rattle.image_parts.specs.log_reading.Reads.{ReadsOnly}
-use Rattle.image_tools.specs.Words.{IsSparse}
-use Rattle.image_tools.proofs.Reading.{ReadTo}
+use Rattle.shown_states.specs.image_parts.log_laws.Reads.{ReadsOnly}
+use Rattle.shown_states.specs.Words.{IsSparse}
+use Rattle.shown_states.proofs.Reading.{ReadTo}
 use Rattle.image_tools.proofs.pages.words_of.Given as goal
 
 abbrev pub ghost-take_page : goal.ghost-take_page

@@ -1,17 +1,17 @@
 use Rattle.std.proofs.Common.{◌≡◌, ◌+◌, ◌<◌, ℕ, List, Option, length, slice_get, ap, sym, subst, ◌∙◌, arith}
 use Rattle.disk_trait.specs.Image.{block_at}
-use Rattle.plain_parts.specs.history_model.Plains.{atlas_of, container_cell, locus_cell}
-use Rattle.plain_parts.specs.history_model.declared.plain.PlainAtlas.{PlainAtlas}
+use Rattle.shown_states.specs.plain_parts.history_model.Plains.{atlas_of, container_cell, locus_cell}
+use Rattle.shown_states.specs.plain_parts.history_model.declared.plain.PlainAtlas.{PlainAtlas}
 use Rattle.hop_base.specs.declared.records.Rec.{Rec}
-use Rattle.meant_states.specs.image_meaning.Parts.{Part}
-use Rattle.image_parts.specs.Tables.{blocks_in}
-use Rattle.image_parts.specs.Parts.{ArePartsOf}
-use Rattle.image_parts.specs.log_reading.declared.log.ImageLog.{ImageLog}
-use Rattle.image_parts.specs.part_checks.Chosen.{parts_of}
-use Rattle.image_parts.specs.part_checks.declared.chosen.ChosenEntity.{ChosenEntity}
-use Rattle.image_tools.specs.States.{AreOnDisk, IsCellOf, IsContainerPart, IsLocusPart, atlas_by, cell_with}
-use Rattle.image_tools.proofs.Listing.{read_part}
-use Rattle.image_tools.proofs.Making.{all_cells, container_kinds, few_containers, few_loci, locus_kinds, many_containers, many_loci, on_disk}
+use Rattle.shown_states.specs.meant_states.image_meaning.Parts.{Part}
+use Rattle.shown_states.specs.image_parts.chosen_laws.Tables.{blocks_in}
+use Rattle.shown_states.specs.image_parts.Parts.{ArePartsOf}
+use Rattle.shown_states.specs.image_parts.log_reading.declared.log.ImageLog.{ImageLog}
+use Rattle.shown_states.specs.image_parts.part_checks.Chosen.{parts_of}
+use Rattle.shown_states.specs.image_parts.part_checks.declared.chosen.ChosenEntity.{ChosenEntity}
+use Rattle.shown_states.specs.States.{AreOnDisk, IsCellOf, IsContainerPart, IsLocusPart, atlas_by, cell_with}
+use Rattle.shown_states.proofs.Listing.{read_part}
+use Rattle.shown_states.proofs.Making.{all_cells, container_kinds, few_containers, few_loci, locus_kinds, many_containers, many_loci, on_disk}
 use Rattle.image_tools.proofs.state.state_of.Goals as goal
 
 pub containers_of-requires : goal.containers_of-requires

@@ -1,8 +1,8 @@
 -- The words so far are kept.
 use Rattle.std.proofs.Common.{◌≡◌, ◌+◌, ◌*◌, ◌<◌, ℕ}
 use Rattle.std.specs.Prelude.{slice_index}
-use Rattle.plain_parts.specs.Words.{words_with}
-use Rattle.image_tools.specs.Words.{IsSparse}
+use Rattle.shown_states.specs.plain_parts.Words.{words_with}
+use Rattle.shown_states.specs.Words.{IsSparse}
 use Rattle.image_tools.proofs.words.keep_page.Given as goal
 
 abbrev pub ghost-keep_word : goal.ghost-keep_word

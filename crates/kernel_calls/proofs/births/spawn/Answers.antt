@@ -2,7 +2,7 @@ use Rattle.std.proofs.Common.{◌≡◌, sym, ap, ◌∙◌}
 use Rattle.hop_base.specs.declared.instructions.Instr.TheVariants.{Spawn}
 use Rattle.invocation.specs.hop_model.Refusals.{instr_at, refusal}
 use Rattle.invocation.specs.locus_machine.Loci.{locus_of}
-use Rattle.invocation.proofs.locus_machine_lemmas.Alone.{place_within}
+use Rattle.invocation.proofs.wanted_laws_lemmas.Alone.{place_within}
 use Rattle.kernel_calls.specs.Calls.{is_spawn}
 use Rattle.kernel_calls.proofs.BirthLemmas.{birth_instr, birth_allowed, spawn_shape, spawn_allowed, spawn_made, atlas_as}
 use Rattle.kernel_calls.proofs.births.spawn.Goals as goal

@@ -2,7 +2,7 @@ use Rattle.std.proofs.Common.{◌≡◌, refl, sym, ap, ◌∙◌, subst}
 use Rattle.hop_base.specs.declared.capabilities.Region.{Region}
 use Rattle.invocation.specs.hop_model.Refusals.{instr_at, refusal, no_page, new_region}
 use Rattle.invocation.specs.hop_model.Outcomes.{map_region}
-use Rattle.atlas_dir.specs.Directory.{IsBornContainer}
+use Rattle.atlas_dir.specs.directory_form.Directory.{IsBornContainer}
 use Rattle.invocation.specs.locus_machine.Loci.{locus_of, container_with}
 use Rattle.invocation.proofs.Entered.{instr_is, within}
 use Rattle.kernel_calls.specs.Calls.{is_map, atlas_state}

@@ -1,6 +1,6 @@
 use Rattle.kernel_calls.specs.locus_machine.Loci.{locus_of}
 use Rattle.kernel_calls.specs.wanted_act.Views.{act_of}
-use Rattle.kernel_cells.proofs.Itself.{itself_at, alone_at}
+use Rattle.kernel_calls.proofs.wanted_laws_lemmas.Itself.{itself_at, alone_at}
 use Rattle.kernel_cells.proofs.alone.act_alone.Goals as goal
 
 pub on_itself-requires-clause-wants : goal.on_itself-requires-clause-wants

@@ -2,7 +2,7 @@ use Rattle.std.proofs.Common.{sym, ap, ◌∙◌}
 use Rattle.event_clocks.specs.hop_model.Outcomes.{Outcome}
 use Rattle.kernel_calls.specs.locus_machine.Loci.{locus_of}
 use Rattle.kernel_calls.specs.Calls.{is_stop, is_go}
-use Rattle.kernel_cells.proofs.Itself.{itself_within, itself_shape, snaps_itself}
+use Rattle.kernel_calls.proofs.wanted_laws_lemmas.Itself.{itself_within, itself_shape, snaps_itself}
 use Rattle.kernel_cells.proofs.alone.on_itself.Goals as goal
 
 pub stop_itself-requires-clause-wants : goal.stop_itself-requires-clause-wants

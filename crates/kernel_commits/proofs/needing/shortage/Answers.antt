@@ -1,10 +1,10 @@
 use Rattle.std.proofs.Common.{◌≡◌, ◌↔◌, Some, ap, ◌∙◌, subst}
 use Rattle.disk_trait.specs.declared.disk.NoBlocks.{NoBlocks as TooFewBlocks}
-use Rattle.cell_books.specs.snapshot_store.State.{books}
-use Rattle.cell_books.specs.store_model.Books.{kept_names}
-use Rattle.kernel_commits.specs.Parts.{Parts, parts_of}
-use Rattle.kernel_commits.specs.Stabilising.{AreTooFew, needs_in}
-use Rattle.kernel_commits.proofs.Fitting.{no_shortage, none_fits}
+use Rattle.commit_laws.specs.cell_books.store_laws.State.{books}
+use Rattle.commit_laws.specs.cell_books.store_model.Books.{kept_names}
+use Rattle.commit_laws.specs.Parts.{Parts, parts_of}
+use Rattle.commit_laws.specs.Stabilising.{AreTooFew, needs_in}
+use Rattle.commit_laws.proofs.Fitting.{no_shortage, none_fits}
 use Rattle.kernel_commits.proofs.needing.shortage.Goals as goal
 
 pub returns-clause-some : goal.returns-clause-some

@@ -1,6 +1,6 @@
 use Rattle.std.proofs.Common.{◌≡◌, sym, ap, ◌∙◌, slice_get, get_or, Some, arith}
 use Rattle.std.proofs.lemmas.Option.{slice_get-get_or}
-use Rattle.kernel_commits.proofs.Committing.{made, may_be, set_faults, unmade}
+use Rattle.commit_laws.proofs.Committing.{made, may_be, set_faults, unmade}
 use Rattle.kernel_commits.proofs.recording.commit_among.Goals as goal
 
 pub commit_cell-requires-clause-may : goal.commit_cell-requires-clause-may

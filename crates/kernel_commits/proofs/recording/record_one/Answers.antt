@@ -1,9 +1,10 @@
 use Rattle.std.proofs.Common.{◌≡◌, Err, Ok, sym, ap, subst, ◌∙◌, refl}
-use Rattle.cell_books.specs.Matching.{version_of}
-use Rattle.kernel_commits.specs.Parts.{parts_of}
-use Rattle.kernel_commits.specs.Recording.{GoesOnBy, HasRecorded, HasTried}
+use Rattle.commit_laws.specs.cell_books.Matching.{version_of}
+use Rattle.commit_laws.specs.Parts.{parts_of}
+use Rattle.kernel_commits.specs.Recording.{GoesOnBy}
+use Rattle.commit_laws.specs.Recording.{HasRecorded, HasTried}
 use Rattle.kernel_commits.proofs.Answering.{err_run, err_short, err_still, err_tried, ok_recorded, ok_run, ok_short, refilled}
-use Rattle.kernel_commits.proofs.Enough.{short_lacks}
+use Rattle.commit_laws.proofs.Enough.{short_lacks}
 use Rattle.kernel_commits.proofs.recording.record_one.Goals as goal
 
 pub returns-in-Ok-clause-recorded : goal.returns-in-Ok-clause-recorded

@@ -2,12 +2,12 @@ use Rattle.std.specs.Prelude.{⊤}
 use Rattle.kernel_commits.specs.declared.stopping.Stopped.TheVariants.{TooFew}
 use Rattle.std.proofs.Common.{◌≡◌, Bool, true, false, Ok, Err, sym, ap, ◌∙◌, subst, refl}
 use Rattle.std.proofs.lemmas.Bool.{false≢true}
-use Rattle.kernel_commits.specs.Snapping.{Snaps}
-use Rattle.kernel_commits.proofs.Committing.{clean_again}
-use Rattle.kernel_commits.proofs.Steadying.{steady_again}
+use Rattle.commit_laws.specs.Snapping.{Snaps}
+use Rattle.commit_laws.proofs.Committing.{clean_again}
+use Rattle.commit_laws.proofs.Steadying.{steady_again}
 use Rattle.kernel_commits.proofs.Wishing.{err_over, may_record, none_made, one_answer, one_failed, one_lacks, one_made, one_part}
-use Rattle.cell_books.proofs.kernel_room_lemmas.Enough.{calm_whole}
-use Rattle.kernel_commits.proofs.Enough.{short_lacks}
+use Rattle.commit_laws.proofs.cell_books_lemmas.kernel_room_lemmas.Enough.{calm_whole}
+use Rattle.commit_laws.proofs.Enough.{short_lacks}
 use Rattle.kernel_commits.proofs.snapping.snap_one.Goals as goal
 
 pub returns-then-not-wants_snap-clause-made : goal.returns-then-not-wants_snap-clause-made

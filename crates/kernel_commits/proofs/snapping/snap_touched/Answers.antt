@@ -1,12 +1,12 @@
 use Rattle.std.specs.Prelude.{⊤}
 use Rattle.std.proofs.Common.{◌+◌, Bool, false, drop, sym, ap, subst, arith}
-use Rattle.table_steps.specs.cell_table.Tables.{AreClean}
-use Rattle.cell_books.specs.record_laws.Cells.{words_on}
-use Rattle.kernel_commits.specs.Parts.{Parts}
-use Rattle.kernel_commits.specs.Steady.{IsSteady}
+use Rattle.commit_laws.specs.table_steps.cell_table.Tables.{AreClean}
+use Rattle.commit_laws.specs.cell_books.record_laws.Cells.{words_on}
+use Rattle.commit_laws.specs.Parts.{Parts}
+use Rattle.commit_laws.specs.Steady.{IsSteady}
 use Rattle.kernel_commits.specs.declared.stopping.Stopped.TheVariants.{TooFew}
 use Rattle.kernel_commits.proofs.Along.{SnapsAlong, begins_along, ends_along, lacks_along, next_touch, none_left, place_low, skip, stops_along, take_one}
-use Rattle.kernel_commits.proofs.Counting.{CountsAlong, counts_begin, counts_end, counts_next, counts_skip, past_cells}
+use Rattle.commit_laws.proofs.Counting.{CountsAlong, counts_begin, counts_end, counts_next, counts_skip, past_cells}
 use Rattle.kernel_commits.proofs.snapping.snap_touched.Goals.{then-touch+in_default, else-touch}
 use Rattle.kernel_commits.proofs.Stops.{stop_left}
 use Rattle.kernel_commits.proofs.Wishing.{err_over}

@@ -1,12 +1,12 @@
 use Rattle.std.proofs.Common.{drop}
-use Rattle.table_steps.specs.hop_model.State.{Supply}
-use Rattle.table_steps.specs.cell_table.Tables.{AreClean}
-use Rattle.cell_books.specs.record_laws.Cells.{words_on}
-use Rattle.cell_books.specs.kernel_model.Beginnings.{Beginning}
-use Rattle.kernel_commits.specs.Snapping.{RunsFree}
-use Rattle.kernel_commits.specs.Steady.{IsSteady}
+use Rattle.commit_laws.specs.table_steps.hop_model.State.{Supply}
+use Rattle.commit_laws.specs.table_steps.cell_table.Tables.{AreClean}
+use Rattle.commit_laws.specs.cell_books.record_laws.Cells.{words_on}
+use Rattle.commit_laws.specs.cell_books.kernel_model.Beginnings.{Beginning}
+use Rattle.commit_laws.specs.Snapping.{RunsFree}
+use Rattle.commit_laws.specs.Steady.{IsSteady}
 use Rattle.kernel_commits.proofs.Along.{SnapsAlong}
-use Rattle.kernel_commits.proofs.Counting.{CountsAlong}
+use Rattle.commit_laws.proofs.Counting.{CountsAlong}
 use Rattle.kernel_commits.proofs.snapping.snap_touched.Given as goal
 
 abbrev pub invariant-loop-i : goal.invariant-loop-i

@@ -1,13 +1,13 @@
 use Rattle.std.proofs.Common.{◌≡◌, true, ◌||◌, nat_lt, sym, ap, ◌∙◌, subst, slice_get, Some}
-use Rattle.cell_books.specs.store_model.Books.{kept_in}
-use Rattle.cell_books.specs.snapshot_store.Shelves.{records_of}
-use Rattle.cell_books.specs.snapshot_store.State.{books}
-use Rattle.cell_books.specs.record_laws.Cells.{words_on}
-use Rattle.cell_books.specs.kernel_model.Beginnings.{run_of}
-use Rattle.kernel_commits.specs.Parts.{Parts}
-use Rattle.kernel_commits.proofs.Steadying.{can_record}
+use Rattle.commit_laws.specs.cell_books.store_model.Books.{kept_in}
+use Rattle.commit_laws.specs.cell_books.store_laws.Shelves.{records_of}
+use Rattle.commit_laws.specs.cell_books.store_laws.State.{books}
+use Rattle.commit_laws.specs.cell_books.record_laws.Cells.{words_on}
+use Rattle.commit_laws.specs.cell_books.kernel_model.Beginnings.{run_of}
+use Rattle.commit_laws.specs.Parts.{Parts}
+use Rattle.commit_laws.proofs.Steadying.{can_record}
 use Rattle.kernel_commits.proofs.Wishing.{few_is, has, noted_open, snapped_by, test_is, test_unwished, wish}
-use Rattle.table_steps.proofs.cell_table_lemmas.Having.{no_supply, no_words}
+use Rattle.commit_laws.proofs.table_steps_lemmas.cell_table_lemmas.Having.{no_supply, no_words}
 use Rattle.kernel_commits.proofs.snapping.wants_snap.Goals as goal
 use Rattle.std.proofs.lemmas.Option.{same_Some}
 

@@ -1,16 +1,17 @@
 use Rattle.std.proofs.Common.{◌≡◌, ◌≢◌, ◌<◌, ◌+◌, ◌*◌, suc, sym, ap, ◌∙◌, subst, arith}
-use Rattle.cell_books.specs.snapshot_store.State.{books}
-use Rattle.cell_books.specs.Matching.{newest_of, version_of}
-use Rattle.kernel_commits.specs.Parts.{Parts}
-use Rattle.kernel_commits.specs.Recording.{CanRecord, HasRecorded, HasTried, MayRecord}
-use Rattle.kernel_commits.specs.Pieces.{CountsWithin}
-use Rattle.kernel_commits.specs.Stabilising.{NeedsFit}
-use Rattle.kernel_commits.specs.Through.{GoesThrough, RunsThrough}
-use Rattle.kernel_commits.proofs.Counting.{CountsWithin-fewer, one_within}
-use Rattle.kernel_commits.proofs.Fitting.{only_failed, still_fits}
+use Rattle.commit_laws.specs.cell_books.store_laws.State.{books}
+use Rattle.commit_laws.specs.cell_books.Matching.{newest_of, version_of}
+use Rattle.commit_laws.specs.Parts.{Parts}
+use Rattle.commit_laws.specs.Recording.{CanRecord, HasRecorded, HasTried, MayRecord}
+use Rattle.commit_laws.specs.Pieces.{CountsWithin}
+use Rattle.commit_laws.specs.Stabilising.{NeedsFit}
+use Rattle.commit_laws.specs.Through.{GoesThrough, RunsThrough}
+use Rattle.commit_laws.proofs.Counting.{CountsWithin-fewer, one_within}
+use Rattle.kernel_commits.proofs.Fitting.{only_failed}
+use Rattle.commit_laws.proofs.Fitting.{still_fits}
 use Rattle.kernel_commits.proofs.Parting.{stable_part}
-use Rattle.kernel_commits.proofs.Through.{begins_through, is_newest, marks_within, may_go_on, newest_low, not_newest, passes, records_next}
-use Rattle.kernel_commits.proofs.RunsThrough.{next_is, runs_begin, runs_may, runs_next, runs_pass, version_in_run}
+use Rattle.commit_laws.proofs.Through.{begins_through, is_newest, marks_within, may_go_on, newest_low, not_newest, passes, records_next}
+use Rattle.commit_laws.proofs.RunsThrough.{next_is, runs_begin, runs_may, runs_next, runs_pass, version_in_run}
 use Rattle.kernel_commits.proofs.stabilising.record_all.Goals.{then-not-recorded_among+in_default, else-not-recorded_among}
 use Rattle.kernel_commits.proofs.Stops.{stop_left}
 use Rattle.kernel_commits.proofs.stabilising.record_all.Goals as goal

@@ -1,7 +1,7 @@
 use Rattle.std.proofs.Common.{ℕ}
-use Rattle.cell_books.specs.kernel_model.Beginnings.{Beginning}
-use Rattle.kernel_commits.specs.Stabilising.{NeedsFit, OwesStable}
-use Rattle.kernel_commits.specs.Through.{GoesThrough, RunsThrough}
+use Rattle.commit_laws.specs.cell_books.kernel_model.Beginnings.{Beginning}
+use Rattle.commit_laws.specs.Stabilising.{NeedsFit, OwesStable}
+use Rattle.commit_laws.specs.Through.{GoesThrough, RunsThrough}
 use Rattle.kernel_commits.proofs.stabilising.record_all.Given as goal
 
 abbrev pub invariant-loop-x : goal.invariant-loop-x

@@ -1,14 +1,14 @@
 use Rattle.std.proofs.Common.{◌*◌, [], ◌∷◌, OnOk, OnErr, Some, sym, ap, subst}
 use Rattle.hop_base.specs.declared.histories.Event.TheVariants.{Stable}
-use Rattle.table_steps.specs.hop_model.Histories.{mark}
-use Rattle.cell_books.specs.kernel_model.Live.{TooFew as TooFewStop}
-use Rattle.kernel_commits.specs.Parts.{LivesAs, Parts}
-use Rattle.kernel_commits.specs.Pieces.{CountsWithin, StopsIn}
-use Rattle.kernel_commits.specs.Stabilising.{OwesStable}
-use Rattle.kernel_commits.specs.Through.{RunsThrough}
+use Rattle.commit_laws.specs.table_steps.hop_model.Histories.{mark}
+use Rattle.commit_laws.specs.cell_books.kernel_model.Live.{TooFew as TooFewStop}
+use Rattle.commit_laws.specs.Parts.{LivesAs, Parts}
+use Rattle.commit_laws.specs.Pieces.{CountsWithin, StopsIn}
+use Rattle.commit_laws.specs.Stabilising.{OwesStable}
+use Rattle.commit_laws.specs.Through.{RunsThrough}
 use Rattle.kernel_commits.proofs.Fitting.{short_stop, stops_short}
-use Rattle.kernel_commits.proofs.Running.{still_lives}
-use Rattle.kernel_commits.proofs.Counting.{CountsWithin-stay}
+use Rattle.commit_laws.proofs.Running.{still_lives}
+use Rattle.commit_laws.proofs.Counting.{CountsWithin-stay}
 use Rattle.kernel_commits.proofs.Parting.{none_came}
 use Rattle.kernel_commits.proofs.stabilising.record_changed.Goals as goal
 

@@ -1,13 +1,13 @@
 use Rattle.std.proofs.Common.{◌*◌, [], ◌∷◌, refl, sym, subst}
 use Rattle.hop_base.specs.declared.histories.Event.TheVariants.{Stable}
-use Rattle.table_steps.specs.hop_model.Histories.{mark}
-use Rattle.table_steps.specs.cell_table.Tables.{AreClean}
-use Rattle.cell_books.specs.record_laws.Cells.{words_on}
-use Rattle.kernel_commits.specs.Pieces.{CountsWithin}
-use Rattle.kernel_commits.proofs.Settled.{entries_are, has_stabilised, marks_are, stable_steady}
-use Rattle.kernel_commits.proofs.Settling.{stable_calm, stable_stands}
-use Rattle.kernel_commits.proofs.Dues.{lacks_first}
-use Rattle.kernel_commits.proofs.Enough.{lacks_blocks}
+use Rattle.commit_laws.specs.table_steps.hop_model.Histories.{mark}
+use Rattle.commit_laws.specs.table_steps.cell_table.Tables.{AreClean}
+use Rattle.commit_laws.specs.cell_books.record_laws.Cells.{words_on}
+use Rattle.commit_laws.specs.Pieces.{CountsWithin}
+use Rattle.commit_laws.proofs.Settled.{entries_are, has_stabilised, marks_are, stable_steady}
+use Rattle.commit_laws.proofs.Settling.{stable_calm, stable_stands}
+use Rattle.commit_laws.proofs.Dues.{lacks_first}
+use Rattle.commit_laws.proofs.Enough.{lacks_blocks}
 use Rattle.kernel_commits.proofs.stabilising.settle.Goals as goal
 
 pub returns-in-Err-clause-run : goal.returns-in-Err-clause-run

@@ -1,11 +1,11 @@
 use Rattle.std.proofs.Common.{◌≤◌, sym, subst, length, arith}
-use Rattle.birth_views.specs.script_form.Scripts.{tables_of}
-use Rattle.birth_views.specs.table_births.Births.{atlas_state_in}
-use Rattle.kernel_commits.specs.Parts.{Parts}
-use Rattle.kernel_commits.proofs.Steadying.{entry_room}
-use Rattle.kernel_core.specs.Bearing.{HasBorneAll, IsInBirths, RunsInBirths}
-use Rattle.kernel_core.proofs.Births.{borne_next, few_entries, in_births_next, in_order, none_borne, runs_next, too_many}
-use Rattle.kernel_core.proofs.Paired.{few_writes}
+use Rattle.core_laws.specs.birth_views.script_form.Scripts.{tables_of}
+use Rattle.core_laws.specs.birth_views.table_births.Births.{atlas_state_in}
+use Rattle.core_laws.specs.kernel_commits.commit_laws.Parts.{Parts}
+use Rattle.core_laws.proofs.kernel_commits_lemmas.commit_laws_lemmas.Steadying.{entry_room}
+use Rattle.core_laws.specs.Bearing.{HasBorneAll, IsInBirths, RunsInBirths}
+use Rattle.core_laws.proofs.Births.{borne_next, few_entries, in_births_next, in_order, none_borne, runs_next, too_many}
+use Rattle.core_laws.proofs.Paired.{few_writes}
 use Rattle.kernel_core.proofs.bearing.bear_all.Goals as goal
 
 pub loop-init : goal.loop-init

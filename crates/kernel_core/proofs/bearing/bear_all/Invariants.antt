@@ -1,8 +1,8 @@
 use Rattle.std.proofs.Common.{◌≡◌, ◌≤◌}
-use Rattle.birth_views.specs.script_form.Scripts.{tables_of}
-use Rattle.birth_views.specs.table_births.Births.{AreUnderWay, atlas_state_in, count_born}
-use Rattle.birth_views.specs.kernel_model.Beginnings.{Beginning}
-use Rattle.kernel_core.specs.Bearing.{HasBorneSome, IsInBirths, RunsInBirths}
+use Rattle.core_laws.specs.birth_views.script_form.Scripts.{tables_of}
+use Rattle.core_laws.specs.birth_views.table_births.Births.{AreUnderWay, atlas_state_in, count_born}
+use Rattle.core_laws.specs.birth_views.kernel_model.Beginnings.{Beginning}
+use Rattle.core_laws.specs.Bearing.{HasBorneSome, IsInBirths, RunsInBirths}
 use Rattle.kernel_core.proofs.bearing.bear_all.Given as goal
 
 abbrev pub invariant-loop : goal.invariant-loop

@@ -1,8 +1,8 @@
 use Rattle.std.proofs.Common.{◌*◌, sym, ◌∙◌, subst}
-use Rattle.birth_views.specs.script_form.Scripts.{tables_of}
-use Rattle.birth_views.specs.snapshot_store.State.{State}
-use Rattle.kernel_commits.specs.Pieces.{CountsWithin}
-use Rattle.kernel_core.proofs.Opened.{clean_births, counts_stay, none_noted, opened_empty, opened_stable, opens_empty, opens_settled, owes, short_empty, short_stable, some_noted, spare, stopped_births}
+use Rattle.core_laws.specs.birth_views.script_form.Scripts.{tables_of}
+use Rattle.core_laws.specs.birth_views.store_laws.State.{State}
+use Rattle.core_laws.specs.kernel_commits.commit_laws.Pieces.{CountsWithin}
+use Rattle.core_laws.proofs.Opened.{clean_births, counts_stay, none_noted, opened_empty, opened_stable, opens_empty, opens_settled, owes, short_empty, short_stable, some_noted, spare, stopped_births}
 use Rattle.kernel_core.proofs.bearing.open_core.Goals as goal
 
 pub settle-requires-clause-spare : goal.settle-requires-clause-spare

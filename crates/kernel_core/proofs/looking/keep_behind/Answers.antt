@@ -1,7 +1,7 @@
 use Rattle.std.proofs.Common.{Some, None, if◌then◌else◌, sym, subst}
-use Rattle.birth_views.specs.serial_runs.Serial.{kept_behind, written_in}
-use Rattle.birth_views.specs.kernel_model.Beginnings.{run_of}
-use Rattle.kernel_commits.specs.Lacking.{LacksIn}
+use Rattle.core_laws.specs.birth_views.serial_runs.Serial.{kept_behind, written_in}
+use Rattle.core_laws.specs.birth_views.kernel_model.Beginnings.{run_of}
+use Rattle.core_laws.specs.kernel_commits.commit_laws.Lacking.{LacksIn}
 use Rattle.kernel_core.proofs.looking.keep_behind.Goals as goal
 
 pub returns-then-owes-clause-enough : goal.returns-then-owes-clause-enough

@@ -3,20 +3,22 @@ use Rattle.std.specs.Prelude.{⊤}
 use Rattle.hop_base.specs.declared.histories.Answer.TheVariants.{Reply as Replied}
 use Rattle.hop_base.specs.declared.histories.Entry.{Entry}
 use Rattle.hop_base.specs.declared.instructions.Reply.TheVariants.{Ok as AnsweredOk}
-use Rattle.kernel_commits.specs.hop_model.Histories.{locus_in, owed_by}
-use Rattle.kernel_commits.specs.hop_model.State.{Supply}
-use Rattle.birth_views.specs.kernel_cells.declared.cells.Cell.{Cell}
-use Rattle.birth_views.specs.cell_table.Tables.{state_in}
-use Rattle.kernel_core.specs.Looking.{LooksInRun}
+use Rattle.core_laws.specs.kernel_commits.hop_model.Histories.{locus_in, owed_by}
+use Rattle.core_laws.specs.kernel_commits.hop_model.State.{Supply}
+use Rattle.core_laws.specs.birth_views.kernel_cells.declared.cells.Cell.{Cell}
+use Rattle.core_laws.specs.birth_views.cell_table.Tables.{state_in}
+use Rattle.core_laws.specs.Looking.{LooksInRun}
 use Rattle.kernel_core.specs.declared.looking.Looked.{Looked as Look}
 use Rattle.kernel_core.specs.declared.looking.Looked.TheVariants.{Idle, Stepped}
 use Rattle.kernel_core.specs.declared.stepping.Stepping.{Stepping}
-use Rattle.kernel_commits.specs.Parts.{Parts}
-use Rattle.kernel_core.specs.Stepping.{StepsOnce, idle_at}
-use Rattle.kernel_commits.specs.declared.stopping.Stopped.TheVariants.{TooFew}
-use Rattle.kernel_commits.proofs.Wishing.{err_over}
-use Rattle.kernel_commits.proofs.Counting.{CountsWithin-then}
-use Rattle.kernel_core.proofs.LookMade.{err_result, err_stepped, free_then, idle_behind, idle_failed, idle_told, lacks_behind_step, look_behind_step, look_still, ok_stepped, owes_is, owes_then, part_at_step, part_behind_step, ok_look}
+use Rattle.core_laws.specs.kernel_commits.commit_laws.Parts.{Parts}
+use Rattle.kernel_core.specs.Stepping.{StepsOnce}
+use Rattle.core_laws.specs.Stepping.{idle_at}
+use Rattle.core_laws.specs.kernel_commits.declared.stopping.Stopped.TheVariants.{TooFew}
+use Rattle.core_laws.proofs.kernel_commits_lemmas.Wishing.{err_over}
+use Rattle.core_laws.proofs.kernel_commits_lemmas.commit_laws_lemmas.Counting.{CountsWithin-then}
+use Rattle.kernel_core.proofs.LookMade.{err_result, err_stepped, idle_behind, idle_failed, idle_told, ok_stepped, ok_look}
+use Rattle.core_laws.proofs.LookMade.{free_then, lacks_behind_step, look_behind_step, look_still, owes_is, owes_then, part_at_step, part_behind_step}
 use Rattle.kernel_core.proofs.looking.look_core.Goals as goal
 
 pub returns-in-Ok-clause-run : goal.returns-in-Ok-clause-run

@@ -1,9 +1,9 @@
 use Rattle.std.proofs.Common.{Err, Ok, sym, subst}
-use Rattle.kernel_commits.specs.Parts.{Noted, parts_of}
+use Rattle.core_laws.specs.kernel_commits.commit_laws.Parts.{Noted, parts_of}
 use Rattle.kernel_core.specs.Stepping.{StepsOnce}
 use Rattle.kernel_core.specs.declared.stepping.Stepping.TheVariants.{Made}
-use Rattle.kernel_commits.specs.declared.stopping.Stopped.{Stopped}
-use Rattle.kernel_core.proofs.Paired.{few_writes}
+use Rattle.core_laws.specs.kernel_commits.declared.stopping.Stopped.{Stopped}
+use Rattle.core_laws.proofs.Paired.{few_writes}
 use Rattle.kernel_core.proofs.Stepped.{once_failed, once_idle, once_made}
 use Rattle.kernel_core.proofs.stepping.step_among.Goals as goal
 

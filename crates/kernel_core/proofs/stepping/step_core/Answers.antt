@@ -1,7 +1,7 @@
 use Rattle.std.proofs.Common.{sym, subst}
-use Rattle.birth_views.specs.cell_table.Tables.{AreClean}
-use Rattle.birth_views.specs.record_laws.Cells.{words_on}
-use Rattle.kernel_commits.specs.Parts.{Parts}
+use Rattle.core_laws.specs.birth_views.cell_table.Tables.{AreClean}
+use Rattle.core_laws.specs.birth_views.record_laws.Cells.{words_on}
+use Rattle.core_laws.specs.kernel_commits.commit_laws.Parts.{Parts}
 use Rattle.kernel_core.proofs.stepping.step_core.Goals as goal
 
 pub step_among-requires-clause-clean : goal.step_among-requires-clause-clean

@@ -3,11 +3,11 @@ use Rattle.disk_tally.specs.Counts.{Begins, shown}
 use Rattle.disk_trait.specs.Image.{Image}
 use Rattle.disk_trait.specs.Moments.{LeavesOnly}
 use Rattle.image_opening.specs.image_blocks.Checks.{Bad as BadPlace}
-use Rattle.image_opening.specs.Images.{HasBegun, MeansSame, MeansSince, StopsShort, WasRefused}
+use Rattle.image_opening.specs.opening_laws.Images.{HasBegun, MeansSame, MeansSince, StopsShort, WasRefused}
 use Rattle.image_opening.specs.kernel_cells.declared.cells.Cell.{Cell}
 use Rattle.kernel_opening.proofs.Begun.{came, clean_begun, failed, lives_begun, opens_begun, sync_ended}
 use Rattle.kernel_opening.proofs.Starting.{may_begin}
-use Rattle.image_opening.specs.snapshot_store.State.{State, books}
+use Rattle.image_opening.specs.store_laws.State.{State, books}
 use Rattle.image_opening.specs.snapshot_store.declared.opening.OpenWhy.{OpenWhy}
 use Rattle.image_opening.specs.snapshot_store.declared.opening.OpenWhy.TheVariants as why
 use Rattle.kernel_opening.proofs.opening.open_image.Goals as goal

@@ -2,7 +2,7 @@ use Rattle.std.proofs.Common.{inl, sym, ◌∙◌}
 use Rattle.disk_trait.proofs.Phases.{LeavesOnly-start, told}
 use Rattle.record_laws.specs.store_model.Between.{stored_each}
 use Rattle.record_laws.specs.store_model.Books.{kept_of, recs_in}
-use Rattle.snapshot_store.specs.State.{books}
+use Rattle.snapshot_store.specs.store_laws.State.{books}
 use Rattle.kernel_records.specs.Committing.{StoresKeptOrCell}
 use Rattle.kernel_records.proofs.Leaving.{not_committed}
 use Rattle.kernel_records.proofs.commits.commit_cell.Goals as goal

@@ -6,7 +6,7 @@ use Rattle.std.proofs.lemmas.Bool.{cases_lt}
 use Rattle.disk_trait.specs.Counts.{Rose}
 use Rattle.disk_tally.proofs.Counting.{CountsOn-then}
 use Rattle.record_laws.specs.store_model.Books.{free_in, kept_names}
-use Rattle.snapshot_store.specs.State.{State, books}
+use Rattle.snapshot_store.specs.store_laws.State.{State, books}
 use Rattle.snapshot_store.specs.declared.faults.StoreFault.TheVariants.{WriteFault}
 use Rattle.snapshot_store.specs.page_store.Pages.{IsWriteFault}
 use Rattle.snapshot_store.specs.page_store.declared.faults.PageFault.{PageFault}

@@ -1,10 +1,10 @@
 use Rattle.std.proofs.Common.{◌≡◌, ℕ, ◌≤◌, List, length, sym, ap, subst}
 use Rattle.std.specs.Prelude.{IfSome}
-use Rattle.snapshot_store.specs.image_blocks.Bodies.{blocks_for}
+use Rattle.snapshot_store.specs.image_form.Bodies.{blocks_for}
 use Rattle.record_laws.specs.image_meaning.Parts.{Spells}
 use Rattle.record_laws.specs.cell_blobs.Blobs.{blob_need, spelt_in}
 use Rattle.record_laws.specs.store_model.Books.{free_in}
-use Rattle.snapshot_store.specs.State.{books}
+use Rattle.snapshot_store.specs.store_laws.State.{books}
 use Rattle.snapshot_store.specs.page_shadow.Ledger.{is_held}
 use Rattle.kernel_records.proofs.Rests.{held_pages, only_write, record_made}
 use Rattle.kernel_records.proofs.Spelling.{bytes_some}

@@ -3,7 +3,7 @@ use Rattle.std.proofs.lemmas.Bool.{false≢true}
 use Rattle.std.proofs.lemmas.Result.{err_from_is_err_and}
 use Rattle.hop_base.specs.declared.histories.Entry.{Entry}
 use Rattle.snapshot_store.specs.hop_model.State.{Supply}
-use Rattle.snapshot_store.specs.State.{books}
+use Rattle.snapshot_store.specs.store_laws.State.{books}
 use Rattle.record_laws.specs.cell_blobs.Blobs.{is_recorded}
 use Rattle.kernel_records.specs.Snapping.{is_snapped}
 use Rattle.kernel_records.proofs.Faulting.{handed_on, is_changed, is_few, is_wished, snapped}

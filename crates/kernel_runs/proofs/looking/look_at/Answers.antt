@@ -5,8 +5,8 @@ use Rattle.kernel_core.specs.declared.looking.Looked.{Looked}
 use Rattle.kernel_core.proofs.serial_turns_lemmas.Whereabouts.{looked_more}
 use Rattle.kernel_core.specs.serial_runs.Serial.{look}
 use Rattle.kernel_core.specs.kernel_model.Beginnings.{run_of}
-use Rattle.kernel_core.specs.kernel_commits.Lacking.{LacksIn}
-use Rattle.kernel_core.proofs.kernel_commits_lemmas.Dues.{due_looks}
+use Rattle.kernel_core.specs.commit_laws.Lacking.{LacksIn}
+use Rattle.kernel_core.proofs.commit_laws_lemmas.Dues.{due_looks}
 use Rattle.kernel_runs.proofs.Alongs.{told_stop}
 use Rattle.kernel_runs.proofs.Caused.{look_cause}
 use Rattle.kernel_runs.proofs.Course.{one_look, part_of_look}

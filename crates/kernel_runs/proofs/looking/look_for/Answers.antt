@@ -2,7 +2,7 @@ use Rattle.std.proofs.Common.{◌≡◌, None, Some, sym, ◌∙◌}
 use Rattle.kernel_core.specs.serial_turns.Turns.{before_pick}
 use Rattle.kernel_runs.specs.Running.{look_most, opened_in}
 use Rattle.kernel_runs.proofs.Alongs.{next_pick, takes_pick}
-use Rattle.kernel_core.proofs.kernel_commits_lemmas.Counting.{CountsWithin-stay}
+use Rattle.kernel_core.proofs.commit_laws_lemmas.Counting.{CountsWithin-stay}
 use Rattle.kernel_runs.proofs.looking.look_for.Goals as goal
 
 pub returns-in-Some-clause-run : goal.returns-in-Some-clause-run

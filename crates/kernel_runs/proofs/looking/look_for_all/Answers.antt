@@ -6,7 +6,7 @@ use Rattle.std.proofs.lemmas.Option.{slice_get-map, slice_get_read}
 use Rattle.kernel_core.specs.serial_turns.Turns.{before_pick}
 use Rattle.kernel_core.proofs.serial_turns_lemmas.Course.{all_picked}
 use Rattle.kernel_runs.specs.Running.{RunsAlong, look_most, opened_in}
-use Rattle.kernel_core.proofs.kernel_commits_lemmas.Counting.{CountsWithin-fewer, CountsWithin-stay, CountsWithin-then}
+use Rattle.kernel_core.proofs.commit_laws_lemmas.Counting.{CountsWithin-fewer, CountsWithin-stay, CountsWithin-then}
 use Rattle.kernel_runs.proofs.Caused.{cause_from}
 use Rattle.kernel_runs.proofs.looking.look_for_all.Goals as goal
 

@@ -1,7 +1,7 @@
 use Rattle.std.proofs.Common.{◌≡◌, ◌*◌, None, [], map}
 use Rattle.std.specs.Prelude.{string_bytes}
-use Rattle.kernel_core.specs.kernel_commits.Pieces.{CountsWithin}
-use Rattle.kernel_core.specs.Kernels.{StaysClean}
+use Rattle.kernel_core.specs.commit_laws.Pieces.{CountsWithin}
+use Rattle.kernel_core.specs.core_laws.Kernels.{StaysClean}
 use Rattle.kernel_core.specs.kernel_model.Beginnings.{Beginning}
 use Rattle.kernel_core.specs.serial_turns.Turns.{before_pick}
 use Rattle.kernel_runs.specs.Running.{IsRunBy, RunsAlong, look_most, opened_in}

@@ -6,7 +6,7 @@ use Rattle.kernel_runs.specs.Running.{RunsAlong, look_most, opened_in}
 use Rattle.kernel_runs.proofs.Caused.{cause_from}
 use Rattle.kernel_runs.proofs.Alongs.{locus_first, locus_next}
 use Rattle.kernel_runs.proofs.Born.{round_over}
-use Rattle.kernel_core.proofs.kernel_commits_lemmas.Counting.{CountsWithin-fewer, CountsWithin-stay, CountsWithin-then}
+use Rattle.kernel_core.proofs.commit_laws_lemmas.Counting.{CountsWithin-fewer, CountsWithin-stay, CountsWithin-then}
 use Rattle.kernel_runs.proofs.rounds.round.Goals as goal
 
 pub loop-number-init : goal.loop-number-init

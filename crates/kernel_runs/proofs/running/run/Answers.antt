@@ -2,14 +2,14 @@ use Rattle.std.proofs.Common.{◌+◌, ◌*◌, ◌^◌, ◌≤◌, ℕ, length,
 use Rattle.std.specs.Prelude.{Err, IfErr, Ok, Result, string_bytes, ⊤}
 use Rattle.kernel_core.specs.hop_model.Scripts.{Script}
 use Rattle.kernel_core.specs.script_form.Scripts.{tables_of}
-use Rattle.kernel_core.specs.kernel_commits.Parts.{Parts}
+use Rattle.kernel_core.specs.commit_laws.Parts.{Parts}
 use Rattle.kernel_core.specs.kernel_commits.Stops.{IsCause}
 use Rattle.kernel_core.specs.kernel_commits.declared.stopping.Stopped.{Stopped}
 use Rattle.kernel_core.specs.kernel_commits.declared.stopping.Stopped.TheVariants.{TooFew}
 use Rattle.kernel_runs.specs.Running.{look_most}
 use Rattle.kernel_runs.proofs.Alongs.{opens, run_by, stops_opening, told_stop}
 use Rattle.kernel_runs.proofs.Caused.{births_cause, cause_from}
-use Rattle.kernel_core.proofs.kernel_commits_lemmas.Counting.{CountsWithin-fewer, CountsWithin-then}
+use Rattle.kernel_core.proofs.commit_laws_lemmas.Counting.{CountsWithin-fewer, CountsWithin-then}
 use Rattle.kernel_runs.proofs.running.run.Goals as goal
 
 pub play-requires-clause-clean : goal.play-requires-clause-clean

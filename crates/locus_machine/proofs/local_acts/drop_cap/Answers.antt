@@ -3,7 +3,7 @@ use Rattle.hop_base.specs.declared.instructions.Reply.TheVariants.{Ok}
 use Rattle.hop_model.specs.Outcomes.{local_act, finish}
 use Rattle.hop_model.specs.Refusals.{reg}
 use Rattle.locus_machine.specs.Loci.{locus_of}
-use Rattle.locus_machine.proofs.Allowed.{drop_allowed, cleared}
+use Rattle.wanted_laws.proofs.Allowed.{drop_allowed, cleared}
 use Rattle.locus_machine.proofs.local_acts.drop_cap.Goals as goal
 
 pub returns-clause-locus : goal.returns-clause-locus

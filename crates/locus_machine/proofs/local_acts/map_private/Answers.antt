@@ -1,7 +1,7 @@
 use Rattle.std.proofs.Common.{ap, ◌∙◌}
 use Rattle.hop_model.specs.Refusals.{no_page}
 use Rattle.locus_machine.specs.Loci.{locus_of}
-use Rattle.locus_machine.proofs.Allowed.{lmap_allowed}
+use Rattle.wanted_laws.proofs.Allowed.{lmap_allowed}
 use Rattle.locus_machine.proofs.local_acts.map_private.Goals as goal
 
 pub new_region-region-requires-clause-pages : goal.new_region-region-requires-clause-pages

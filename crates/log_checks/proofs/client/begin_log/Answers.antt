@@ -3,7 +3,7 @@ use Rattle.disk_trait.specs.Disk.{Only}
 use Rattle.disk_trait.specs.Image.{Image}
 use Rattle.disk_trait.proofs.Images.{SameOutside-weaker}
 use Rattle.disk_trait.proofs.Phases.{IsImage-reading}
-use Rattle.log_turn.proofs.Slots.{wrote}
+use Rattle.log_turn.proofs.log_laws_lemmas.Slots.{wrote}
 use Rattle.log_checks.proofs.Begun.{IsFront, begun, four_written}
 use Rattle.log_checks.proofs.client.begin_log.Goals as goal
 

@@ -1,7 +1,7 @@
 use Rattle.std.proofs.Common.{◌≡◌, ◌≤◌, length, sym, ap, ◌∙◌, arith}
 use Rattle.disk_trait.proofs.Phases.{IsImage-reading}
-use Rattle.image_blocks.specs.Bodies.{number_at}
-use Rattle.log_reading.proofs.InRange.{count_most}
+use Rattle.image_blocks.specs.image_form.Bodies.{number_at}
+use Rattle.log_laws.proofs.InRange.{count_most}
 use Rattle.log_reading.proofs.Verdicts.{check_1-is}
 use Rattle.log_reading.proofs.front.front_of.Goals as goal
 

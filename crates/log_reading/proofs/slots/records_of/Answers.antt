@@ -4,15 +4,17 @@ use Rattle.std.proofs.lemmas.List.{length-append}
 use Rattle.std.specs.List.{AllPairs}
 use Rattle.disk_trait.specs.Image.{Image}
 use Rattle.hop_base.specs.declared.records.Rec.{Rec}
-use Rattle.image_blocks.specs.Bodies.{record_in}
-use Rattle.image_blocks.specs.Checks.{body_fault, body_in, count_in, log_fault}
-use Rattle.image_blocks.specs.Layout.{body_at, is_open, slot_count, slot_gate_at}
-use Rattle.image_blocks.specs.Logs.{IsInRange}
-use Rattle.log_reading.specs.Logs.{AreInRange, IsOlder}
-use Rattle.log_reading.proofs.Ascending.{ascending_more}
-use Rattle.log_reading.proofs.InRange.{in_range_more, read_in_range}
-use Rattle.log_reading.proofs.ReadSoFar.{ReadsOnly-trans}
-use Rattle.log_reading.proofs.Reached.{fault_moved, log_bad, log_read, reads, reads_more, read_at}
+use Rattle.image_blocks.specs.image_form.Bodies.{record_in}
+use Rattle.image_blocks.specs.image_form.Checks.{body_fault, count_in}
+use Rattle.image_blocks.specs.Checks.{body_in, log_fault}
+use Rattle.image_blocks.specs.Layout.{body_at, slot_gate_at}
+use Rattle.image_blocks.specs.image_form.Layout.{is_open, slot_count}
+use Rattle.image_blocks.specs.image_form.Logs.{IsInRange}
+use Rattle.log_laws.specs.Logs.{AreInRange, IsOlder}
+use Rattle.log_laws.proofs.Ascending.{ascending_more}
+use Rattle.log_laws.proofs.InRange.{in_range_more, read_in_range}
+use Rattle.log_laws.proofs.ReadSoFar.{ReadsOnly-trans}
+use Rattle.log_laws.proofs.Reached.{fault_moved, log_bad, log_read, reads, reads_more, read_at}
 use Rattle.log_reading.proofs.Verdicts.{bad_at, match_none, match_some, told_bad}
 use Rattle.log_reading.proofs.slots.records_of.Goals as goal
 

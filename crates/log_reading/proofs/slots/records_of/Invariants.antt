@@ -1,4 +1,4 @@
-use Rattle.log_reading.proofs.ReadSoFar.{ReadSoFar}
+use Rattle.log_laws.proofs.ReadSoFar.{ReadSoFar}
 use Rattle.log_reading.proofs.slots.records_of.Given as goal
 
 abbrev pub invariant-loop-slot : goal.invariant-loop-slot

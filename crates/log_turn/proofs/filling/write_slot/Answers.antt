@@ -1,8 +1,8 @@
 use Rattle.std.proofs.Common.{◌≡◌, ◌<◌, ◌+◌, inl, inr, length, ◌∙◌, arith}
 use Rattle.disk_trait.proofs.Phases.{IsImage-reading, Quiet-start, Quiet-write, told}
 use Rattle.commit_log.specs.image_blocks.Layout.{slot_gate_at}
-use Rattle.log_turn.specs.Stages.{IsOfSlot}
-use Rattle.log_turn.proofs.Slots.{wrote}
+use Rattle.commit_log.specs.log_laws.Stages.{IsOfSlot}
+use Rattle.commit_log.proofs.log_laws_lemmas.Slots.{wrote}
 use Rattle.log_turn.proofs.filling.write_slot.Goals as goal
 
 pub returns-in_err-write-clause-any_moment : goal.returns-in_err-write-clause-any_moment

@@ -3,8 +3,8 @@ use Rattle.disk_trait.proofs.Images.{SameOutside-trans, SameOutside-weaker}
 use Rattle.disk_trait.proofs.Phases.{Quiet-then, Quiet-weaker, told}
 use Rattle.disk_tally.proofs.Counting.{CountsOn-then}
 use Rattle.commit_log.specs.image_blocks.Layout.{header_at}
-use Rattle.log_turn.specs.Stages.{IsBehindGate}
-use Rattle.log_turn.proofs.Slots.{first_all, first_more, header_not_slot, slot_behind}
+use Rattle.commit_log.specs.log_laws.Stages.{IsBehindGate}
+use Rattle.commit_log.proofs.log_laws_lemmas.Slots.{first_all, first_more, header_not_slot, slot_behind}
 use Rattle.log_turn.proofs.filling.write_slots.Goals as goal
 
 pub returns-in_err-write_slot-clause-counts : goal.returns-in_err-write_slot-clause-counts

@@ -1,9 +1,9 @@
 use Rattle.std.proofs.Common.{◌<◌, length, ◌∙◌, arith}
 use Rattle.disk_trait.proofs.Phases.{IsImage-reading, Quiet-start, Quiet-sync, told}
 use Rattle.commit_log.specs.image_blocks.Layout.{gate_at}
-use Rattle.commit_log.proofs.Through.{gate_closed}
-use Rattle.log_turn.specs.Stages.{IsClosing}
-use Rattle.log_turn.proofs.Slots.{wrote}
+use Rattle.commit_log.proofs.log_laws_lemmas.Through.{gate_closed}
+use Rattle.commit_log.specs.log_laws.Stages.{IsClosing}
+use Rattle.commit_log.proofs.log_laws_lemmas.Slots.{wrote}
 use Rattle.log_turn.proofs.gates.close_area.Goals as goal
 
 pub returns-then-not-is_open-clause-any_moment : goal.returns-then-not-is_open-clause-any_moment

@@ -3,10 +3,10 @@ use Rattle.disk_trait.proofs.Images.{SameOutside-weaker}
 use Rattle.disk_trait.proofs.Phases.{IsImage-reading, Quiet-weaker, told}
 use Rattle.disk_tally.proofs.Counting.{CountsOn-then}
 use Rattle.commit_log.specs.image_blocks.Layout.{gate_at, other}
-use Rattle.commit_log.proofs.Through.{gate_open}
-use Rattle.log_turn.specs.Stages.{IsEitherGate}
-use Rattle.log_turn.proofs.Slots.{wrote}
-use Rattle.log_turn.proofs.Turning.{other_gate_same, switch_closing, switch_opening, switch_same}
+use Rattle.commit_log.proofs.log_laws_lemmas.Through.{gate_open}
+use Rattle.commit_log.specs.log_laws.Stages.{IsEitherGate}
+use Rattle.commit_log.proofs.log_laws_lemmas.Slots.{wrote}
+use Rattle.commit_log.proofs.log_laws_lemmas.Turning.{other_gate_same, switch_closing, switch_opening, switch_same}
 use Rattle.log_turn.proofs.gates.switch.Goals as goal
 
 pub returns-in_err-write_and_sync-clause-any_moment : goal.returns-in_err-write_and_sync-clause-any_moment

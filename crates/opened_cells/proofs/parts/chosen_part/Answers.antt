@@ -1,6 +1,6 @@
 use Rattle.std.proofs.Common.{◌≡◌, Some, subst, sym}
 use Rattle.meant_states.specs.image_meaning.Parts.{IsFormed, table_in}
-use Rattle.image_parts.specs.Tables.{IsTableOf}
+use Rattle.image_parts.specs.chosen_laws.Tables.{IsTableOf}
 use Rattle.record_laws.specs.kernel_cells.declared.cells.Part.TheVariants as kernel
 use Rattle.record_laws.specs.kernel_cells.declared.cells.Storage.{Storage}
 use Rattle.image_parts.specs.part_checks.Chosen.{part_of}

@@ -2,9 +2,9 @@ use Rattle.atlas_reading.specs.kernel_calls.Calls.{atlas_state}
 use Rattle.std.proofs.Common.{sym, ap, ◌∙◌, subst, Bool}
 use Rattle.std.specs.Prelude.{◌↔◌, IsTrue}
 use Rattle.std.specs.List.{list_all}
-use Rattle.image_meaning.specs.Fits.{NamesBorn}
-use Rattle.part_checks.specs.Ties.{slot_born}
-use Rattle.part_checks.proofs.Naming.{named_all}
+use Rattle.part_laws.specs.image_meaning.Fits.{NamesBorn}
+use Rattle.part_laws.specs.Ties.{slot_born}
+use Rattle.part_laws.proofs.Naming.{named_all}
 use Rattle.part_checks.proofs.born.are_born.Goals as goal
 
 pub returns : goal.returns

@@ -1,10 +1,10 @@
 -- Each turn marks one more; where none is left to be marked, all are exactly where no path comes back.
 use Rattle.std.proofs.Common.{Bool, true, refl, sym, ◌∙◌, subst, arith, length-set}
 use Rattle.std.specs.Prelude.{◌↔◌, IsTrue}
-use Rattle.atlas_dir.specs.Directory.{edges_of}
-use Rattle.atlas_dir.proofs.Paths.{unmarked_less}
-use Rattle.image_meaning.specs.hop_model.Soundness.{HasNoCircle}
-use Rattle.part_checks.proofs.Circling.{free_at_first, free_more, marks_tell}
+use Rattle.circle_law.proofs.Marks.{unmarked_less}
+use Rattle.atlas_dir.specs.directory_form.Directory.{edges_of}
+use Rattle.part_laws.specs.image_meaning.hop_model.Soundness.{HasNoCircle}
+use Rattle.part_laws.proofs.Circling.{free_at_first, free_more, marks_tell}
 use Rattle.part_checks.proofs.circles.has_no_circle.Goals as goal
 
 pub loop-container-init : goal.loop-container-init

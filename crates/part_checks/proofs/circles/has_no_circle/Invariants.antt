@@ -1,7 +1,7 @@
 use Rattle.std.proofs.Common.{◌≡◌, length}
-use Rattle.atlas_dir.specs.Directory.{edges_of}
-use Rattle.atlas_dir.proofs.Paths.{unmarked}
-use Rattle.part_checks.proofs.Circling.{AreFree}
+use Rattle.circle_law.proofs.Marks.{unmarked}
+use Rattle.atlas_dir.specs.directory_form.Directory.{edges_of}
+use Rattle.part_laws.proofs.Circling.{AreFree}
 use Rattle.part_checks.proofs.circles.has_no_circle.Given as goal
 
 abbrev pub invariant-loop-container : goal.invariant-loop-container

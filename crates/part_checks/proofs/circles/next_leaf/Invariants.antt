@@ -1,8 +1,8 @@
 use Rattle.std.proofs.Common.{◌≡◌, ◌<◌, ℕ, false}
-use Rattle.atlas_dir.specs.Directory.{edges_of}
-use Rattle.atlas_dir.specs.Reached.{is_marked}
+use Rattle.atlas_dir.specs.directory_form.Directory.{edges_of}
+use Rattle.circle_law.specs.Marks.{is_marked}
 use Rattle.circle_law.specs.Containers.{IsAmongContainers}
-use Rattle.part_checks.specs.Circles.{ShowsUnmarked}
+use Rattle.part_laws.specs.Circles.{ShowsUnmarked}
 use Rattle.part_checks.proofs.circles.next_leaf.Given as goal
 
 abbrev pub invariant-loop-container : goal.invariant-loop-container

@@ -1,6 +1,6 @@
 use Rattle.std.proofs.Common.{◌≡◌, ◌<◌, ℕ, true}
-use Rattle.atlas_dir.specs.Directory.{edges_of}
-use Rattle.atlas_dir.specs.Reached.{is_marked}
+use Rattle.atlas_dir.specs.directory_form.Directory.{edges_of}
+use Rattle.circle_law.specs.Marks.{is_marked}
 use Rattle.circle_law.specs.Containers.{IsAmongContainers}
 use Rattle.part_checks.proofs.circles.shows_unmarked.Given as goal
 

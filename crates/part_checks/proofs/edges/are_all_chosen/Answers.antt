@@ -1,6 +1,6 @@
 use Rattle.std.proofs.Common.{◌≡◌, ◌<◌, ◌≤◌, get_or, length, sym, ap, ◌∙◌, subst, ⊎_elim, arith}
 use Rattle.std.proofs.lemmas.Bool.{cases_lt}
-use Rattle.image_meaning.specs.hop_model.Soundness.{is_born}
+use Rattle.part_laws.specs.image_meaning.hop_model.Soundness.{is_born}
 use Rattle.atlas_reading.specs.kernel_calls.Calls.{atlas_state}
 use Rattle.part_checks.proofs.Choices.{chosen_there}
 use Rattle.part_checks.proofs.edges.are_all_chosen.Goals as goal

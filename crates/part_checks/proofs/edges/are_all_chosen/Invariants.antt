@@ -1,7 +1,7 @@
 use Rattle.std.proofs.Common.{◌≡◌, ◌<◌, ℕ, Some}
 use Rattle.std.specs.Prelude.{IsTrue}
-use Rattle.image_meaning.specs.hop_model.Soundness.{is_born}
-use Rattle.image_meaning.specs.Parts.{Part}
+use Rattle.part_laws.specs.image_meaning.hop_model.Soundness.{is_born}
+use Rattle.part_laws.specs.image_meaning.Parts.{Part}
 use Rattle.atlas_reading.specs.kernel_calls.Calls.{atlas_state}
 use Rattle.part_checks.specs.Chosen.{parts_of}
 use Rattle.part_checks.proofs.edges.are_all_chosen.Given as goal

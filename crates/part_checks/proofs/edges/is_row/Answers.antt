@@ -1,9 +1,9 @@
 use Rattle.std.proofs.Common.{refl, sym, ap, ◌∙◌, subst, List, arith}
-use Rattle.atlas_dir.specs.Directory.{edges_of}
+use Rattle.atlas_dir.specs.directory_form.Directory.{edges_of}
 use Rattle.hop_base.specs.declared.capabilities.Region.{Region}
 use Rattle.std.proofs.lemmas.Bool.{false≢true}
-use Rattle.part_checks.specs.Edges.{IsRow, count_onto}
-use Rattle.part_checks.proofs.Tallies.{row_by}
+use Rattle.part_laws.specs.Edges.{IsRow, count_onto}
+use Rattle.part_laws.proofs.Tallies.{row_by}
 use Rattle.part_checks.proofs.edges.is_row.Goals as goal
 
 pub returns-then-count-counts-clause-row : goal.returns-then-count-counts-clause-row

@@ -3,10 +3,10 @@ use Rattle.std.proofs.lemmas.List.{length-take}
 use Rattle.std.proofs.lemmas.List.Sums.{count_by-le-length}
 use Rattle.std.specs.Prelude.{◌==◌}
 use Rattle.hop_base.specs.declared.capabilities.Region.{Region}
-use Rattle.part_checks.specs.Edges.{IsTally, count_onto}
-use Rattle.part_checks.proofs.Tallies.{tally_more}
+use Rattle.part_laws.specs.Edges.{IsTally, count_onto}
+use Rattle.part_laws.proofs.Tallies.{tally_more}
 use Rattle.part_checks.proofs.edges.tally.Goals as goal
-use Rattle.atlas_dir.proofs.Paths.{zeros}
+use Rattle.atlas_dir.proofs.directory_form_lemmas.Naming.{zeros}
 
 pub overflow_add-counts : goal.overflow_add-counts
 overflow_add-counts c =

@@ -1,5 +1,5 @@
 use Rattle.std.proofs.Common.{◌≡◌, length, take}
-use Rattle.part_checks.specs.Edges.{IsTally}
+use Rattle.part_laws.specs.Edges.{IsTally}
 use Rattle.part_checks.proofs.edges.tally.Given as goal
 
 abbrev pub invariant-loop-region : goal.invariant-loop-region

@@ -1,5 +1,6 @@
 use Rattle.std.proofs.Common.{List, ℕ, length, sym, ap, ◌∙◌, subst}
-use Rattle.part_checks.specs.Naming.{AreUses, names_of}
+use Rattle.part_laws.specs.Naming.{AreUses}
+use Rattle.part_checks.specs.Naming.{names_of}
 use Rattle.part_checks.proofs.Fitting.{all_fit, first_unfit_is}
 use Rattle.part_checks.proofs.fits.first_unfit.Goals as goal
 

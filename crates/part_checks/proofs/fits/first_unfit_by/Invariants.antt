@@ -1,5 +1,5 @@
 use Rattle.std.proofs.Common.{◌≡◌, ◌<◌, ℕ, Some}
-use Rattle.image_meaning.specs.Parts.{Part}
+use Rattle.part_laws.specs.image_meaning.Parts.{Part}
 use Rattle.part_checks.specs.Chosen.{parts_of}
 use Rattle.part_checks.specs.Fits.{IsFitBy}
 use Rattle.part_checks.proofs.fits.first_unfit_by.Given as goal

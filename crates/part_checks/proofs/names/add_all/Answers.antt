@@ -1,6 +1,6 @@
 use Rattle.std.proofs.Common.{◌+◌, take}
 use Rattle.part_checks.specs.Naming.{names_in, names_of}
-use Rattle.part_checks.proofs.Uses.{summed_end, summed_more, summed_none}
+use Rattle.part_laws.proofs.Uses.{summed_end, summed_more, summed_none}
 use Rattle.part_checks.proofs.names.add_all.Goals as goal
 
 pub loop-chosen-init : goal.loop-chosen-init

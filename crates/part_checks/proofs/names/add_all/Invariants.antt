@@ -1,5 +1,6 @@
 use Rattle.std.proofs.Common.{ℕ, ◌+◌, take}
-use Rattle.part_checks.specs.Naming.{AreUses, names_of}
+use Rattle.part_laws.specs.Naming.{AreUses}
+use Rattle.part_checks.specs.Naming.{names_of}
 use Rattle.part_checks.proofs.names.add_all.Given as goal
 
 abbrev pub invariant-loop-chosen : goal.invariant-loop-chosen

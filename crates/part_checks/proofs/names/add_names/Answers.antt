@@ -1,5 +1,5 @@
 use Rattle.std.proofs.Common.{◌+◌}
-use Rattle.part_checks.specs.Naming.{count_of}
+use Rattle.part_laws.specs.Naming.{count_of}
 use Rattle.part_checks.proofs.Uses.{named_more}
 use Rattle.part_checks.proofs.names.add_names.Goals as goal
 

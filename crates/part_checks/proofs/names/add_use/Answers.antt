@@ -1,4 +1,4 @@
-use Rattle.part_checks.proofs.Uses.{full, past, used}
+use Rattle.part_laws.proofs.Uses.{full, past, used}
 use Rattle.part_checks.proofs.names.add_use.Goals as goal
 
 pub returns-then-at-uses : goal.returns-then-at-uses

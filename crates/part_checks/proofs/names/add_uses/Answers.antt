@@ -1,6 +1,6 @@
 use Rattle.std.proofs.Common.{◌+◌, take}
-use Rattle.part_checks.specs.Naming.{count_of, one_at}
-use Rattle.part_checks.proofs.Uses.{read_again, summed_end, summed_more, summed_none}
+use Rattle.part_laws.specs.Naming.{count_of, one_at}
+use Rattle.part_laws.proofs.Uses.{read_again, summed_end, summed_more, summed_none}
 use Rattle.part_checks.proofs.names.add_uses.Goals as goal
 
 pub loop-block-init : goal.loop-block-init

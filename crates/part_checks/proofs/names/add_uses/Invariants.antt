@@ -1,5 +1,5 @@
 use Rattle.std.proofs.Common.{ℕ, ◌+◌, take}
-use Rattle.part_checks.specs.Naming.{AreUses, count_of}
+use Rattle.part_laws.specs.Naming.{AreUses, count_of}
 use Rattle.part_checks.proofs.names.add_uses.Given as goal
 
 abbrev pub invariant-loop-block : goal.invariant-loop-block

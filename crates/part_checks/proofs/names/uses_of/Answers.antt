@@ -1,6 +1,7 @@
 use Rattle.std.proofs.Common.{◌≡◌, ℕ, ◌+◌, List, length, sym, ap, ◌∙◌, subst, arith}
-use Rattle.part_checks.specs.Naming.{AreUses, names_of}
-use Rattle.part_checks.proofs.Uses.{none_used, put_back, uses_same}
+use Rattle.part_laws.specs.Naming.{AreUses}
+use Rattle.part_checks.specs.Naming.{names_of}
+use Rattle.part_laws.proofs.Uses.{none_used, put_back, uses_same}
 use Rattle.part_checks.proofs.names.uses_of.Goals as goal
 
 pub returns-clause-uses : goal.returns-clause-uses

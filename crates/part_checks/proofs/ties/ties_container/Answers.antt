@@ -2,12 +2,12 @@ use Rattle.std.proofs.Common.{sym, ap, ◌∙◌, subst, Bool, ◌&&◌}
 use Rattle.std.specs.Prelude.{◌↔◌, IsTrue}
 use Rattle.std.specs.List.{list_all}
 use Rattle.hop_base.specs.declared.capabilities.Region.{Region}
-use Rattle.image_meaning.specs.hop_model.Soundness.{is_born_container}
-use Rattle.image_meaning.specs.Fits.{IsTiedContainer}
+use Rattle.part_laws.specs.image_meaning.hop_model.Soundness.{is_born_container}
+use Rattle.part_laws.specs.image_meaning.Fits.{IsTiedContainer}
 use Rattle.atlas_reading.specs.kernel_calls.Calls.{atlas_state}
 use Rattle.atlas_reading.specs.locus_machine.Loci.{container_with}
 use Rattle.part_checks.specs.Chosen.{no_words}
-use Rattle.part_checks.proofs.Naming.{tied_container}
+use Rattle.part_laws.proofs.Naming.{tied_container}
 use Rattle.part_checks.proofs.ties.ties_container.Goals as goal
 
 pub returns : goal.returns

@@ -2,7 +2,7 @@ use Rattle.std.proofs.Common.{ap, ◌∙◌}
 use Rattle.std.specs.List.{list_all}
 use Rattle.atlas_reading.specs.kernel_calls.Calls.{atlas_state}
 use Rattle.atlas_reading.specs.locus_machine.Loci.{locus_of}
-use Rattle.part_checks.proofs.Naming.{is_called, is_private, tied_locus_by}
+use Rattle.part_laws.proofs.Naming.{is_called, is_private, tied_locus_by}
 use Rattle.part_checks.proofs.ties.ties_locus.Goals as goal
 
 pub returns : goal.returns

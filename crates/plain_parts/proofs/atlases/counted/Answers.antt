@@ -1,5 +1,5 @@
 use Rattle.std.proofs.Common.{◌≡◌, ◌+◌, ◌*◌, ◌/◌, ◌%◌, ◌<◌, ◌≤◌, ℕ, List, Vec, Global, sym, ap, subst, ◌∙◌, arith}
-use Rattle.atlas_dir.specs.Directory.{edges_of}
+use Rattle.atlas_dir.specs.directory_form.Directory.{edges_of}
 use Rattle.history_model.specs.declared.plain.Edge.{Edge}
 use Rattle.hop_base.specs.Edges.{Edges}
 use Rattle.plain_parts.proofs.Counting.{AreCountedTo, all_counted, counted_more, counted_none}

@@ -1,4 +1,4 @@
-use Rattle.atlas_dir.specs.Directory.{edges_of}
+use Rattle.atlas_dir.specs.directory_form.Directory.{edges_of}
 use Rattle.plain_parts.proofs.Counting.{AreCountedTo}
 use Rattle.plain_parts.proofs.atlases.counted.Given as goal
 

@@ -1,7 +1,7 @@
 use Rattle.std.proofs.Common.{◌≡◌, ◌+◌, ◌∷◌, [], ℕ, List, Option, Some, map, option_map, ap, subst, sym, ◌∙◌}
 use Rattle.std.specs.Prelude.{string_bytes}
 use Rattle.std.proofs.lemmas.List.{map-append}
-use Rattle.atlas_dir.specs.Directory.{Directory, name_of}
+use Rattle.atlas_dir.specs.directory_form.Directory.{Directory, name_of}
 use Rattle.plain_parts.specs.Names.{AreNames}
 use Rattle.plain_parts.proofs.Naming.{names_more, none_is, told_name}
 use Rattle.plain_parts.proofs.atlases.names_from.Goals as goal

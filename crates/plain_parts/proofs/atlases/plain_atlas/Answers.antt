@@ -1,6 +1,6 @@
 use Rattle.std.proofs.Common.{map}
 use Rattle.std.specs.Prelude.{string_bytes}
-use Rattle.atlas_dir.specs.Directory.{Directory}
+use Rattle.atlas_dir.specs.directory_form.Directory.{Directory}
 use Rattle.plain_parts.proofs.Naming.{all_containers, all_loci}
 use Rattle.plain_parts.proofs.atlases.plain_atlas.Goals as goal
 

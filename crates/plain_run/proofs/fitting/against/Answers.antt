@@ -1,12 +1,12 @@
 use Rattle.std.proofs.Common.{Result, Ok, Err, IfErr, sym, subst}
 use Rattle.std.proofs.lemmas.Result.{err_from_is_err_and}
-use Rattle.history_model.proofs.ActLemmas.{ok_by}
-use Rattle.history_model.specs.Plains.{atlas_of}
-use Rattle.history_model.specs.script_form.Scripts.{tables_of}
-use Rattle.history_model.specs.script_form.declared.refusals.ScriptFault.{ScriptFault}
+use Rattle.plain_steps.proofs.history_model_lemmas.ActLemmas.{ok_by}
+use Rattle.plain_steps.specs.history_model.Plains.{atlas_of}
+use Rattle.plain_steps.specs.history_model.script_form.Scripts.{tables_of}
+use Rattle.plain_steps.specs.history_model.script_form.declared.refusals.ScriptFault.{ScriptFault}
 use Rattle.plain_run.proofs.fitting.against.Goals as goal
-use Rattle.serial_turns.specs.fitting_births.Misfits.{IsMisfit}
-use Rattle.serial_turns.proofs.fitting_births_lemmas.Reasons.{clash_is, fits_where, room_is}
+use Rattle.plain_steps.specs.serial_turns.fitting_births.Misfits.{IsMisfit}
+use Rattle.plain_steps.proofs.serial_turns_lemmas.fitting_births_lemmas.Reasons.{clash_is, fits_where, room_is}
 
 fault_by : {A E : Type 0} {P Q : E → Type 0} (r : Result A E) → ((e : E) → P e → Q e) → IfErr r P → IfErr r Q
 fault_by (Ok x) f h = tt

@@ -1,11 +1,11 @@
 use Rattle.std.proofs.Common.{◌≡◌, true, false, is_some, map, string_bytes, sym, ap, ◌∙◌, arith}
-use Rattle.history_model.specs.hop_model.Scripts.{locus_named, place_of}
-use Rattle.history_model.specs.Plains.{atlas_of}
-use Rattle.history_model.specs.script_form.Scripts.{container_of}
-use Rattle.plain_run.proofs.NextNames.{drop_end}
+use Rattle.plain_steps.specs.history_model.hop_model.Scripts.{locus_named, place_of}
+use Rattle.plain_steps.specs.history_model.Plains.{atlas_of}
+use Rattle.plain_steps.specs.history_model.script_form.Scripts.{container_of}
+use Rattle.plain_steps.proofs.plain_laws_lemmas.NextNames.{drop_end}
 use Rattle.plain_run.proofs.fitting.container_clash.Goals as goal
-use Rattle.serial_turns.specs.fitting_births.Misfits.{container_clash}
-use Rattle.serial_turns.proofs.fitting_births_lemmas.Clashing.{container_here, container_passed}
+use Rattle.plain_steps.specs.serial_turns.fitting_births.Misfits.{container_clash}
+use Rattle.plain_steps.proofs.serial_turns_lemmas.fitting_births_lemmas.Clashing.{container_here, container_passed}
 
 pub returns-then-is_some : goal.returns-then-is_some
 returns-then-is_some c =

@@ -1,8 +1,8 @@
 use Rattle.std.proofs.Common.{◌≡◌, drop, map}
-use Rattle.history_model.specs.Plains.{atlas_of}
-use Rattle.history_model.specs.script_form.Scripts.{locus_of}
+use Rattle.plain_steps.specs.history_model.Plains.{atlas_of}
+use Rattle.plain_steps.specs.history_model.script_form.Scripts.{locus_of}
 use Rattle.plain_run.proofs.fitting.locus_clash.Given as goal
-use Rattle.serial_turns.specs.fitting_births.Misfits.{locus_clash}
+use Rattle.plain_steps.specs.serial_turns.fitting_births.Misfits.{locus_clash}
 
 -- no name before this table's clashes
 abbrev pub invariant-loop-i : goal.invariant-loop-i

@@ -1,8 +1,8 @@
 use Rattle.std.proofs.Common.{◌≡◌, ◌≤◌, take, map}
-use Rattle.history_model.specs.Plains.{atlas_of}
-use Rattle.history_model.specs.script_form.Scripts.{container_of}
+use Rattle.plain_steps.specs.history_model.Plains.{atlas_of}
+use Rattle.plain_steps.specs.history_model.script_form.Scripts.{container_of}
 use Rattle.plain_run.proofs.fitting.new_containers.Given as goal
-use Rattle.serial_turns.specs.fitting_births.Fitting.{new_containers}
+use Rattle.plain_steps.specs.serial_turns.fitting_births.Fitting.{new_containers}
 
 -- the names so far are counted
 abbrev pub invariant-loop-table : goal.invariant-loop-table

@@ -1,13 +1,13 @@
 use Rattle.std.proofs.Common.{◌≡◌, ◌-◌, ◌≤◌, None, true, false, slice_get, slice_index, ap, ◌∙◌, subst, refl, arith}
-use Rattle.history_model.specs.hop_model.Steps.{running}
-use Rattle.history_model.specs.Plains.{atlas_of, cells_of}
-use Rattle.history_model.specs.Plains.{locus_cell}
-use Rattle.plain_run.specs.Looking.{wants_stable as stable_wanted}
+use Rattle.plain_steps.specs.history_model.hop_model.Steps.{running}
+use Rattle.plain_steps.specs.history_model.Plains.{atlas_of, cells_of}
+use Rattle.plain_steps.specs.history_model.Plains.{locus_cell}
+use Rattle.plain_steps.specs.plain_laws.Looking.{wants_stable as stable_wanted}
 use Rattle.std.proofs.lemmas.Result.{err_from_is_err_and}
-use Rattle.history_model.specs.script_form.Scripts.{tables_of}
+use Rattle.plain_steps.specs.history_model.script_form.Scripts.{tables_of}
 use Rattle.plain_run.proofs.Answering.{look_stills, look_turns}
-use Rattle.plain_run.proofs.Keeping.{keeps_itself}
-use Rattle.plain_run.proofs.Stepping.{few_versions, idle_spent, idle_still}
+use Rattle.plain_steps.proofs.history_model_lemmas.sound_runs_lemmas.Naming.{keeps_same}
+use Rattle.plain_steps.proofs.plain_laws_lemmas.Stepping.{few_versions, idle_spent, idle_still}
 use Rattle.plain_run.proofs.looks.look.Goals as goal
 
 pub returns-then-run-i-clause-idle : goal.returns-then-run-i-clause-idle
@@ -51,4 +51,4 @@ returns-in-Some-clause-some g c =
     c.plain_step.ensures.sound c.plain_step.ensures.edges c.plain_step.ensures.names c.bounded.ensures.low (c.wants_stable-wants.ensures ∙ ap (λ ls. stable_wanted (locus_cell (slice_get ls (l - 41)))) c.deref.ensures.value) c.owed_by-run.ensures c.bounded.result c.bounded.ensures.same
 
 pub returns-then-run-i-clause-names : goal.returns-then-run-i-clause-names
-returns-then-run-i-clause-names g c = keeps_itself (atlas_of c.args.run.now.state.atlas)
+returns-then-run-i-clause-names g c = keeps_same (atlas_of c.args.run.now.state.atlas) (atlas_of c.args.run.now.state.atlas) refl refl

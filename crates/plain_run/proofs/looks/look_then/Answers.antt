@@ -1,5 +1,5 @@
-use Rattle.history_model.specs.script_form.Scripts.{tables_of}
-use Rattle.history_model.proofs.ActLemmas.{none_by, some_by}
+use Rattle.plain_steps.specs.history_model.script_form.Scripts.{tables_of}
+use Rattle.plain_steps.proofs.history_model_lemmas.ActLemmas.{none_by, some_by}
 use Rattle.plain_run.proofs.Answering.{stills_placed, turns_placed}
 use Rattle.plain_run.proofs.looks.look_then.Goals as goal
 

@@ -1,12 +1,12 @@
 use Rattle.std.proofs.Common.{◌≡◌, ◌<◌, ◌≤◌, [], None, Some, length, get_or, map, string_bytes, subst, sym, ap, ◌∙◌, arith}
 use Rattle.std.proofs.lemmas.List.{length-map}
-use Rattle.history_model.specs.hop_model.Scripts.{locus_named, place_of}
-use Rattle.history_model.specs.Plains.{atlas_of}
-use Rattle.history_model.specs.script_form.Scripts.{tables_of}
+use Rattle.plain_steps.specs.history_model.hop_model.Scripts.{locus_named, place_of}
+use Rattle.plain_steps.specs.history_model.Plains.{atlas_of}
+use Rattle.plain_steps.specs.history_model.script_form.Scripts.{tables_of}
 use Rattle.plain_run.proofs.Answering.{few_names_of, on_both, on_err, on_none, on_some, order_at, past_pick}
 use Rattle.plain_run.proofs.Placing.{pick_idles, pick_passes, pick_turns, ready, still_stands}
 use Rattle.plain_run.proofs.looks.pick.Goals as goal
-use Rattle.history_model.proofs.hop_model_lemmas.BirthTallies.{place_low}
+use Rattle.plain_steps.proofs.history_model_lemmas.hop_model_lemmas.BirthTallies.{place_low}
 
 pub number_among-requires : goal.number_among-requires
 number_among-requires g c =

@@ -1,8 +1,8 @@
 use Rattle.std.proofs.Common.{◌≡◌, false, is_some, string_bytes, sym, ◌∙◌, arith}
 use Rattle.std.proofs.lemmas.List.{length-map}
 use Rattle.std.proofs.lemmas.Result.{err_from_is_err_and}
-use Rattle.history_model.specs.script_form.Scripts.{tables_of}
-use Rattle.history_model.proofs.ActLemmas.{some_by}
+use Rattle.plain_steps.specs.history_model.script_form.Scripts.{tables_of}
+use Rattle.plain_steps.proofs.history_model_lemmas.ActLemmas.{some_by}
 use Rattle.plain_run.proofs.Answering.{goes_after, keeps_on, standing_on, where_none, where_some}
 use Rattle.plain_run.proofs.Placing.{picks_over}
 use Rattle.plain_run.proofs.looks.picks_from.Goals as goal

@@ -1,5 +1,5 @@
 use Rattle.std.proofs.Common.{◌≡◌, None}
-use Rattle.history_model.specs.script_form.Scripts.{tables_of}
+use Rattle.plain_steps.specs.history_model.script_form.Scripts.{tables_of}
 use Rattle.plain_run.specs.Standing.{Keeps}
 use Rattle.plain_run.specs.declared.serial.Place.TheVariants.{Pick}
 use Rattle.plain_run.proofs.looks.picks_from.Given as goal

@@ -1,7 +1,7 @@
 use Rattle.std.proofs.Common.{◌≡◌, false, is_some, sym, ap, ◌∙◌, arith}
 use Rattle.std.proofs.lemmas.Result.{err_from_is_err_and}
-use Rattle.history_model.specs.script_form.Scripts.{tables_of}
-use Rattle.history_model.proofs.ActLemmas.{some_by}
+use Rattle.plain_steps.specs.history_model.script_form.Scripts.{tables_of}
+use Rattle.plain_steps.proofs.history_model_lemmas.ActLemmas.{some_by}
 use Rattle.plain_run.specs.declared.serial.Place.TheVariants.{Round}
 use Rattle.plain_run.proofs.Answering.{goes_after, idle_more, keeps_on, standing_on, where_none, where_some}
 use Rattle.plain_run.proofs.Placing.{round_over, round_within}

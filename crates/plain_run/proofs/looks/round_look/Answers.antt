@@ -1,8 +1,8 @@
 use Rattle.std.proofs.Common.{◌≡◌, false, refl, subst, arith}
-use Rattle.history_model.specs.hop_model.Serial.{can_step}
-use Rattle.history_model.specs.script_form.Scripts.{tables_of}
+use Rattle.plain_steps.specs.history_model.hop_model.Serial.{can_step}
+use Rattle.plain_steps.specs.history_model.script_form.Scripts.{tables_of}
 use Rattle.plain_run.specs.Looking.{IsTurn}
-use Rattle.plain_run.specs.Standing.{run_from}
+use Rattle.plain_steps.specs.plain_laws.Standing.{run_from}
 use Rattle.plain_run.proofs.Answering.{on_both, on_err, on_none, on_some, past_round}
 use Rattle.plain_run.proofs.Placing.{ready, round_idles, round_turns, still_stands}
 use Rattle.plain_run.proofs.looks.round_look.Goals as goal

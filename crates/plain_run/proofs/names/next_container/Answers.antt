@@ -1,8 +1,8 @@
 use Rattle.std.proofs.Common.{◌≡◌, true, false, not, Some, is_some, map, string_bytes, sym, ap, ◌∙◌, arith}
-use Rattle.history_model.specs.hop_model.Scripts.{next_container_name, number_of}
-use Rattle.history_model.specs.Plains.{atlas_of}
-use Rattle.history_model.specs.script_form.Scripts.{container_of}
-use Rattle.plain_run.proofs.NextNames.{container_new, container_old, drop_end}
+use Rattle.plain_steps.specs.history_model.hop_model.Scripts.{next_container_name, number_of}
+use Rattle.plain_steps.specs.history_model.Plains.{atlas_of}
+use Rattle.plain_steps.specs.history_model.script_form.Scripts.{container_of}
+use Rattle.plain_steps.proofs.plain_laws_lemmas.NextNames.{container_new, container_old, drop_end}
 use Rattle.plain_run.proofs.names.next_container.Goals as goal
 
 pub returns-then-is_none-clause-some : goal.returns-then-is_none-clause-some

@@ -1,8 +1,8 @@
 use Rattle.std.proofs.Common.{◌≡◌, true, false, not, Some, is_some, map, string_bytes, sym, ap, ◌∙◌, arith}
-use Rattle.history_model.specs.hop_model.Scripts.{next_locus_name, number_of}
-use Rattle.history_model.specs.Plains.{atlas_of}
-use Rattle.history_model.specs.script_form.Scripts.{locus_of}
-use Rattle.plain_run.proofs.NextNames.{locus_new, locus_old, drop_end}
+use Rattle.plain_steps.specs.history_model.hop_model.Scripts.{next_locus_name, number_of}
+use Rattle.plain_steps.specs.history_model.Plains.{atlas_of}
+use Rattle.plain_steps.specs.history_model.script_form.Scripts.{locus_of}
+use Rattle.plain_steps.proofs.plain_laws_lemmas.NextNames.{locus_new, locus_old, drop_end}
 use Rattle.plain_run.proofs.names.next_locus.Goals as goal
 
 pub returns-then-is_none-clause-some : goal.returns-then-is_none-clause-some

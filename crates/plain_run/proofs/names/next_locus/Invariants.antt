@@ -1,7 +1,7 @@
 use Rattle.std.proofs.Common.{◌≡◌, drop, map}
-use Rattle.history_model.specs.hop_model.Scripts.{next_locus_name}
-use Rattle.history_model.specs.Plains.{atlas_of}
-use Rattle.history_model.specs.script_form.Scripts.{locus_of}
+use Rattle.plain_steps.specs.history_model.hop_model.Scripts.{next_locus_name}
+use Rattle.plain_steps.specs.history_model.Plains.{atlas_of}
+use Rattle.plain_steps.specs.history_model.script_form.Scripts.{locus_of}
 use Rattle.plain_run.proofs.names.next_locus.Given as goal
 
 -- the names before this table's are in the atlas

@@ -1,12 +1,12 @@
 use Rattle.std.proofs.Common.{refl}
-use Rattle.history_model.specs.hop_model.State.{Supply}
-use Rattle.history_model.proofs.PlainBirths.{sound_here}
-use Rattle.history_model.specs.Plains.{atlas_of, cells_of}
-use Rattle.history_model.specs.script_form.Scripts.{tables_of}
-use Rattle.plain_run.proofs.Growing.{birth_defined}
+use Rattle.plain_steps.specs.history_model.hop_model.State.{Supply}
+use Rattle.plain_steps.proofs.history_model_lemmas.PlainBirths.{sound_here}
+use Rattle.plain_steps.specs.history_model.Plains.{atlas_of, cells_of}
+use Rattle.plain_steps.specs.history_model.script_form.Scripts.{tables_of}
+use Rattle.plain_steps.proofs.plain_laws_lemmas.DefinedBirths.{birth_defined}
 use Rattle.plain_run.proofs.KnownNames.{next_known}
 use Rattle.plain_run.proofs.newborns.bear.Goals as goal
-use Rattle.serial_turns.proofs.fitting_births_lemmas.KnownNames.{next_name_is}
+use Rattle.plain_steps.proofs.serial_turns_lemmas.fitting_births_lemmas.KnownNames.{next_name_is}
 
 -- any supplier
 nothing : Supply

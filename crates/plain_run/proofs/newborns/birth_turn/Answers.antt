@@ -1,14 +1,14 @@
 use Rattle.std.proofs.Common.{refl, sym, subst, ◌++◌, ◌∷◌, []}
 use Rattle.std.proofs.lemmas.Result.{err_from_is_err_and}
-use Rattle.history_model.specs.hop_model.Scripts.{next_name as next_of}
-use Rattle.history_model.specs.Plains.{atlas_of, cells_of}
-use Rattle.history_model.specs.script_form.Scripts.{tables_of}
+use Rattle.plain_steps.specs.history_model.hop_model.Scripts.{next_name as next_of}
+use Rattle.plain_steps.specs.history_model.Plains.{atlas_of, cells_of}
+use Rattle.plain_steps.specs.history_model.script_form.Scripts.{tables_of}
 use Rattle.plain_run.specs.Standing.{Stands}
 use Rattle.plain_run.specs.declared.serial.SerialRun.{SerialRun}
 use Rattle.plain_run.proofs.Answering.{birth_stays, few_names_of}
 use Rattle.plain_run.proofs.Placing.{bearing, birth_stands, end_stands}
-use Rattle.plain_run.proofs.Stepping.{few_versions}
-use Rattle.plain_run.proofs.Suppliers.{sound_any}
+use Rattle.plain_steps.proofs.plain_laws_lemmas.Stepping.{few_versions}
+use Rattle.plain_steps.proofs.plain_laws_lemmas.Suppliers.{sound_any}
 use Rattle.plain_run.proofs.newborns.birth_turn.Goals as goal
 
 pub next_name-requires : goal.next_name-requires

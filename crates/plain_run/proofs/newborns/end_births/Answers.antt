@@ -1,7 +1,7 @@
 use Rattle.std.proofs.Common.{not, ap, ◌∙◌}
-use Rattle.history_model.specs.hop_model.Scripts.{next_name as next_of}
-use Rattle.history_model.specs.Plains.{atlas_of}
-use Rattle.history_model.specs.script_form.Scripts.{tables_of}
+use Rattle.plain_steps.specs.history_model.hop_model.Scripts.{next_name as next_of}
+use Rattle.plain_steps.specs.history_model.Plains.{atlas_of}
+use Rattle.plain_steps.specs.history_model.script_form.Scripts.{tables_of}
 use Rattle.plain_run.proofs.Answering.{ended_last, ended_more}
 use Rattle.plain_run.proofs.newborns.end_births.Goals as goal
 

@@ -1,4 +1,4 @@
-use Rattle.history_model.specs.hop_model.State.{empty_state}
+use Rattle.plain_steps.specs.history_model.hop_model.State.{empty_state}
 use Rattle.plain_run.proofs.Beginning.{can_begin}
 use Rattle.plain_run.proofs.plays.fresh.Goals as goal
 

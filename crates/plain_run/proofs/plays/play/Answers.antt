@@ -1,12 +1,12 @@
 use Rattle.std.proofs.Common.{IsTrue, List, Ok, Err, OnOk, is_ok, refl, sym, subst}
 use Rattle.hop_base.specs.declared.histories.Entry.{Entry}
-use Rattle.history_model.specs.hop_model.Serial.{IsSerial}
-use Rattle.history_model.specs.hop_model.State.{KernelState, empty_state}
-use Rattle.history_model.specs.Plains.{atlas_of, cells_of}
-use Rattle.history_model.specs.script_form.Scripts.{tables_of}
+use Rattle.plain_steps.specs.history_model.hop_model.Serial.{IsSerial}
+use Rattle.plain_steps.specs.history_model.hop_model.State.{KernelState, empty_state}
+use Rattle.plain_steps.specs.history_model.Plains.{atlas_of, cells_of}
+use Rattle.plain_steps.specs.history_model.script_form.Scripts.{tables_of}
 use Rattle.plain_run.specs.Standing.{Stands}
 use Rattle.plain_run.proofs.Beginning.{play_of}
-use Rattle.plain_run.proofs.ShortNames.{sound_short}
+use Rattle.plain_steps.proofs.plain_laws_lemmas.ShortNames.{sound_short}
 use Rattle.plain_run.proofs.plays.play.Goals as goal
 
 pub finish-requires : goal.finish-requires

@@ -1,6 +1,6 @@
 use Rattle.std.proofs.lemmas.Result.{err_from_is_err_and}
-use Rattle.history_model.specs.script_form.Scripts.{tables_of}
-use Rattle.history_model.proofs.ActLemmas.{err_by, none_by, ok_by, some_by}
+use Rattle.plain_steps.specs.history_model.script_form.Scripts.{tables_of}
+use Rattle.plain_steps.proofs.history_model_lemmas.ActLemmas.{err_by, none_by, ok_by, some_by}
 use Rattle.plain_run.proofs.Answering.{goes_after, keeps_on, standing_on}
 use Rattle.plain_run.proofs.serial.next_event.Goals as goal
 

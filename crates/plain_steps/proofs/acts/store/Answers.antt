@@ -4,9 +4,9 @@ use Rattle.hop_base.specs.declared.instructions.Reply.TheVariants.{Ok, NoPage}
 use Rattle.hop_model.specs.State.{ContainerState, ContainerCell}
 use Rattle.hop_model.specs.Words.{denied}
 use Rattle.hop_model.specs.Outcomes.{own_reply, through, with_other}
-use Rattle.history_model.specs.Plains.{container_of, locus_of}
-use Rattle.plain_steps.proofs.BesideLemmas.{acted_reading, acted_writing}
-use Rattle.plain_steps.proofs.LookLemmas.{through_reads, store_past, store_through, store_word}
+use Rattle.plain_laws.specs.history_model.Plains.{container_of, locus_of}
+use Rattle.plain_laws.proofs.BesideLemmas.{acted_reading, acted_writing}
+use Rattle.plain_laws.proofs.LookLemmas.{through_reads, store_past, store_through, store_word}
 use Rattle.plain_steps.proofs.acts.store.Goals as goal
 
 pub returns-then-address-c-clause-made : goal.returns-then-address-c-clause-made

@@ -5,16 +5,17 @@ use Rattle.hop_base.specs.declared.entities.Kind.TheVariants.{Container}
 use Rattle.hop_model.specs.Acts.{bearing}
 use Rattle.hop_model.specs.Outcomes.{make}
 use Rattle.hop_model.specs.State.{AtlasState, ContainerCell}
-use Rattle.history_model.specs.Entries.{step_entry, versions_after}
-use Rattle.history_model.specs.Lists.{KeepsNames}
-use Rattle.history_model.specs.Plains.{atlas_of, container_of, locus_of}
-use Rattle.history_model.specs.declared.entries.Mark.{Mark}
-use Rattle.history_model.specs.declared.plain.PlainContainer.{PlainContainer}
-use Rattle.history_model.proofs.PlainBirths.{containers_named}
-use Rattle.history_model.proofs.WantLemmas.{allowed_by, bears_by, make_pages}
-use Rattle.plain_steps.specs.AtlasActs.{ActedOnAtlas}
-use Rattle.plain_steps.proofs.AtlasSteps.{bears_make, made_free, made_none, made_some, make_keeps, stepped_full, stepped_made}
-use Rattle.plain_steps.proofs.PlainSteps.{acting_here, here_read, listed, operands, written_mark}
+use Rattle.plain_laws.specs.history_model.Entries.{step_entry, versions_after}
+use Rattle.plain_laws.specs.history_model.sound_runs.Names.{KeepsNames}
+use Rattle.plain_laws.specs.history_model.Plains.{atlas_of, container_of, locus_of}
+use Rattle.plain_laws.specs.history_model.declared.entries.Mark.{Mark}
+use Rattle.plain_laws.specs.history_model.declared.plain.PlainContainer.{PlainContainer}
+use Rattle.plain_laws.proofs.history_model_lemmas.PlainBirths.{containers_named}
+use Rattle.plain_laws.proofs.history_model_lemmas.wanted_laws_lemmas.WantLemmas.{allowed_by, bears_by, make_pages}
+use Rattle.plain_laws.specs.AtlasActs.{ActedOnAtlas}
+use Rattle.plain_laws.proofs.history_model_lemmas.sound_runs_lemmas.Naming.{make_keeps}
+use Rattle.plain_laws.proofs.AtlasSteps.{bears_make, made_free, made_none, made_some, stepped_full, stepped_made}
+use Rattle.plain_laws.proofs.PlainSteps.{acting_here, here_read, listed, operands, written_mark}
 use Rattle.plain_steps.proofs.atlas_steps.step_make.Goals as goal
 
 pub unreachable-requires : goal.unreachable-requires

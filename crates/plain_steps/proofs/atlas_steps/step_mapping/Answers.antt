@@ -3,13 +3,14 @@ use Rattle.std.proofs.lemmas.Option.{slice_get_within}
 use Rattle.std.proofs.lemmas.Result.{err_from_is_err_and}
 use Rattle.hop_model.specs.Acts.{beside_and_atlas}
 use Rattle.hop_model.specs.State.{AtlasState}
-use Rattle.history_model.specs.Lists.{KeepsNames}
-use Rattle.history_model.specs.Plains.{atlas_of, cells_by, container_of, locus_of}
-use Rattle.history_model.proofs.ReadyLemmas.{few_edges, ready_edges}
-use Rattle.history_model.proofs.SoundLemmas.{sound_container}
-use Rattle.history_model.proofs.WantLemmas.{allowed_by, mapped_container, mapping_maps}
-use Rattle.plain_steps.proofs.AtlasSteps.{atlas_same, mapping_keeps, names_kept, stepped_mapping}
-use Rattle.plain_steps.proofs.PlainSteps.{acting_here, both_kept, container_at, here_read, listed, operands}
+use Rattle.plain_laws.specs.history_model.sound_runs.Names.{KeepsNames}
+use Rattle.plain_laws.specs.history_model.Plains.{atlas_of, cells_by, container_of, locus_of}
+use Rattle.plain_laws.proofs.history_model_lemmas.ReadyLemmas.{few_edges, ready_edges}
+use Rattle.plain_laws.proofs.history_model_lemmas.SoundLemmas.{sound_container}
+use Rattle.plain_laws.proofs.history_model_lemmas.wanted_laws_lemmas.WantLemmas.{allowed_by, mapped_container, mapping_maps}
+use Rattle.plain_laws.proofs.history_model_lemmas.sound_runs_lemmas.Naming.{keeps_same}
+use Rattle.plain_laws.proofs.AtlasSteps.{atlas_same, mapping_keeps, stepped_mapping}
+use Rattle.plain_laws.proofs.PlainSteps.{acting_here, both_kept, container_at, here_read, listed, operands}
 use Rattle.plain_steps.proofs.atlas_steps.step_mapping.Goals as goal
 
 pub overflow_sub-at : goal.overflow_sub-at
@@ -265,4 +266,4 @@ returns-clause-names g c =
     subst (λ (b : AtlasState). KeepsNames a b) (sym acted.atlas) (mapping_keeps g.s (locus_of l) a x (container_of g.s b) i maps)
 
 pub returns-in_err-answer-clause-names : goal.returns-in_err-answer-clause-names
-returns-in_err-answer-clause-names g c = subst (λ (b : AtlasState). KeepsNames (atlas_of c.args.state.now.atlas) b) (sym c.in_err-answer.ensures.atlas_stays) (names_kept (atlas_of c.args.state.now.atlas))
+returns-in_err-answer-clause-names g c = subst (λ (b : AtlasState). KeepsNames (atlas_of c.args.state.now.atlas) b) (sym c.in_err-answer.ensures.atlas_stays) (keeps_same (atlas_of c.args.state.now.atlas) (atlas_of c.args.state.now.atlas) refl refl)

@@ -5,16 +5,17 @@ use Rattle.hop_base.specs.declared.entities.Kind.TheVariants.{Locus}
 use Rattle.hop_model.specs.Acts.{bearing}
 use Rattle.hop_model.specs.Outcomes.{spawn}
 use Rattle.hop_model.specs.State.{AtlasState, LocusCell}
-use Rattle.history_model.specs.Entries.{step_entry, versions_after}
-use Rattle.history_model.specs.Lists.{KeepsNames}
-use Rattle.history_model.specs.Plains.{atlas_of, locus_of}
-use Rattle.history_model.specs.declared.entries.Mark.{Mark}
-use Rattle.history_model.specs.declared.plain.PlainLocus.{PlainLocus}
-use Rattle.history_model.proofs.PlainBirths.{loci_named}
-use Rattle.history_model.proofs.WantLemmas.{allowed_by, bears_by}
-use Rattle.plain_steps.specs.AtlasActs.{ActedOnAtlas}
-use Rattle.plain_steps.proofs.AtlasSteps.{bears_spawn, spawn_keeps, spawned_free, spawned_none, spawned_some, stepped_full, stepped_spawned}
-use Rattle.plain_steps.proofs.PlainSteps.{acting_here, here_read, listed, operands, written_mark}
+use Rattle.plain_laws.specs.history_model.Entries.{step_entry, versions_after}
+use Rattle.plain_laws.specs.history_model.sound_runs.Names.{KeepsNames}
+use Rattle.plain_laws.specs.history_model.Plains.{atlas_of, locus_of}
+use Rattle.plain_laws.specs.history_model.declared.entries.Mark.{Mark}
+use Rattle.plain_laws.specs.history_model.declared.plain.PlainLocus.{PlainLocus}
+use Rattle.plain_laws.proofs.history_model_lemmas.PlainBirths.{loci_named}
+use Rattle.plain_laws.proofs.history_model_lemmas.wanted_laws_lemmas.WantLemmas.{allowed_by, bears_by}
+use Rattle.plain_laws.specs.AtlasActs.{ActedOnAtlas}
+use Rattle.plain_laws.proofs.history_model_lemmas.sound_runs_lemmas.Naming.{spawn_keeps}
+use Rattle.plain_laws.proofs.AtlasSteps.{bears_spawn, spawned_free, spawned_none, spawned_some, stepped_full, stepped_spawned}
+use Rattle.plain_laws.proofs.PlainSteps.{acting_here, here_read, listed, operands, written_mark}
 use Rattle.plain_steps.proofs.atlas_steps.step_spawn.Goals as goal
 
 pub unreachable-requires : goal.unreachable-requires

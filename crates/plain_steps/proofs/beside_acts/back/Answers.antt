@@ -4,9 +4,9 @@ use Rattle.hop_base.specs.declared.instructions.Call.{Call}
 use Rattle.hop_base.specs.declared.instructions.Instr.{Instr}
 use Rattle.hop_model.specs.State.{ContainerCell}
 use Rattle.hop_model.specs.Outcomes.{enter, entered}
-use Rattle.history_model.specs.Plains.{container_of, locus_of}
-use Rattle.plain_steps.specs.Acts.{going_on_in}
-use Rattle.plain_steps.proofs.BesideLemmas.{acted_writing, back_last}
+use Rattle.plain_laws.specs.history_model.Plains.{container_of, locus_of}
+use Rattle.plain_laws.specs.Acts.{going_on_in}
+use Rattle.plain_laws.proofs.BesideLemmas.{acted_writing, back_last}
 use Rattle.plain_steps.proofs.beside_acts.back.Goals as goal
 
 pub returns-clause-made : goal.returns-clause-made

@@ -1,7 +1,7 @@
 use Rattle.std.proofs.Common.{◌<◌, length, Some, rules}
 use Rattle.hop_model.specs.Acts.{alone}
-use Rattle.history_model.specs.Plains.{atlas_of}
-use Rattle.plain_steps.proofs.PlainSteps.{here_read, stepped_refused}
+use Rattle.plain_laws.specs.history_model.Plains.{atlas_of}
+use Rattle.plain_laws.proofs.PlainSteps.{here_read, stepped_refused}
 use Rattle.plain_steps.proofs.carry.step_refused.Goals as goal
 
 pub finish-answer-requires : goal.finish-answer-requires

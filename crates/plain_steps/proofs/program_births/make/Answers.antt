@@ -3,8 +3,8 @@ use Rattle.std.proofs.lemmas.List.{map_push}
 use Rattle.hop_model.specs.Outcomes.{finish, made_name}
 use Rattle.hop_model.specs.State.{Text, AtlasState, LocusState}
 use Rattle.hop_base.specs.declared.instructions.Reply.TheVariants.{Ok}
-use Rattle.history_model.specs.Plains.{atlas_of, container_of, locus_of}
-use Rattle.plain_steps.proofs.MadeLemmas.{make_makes}
+use Rattle.plain_laws.specs.history_model.Plains.{atlas_of, container_of, locus_of}
+use Rattle.plain_laws.proofs.MadeLemmas.{make_makes}
 use Rattle.plain_steps.proofs.program_births.make.Goals as goal
 
 pub returns-clause-made : goal.returns-clause-made

@@ -4,11 +4,11 @@ use Rattle.hop_base.specs.declared.instructions.Condition.TheVariants.{Running}
 use Rattle.hop_model.specs.Acts.{wanted}
 use Rattle.wanted_act.specs.Views.{IsReadyLocus, act_of}
 use Rattle.wanted_act.proofs.Ready.{ready}
-use Rattle.history_model.specs.Lists.{IsActingAt, IsRunningAt}
-use Rattle.history_model.specs.Plains.{atlas_of, cells_of, locus_of}
-use Rattle.history_model.specs.declared.plain.PlainLocus.{PlainLocus}
-use Rattle.history_model.proofs.SoundLemmas.{sound_here, sound_locus}
-use Rattle.plain_steps.proofs.PlainSteps.{same_sound, stepped_sound}
+use Rattle.plain_laws.specs.history_model.Lists.{IsActingAt, IsRunningAt}
+use Rattle.plain_laws.specs.history_model.Plains.{atlas_of, cells_of, locus_of}
+use Rattle.plain_laws.specs.history_model.declared.plain.PlainLocus.{PlainLocus}
+use Rattle.plain_laws.proofs.history_model_lemmas.SoundLemmas.{sound_here, sound_locus}
+use Rattle.plain_laws.proofs.PlainSteps.{same_sound, stepped_sound}
 use Rattle.plain_steps.proofs.steps.plain_step.Goals as goal
 
 pub wants-requires : goal.wants-requires

@@ -1,6 +1,6 @@
 use Rattle.std.proofs.Common.{◌≡◌, [], sym, ap, ◌∙◌, eqb-true, length, arith}
-use Rattle.kernel_records.specs.snapshot_store.Opening.{is_some_rec}
-use Rattle.kernel_records.specs.snapshot_store.State.{books}
+use Rattle.kernel_records.specs.store_laws.Opening.{is_some_rec}
+use Rattle.kernel_records.specs.store_laws.State.{books}
 use Rattle.kernel_records.specs.store_model.Books.{recs_in}
 use Rattle.record_checks.proofs.Fitting.{has_room, none_of}
 use Rattle.record_checks.proofs.snapped.snap_new.Goals as goal

@@ -1,7 +1,7 @@
 use Rattle.std.proofs.Common.{◌≡◌, ◌≤◌, ◌⊎◌, inl, inr, refl, length, subst, ◌∙◌, arith}
 use Rattle.disk_trait.specs.Image.{Image, SameOutside}
 use Rattle.disk_trait.proofs.Phases.{IsImage-reading, LeavesOnly-from_quiet, LeavesOnly-quiet, told}
-use Rattle.image_meaning.specs.image_blocks.Layout.{is_open}
+use Rattle.image_meaning.specs.image_form.Layout.{is_open}
 use Rattle.restart.specs.Formats.{IsAreaGate, IsFormatting, IsFrontBlock}
 use Rattle.restart.proofs.Fronts.{IsEnough, made, opening, still_closed}
 use Rattle.restart.proofs.formatting.make_empty.Goals as goal

@@ -2,7 +2,7 @@ use Rattle.std.proofs.Common.{sym, subst}
 use Rattle.manager_form.specs.Managing.{AreScriptManagers, ManagerTables, managers_of}
 use Rattle.run_opening.specs.command_parts.Seen.{gave, seen_disk, seen_sink}
 use Rattle.run_opening.specs.script_form.Scripts.{tables_of}
-use Rattle.run_command.proofs.Drilled.{complete, drill_leaves, no_memory, none_allowed}
+use Rattle.run_opening.proofs.command_laws_lemmas.Drilled.{complete, drill_leaves, no_memory, none_allowed}
 use Rattle.run_command.proofs.drilling.run_drill.Goals as goal
 
 pub run_read-requires-clause-managers : goal.run_read-requires-clause-managers

@@ -5,12 +5,12 @@ use Rattle.run_opening.specs.kernel_cells.declared.cells.Cell.{Cell}
 use Rattle.kernel_runs.specs.kernel_commits.Stops.{IsCause}
 use Rattle.kernel_runs.specs.kernel_commits.declared.stopping.Stopped.TheVariants.{Failed, TooFew}
 use Rattle.run_opening.specs.script_form.Scripts.{tables_of}
-use Rattle.run_opening.specs.snapshot_store.State.{books}
+use Rattle.run_opening.specs.store_laws.State.{books}
 use Rattle.kernel_runs.specs.table_births.Births.{atlas_state_in}
 use Rattle.run_opening.specs.command_parts.Seen.{seen_sink}
 use Rattle.run_command.specs.Tellings.{lines_of}
-use Rattle.run_command.specs.Playing.{IsPutBy, StartsRun}
-use Rattle.run_command.proofs.Played.{of_err, play_leaves}
+use Rattle.run_opening.specs.command_laws.Playing.{IsPutBy, StartsRun}
+use Rattle.run_opening.proofs.command_laws_lemmas.Played.{of_err, play_leaves}
 use Rattle.run_command.proofs.playing.run_opened.Goals as goal
 
 pub returns-clause-leaves : goal.returns-clause-leaves

@@ -1,6 +1,6 @@
 use Rattle.run_opening.proofs.command_parts_lemmas.Endings.{gains}
 use Rattle.run_opening.specs.command_parts.Seen.{seen_sink}
-use Rattle.run_command.proofs.Played.{put_stopped}
+use Rattle.run_opening.proofs.command_laws_lemmas.Played.{put_stopped}
 use Rattle.run_command.proofs.putting.put_run.Goals as goal
 
 pub returns-in-Err-clause-put : goal.returns-in-Err-clause-put

@@ -3,8 +3,8 @@ use Rattle.run_opening.specs.command_parts.Statuses.{ending}
 use Rattle.manager_form.specs.Managing.{managers_of}
 use Rattle.run_opening.specs.script_form.Scripts.{tables_of}
 use Rattle.run_command.specs.Tellings.{lines_of}
-use Rattle.run_command.proofs.Complete.{complete}
-use Rattle.run_command.proofs.Leavings.{behind_source, ended_by, source_stops}
+use Rattle.run_opening.proofs.command_laws_lemmas.Complete.{complete}
+use Rattle.run_opening.proofs.command_laws_lemmas.Leavings.{behind_source, ended_by, source_stops}
 use Rattle.run_command.proofs.running.run_script.Goals as goal
 
 pub returns-in-Ok-clause-leaves : goal.returns-in-Ok-clause-leaves

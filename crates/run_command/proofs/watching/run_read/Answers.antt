@@ -5,15 +5,16 @@ use Rattle.manager_code.specs.Answering.{book_wish, book_word}
 use Rattle.manager_form.specs.Managing.{manager_of, managers_of}
 use Rattle.manager_form.specs.declared.ScriptManager.{ScriptManager}
 use Rattle.run_opening.specs.script_form.Scripts.{tables_of}
-use Rattle.run_opening.specs.snapshot_store.State.{books}
+use Rattle.run_opening.specs.store_laws.State.{books}
 use Rattle.run_opening.specs.command_parts.Seen.{Gave, gave, seen_disk, seen_sink}
 use Rattle.run_opening.specs.command_parts.Statuses.{ending}
-use Rattle.run_opening.specs.Ready.{IsReady, StopsOpening}
-use Rattle.run_command.specs.Booked.{over}
+use Rattle.run_opening.specs.command_laws.Ready.{IsReady, StopsOpening}
+use Rattle.run_opening.specs.command_laws.Booked.{over}
 use Rattle.run_command.specs.Tellings.{lines_of}
-use Rattle.run_command.specs.OfScript.{ScriptLeaves}
-use Rattle.run_command.specs.Playing.{PlayLeaves, StartsRun}
-use Rattle.run_command.proofs.Leavings.{goes_on, opening_stops, rose_later, run_leaves, script_ended_by}
+use Rattle.run_opening.specs.command_laws.OfScript.{ScriptLeaves}
+use Rattle.run_opening.specs.command_laws.Playing.{PlayLeaves, StartsRun}
+use Rattle.disk_trait.proofs.Ticks.{Rose-before}
+use Rattle.run_opening.proofs.command_laws_lemmas.Leavings.{goes_on, opening_stops, run_leaves, script_ended_by}
 use Rattle.run_command.proofs.watching.run_read.Goals as goal
 
 pub run_opened-requires-clause-clean : goal.run_opened-requires-clause-clean
@@ -46,7 +47,7 @@ returns-in-Ok-clause-leaves g c =
     (run_leaves d.tells d.block_count d.reading d.may_leave d.left_since d.clock d.faults g.met.D.Disk.counts_now old new
     (goes_on d.tells d.block_count d.may_leave d.left_since d.clock d.faults g.met.D.Disk.counts_now old g.N.Handed.start new c.requires.start c.unwatched.ensures.gone_on)
     telling m sink script made k ready (Rose (d.faults k.parts.store.disk) (d.faults new))
-    (rose_later (d.faults old) (d.faults k.parts.store.disk) (d.faults new) began later) (ending made.status) play)
+    (Rose-before (d.faults old) (d.faults k.parts.store.disk) (d.faults new) began later) (ending made.status) play)
 
 pub returns-in-Err-clause-leaves : goal.returns-in-Err-clause-leaves
 returns-in-Err-clause-leaves g c =

@@ -1,4 +1,4 @@
-use Rattle.run_opening.proofs.Kept.{fails_at_sync}
+use Rattle.command_laws.proofs.Kept.{fails_at_sync}
 use Rattle.run_opening.proofs.laws.failed_sync_law.Goals as goal
 
 pub returns : goal.returns

@@ -4,7 +4,7 @@ use Rattle.kernel_opening.specs.fitting_births.Fitting.{Fits}
 use Rattle.command_parts.specs.hop_model.State.{AtlasState}
 use Rattle.kernel_opening.specs.script_against.Misfits.{IsMisfit}
 use Rattle.command_parts.specs.script_form.Scripts.{tables_of}
-use Rattle.run_opening.proofs.Readied.{lent_atlas}
+use Rattle.command_laws.proofs.Readied.{lent_atlas}
 use Rattle.run_opening.proofs.opening.against_kernel.Goals as goal
 
 pub returns-clause-ok : goal.returns-clause-ok

@@ -5,11 +5,11 @@ use Rattle.kernel_opening.specs.fitting_births.Fitting.{Fits}
 use Rattle.kernel_opening.specs.Kernels.{StaysClean}
 use Rattle.command_parts.specs.script_form.Scripts.{tables_of}
 use Rattle.kernel_opening.specs.table_births.Births.{atlas_state_in}
-use Rattle.run_opening.specs.Ready.{IsFitFault, IsReady, StopsOpening}
+use Rattle.command_laws.specs.Ready.{IsFitFault, IsReady, StopsOpening}
 use Rattle.command_parts.specs.declared.faults.Fault.TheVariants as fault
 use Rattle.run_opening.proofs.Fitted.{on_fault, on_kernel}
-use Rattle.run_opening.proofs.Readied.{is_ready}
-use Rattle.run_opening.proofs.Unmade.{misfits, misfits_complete, unopened, unopened_complete}
+use Rattle.command_laws.proofs.Readied.{is_ready}
+use Rattle.command_laws.proofs.Unmade.{misfits, misfits_complete, unopened, unopened_complete}
 use Rattle.run_opening.proofs.opening.open_for.Goals as goal
 
 pub returns-in-Ok-clause-ready : goal.returns-in-Ok-clause-ready

@@ -2,10 +2,10 @@
 use Rattle.std.proofs.Common.{◌≡◌, ◌<◌, ◌≤◌, Ok, length, map, sym, ap, ◌∙◌, arith}
 use Rattle.std.proofs.lemmas.List.{length-map}
 use Rattle.toml.specs.View.{view}
-use Rattle.script_read.specs.Fields.{a_list, at_most}
-use Rattle.script_read.specs.Reading.{dotted}
+use Rattle.script_meaning.specs.Fields.{a_list, at_most}
+use Rattle.script_meaning.specs.Reading.{dotted}
 use Rattle.script_form.specs.declared.refusals.Why.TheVariants.{TooMany}
-use Rattle.script_read.proofs.Lists.{list_of-items, at_most-few, at_most-many, blamed}
+use Rattle.script_meaning.proofs.Lists.{list_of-items, at_most-few, at_most-many, blamed}
 use Rattle.script_read.proofs.fields.a_list.Goals as goal
 
 pub returns-then-len-most : goal.returns-then-len-most

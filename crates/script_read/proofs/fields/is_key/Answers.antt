@@ -3,7 +3,7 @@ use Rattle.std.proofs.Common.{◌∙◌, rules, tests}
 use Rattle.std.proofs.lemmas.Iterator.{YieldsList-from_slice}
 use Rattle.std.proofs.lemmas.Iterator.Search.{any_from_yields_List}
 use Rattle.script_form.specs.hop_model.Scripts.{text_eq}
-use Rattle.script_read.proofs.Lists.{any_of_map}
+use Rattle.script_meaning.proofs.Lists.{any_of_map}
 use Rattle.script_read.proofs.fields.is_key.Goals as goal
 
 pub returns : goal.returns

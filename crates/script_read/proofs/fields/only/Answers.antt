@@ -1,7 +1,7 @@
 -- A map hands out its keys in the order of their bytes.
 use Rattle.std.proofs.Common.{map, sym, ap, ◌∙◌}
 use Rattle.toml.specs.View.{members_view}
-use Rattle.script_read.specs.Fields.{only_in}
+use Rattle.script_meaning.specs.Fields.{only_in}
 use Rattle.script_read.proofs.Orders.{sorted_in_order}
 use Rattle.script_read.proofs.fields.only.Goals as goal
 

@@ -1,7 +1,7 @@
 -- The keys so far are known, so the others decide.
 use Rattle.std.proofs.Common.{◌≡◌, map}
 use Rattle.toml.specs.View.{members_view, table_view}
-use Rattle.script_read.specs.Fields.{only_in, only}
+use Rattle.script_meaning.specs.Fields.{only_in, only}
 use Rattle.script_read.proofs.fields.only.Given as goal
 
 abbrev pub invariant-loop-name : goal.invariant-loop-name

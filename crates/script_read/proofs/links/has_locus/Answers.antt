@@ -4,7 +4,7 @@ use Rattle.std.proofs.lemmas.Iterator.{YieldsList-from_slice}
 use Rattle.std.proofs.lemmas.Iterator.Search.{any_from_yields_List}
 use Rattle.script_form.specs.hop_model.Scripts.{LocusTable, text_eq}
 use Rattle.script_form.specs.Scripts.{locus_of}
-use Rattle.script_read.proofs.Lists.{any_of_two_maps}
+use Rattle.script_meaning.proofs.Lists.{any_of_two_maps}
 use Rattle.script_read.proofs.links.has_locus.Goals as goal
 
 pub returns : goal.returns

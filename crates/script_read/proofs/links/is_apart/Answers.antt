@@ -2,10 +2,10 @@
 use Rattle.std.proofs.Common.{◌∙◌, not, rules, tests}
 use Rattle.std.proofs.lemmas.Iterator.{YieldsList-from_slice}
 use Rattle.std.proofs.lemmas.Iterator.Search.{all_from_yields_List}
-use Rattle.script_read.specs.Meaning.{overlap}
+use Rattle.script_meaning.specs.Meaning.{overlap}
 use Rattle.script_form.specs.Scripts.{region_of}
 use Rattle.script_read.specs.Views.{region_form_of}
-use Rattle.script_read.proofs.Lists.{all_of_map}
+use Rattle.script_meaning.proofs.Lists.{all_of_map}
 use Rattle.script_read.proofs.links.is_apart.Goals as goal
 
 pub returns : goal.returns

@@ -2,12 +2,12 @@
 use Rattle.std.proofs.Common.{◌≡◌, [], Ok, length, codes, map, string_bytes, sym, ap, ◌∙◌, arith}
 use Rattle.std.proofs.lemmas.List.{length-map}
 use Rattle.toml.specs.View.{view, table_view}
-use Rattle.script_read.specs.Fields.{each}
-use Rattle.script_read.specs.Meaning.{a_cap, caps_at}
-use Rattle.script_read.specs.Reading.{dotted, IsFaultOf, ◌>>=◌}
+use Rattle.script_meaning.specs.Fields.{each}
+use Rattle.script_meaning.specs.Meaning.{a_cap, caps_at}
+use Rattle.script_meaning.specs.Reading.{dotted, IsFaultOf, ◌>>=◌}
 use Rattle.script_form.specs.Scripts.{cap_of}
 use Rattle.script_read.specs.Views.{names_known}
-use Rattle.script_read.proofs.Each.{each_done, each_handed_on}
+use Rattle.script_meaning.proofs.Each.{each_done, each_handed_on}
 use Rattle.script_read.proofs.links.read_caps.Goals as goal
 
 pub returns-in_err-cap : goal.returns-in_err-cap

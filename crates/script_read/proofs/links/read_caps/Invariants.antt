@@ -1,8 +1,8 @@
 -- The capabilities so far are read, and the others decide.
 use Rattle.std.proofs.Common.{◌≡◌, [], drop, map, string_bytes}
 use Rattle.toml.specs.View.{view}
-use Rattle.script_read.specs.Fields.{each}
-use Rattle.script_read.specs.Meaning.{a_cap}
+use Rattle.script_meaning.specs.Fields.{each}
+use Rattle.script_meaning.specs.Meaning.{a_cap}
 use Rattle.script_form.specs.Scripts.{cap_of}
 use Rattle.script_read.specs.Views.{names_known}
 use Rattle.script_read.proofs.links.read_caps.Given as goal

@@ -1,12 +1,12 @@
 -- Each item is read behind the others, and its fault is the list's.
 use Rattle.std.proofs.Common.{◌≡◌, [], Ok, codes, map, string_bytes, sym, ap, ◌∙◌}
 use Rattle.toml.specs.View.{view, table_view}
-use Rattle.script_read.specs.Fields.{each}
-use Rattle.script_read.specs.Meaning.{a_region, regions_at}
-use Rattle.script_read.specs.Reading.{dotted, IsFaultOf, ◌>>=◌}
+use Rattle.script_meaning.specs.Fields.{each}
+use Rattle.script_meaning.specs.Meaning.{a_region, regions_at}
+use Rattle.script_meaning.specs.Reading.{dotted, IsFaultOf, ◌>>=◌}
 use Rattle.script_form.specs.Rules.{container_names}
 use Rattle.script_form.specs.Scripts.{region_of, container_of}
-use Rattle.script_read.proofs.Each.{each_done, each_handed_on}
+use Rattle.script_meaning.proofs.Each.{each_done, each_handed_on}
 use Rattle.script_read.proofs.links.read_regions.Goals as goal
 
 pub returns-in_err-region : goal.returns-in_err-region

@@ -1,8 +1,8 @@
 -- The regions so far are read, and the others decide.
 use Rattle.std.proofs.Common.{◌≡◌, [], drop, map, string_bytes}
 use Rattle.toml.specs.View.{view}
-use Rattle.script_read.specs.Fields.{each}
-use Rattle.script_read.specs.Meaning.{a_region}
+use Rattle.script_meaning.specs.Fields.{each}
+use Rattle.script_meaning.specs.Meaning.{a_region}
 use Rattle.script_form.specs.Rules.{container_names}
 use Rattle.script_form.specs.Scripts.{region_of, container_of}
 use Rattle.script_read.proofs.links.read_regions.Given as goal

@@ -4,7 +4,7 @@ use Rattle.std.proofs.lemmas.Iterator.{YieldsList-from_slice}
 use Rattle.std.proofs.lemmas.Iterator.Search.{any_from_yields_List}
 use Rattle.manager_form.specs.Managing.{ManagerTable, manager_of}
 use Rattle.manager_form.specs.declared.ScriptManager.{ScriptManager}
-use Rattle.script_read.proofs.Lists.{any_of_map}
+use Rattle.script_meaning.proofs.Lists.{any_of_map}
 use Rattle.script_read.proofs.managers.has_number.Goals as goal
 
 pub returns : goal.returns

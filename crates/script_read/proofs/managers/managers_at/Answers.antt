@@ -2,11 +2,11 @@
 use Rattle.std.proofs.Common.{◌≡◌, [], Ok, map, sym, ap, ◌∙◌}
 use Rattle.manager_form.specs.Managing.{manager_of}
 use Rattle.toml.specs.View.{view, table_view}
-use Rattle.script_read.specs.Fields.{each}
-use Rattle.script_read.specs.Meaning.{a_manager, managers_at}
-use Rattle.script_read.specs.Reading.{IsFaultOf, ◌>>=◌}
+use Rattle.script_meaning.specs.Fields.{each}
+use Rattle.script_meaning.specs.Meaning.{a_manager, managers_at}
+use Rattle.script_meaning.specs.Reading.{IsFaultOf, ◌>>=◌}
 use Rattle.script_read.specs.Views.{program_of}
-use Rattle.script_read.proofs.Each.{each_done, each_handed_on}
+use Rattle.script_meaning.proofs.Each.{each_done, each_handed_on}
 use Rattle.script_read.proofs.managers.managers_at.Goals as goal
 
 pub returns-in_err-manager : goal.returns-in_err-manager

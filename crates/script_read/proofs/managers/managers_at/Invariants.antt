@@ -2,8 +2,8 @@
 use Rattle.std.proofs.Common.{◌≡◌, [], drop, map}
 use Rattle.manager_form.specs.Managing.{manager_of}
 use Rattle.toml.specs.View.{view}
-use Rattle.script_read.specs.Fields.{each}
-use Rattle.script_read.specs.Meaning.{a_manager}
+use Rattle.script_meaning.specs.Fields.{each}
+use Rattle.script_meaning.specs.Meaning.{a_manager}
 use Rattle.script_read.specs.Views.{program_of}
 use Rattle.script_read.proofs.managers.managers_at.Given as goal
 

@@ -1,7 +1,7 @@
 -- The program at hand has the name, or the others decide.
 use Rattle.std.proofs.Common.{◌≡◌, true, false, Some, if◌then◌else◌, drop, map, ◌+◌, string_bytes, sym, ap, ◌∙◌}
 use Rattle.script_form.specs.hop_model.Scripts.{text_eq}
-use Rattle.script_read.specs.Meaning.{code_named}
+use Rattle.script_meaning.specs.Meaning.{code_named}
 use Rattle.script_read.specs.Views.{program_of}
 use Rattle.script_read.proofs.Each.{named_at}
 use Rattle.script_read.proofs.programs.code_named.Goals as goal

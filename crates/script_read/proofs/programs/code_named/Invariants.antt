@@ -1,6 +1,6 @@
 -- No program so far has the name.
 use Rattle.std.proofs.Common.{◌≡◌, drop, map}
-use Rattle.script_read.specs.Meaning.{code_named}
+use Rattle.script_meaning.specs.Meaning.{code_named}
 use Rattle.script_read.specs.Views.{program_of}
 use Rattle.script_read.proofs.programs.code_named.Given as goal
 

@@ -1,10 +1,10 @@
 -- Each line is read behind the others, and its fault is the program's.
 use Rattle.std.proofs.Common.{◌≡◌, Ok, length, arith, ◌+◌, [], codes, drop, map, string_bytes, sym, ap, ◌∙◌}
 use Rattle.toml.specs.View.{view}
-use Rattle.script_read.specs.Fields.{each}
-use Rattle.script_read.specs.Meaning.{a_line, a_program}
-use Rattle.script_read.specs.Reading.{dotted, IsFaultOf, ◌>>=◌}
-use Rattle.script_read.proofs.Each.{each_step, each_fault, fault_by, handed_on}
+use Rattle.script_meaning.specs.Fields.{each}
+use Rattle.script_meaning.specs.Meaning.{a_line, a_program}
+use Rattle.script_meaning.specs.Reading.{dotted, IsFaultOf, ◌>>=◌}
+use Rattle.script_meaning.proofs.Each.{each_step, each_fault, fault_by, handed_on}
 use Rattle.script_read.proofs.programs.read_program.Goals as goal
 
 pub returns-in_err-read_program_line : goal.returns-in_err-read_program_line

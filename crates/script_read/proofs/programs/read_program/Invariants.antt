@@ -3,9 +3,9 @@ use Rattle.std.proofs.Common.{◌≡◌, [], Option, drop, map, string_bytes}
 use Rattle.hop_base.specs.declared.instructions.Instr.{Instr}
 use Rattle.script_form.specs.hop_model.State.{Text}
 use Rattle.toml.specs.View.{view}
-use Rattle.script_read.specs.Fields.{each}
+use Rattle.script_meaning.specs.Fields.{each}
 use Rattle.instr_set.specs.Reader.{IsReader}
-use Rattle.script_read.specs.Meaning.{a_line}
+use Rattle.script_meaning.specs.Meaning.{a_line}
 use Rattle.script_read.proofs.programs.read_program.Given as goal
 
 abbrev pub invariant-loop-line : goal.invariant-loop-line

@@ -4,11 +4,11 @@ use Rattle.std.proofs.lemmas.List.{map_push}
 use Rattle.std.proofs.lemmas.Map.Iter.{rest_more}
 use Rattle.std.specs.Map.Iter.{deref_pair}
 use Rattle.toml.specs.View.{view, members_view}
-use Rattle.script_read.specs.Meaning.{Program, a_program, more_programs}
-use Rattle.script_read.specs.Reading.{IsFaultOf, ◌>>=◌}
+use Rattle.script_meaning.specs.Meaning.{Program, a_program, more_programs}
+use Rattle.script_meaning.specs.Reading.{IsFaultOf, ◌>>=◌}
 use Rattle.script_read.specs.Views.{program_of}
 use Rattle.script_read.specs.declared.programs.Program.{Program as CodeProgram}
-use Rattle.script_read.proofs.Each.{passes_on, fault_by, handed_on}
+use Rattle.script_meaning.proofs.Each.{passes_on, fault_by, handed_on}
 use Rattle.script_read.proofs.Orders.{sorted_in_order}
 use Rattle.script_read.proofs.programs.read_table.Goals as goal
 

@@ -4,7 +4,7 @@ use Rattle.hop_base.specs.declared.instructions.Instr.{Instr}
 use Rattle.script_form.specs.hop_model.State.{Text}
 use Rattle.toml.specs.View.{members_view, table_view}
 use Rattle.instr_set.specs.Reader.{IsReader}
-use Rattle.script_read.specs.Meaning.{more_programs, programs_in}
+use Rattle.script_meaning.specs.Meaning.{more_programs, programs_in}
 use Rattle.script_read.specs.Views.{program_of}
 use Rattle.script_read.proofs.programs.read_table.Given as goal
 

@@ -2,12 +2,12 @@
 use Rattle.std.proofs.Common.{◌≡◌, [], Ok, length, map, string_bytes, sym, ap, ◌∙◌, arith}
 use Rattle.std.proofs.lemmas.List.{length-map}
 use Rattle.toml.specs.View.{view, table_view}
-use Rattle.script_read.specs.Fields.{each}
-use Rattle.script_read.specs.Meaning.{a_pick, order_at}
-use Rattle.script_read.specs.Reading.{IsFaultOf, ◌>>=◌}
+use Rattle.script_meaning.specs.Fields.{each}
+use Rattle.script_meaning.specs.Meaning.{a_pick, order_at}
+use Rattle.script_meaning.specs.Reading.{IsFaultOf, ◌>>=◌}
 use Rattle.script_form.specs.Rules.{locus_names}
 use Rattle.script_form.specs.Scripts.{locus_of}
-use Rattle.script_read.proofs.Each.{each_done, each_handed_on}
+use Rattle.script_meaning.proofs.Each.{each_done, each_handed_on}
 use Rattle.script_read.proofs.reading.read_order.Goals as goal
 
 pub returns-in_err-pick : goal.returns-in_err-pick

@@ -1,8 +1,8 @@
 -- The names so far are read, and the others decide.
 use Rattle.std.proofs.Common.{◌≡◌, [], drop, map, string_bytes}
 use Rattle.toml.specs.View.{view}
-use Rattle.script_read.specs.Fields.{each}
-use Rattle.script_read.specs.Meaning.{a_pick}
+use Rattle.script_meaning.specs.Fields.{each}
+use Rattle.script_meaning.specs.Meaning.{a_pick}
 use Rattle.script_form.specs.Rules.{locus_names}
 use Rattle.script_form.specs.Scripts.{locus_of}
 use Rattle.script_read.proofs.reading.read_order.Given as goal

@@ -4,11 +4,11 @@ use Rattle.std.specs.Str.{is_utf8}
 use Rattle.std.proofs.lemmas.Str.{IsUtf8-from_is_utf8, is_utf8-from_IsUtf8}
 use Rattle.toml.specs.Parse.{parse_document}
 use Rattle.toml.specs.View.{table_view}
-use Rattle.script_read.specs.Meaning.{Source, tree_meaning, meaning_by}
-use Rattle.script_read.specs.Reading.{Reading, ◌>>=◌, or_refused, Reads}
+use Rattle.script_meaning.specs.Meaning.{Source, tree_meaning, meaning_by}
+use Rattle.script_meaning.specs.Reading.{Reading, ◌>>=◌, or_refused, Reads}
 use Rattle.script_read.specs.Views.{source_of}
 use Rattle.script_form.specs.declared.refusals.Why.TheVariants.{NotToml}
-use Rattle.script_read.proofs.Lists.{blamed}
+use Rattle.script_meaning.proofs.Lists.{blamed}
 use Rattle.script_read.proofs.reading.read_source.Goals as goal
 
 pub returns-in_default : goal.returns-in_default

@@ -1,6 +1,6 @@
 -- The number of the digits so far.
 use Rattle.std.proofs.Common.{◌≡◌, ◌≤◌, take}
-use Rattle.script_read.specs.Strings.{decimal_value}
+use Rattle.script_meaning.specs.Strings.{decimal_value}
 use Rattle.script_read.proofs.strings.decimal_value.Given as goal
 
 abbrev pub invariant-loop-byte : goal.invariant-loop-byte

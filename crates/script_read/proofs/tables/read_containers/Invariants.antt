@@ -1,8 +1,8 @@
 -- The containers so far are read, and the others decide.
 use Rattle.std.proofs.Common.{◌≡◌, [], drop, map}
 use Rattle.toml.specs.View.{view}
-use Rattle.script_read.specs.Fields.{each}
-use Rattle.script_read.specs.Meaning.{a_container}
+use Rattle.script_meaning.specs.Fields.{each}
+use Rattle.script_meaning.specs.Meaning.{a_container}
 use Rattle.script_form.specs.Scripts.{container_of}
 use Rattle.script_read.specs.Views.{program_of}
 use Rattle.script_read.proofs.tables.read_containers.Given as goal

@@ -1,11 +1,11 @@
 -- Each item is read behind the others, and its fault is the list's.
 use Rattle.std.proofs.Common.{◌≡◌, [], Ok, map, sym, ap, ◌∙◌}
 use Rattle.toml.specs.View.{view, table_view}
-use Rattle.script_read.specs.Fields.{each}
-use Rattle.script_read.specs.Meaning.{a_locus, loci_at}
-use Rattle.script_read.specs.Reading.{IsFaultOf, ◌>>=◌}
+use Rattle.script_meaning.specs.Fields.{each}
+use Rattle.script_meaning.specs.Meaning.{a_locus, loci_at}
+use Rattle.script_meaning.specs.Reading.{IsFaultOf, ◌>>=◌}
 use Rattle.script_form.specs.Scripts.{container_of, locus_of}
-use Rattle.script_read.proofs.Each.{each_done, each_handed_on}
+use Rattle.script_meaning.proofs.Each.{each_done, each_handed_on}
 use Rattle.script_read.proofs.tables.read_loci.Goals as goal
 
 pub returns-in_err-locus : goal.returns-in_err-locus

@@ -4,7 +4,7 @@ use Rattle.std.specs.List.{list_all}
 use Rattle.std.proofs.lemmas.Bool.{and_parts}
 use Rattle.std.proofs.lemmas.List.Elements.{All-cons, All-nil}
 use Rattle.plain_run.specs.hop_model.Scripts.{ContainerTable}
-use Rattle.plain_run.specs.Snaps.{has_no_snap}
+use Rattle.plain_run.specs.plain_laws.Snaps.{has_no_snap}
 use Rattle.plain_run.specs.script_form.Scripts.{container_of}
 use Rattle.plain_run.specs.script_form.declared.ScriptContainer.{ScriptContainer}
 use Rattle.snapless_code.proofs.code.has_no_snaps.Goals as goal

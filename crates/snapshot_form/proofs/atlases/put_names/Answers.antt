@@ -1,8 +1,8 @@
 use Rattle.std.proofs.Common.{◌≡◌, ◌<◌, ◌+◌, ◌∙◌, ℕ, List, length, Some, sym, ap, arith}
 use Rattle.std.specs.Prelude.{slice_get}
-use Rattle.atlas_dir.specs.Directory.{name_of}
-use Rattle.snapshot_form.specs.Pieces.{first_of, names_of}
-use Rattle.snapshot_form.proofs.Names.{name_there, name_written, number_named, some_name}
+use Rattle.atlas_dir.specs.directory_form.Directory.{name_of}
+use Rattle.blob_fields.specs.Pieces.{first_of, names_of}
+use Rattle.blob_fields.proofs.NamesPut.{name_there, name_written, number_named, some_name}
 use Rattle.snapshot_form.proofs.atlases.put_names.Goals as goal
 use Rattle.snapshot_form.proofs.atlases.put_names.Goals.{in-Some, in-None}
 

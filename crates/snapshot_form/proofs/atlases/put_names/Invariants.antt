@@ -1,7 +1,7 @@
 use Rattle.std.proofs.Common.{◌≡◌, ◌≤◌, ◌+◌, ◌*◌, ◌++◌, ◌∷◌, length, take}
 use Rattle.std.specs.List.{flat_map}
 use Rattle.blob_grammar.specs.Spelling.{text_bytes}
-use Rattle.snapshot_form.specs.Pieces.{names_of}
+use Rattle.blob_fields.specs.Pieces.{names_of}
 use Rattle.snapshot_form.proofs.atlases.put_names.Given as goal
 
 abbrev pub invariant-loop-place : goal.invariant-loop-place

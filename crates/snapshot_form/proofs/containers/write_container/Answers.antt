@@ -3,9 +3,9 @@ use Rattle.std.proofs.lemmas.List.{length-take}
 use Rattle.byteorder.specs.Endian.{little_bytes}
 use Rattle.std.specs.List.{flat_map}
 use Rattle.blob_grammar.specs.Spelling.{caps_bytes, container_blob, instr_bytes, listed, region_bytes}
-use Rattle.kernel_calls.specs.locus_machine.Loci.{container_with}
-use Rattle.kernel_calls.specs.locus_machine.declared.loci.Head.{Head}
-use Rattle.snapshot_form.specs.Pieces.{head_front}
+use Rattle.blob_fields.specs.kernel_calls.locus_machine.Loci.{container_with}
+use Rattle.blob_fields.specs.kernel_calls.locus_machine.declared.loci.Head.{Head}
+use Rattle.blob_fields.specs.Pieces.{head_front}
 use Rattle.blob_grammar.proofs.Lengths.{blocks_most}
 use Rattle.snapshot_form.proofs.Room.{five_joined}
 use Rattle.snapshot_form.proofs.containers.write_container.Goals as goal

@@ -1,8 +1,8 @@
 use Rattle.std.proofs.Common.{◌≡◌, ◌∙◌, ℕ, List, [], ◌∷◌, length, sym, ap, arith, length-append}
-use Rattle.atlas_dir.specs.Directory.{edges_of}
+use Rattle.atlas_dir.specs.directory_form.Directory.{edges_of}
 use Rattle.blob_grammar.specs.Spelling.{Counted}
-use Rattle.snapshot_form.specs.Pieces.{row_edges}
-use Rattle.snapshot_form.proofs.Rows.{row_none, row_some, row_start}
+use Rattle.blob_fields.specs.Pieces.{row_edges}
+use Rattle.blob_fields.proofs.RowsPut.{row_none, row_some, row_start}
 use Rattle.snapshot_form.proofs.edges.count_row.Goals as goal
 use Rattle.snapshot_form.proofs.edges.count_row.Goals.{then-count-gt0, else-count-gt0}
 

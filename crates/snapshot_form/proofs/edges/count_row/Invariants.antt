@@ -1,6 +1,6 @@
 use Rattle.std.proofs.Common.{◌≡◌, ◌≤◌, length}
-use Rattle.atlas_dir.specs.Directory.{edges_of}
-use Rattle.snapshot_form.specs.Pieces.{row_edges}
+use Rattle.atlas_dir.specs.directory_form.Directory.{edges_of}
+use Rattle.blob_fields.specs.Pieces.{row_edges}
 use Rattle.snapshot_form.proofs.edges.count_row.Given as goal
 
 abbrev pub invariant-loop-to : goal.invariant-loop-to

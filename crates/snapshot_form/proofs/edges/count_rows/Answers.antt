@@ -1,8 +1,8 @@
 use Rattle.std.proofs.Common.{◌∙◌, List, length, sym, ap, arith, length-append}
-use Rattle.atlas_dir.specs.Directory.{edges_of}
+use Rattle.atlas_dir.specs.directory_form.Directory.{edges_of}
 use Rattle.blob_grammar.specs.Spelling.{Counted}
-use Rattle.snapshot_form.specs.Pieces.{row_edges, rows_edges}
-use Rattle.snapshot_form.proofs.Rows.{rows_next, rows_start}
+use Rattle.blob_fields.specs.Pieces.{row_edges, rows_edges}
+use Rattle.blob_fields.proofs.RowsPut.{rows_next, rows_start}
 use Rattle.snapshot_form.proofs.edges.count_rows.Goals as goal
 
 pub loop-from-init : goal.loop-from-init

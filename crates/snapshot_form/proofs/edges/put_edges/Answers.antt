@@ -1,10 +1,10 @@
 use Rattle.std.proofs.Common.{◌≡◌, ◌++◌, ◌∙◌, ℕ, List, length, ap, append_assoc}
 use Rattle.std.specs.List.{flat_map}
 use Rattle.byteorder.specs.Endian.{little_bytes}
-use Rattle.atlas_dir.specs.Directory.{edges_of}
+use Rattle.atlas_dir.specs.directory_form.Directory.{edges_of}
 use Rattle.blob_grammar.specs.Spelling.{Counted, counted_edges, edge_bytes, edges_bytes}
-use Rattle.snapshot_form.specs.Pieces.{rows_edges}
-use Rattle.snapshot_form.proofs.Rows.{rows_all}
+use Rattle.blob_fields.specs.Pieces.{rows_edges}
+use Rattle.blob_fields.proofs.RowsPut.{rows_all}
 use Rattle.snapshot_form.proofs.edges.put_edges.Goals as goal
 
 both : (es fs : List Counted) (number : ℕ) (old counted all : List ℕ) → es ≡ fs → number ≡ length es → counted ≡ old ++ little_bytes 2 number

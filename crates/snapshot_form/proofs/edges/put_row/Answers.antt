@@ -1,10 +1,10 @@
 use Rattle.std.proofs.Common.{◌≡◌, ◌+◌, ◌++◌, ◌∙◌, ℕ, List, [], ◌∷◌, length, sym, ap, arith}
-use Rattle.atlas_dir.specs.Directory.{edges_of}
+use Rattle.atlas_dir.specs.directory_form.Directory.{edges_of}
 use Rattle.blob_grammar.specs.Spelling.{Counted, edge_bytes}
 use Rattle.std.specs.List.{flat_map}
-use Rattle.snapshot_form.specs.Pieces.{row_edges}
-use Rattle.snapshot_form.proofs.Room.{grown}
-use Rattle.snapshot_form.proofs.Rows.{edges_more, no_row, row_none, row_some}
+use Rattle.blob_fields.specs.Pieces.{row_edges}
+use Rattle.blob_fields.proofs.Room.{grown}
+use Rattle.blob_fields.proofs.RowsPut.{edges_more, no_row, row_none, row_some}
 use Rattle.snapshot_form.proofs.edges.put_row.Goals as goal
 use Rattle.snapshot_form.proofs.edges.put_row.Goals.{then-count-gt0, else-count-gt0}
 

@@ -1,8 +1,8 @@
 use Rattle.std.proofs.Common.{◌≡◌, ◌≤◌, ◌+◌, ◌*◌, ◌++◌, length}
 use Rattle.std.specs.List.{flat_map}
-use Rattle.atlas_dir.specs.Directory.{edges_of}
+use Rattle.atlas_dir.specs.directory_form.Directory.{edges_of}
 use Rattle.blob_grammar.specs.Spelling.{edge_bytes}
-use Rattle.snapshot_form.specs.Pieces.{row_edges}
+use Rattle.blob_fields.specs.Pieces.{row_edges}
 use Rattle.snapshot_form.proofs.edges.put_row.Given as goal
 
 abbrev pub invariant-loop-to : goal.invariant-loop-to

@@ -1,7 +1,7 @@
 use Rattle.std.proofs.Common.{◌+◌, arith}
-use Rattle.atlas_dir.specs.Directory.{edges_of}
-use Rattle.snapshot_form.specs.Pieces.{row_edges, rows_edges}
-use Rattle.snapshot_form.proofs.Rows.{edges_more, no_rows, rows_next}
+use Rattle.atlas_dir.specs.directory_form.Directory.{edges_of}
+use Rattle.blob_fields.specs.Pieces.{row_edges, rows_edges}
+use Rattle.blob_fields.proofs.RowsPut.{edges_more, no_rows, rows_next}
 use Rattle.snapshot_form.proofs.edges.put_rows.Goals as goal
 
 pub loop-from-init : goal.loop-from-init

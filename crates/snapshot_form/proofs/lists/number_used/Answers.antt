@@ -1,6 +1,6 @@
 use Rattle.std.proofs.Common.{◌∙◌, List, [], ◌∷◌, length, take, sym, ap, arith, length-append}
 use Rattle.blob_grammar.specs.Spelling.{Slot, used_slots}
-use Rattle.snapshot_form.proofs.Used.{used_none, used_some}
+use Rattle.blob_fields.proofs.Used.{used_none, used_some}
 use Rattle.snapshot_form.proofs.lists.number_used.Goals as goal
 use Rattle.snapshot_form.proofs.lists.number_used.Goals.{in-Some, in-None}
 

@@ -2,7 +2,7 @@ use Rattle.std.proofs.Common.{◌∙◌, ◌++◌, List, ◌∷◌, length, sym,
 use Rattle.std.specs.List.{flat_map}
 use Rattle.blob_grammar.specs.Spelling.{Slot, slot_bytes, used_slots}
 use Rattle.blob_grammar.proofs.Lengths.{caps_most}
-use Rattle.snapshot_form.proofs.Used.{caps_written, slot_fits, slot_written, used_none}
+use Rattle.blob_fields.proofs.Used.{caps_written, slot_fits, slot_written, used_none}
 use Rattle.snapshot_form.proofs.lists.put_caps.Goals as goal
 use Rattle.snapshot_form.proofs.lists.put_caps.Goals.{in-Some, in-None}
 

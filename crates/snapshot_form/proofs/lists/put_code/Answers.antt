@@ -1,6 +1,6 @@
 use Rattle.std.proofs.Common.{arith}
 use Rattle.blob_grammar.specs.Spelling.{instr_bytes}
-use Rattle.snapshot_form.proofs.Items.{listed_fit, listed_most}
+use Rattle.blob_fields.proofs.ItemsPut.{listed_fit, listed_most}
 use Rattle.blob_grammar.proofs.Lengths.{code_most}
 use Rattle.snapshot_form.proofs.lists.put_code.Goals as goal
 

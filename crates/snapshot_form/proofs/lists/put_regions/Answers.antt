@@ -1,6 +1,6 @@
 use Rattle.std.proofs.Common.{arith}
 use Rattle.blob_grammar.specs.Spelling.{region_bytes}
-use Rattle.snapshot_form.proofs.Items.{listed_fit, listed_most}
+use Rattle.blob_fields.proofs.ItemsPut.{listed_fit, listed_most}
 use Rattle.blob_grammar.proofs.Lengths.{regions_most}
 use Rattle.snapshot_form.proofs.lists.put_regions.Goals as goal
 

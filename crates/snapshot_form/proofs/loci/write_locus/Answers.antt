@@ -2,7 +2,7 @@ use Rattle.std.proofs.Common.{◌≡◌, ℕ, List, [], ◌∷◌, ◌++◌, Boo
 use Rattle.byteorder.specs.Endian.{little_bytes}
 use Rattle.blob_grammar.specs.hop_model.State.{LocusState}
 use Rattle.blob_grammar.specs.Spelling.{is_short, locus_blob, locus_front, locus_rest}
-use Rattle.kernel_calls.specs.locus_machine.Loci.{locus_of}
+use Rattle.blob_fields.specs.kernel_calls.locus_machine.Loci.{locus_of}
 use Rattle.snapshot_form.proofs.loci.write_locus.Goals as goal
 use Rattle.snapshot_form.proofs.loci.write_locus.Goals.{then-is_short, else-is_short}
 

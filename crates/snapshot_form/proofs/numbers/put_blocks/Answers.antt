@@ -1,5 +1,5 @@
 use Rattle.byteorder.specs.Endian.{little_bytes}
-use Rattle.snapshot_form.proofs.Items.{items_fit}
+use Rattle.blob_fields.proofs.ItemsPut.{items_fit}
 use Rattle.snapshot_form.proofs.numbers.put_blocks.Goals as goal
 
 pub put_u32-requires : goal.put_u32-requires

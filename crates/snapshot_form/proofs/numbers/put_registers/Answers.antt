@@ -1,6 +1,6 @@
 use Rattle.std.proofs.Common.{◌≡◌, length, arith, rules}
 use Rattle.byteorder.specs.Endian.{little_bytes}
-use Rattle.snapshot_form.proofs.Items.{items_fit, items_most}
+use Rattle.blob_fields.proofs.ItemsPut.{items_fit, items_most}
 use Rattle.blob_grammar.proofs.Lengths.{words_long}
 use Rattle.snapshot_form.proofs.numbers.put_registers.Goals as goal
 

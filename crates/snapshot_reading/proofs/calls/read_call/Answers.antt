@@ -1,7 +1,7 @@
 use Rattle.std.proofs.Common.{[], sym, subst}
-use Rattle.snapshot_reading.specs.Fields.{IsFound}
-use Rattle.snapshot_reading.specs.Loci.{IsCallSpelled}
-use Rattle.snapshot_reading.proofs.CallFields.{call_found, call_with, container_refused, place_refused}
+use Rattle.blob_fields.specs.Fields.{IsFound}
+use Rattle.blob_fields.specs.Loci.{IsCallSpelled}
+use Rattle.blob_fields.proofs.CallFields.{call_found, call_with, container_refused, place_refused}
 use Rattle.snapshot_reading.proofs.Exits.{hands_on}
 use Rattle.snapshot_reading.proofs.calls.read_call.Goals as goal
 

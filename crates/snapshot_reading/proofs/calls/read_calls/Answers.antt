@@ -1,9 +1,9 @@
 use Rattle.std.proofs.Common.{◌≡◌, [], ◌∷◌, ◌+◌, length, ◌∙◌, arith}
 use Rattle.std.proofs.lemmas.List.{length-append}
-use Rattle.snapshot_reading.specs.Loci.{IsCallSpelled}
-use Rattle.snapshot_reading.proofs.CallFields.{call_tells, calls_found, calls_refused, one_call_refused}
+use Rattle.blob_fields.specs.Loci.{IsCallSpelled}
+use Rattle.blob_fields.proofs.CallFields.{call_tells, calls_found, calls_refused, one_call_refused}
 use Rattle.snapshot_reading.proofs.Exits.{hands_on}
-use Rattle.snapshot_reading.proofs.Plain.{plain_all, plain_more}
+use Rattle.blob_fields.proofs.Plain.{plain_all, plain_more}
 use Rattle.snapshot_reading.proofs.calls.read_calls.Goals as goal
 
 pub returns-in_err-count-clause-refused : goal.returns-in_err-count-clause-refused

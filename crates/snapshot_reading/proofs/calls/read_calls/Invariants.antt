@@ -1,6 +1,6 @@
 use Rattle.std.proofs.Common.{◌≡◌, length}
-use Rattle.snapshot_reading.specs.Loci.{IsCallSpelled}
-use Rattle.snapshot_reading.proofs.Plain.{PlainSoFar}
+use Rattle.blob_fields.specs.Loci.{IsCallSpelled}
+use Rattle.blob_fields.proofs.Plain.{PlainSoFar}
 use Rattle.snapshot_reading.proofs.calls.read_calls.Given as goal
 
 abbrev pub invariant-loop-place : goal.invariant-loop-place

@@ -1,10 +1,10 @@
 use Rattle.std.proofs.Common.{◌+◌, refl, slice_set, take, subst, ◌∙◌, arith}
 use Rattle.std.proofs.lemmas.List.{length-set, take_all, take_more_set}
-use Rattle.snapshot_reading.specs.Fields.{IsFound}
-use Rattle.snapshot_reading.specs.Loci.{AreRegistersSpelled}
-use Rattle.snapshot_reading.proofs.Numbers.{tells}
-use Rattle.snapshot_reading.proofs.Plain.{plain_all, plain_more}
-use Rattle.snapshot_reading.proofs.RegisterLists.{Register, last_number, register_refused, registers_found}
+use Rattle.blob_fields.specs.Fields.{IsFound}
+use Rattle.blob_fields.specs.Loci.{AreRegistersSpelled}
+use Rattle.blob_fields.proofs.Numbers.{tells}
+use Rattle.blob_fields.proofs.Plain.{plain_all, plain_more}
+use Rattle.blob_fields.proofs.RegisterLists.{Register, last_number, register_refused, registers_found}
 use Rattle.snapshot_reading.proofs.calls.read_registers.Goals as goal
 
 pub returns-in-Err-clause-refused : goal.returns-in-Err-clause-refused

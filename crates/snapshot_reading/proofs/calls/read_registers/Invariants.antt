@@ -1,6 +1,6 @@
 use Rattle.std.proofs.Common.{◌≡◌, length, take}
-use Rattle.snapshot_reading.proofs.Plain.{PlainSoFar}
-use Rattle.snapshot_reading.proofs.RegisterLists.{Register}
+use Rattle.blob_fields.proofs.Plain.{PlainSoFar}
+use Rattle.blob_fields.proofs.RegisterLists.{Register}
 use Rattle.snapshot_reading.proofs.calls.read_registers.Given as goal
 
 abbrev pub invariant-loop-place : goal.invariant-loop-place

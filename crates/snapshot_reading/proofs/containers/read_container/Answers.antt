@@ -1,7 +1,7 @@
 use Rattle.std.proofs.Common.{length, replicate, take, refl}
 use Rattle.hop_base.specs.declared.entities.Kind.TheVariants.{Container}
 use Rattle.blob_grammar.specs.Forms.{SpellsContainer}
-use Rattle.locus_machine.specs.Loci.{container_with}
+use Rattle.blob_fields.specs.locus_machine.Loci.{container_with}
 use Rattle.snapshot_reading.proofs.Whole.{all, malformed, near, near_past, none_left, not_none, still_zero, too_long}
 use Rattle.snapshot_reading.proofs.containers.read_container.Goals as goal
 

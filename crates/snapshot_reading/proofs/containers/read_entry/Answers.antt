@@ -1,7 +1,7 @@
 use Rattle.std.proofs.Common.{arith}
-use Rattle.snapshot_reading.specs.Parts.{IsEntrySpelled}
-use Rattle.snapshot_reading.proofs.Bytes.{byte_refused, byte_wanting}
-use Rattle.snapshot_reading.proofs.Entries.{no_entry, one_entry, some_entry}
+use Rattle.blob_fields.specs.Parts.{IsEntrySpelled}
+use Rattle.blob_fields.proofs.Bytes.{byte_refused, byte_wanting}
+use Rattle.blob_fields.proofs.Entries.{no_entry, one_entry, some_entry}
 use Rattle.snapshot_reading.proofs.containers.read_entry.Goals as goal
 
 pub returns-in_default-clause-refused : goal.returns-in_default-clause-refused

@@ -1,9 +1,9 @@
 use Rattle.std.proofs.Common.{ℕ, List, [], None, sym, subst, take}
 use Rattle.hop_base.specs.declared.instructions.Instr.{Instr}
 use Rattle.blob_grammar.specs.Forms.{SpellsContainer}
-use Rattle.snapshot_reading.specs.Fields.{IsFound}
+use Rattle.blob_fields.specs.Fields.{IsFound}
 use Rattle.snapshot_reading.proofs.Exits.{hands_on}
-use Rattle.snapshot_reading.proofs.ContainerFields.{caps_refused, code_refused, entry_refused, every_refused, kind_refused, pages_refused, regions_refused, table_refused, tag_refused, container_found, container_of}
+use Rattle.blob_fields.proofs.ContainerFields.{caps_refused, code_refused, entry_refused, every_refused, kind_refused, pages_refused, regions_refused, table_refused, tag_refused, container_found, container_of}
 use Rattle.snapshot_reading.proofs.containers.read_parts.Goals as goal
 
 pub returns-in_err-kind-clause-refused : goal.returns-in_err-kind-clause-refused

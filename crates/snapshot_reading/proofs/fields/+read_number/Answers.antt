@@ -1,8 +1,8 @@
 use Rattle.std.proofs.Common.{◌<◌, ◌≤◌, ◌+◌, ◌*◌, ◌-◌, ◌/◌, sym, subst, arith}
 use Rattle.std.specs.Prelude.{slice_index}
-use Rattle.snapshot_reading.specs.Fields.{IsFound, IsNumberIn, IsRefused, Spells}
+use Rattle.blob_fields.specs.Fields.{IsFound, IsNumberIn, IsRefused, Spells}
 use Rattle.snapshot_reading.proofs.Exits.{hands_on}
-use Rattle.snapshot_reading.proofs.ReadNumber.{below, bounds_are, first_fits, fits_above, found_more, refused_above, refused_byte, refused_end}
+use Rattle.blob_fields.proofs.ReadNumber.{below, bounds_are, first_fits, fits_above, found_more, refused_above, refused_byte, refused_end}
 use Rattle.snapshot_reading.proofs.fields.+read_number.Goals.{then-most-byte-via-then-most-byte, then-most-byte-via-else-most-byte+then-most-byte-2}
 use Rattle.snapshot_reading.proofs.fields.+read_number.Goals as goal
 

@@ -1,6 +1,6 @@
 use Rattle.std.proofs.Common.{◌≤◌, arith}
-use Rattle.snapshot_reading.specs.Fields.{IsByteIn}
-use Rattle.snapshot_reading.proofs.Bytes.{byte_found, byte_outside, byte_refused, byte_wanting, one_byte, some_byte}
+use Rattle.blob_fields.specs.Fields.{IsByteIn}
+use Rattle.blob_fields.proofs.Bytes.{byte_found, byte_outside, byte_refused, byte_wanting, one_byte, some_byte}
 use Rattle.snapshot_reading.proofs.fields.read_byte.Goals.{then-first-least-via-then-first-least, then-first-least-via-else-first-least+then-most-first}
 use Rattle.snapshot_reading.proofs.fields.read_byte.Goals as goal
 

@@ -1,9 +1,9 @@
 use Rattle.std.proofs.Common.{[], sym, subst}
 use Rattle.hop_base.specs.declared.instructions.Instr.{Instr}
-use Rattle.snapshot_reading.specs.Fields.{IsFound}
-use Rattle.snapshot_reading.specs.Parts.{IsInstrSpelled}
+use Rattle.blob_fields.specs.Fields.{IsFound}
+use Rattle.blob_fields.specs.Parts.{IsInstrSpelled}
 use Rattle.snapshot_reading.proofs.Exits.{hands_on}
-use Rattle.snapshot_reading.proofs.InstrFields.{code_refused, a_refused, b_refused, c_refused, d_refused, e_refused, rights_refused, zero_refused, number_refused, instr_found}
+use Rattle.blob_fields.proofs.InstrFields.{code_refused, a_refused, b_refused, c_refused, d_refused, e_refused, rights_refused, zero_refused, number_refused, instr_found}
 use Rattle.snapshot_reading.proofs.instrs.read_instr.Goals as goal
 
 pub returns-in_err-code-clause-refused : goal.returns-in_err-code-clause-refused

@@ -1,10 +1,10 @@
 use Rattle.std.proofs.Common.{◌≡◌, ℕ, sym, ap, ◌∙◌, subst}
 use Rattle.std.specs.Prelude.{slice_index, Option, unwrap_or}
 use Rattle.std.proofs.lemmas.Result.{IfErr-weaker}
-use Rattle.snapshot_reading.specs.Fields.{IsNumberIn, IsRefused, Spells}
-use Rattle.snapshot_reading.specs.Instrs.{IsOperandSpelled, make_code}
+use Rattle.blob_fields.specs.Fields.{IsNumberIn, IsRefused, Spells}
+use Rattle.blob_fields.specs.Instrs.{IsOperandSpelled, make_code}
 use Rattle.snapshot_reading.specs.declared.fields.Stuck.{Stuck}
-use Rattle.snapshot_reading.proofs.InstrFields.{first_or_zero, no_place_refused, plain_refused}
+use Rattle.blob_fields.proofs.InstrFields.{first_or_zero, no_place_refused, plain_refused}
 use Rattle.snapshot_reading.proofs.instrs.read_operand.Goals.{else-code-eq-MAKE-via-then-code-eq-MAKE+else-first, else-code-eq-MAKE-via-else-code-eq-MAKE}
 use Rattle.snapshot_reading.proofs.instrs.read_operand.Goals as goal
 

@@ -1,11 +1,11 @@
 use Rattle.std.proofs.Common.{◌+◌, slice_set, take, subst, ◌∙◌, arith}
 use Rattle.std.proofs.lemmas.List.{length-set, take_more_set}
-use Rattle.snapshot_reading.specs.Fields.{IsFound}
-use Rattle.snapshot_reading.specs.Parts.{IsCodeSpelled, IsInstrSpelled}
+use Rattle.blob_fields.specs.Fields.{IsFound}
+use Rattle.blob_fields.specs.Parts.{IsCodeSpelled, IsInstrSpelled}
 use Rattle.snapshot_reading.proofs.Exits.{hands_on}
-use Rattle.snapshot_reading.proofs.InstrFields.{instr_tells}
-use Rattle.snapshot_reading.proofs.Plain.{plain_all, plain_more}
-use Rattle.snapshot_reading.proofs.Tables.{code_found, instr_refused, instrs_refused}
+use Rattle.blob_fields.proofs.InstrFields.{instr_tells}
+use Rattle.blob_fields.proofs.Plain.{plain_all, plain_more}
+use Rattle.blob_fields.proofs.Tables.{code_found, instr_refused, instrs_refused}
 use Rattle.snapshot_reading.proofs.lists.read_code.Goals as goal
 
 pub returns-in_err-count-clause-refused : goal.returns-in_err-count-clause-refused

@@ -1,6 +1,6 @@
 use Rattle.std.proofs.Common.{◌≡◌, length, take}
-use Rattle.snapshot_reading.specs.Parts.{IsInstrSpelled}
-use Rattle.snapshot_reading.proofs.Plain.{PlainSoFar}
+use Rattle.blob_fields.specs.Parts.{IsInstrSpelled}
+use Rattle.blob_fields.proofs.Plain.{PlainSoFar}
 use Rattle.snapshot_reading.proofs.lists.read_code.Given as goal
 
 abbrev pub invariant-loop-place : goal.invariant-loop-place

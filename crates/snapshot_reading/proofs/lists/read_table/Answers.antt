@@ -1,10 +1,10 @@
 use Rattle.std.proofs.Common.{◌+◌, slice_set, take, subst, ◌∙◌, arith}
 use Rattle.std.proofs.lemmas.List.{drop-set-lt, length-set, take_more_set}
-use Rattle.snapshot_reading.specs.Fields.{IsFound}
-use Rattle.snapshot_reading.specs.Parts.{IsTableSpelled}
-use Rattle.snapshot_reading.proofs.Numbers.{tells}
-use Rattle.snapshot_reading.proofs.Plain.{plain_all, plain_more}
-use Rattle.snapshot_reading.proofs.Tables.{Block, block_refused, last_block, table_found}
+use Rattle.blob_fields.specs.Fields.{IsFound}
+use Rattle.blob_fields.specs.Parts.{IsTableSpelled}
+use Rattle.blob_fields.proofs.Numbers.{tells}
+use Rattle.blob_fields.proofs.Plain.{plain_all, plain_more}
+use Rattle.blob_fields.proofs.Tables.{Block, block_refused, last_block, table_found}
 use Rattle.snapshot_reading.proofs.lists.read_table.Goals as goal
 
 pub returns-in-Err-clause-refused : goal.returns-in-Err-clause-refused

@@ -1,6 +1,6 @@
 use Rattle.std.proofs.Common.{◌≡◌, drop, length, take}
-use Rattle.snapshot_reading.proofs.Plain.{PlainSoFar}
-use Rattle.snapshot_reading.proofs.Tables.{Block}
+use Rattle.blob_fields.proofs.Plain.{PlainSoFar}
+use Rattle.blob_fields.proofs.Tables.{Block}
 use Rattle.snapshot_reading.proofs.lists.read_table.Given as goal
 
 abbrev pub invariant-loop-page : goal.invariant-loop-page

@@ -3,8 +3,9 @@ use Rattle.hop_base.specs.declared.instructions.Call.{Call}
 use Rattle.hop_base.specs.declared.instructions.Condition.TheVariants.{Running}
 use Rattle.hop_base.specs.declared.instructions.Instr.{Instr}
 use Rattle.blob_grammar.specs.Forms.{SpellsLocus}
-use Rattle.snapshot_reading.specs.Fields.{IsFound, IsRefused, Spells}
-use Rattle.snapshot_reading.specs.Loci.{AreCallsSpelled, ArePrivatesIn, least_privates}
+use Rattle.blob_fields.specs.Fields.{IsFound, IsRefused, Spells}
+use Rattle.blob_fields.specs.Loci.{AreCallsSpelled, ArePrivatesIn}
+use Rattle.snapshot_reading.specs.Loci.{least_privates}
 use Rattle.snapshot_reading.specs.declared.forms.Form.TheVariants.{Short}
 use Rattle.snapshot_reading.proofs.Exits.{bounds_as, hands_on}
 use Rattle.snapshot_reading.proofs.LocusFields.{locus_with, found_locus, calls_refused, caps_refused, code_refused, condition_refused, every_refused, form_refused, host_refused, locus_found, place_refused, printed_refused, privates_refused, registers_refused, walk_refused}

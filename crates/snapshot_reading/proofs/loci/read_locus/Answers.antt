@@ -1,7 +1,7 @@
 use Rattle.std.proofs.Common.{length}
 use Rattle.hop_base.specs.declared.entities.Kind.TheVariants.{Locus}
-use Rattle.locus_machine.specs.Loci.{locus_of}
-use Rattle.snapshot_reading.specs.Loci.{IsLocusSpelled}
+use Rattle.blob_fields.specs.locus_machine.Loci.{locus_of}
+use Rattle.blob_fields.specs.Loci.{IsLocusSpelled}
 use Rattle.snapshot_reading.proofs.Whole.{all, malformed, near, near_past, none_left, not_none, too_long}
 use Rattle.snapshot_reading.proofs.loci.read_locus.Goals as goal
 

@@ -1,9 +1,9 @@
 use Rattle.std.proofs.Common.{[], subst}
-use Rattle.snapshot_reading.specs.Fields.{IsByteIn, IsFound, IsRefused, Spells}
-use Rattle.snapshot_reading.specs.Loci.{end_page}
-use Rattle.snapshot_reading.specs.Parts.{IsRegionIn}
+use Rattle.blob_fields.specs.Fields.{IsByteIn, IsFound, IsRefused, Spells}
+use Rattle.blob_fields.specs.Loci.{end_page}
+use Rattle.blob_fields.specs.Parts.{IsRegionIn}
 use Rattle.snapshot_reading.proofs.Exits.{hands_on}
-use Rattle.snapshot_reading.proofs.PrivateFields.{made_refused, region_refused}
+use Rattle.blob_fields.proofs.PrivateFields.{made_refused, region_refused}
 use Rattle.snapshot_reading.proofs.privates.read_private.Goals as goal
 
 pub returns-in_err-made-clause-refused : goal.returns-in_err-made-clause-refused

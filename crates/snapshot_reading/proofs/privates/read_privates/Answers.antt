@@ -1,7 +1,7 @@
 use Rattle.std.proofs.Common.{◌+◌, sym, subst, arith}
 use Rattle.snapshot_reading.proofs.Exits.{hands_on}
-use Rattle.snapshot_reading.proofs.PrivateLists.{count_refused, item_refused, privates_found}
-use Rattle.snapshot_reading.proofs.PrivatesRead.{SoFar, added, all_added, private_refused}
+use Rattle.blob_fields.proofs.PrivateLists.{count_refused, item_refused, privates_found}
+use Rattle.blob_fields.proofs.PrivatesRead.{SoFar, added, all_added, private_refused}
 use Rattle.snapshot_reading.proofs.privates.read_privates.Goals as goal
 
 pub returns-in_err-count-clause-refused : goal.returns-in_err-count-clause-refused

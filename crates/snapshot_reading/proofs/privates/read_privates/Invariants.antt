@@ -1,4 +1,4 @@
-use Rattle.snapshot_reading.proofs.PrivatesRead.{SoFar}
+use Rattle.blob_fields.proofs.PrivatesRead.{SoFar}
 use Rattle.snapshot_reading.proofs.privates.read_privates.Given as goal
 
 abbrev pub invariant-loop-place : goal.invariant-loop-place

@@ -1,8 +1,8 @@
 use Rattle.std.proofs.Common.{[], sym, subst}
-use Rattle.snapshot_reading.specs.Fields.{IsFound}
-use Rattle.snapshot_reading.specs.Parts.{IsRegionIn}
+use Rattle.blob_fields.specs.Fields.{IsFound}
+use Rattle.blob_fields.specs.Parts.{IsRegionIn}
 use Rattle.snapshot_reading.proofs.Exits.{hands_on}
-use Rattle.snapshot_reading.proofs.RegionFields.{access_refused, at_refused, count_refused, from_refused, region_found, region_with, target_refused}
+use Rattle.blob_fields.proofs.RegionFields.{access_refused, at_refused, count_refused, from_refused, region_found, region_with, target_refused}
 use Rattle.snapshot_reading.proofs.regions.read_region.Goals as goal
 
 pub returns-in_err-at-clause-refused : goal.returns-in_err-at-clause-refused

@@ -1,8 +1,8 @@
 use Rattle.std.proofs.Common.{◌+◌, sym, subst, arith}
-use Rattle.snapshot_reading.specs.Fields.{IsByteIn, IsFound, IsRefused, Spells}
+use Rattle.blob_fields.specs.Fields.{IsByteIn, IsFound, IsRefused, Spells}
 use Rattle.snapshot_reading.proofs.Exits.{hands_on}
-use Rattle.snapshot_reading.proofs.RegionLists.{count_refused, item_refused, regions_found}
-use Rattle.snapshot_reading.proofs.RegionsRead.{SoFar, added, all_added, begun, ends_before, put, region_refused}
+use Rattle.blob_fields.proofs.RegionLists.{count_refused, item_refused, regions_found}
+use Rattle.blob_fields.proofs.RegionsRead.{SoFar, added, all_added, begun, ends_before, put, region_refused}
 use Rattle.snapshot_reading.proofs.regions.read_regions.Goals as goal
 
 pub returns-in_err-count-clause-refused : goal.returns-in_err-count-clause-refused

@@ -1,4 +1,4 @@
-use Rattle.snapshot_reading.proofs.RegionsRead.{SoFar}
+use Rattle.blob_fields.proofs.RegionsRead.{SoFar}
 use Rattle.snapshot_reading.proofs.regions.read_regions.Given as goal
 
 abbrev pub invariant-loop-place : goal.invariant-loop-place

@@ -1,6 +1,6 @@
-use Rattle.snapshot_reading.specs.Parts.{slot_with}
+use Rattle.blob_fields.specs.Parts.{slot_with}
 use Rattle.snapshot_reading.proofs.Exits.{hands_on}
-use Rattle.snapshot_reading.proofs.SlotLists.{added, begun, caps_found, slot_refused, slots_refused}
+use Rattle.blob_fields.proofs.SlotLists.{added, begun, caps_found, slot_refused, slots_refused}
 use Rattle.snapshot_reading.proofs.slots.read_caps.Goals as goal
 
 pub returns-in_err-count-clause-refused : goal.returns-in_err-count-clause-refused

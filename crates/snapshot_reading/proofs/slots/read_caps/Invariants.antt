@@ -1,4 +1,4 @@
-use Rattle.snapshot_reading.proofs.SlotLists.{SoFar}
+use Rattle.blob_fields.proofs.SlotLists.{SoFar}
 use Rattle.snapshot_reading.proofs.slots.read_caps.Given as goal
 
 abbrev pub invariant-loop-place : goal.invariant-loop-place

@@ -1,8 +1,8 @@
 use Rattle.std.proofs.Common.{[], sym, subst}
-use Rattle.snapshot_reading.specs.Fields.{IsFound}
-use Rattle.snapshot_reading.specs.Parts.{IsSlotIn, slot_with}
+use Rattle.blob_fields.specs.Fields.{IsFound}
+use Rattle.blob_fields.specs.Parts.{IsSlotIn, slot_with}
 use Rattle.snapshot_reading.proofs.Exits.{hands_on}
-use Rattle.snapshot_reading.proofs.SlotLists.{entity_refused, number_refused, rights_refused, slot_found}
+use Rattle.blob_fields.proofs.SlotLists.{entity_refused, number_refused, rights_refused, slot_found}
 use Rattle.snapshot_reading.proofs.slots.read_slot.Goals as goal
 
 pub returns-in_err-slot-clause-refused : goal.returns-in_err-slot-clause-refused

@@ -1,6 +1,6 @@
 use Rattle.std.proofs.Common.{[]}
 use Rattle.snapshot_reading.proofs.Exits.{hands_on}
-use Rattle.snapshot_reading.proofs.WalkFields.{address_refused, at_refused, hops_refused, kind_refused}
+use Rattle.blob_fields.proofs.WalkFields.{address_refused, at_refused, hops_refused, kind_refused}
 use Rattle.snapshot_reading.proofs.walks.read_walk.Goals as goal
 
 pub returns-in_err-kind-clause-refused : goal.returns-in_err-kind-clause-refused

@@ -1,9 +1,9 @@
 use Rattle.std.proofs.Common.{◌≡◌, ◌≤◌, ◌+◌, ◌-◌, ◌++◌, List, ℕ, length, min, take, [], None, length-append, sym, ap, subst, ◌∙◌, arith}
 use Rattle.std.proofs.lemmas.List.{get_or_past}
 use Rattle.disk_trait.proofs.Phases.{IsImage-reading}
-use Rattle.snapshot_store.proofs.BlobReads.{nothing_pushed, pushed, rest_none, rest_of_none, rest_some}
-use Rattle.snapshot_store.specs.Rests.{IsRest}
-use Rattle.page_words.specs.image_meaning.Foreign.{IsFirstRest}
+use Rattle.store_laws.proofs.BlobReads.{nothing_pushed, pushed, rest_none, rest_of_none, rest_some}
+use Rattle.store_laws.specs.Rests.{IsRest}
+use Rattle.store_laws.specs.page_words.image_meaning.Foreign.{IsFirstRest}
 use Rattle.snapshot_store.proofs.blob_reading.push_block.Goals as goal
 
 pub returns-then-blocks-at-clause-bytes : goal.returns-then-blocks-at-clause-bytes

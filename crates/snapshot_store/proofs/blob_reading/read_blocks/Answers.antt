@@ -1,9 +1,9 @@
 use Rattle.std.proofs.Common.{◌≡◌, ◌<◌, ◌++◌, length, get_or, min, take, ap, subst, ◌∙◌, arith}
 use Rattle.disk_trait.specs.Image.{Image, block_at}
-use Rattle.log_reading.specs.image_blocks.Bodies.{blocks_for}
-use Rattle.log_reading.proofs.ReadSoFar.{ReadsOnly-trans}
-use Rattle.snapshot_store.proofs.BlobReads.{blob_more, blob_whole, rest_more, rest_whole}
-use Rattle.snapshot_store.specs.Rests.{IsRest}
+use Rattle.store_laws.specs.log_reading.image_form.Bodies.{blocks_for}
+use Rattle.store_laws.proofs.log_reading_lemmas.log_laws_lemmas.ReadSoFar.{ReadsOnly-trans}
+use Rattle.store_laws.proofs.BlobReads.{blob_more, blob_whole, rest_more, rest_whole}
+use Rattle.store_laws.specs.Rests.{IsRest}
 use Rattle.snapshot_store.proofs.blob_reading.read_blocks.Goals as goal
 
 pub loop-i-preserved : goal.loop-i-preserved

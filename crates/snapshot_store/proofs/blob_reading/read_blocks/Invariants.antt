@@ -1,8 +1,8 @@
 use Rattle.std.proofs.Common.{◌≡◌, ◌≤◌, ◌*◌, length, map, take}
 use Rattle.std.specs.List.{concat}
 use Rattle.disk_trait.specs.Image.{block_at}
-use Rattle.log_reading.specs.Reads.{ReadsOnly}
-use Rattle.snapshot_store.specs.Rests.{IsRest}
+use Rattle.store_laws.specs.log_reading.log_laws.Reads.{ReadsOnly}
+use Rattle.store_laws.specs.Rests.{IsRest}
 use Rattle.snapshot_store.proofs.blob_reading.read_blocks.Given as goal
 
 abbrev pub invariant-loop-i : goal.invariant-loop-i

@@ -2,7 +2,7 @@ use Rattle.std.proofs.Common.{◌≡◌, ℕ, ◌+◌, ◌≤◌, ◌==◌, ◌&
 use Rattle.std.specs.Prelude.{slice_index}
 use Rattle.std.proofs.lemmas.List.{drop_all, drop_more}
 use Rattle.hop_base.specs.declared.records.Rec.{Rec}
-use Rattle.page_words.specs.image_meaning.Parts.{chosen_by}
+use Rattle.store_laws.specs.page_words.image_meaning.Parts.{chosen_by}
 use Rattle.snapshot_store.proofs.choosing.chosen_one.Goals as goal
 
 -- the first of the records that are left

@@ -1,6 +1,6 @@
 use Rattle.std.proofs.Common.{◌≡◌, drop}
 use Rattle.std.specs.Prelude.{slice_index}
-use Rattle.page_words.specs.image_meaning.Parts.{chosen_by}
+use Rattle.store_laws.specs.page_words.image_meaning.Parts.{chosen_by}
 use Rattle.snapshot_store.proofs.choosing.chosen_one.Given as goal
 
 abbrev pub invariant-loop-rec : goal.invariant-loop-rec

@@ -2,8 +2,8 @@ use Rattle.std.proofs.Common.{◌≡◌, suc, ◌+◌, ◌++◌, List, ap, sym, 
 use Rattle.std.specs.Prelude.{slice_index}
 use Rattle.hop_base.specs.Edges.{upto}
 use Rattle.hop_base.specs.declared.records.Rec.{Rec}
-use Rattle.snapshot_store.specs.Choosing.{chosen_list, listed}
-use Rattle.snapshot_store.proofs.Chosen.{chosen_more}
+use Rattle.store_laws.specs.Choosing.{chosen_list, listed}
+use Rattle.store_laws.proofs.Chosen.{chosen_more}
 use Rattle.snapshot_store.proofs.choosing.chosen_recs.Goals as goal
 
 pub loop-x-preserved : goal.loop-x-preserved

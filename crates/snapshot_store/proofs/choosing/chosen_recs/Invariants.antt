@@ -1,7 +1,7 @@
 use Rattle.std.proofs.Common.{◌≡◌, ◌≤◌, take}
 use Rattle.std.specs.Prelude.{slice_index}
 use Rattle.hop_base.specs.Edges.{upto}
-use Rattle.snapshot_store.specs.Choosing.{chosen_list}
+use Rattle.store_laws.specs.Choosing.{chosen_list}
 use Rattle.snapshot_store.proofs.choosing.chosen_recs.Given as goal
 
 abbrev pub invariant-loop-x : goal.invariant-loop-x

@@ -1,8 +1,8 @@
 use Rattle.std.proofs.Common.{ap, ◌∙◌, arith}
 use Rattle.std.proofs.lemmas.List.{take_all}
-use Rattle.snapshot_store.specs.Choosing.{with_tables}
-use Rattle.snapshot_store.proofs.Listing.{recounted_then}
-use Rattle.snapshot_store.proofs.ChosenListed.{few_listed, listed_none, placed_at, placed_still, recounted_same, sized_still, with_more}
+use Rattle.store_laws.specs.Choosing.{with_tables}
+use Rattle.store_laws.proofs.Listing.{recounted_then}
+use Rattle.store_laws.proofs.ChosenListed.{few_listed, listed_none, placed_at, placed_still, recounted_same, sized_still, with_more}
 use Rattle.snapshot_store.proofs.choosing.list_all.Goals as goal
 
 pub loop-rec-init : goal.loop-rec-init

@@ -1,6 +1,6 @@
 use Rattle.std.proofs.Common.{◌≡◌, take}
-use Rattle.snapshot_store.specs.Choosing.{with_tables}
-use Rattle.snapshot_store.specs.Keeping.{AreListed, HasRecounted}
+use Rattle.store_laws.specs.Choosing.{with_tables}
+use Rattle.store_laws.specs.Keeping.{AreListed, HasRecounted}
 use Rattle.snapshot_store.proofs.choosing.list_all.Given as goal
 
 abbrev pub invariant-loop-rec : goal.invariant-loop-rec

@@ -1,7 +1,7 @@
 use Rattle.std.proofs.Common.{◌≡◌, ◌++◌, Option, length, take, ap, sym, append-nil, ◌∙◌, arith}
 use Rattle.std.proofs.lemmas.List.{take_more_set}
 use Rattle.hop_base.specs.declared.records.Rec.{Rec}
-use Rattle.snapshot_store.specs.Choosing.{listed}
+use Rattle.store_laws.specs.Choosing.{listed}
 use Rattle.snapshot_store.proofs.choosing.put_chosen.Goals as goal
 
 pub returns-in-Some-clause-put : goal.returns-in-Some-clause-put

@@ -1,7 +1,7 @@
 use Rattle.std.proofs.Common.{◌<◌, [], length, ap, sym, ◌∙◌, arith}
 use Rattle.std.proofs.lemmas.List.{get_or-map}
 use Rattle.page_shadow.specs.declared.ShadowTable.{ShadowTable}
-use Rattle.snapshot_store.specs.Choosing.{table_of}
+use Rattle.store_laws.specs.Choosing.{table_of}
 use Rattle.snapshot_store.proofs.choosing.table_for.Goals as goal
 
 pub returns : goal.returns

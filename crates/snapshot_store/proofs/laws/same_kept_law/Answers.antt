@@ -1,5 +1,5 @@
 use Rattle.std.proofs.Common.{List, ap}
-use Rattle.page_words.specs.store_model.Books.{Logged, kept_in}
+use Rattle.store_laws.specs.page_words.store_model.Books.{Logged, kept_in}
 use Rattle.snapshot_store.proofs.laws.same_kept_law.Goals as goal
 
 pub returns : goal.returns

@@ -1,5 +1,5 @@
 use Rattle.std.proofs.Common.{◌∙◌, arith}
-use Rattle.snapshot_store.proofs.Counting.{few_named, named_more, place_of, zero_more}
+use Rattle.store_laws.proofs.Counting.{few_named, named_more, place_of, zero_more}
 use Rattle.snapshot_store.proofs.naming.name_all.Goals.{then-block-ne0, else-block-ne0}
 use Rattle.snapshot_store.proofs.naming.name_all.Goals as goal
 

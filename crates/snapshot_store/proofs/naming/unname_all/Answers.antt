@@ -1,5 +1,5 @@
 use Rattle.std.proofs.Common.{◌∙◌, arith}
-use Rattle.snapshot_store.proofs.Counting.{still_named, unnamed_more, unplace_of, zero_more}
+use Rattle.store_laws.proofs.Counting.{still_named, unnamed_more, unplace_of, zero_more}
 use Rattle.snapshot_store.proofs.naming.unname_all.Goals.{then-block-ne0, else-block-ne0}
 use Rattle.snapshot_store.proofs.naming.unname_all.Goals as goal
 

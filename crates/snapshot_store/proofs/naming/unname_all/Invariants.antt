@@ -1,5 +1,5 @@
 use Rattle.std.specs.Prelude.{take}
-use Rattle.snapshot_store.specs.Naming.{HasNamed}
+use Rattle.store_laws.specs.Naming.{HasNamed}
 use Rattle.snapshot_store.proofs.naming.unname_all.Given as goal
 
 abbrev pub invariant-loop-block : goal.invariant-loop-block

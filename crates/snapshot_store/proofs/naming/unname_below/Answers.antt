@@ -1,7 +1,7 @@
 use Rattle.std.proofs.Common.{◌≤◌, ◌<◌, ℕ, refl, subst, length, arith}
 use Rattle.std.specs.Prelude.{slice_index, slice_index_or}
-use Rattle.snapshot_store.specs.Shelves.{nothing_logged}
-use Rattle.snapshot_store.proofs.Counting.{above_more, below_more, below_named}
+use Rattle.store_laws.specs.Shelves.{nothing_logged}
+use Rattle.store_laws.proofs.Counting.{above_more, below_more, below_named}
 use Rattle.snapshot_store.proofs.naming.unname_below.Goals.{then-rec-cut, else-rec-cut}
 use Rattle.snapshot_store.proofs.naming.unname_below.Goals as goal
 

@@ -1,5 +1,5 @@
 use Rattle.std.specs.Prelude.{filter, slice_index, take}
-use Rattle.snapshot_store.specs.Naming.{IsRaised, is_below, uses}
+use Rattle.store_laws.specs.Naming.{IsRaised, is_below, uses}
 use Rattle.snapshot_store.proofs.naming.unname_below.Given as goal
 
 abbrev pub invariant-loop-i : goal.invariant-loop-i

@@ -3,7 +3,7 @@ use Rattle.std.specs.List.{list_all}
 use Rattle.std.proofs.lemmas.Bool.{le-leb}
 use Rattle.std.proofs.lemmas.Iterator.{YieldsList-from_slice}
 use Rattle.std.proofs.lemmas.Iterator.Search.{all_from_yields_List}
-use Rattle.log_reading.specs.image_blocks.Layout.{last_number}
+use Rattle.store_laws.specs.log_reading.image_form.Layout.{last_number}
 use Rattle.snapshot_store.proofs.numbers.is_small.Goals as goal
 
 pub returns-then-rec-le-LAST_NUMBER : goal.returns-then-rec-le-LAST_NUMBER

@@ -1,9 +1,9 @@
 use Rattle.std.proofs.Common.{◌++◌, List, filter, map, ap, ◌∙◌}
 use Rattle.std.specs.Prelude.{slice_index}
-use Rattle.page_words.specs.store_model.Books.{Logged}
-use Rattle.snapshot_store.specs.Opening.{unread}
-use Rattle.snapshot_store.specs.Shelves.{is_from}
-use Rattle.snapshot_store.proofs.Opened.{older_ascending, shelved_kept}
+use Rattle.store_laws.specs.page_words.store_model.Books.{Logged}
+use Rattle.store_laws.specs.Opening.{unread}
+use Rattle.store_laws.specs.Shelves.{is_from}
+use Rattle.store_laws.proofs.Opened.{older_ascending, shelved_kept}
 use Rattle.snapshot_store.proofs.opening.on_shelves.Goals as goal
 
 pub greatest-cut-requires-clause-ascending : goal.greatest-cut-requires-clause-ascending

@@ -1,8 +1,8 @@
 use Rattle.std.proofs.Common.{◌≡◌, ℕ, ◌+◌, ◌++◌, ◌∷◌, [], List, ◌∙◌, ap, sym, map, take}
 use Rattle.std.proofs.lemmas.List.{take_more}
 use Rattle.hop_base.specs.declared.records.Rec.{Rec}
-use Rattle.snapshot_store.specs.Opening.{unread}
-use Rattle.snapshot_store.proofs.Opened.{shelve_more}
+use Rattle.store_laws.specs.Opening.{unread}
+use Rattle.store_laws.proofs.Opened.{shelve_more}
 use Rattle.snapshot_store.proofs.opening.shelve.Goals as goal
 
 pub loop-rec-preserved : goal.loop-rec-preserved

@@ -1,5 +1,5 @@
 use Rattle.std.proofs.Common.{◌≡◌, ◌++◌, map, take}
-use Rattle.snapshot_store.specs.Opening.{unread}
+use Rattle.store_laws.specs.Opening.{unread}
 use Rattle.snapshot_store.proofs.opening.shelve.Given as goal
 
 abbrev pub invariant-loop-rec : goal.invariant-loop-rec

@@ -2,11 +2,12 @@ use Rattle.std.proofs.Common.{◌≡◌, ◌⊎◌, inr, sym, subst, ◌∙◌}
 use Rattle.disk_trait.specs.Disk.{Only}
 use Rattle.disk_trait.specs.Image.{Image}
 use Rattle.disk_trait.proofs.Phases.{told}
-use Rattle.log_reading.specs.Logs.{IsLogOf}
+use Rattle.store_laws.specs.log_reading.Logs.{IsLogOf}
 use Rattle.snapshot_store.specs.OpenFaults.{HasOpenCause, why}
 use Rattle.snapshot_store.specs.declared.opening.OpenWhy.{OpenWhy}
 use Rattle.snapshot_store.specs.declared.opening.OpenWhy.TheVariants.{WriteFault}
-use Rattle.snapshot_store.proofs.Opened.{read_behind, read_cause, synced, why_not}
+use Rattle.store_laws.proofs.Opened.{read_behind, synced}
+use Rattle.snapshot_store.proofs.Opened.{read_cause, why_not}
 use Rattle.snapshot_store.proofs.opening.synced.Goals as goal
 
 pub returns-in_err-sync-clause-syncs : goal.returns-in_err-sync-clause-syncs

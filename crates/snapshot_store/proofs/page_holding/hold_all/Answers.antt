@@ -2,9 +2,9 @@ use Rattle.std.proofs.Common.{◌<◌, false, length, refl, subst, ◌∙◌, ar
 use Rattle.std.specs.Prelude.{slice_index}
 use Rattle.std.specs.List.{list_any}
 use Rattle.std.proofs.lemmas.List.{take_all}
-use Rattle.snapshot_store.specs.Holds.{HasHeld}
-use Rattle.snapshot_store.specs.Naming.{is_use}
-use Rattle.snapshot_store.proofs.Holds.{held_more, held_none, held_one, held_zero, marked_still, place_held}
+use Rattle.store_laws.specs.Holds.{HasHeld}
+use Rattle.store_laws.specs.Naming.{is_use}
+use Rattle.store_laws.proofs.Holds.{held_more, held_none, held_one, held_zero, marked_still, place_held}
 use Rattle.snapshot_store.proofs.page_holding.hold_all.Goals.{then-block-ne0, else-block-ne0}
 use Rattle.snapshot_store.proofs.page_holding.hold_all.Goals as goal
 

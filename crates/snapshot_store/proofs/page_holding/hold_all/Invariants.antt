@@ -1,7 +1,7 @@
 use Rattle.std.specs.Prelude.{take}
 use Rattle.std.specs.List.{list_any}
-use Rattle.snapshot_store.specs.Holds.{HasHeld}
-use Rattle.snapshot_store.specs.Naming.{is_use}
+use Rattle.store_laws.specs.Holds.{HasHeld}
+use Rattle.store_laws.specs.Naming.{is_use}
 use Rattle.snapshot_store.proofs.page_holding.hold_all.Given as goal
 
 abbrev pub invariant-loop-block : goal.invariant-loop-block

@@ -2,10 +2,10 @@ use Rattle.std.proofs.Common.{◌<◌, ◌≤◌, ℕ, List, false, length, refl
 use Rattle.std.specs.Prelude.{All}
 use Rattle.std.specs.List.{list_any}
 use Rattle.std.proofs.lemmas.List.{take_all}
-use Rattle.snapshot_store.specs.Holds.{HasHeld, names_page}
-use Rattle.snapshot_store.specs.Naming.{IsPlace, is_use}
-use Rattle.snapshot_store.specs.Shelves.{nothing_logged}
-use Rattle.snapshot_store.proofs.Holds.{held_more, held_none, marked_still, places_still}
+use Rattle.store_laws.specs.Holds.{HasHeld, names_page}
+use Rattle.store_laws.specs.Naming.{IsPlace, is_use}
+use Rattle.store_laws.specs.Shelves.{nothing_logged}
+use Rattle.store_laws.proofs.Holds.{held_more, held_none, marked_still, places_still}
 use Rattle.snapshot_store.proofs.page_holding.hold_pages.Goals as goal
 
 pub loop-i-init : goal.loop-i-init

@@ -1,6 +1,6 @@
 use Rattle.std.specs.Prelude.{take}
 use Rattle.std.specs.List.{list_any}
-use Rattle.snapshot_store.specs.Holds.{HasHeld, names_page}
+use Rattle.store_laws.specs.Holds.{HasHeld, names_page}
 use Rattle.snapshot_store.proofs.page_holding.hold_pages.Given as goal
 
 abbrev pub invariant-loop-i : goal.invariant-loop-i

@@ -1,7 +1,7 @@
 use Rattle.std.proofs.Common.{◌≤◌, length, [], sym, ap, ◌∙◌, arith}
 use Rattle.std.proofs.lemmas.List.{get_or_past}
 use Rattle.disk_trait.proofs.Phases.{IsImage-reading}
-use Rattle.page_words.specs.store_model.Books.{words_of_bytes}
+use Rattle.store_laws.specs.page_words.store_model.Books.{words_of_bytes}
 use Rattle.snapshot_store.proofs.paging.read_words.Goals as goal
 
 pub returns-then-blocks-block-clause-words : goal.returns-then-blocks-block-clause-words

@@ -1,8 +1,8 @@
 use Rattle.std.proofs.Common.{sym, subst, List, arith}
 use Rattle.std.specs.Prelude.{slice_index}
-use Rattle.snapshot_store.specs.Keeping.{AreListed}
-use Rattle.page_words.specs.store_model.Books.{Logged}
-use Rattle.snapshot_store.proofs.Listing.{listed_fewer, recounted_back}
+use Rattle.store_laws.specs.Keeping.{AreListed}
+use Rattle.store_laws.specs.page_words.store_model.Books.{Logged}
+use Rattle.store_laws.proofs.Listing.{listed_fewer, recounted_back}
 use Rattle.snapshot_store.proofs.settling.drop_below.Goals as goal
 
 pub unname_below-requires-clause-named : goal.unname_below-requires-clause-named

@@ -1,7 +1,7 @@
 use Rattle.std.proofs.Common.{sym, subst, List, arith}
-use Rattle.snapshot_store.specs.Keeping.{AreListed}
-use Rattle.page_words.specs.store_model.Books.{Logged}
-use Rattle.snapshot_store.proofs.Listing.{few_uses, listed_more, recounted}
+use Rattle.store_laws.specs.Keeping.{AreListed}
+use Rattle.store_laws.specs.page_words.store_model.Books.{Logged}
+use Rattle.store_laws.proofs.Listing.{few_uses, listed_more, recounted}
 use Rattle.snapshot_store.proofs.settling.list_record.Goals as goal
 
 pub name_record-requires-clause-few : goal.name_record-requires-clause-few

@@ -2,16 +2,16 @@ use Rattle.std.proofs.Common.{ℕ, ◌<◌, List, [], ◌∷◌, ◌++◌, if◌
 use Rattle.std.specs.Prelude.{slice_index}
 use Rattle.hop_base.specs.declared.records.Rec.{Rec}
 use Rattle.page_store.specs.hop_model.Choices.{IsClosedChoice, IsGreatest}
-use Rattle.cut_finder.specs.Records.{IsAscending}
-use Rattle.cut_finder.specs.cut_laws.Agreeing.{nothing}
-use Rattle.cut_finder.specs.cut_laws.Records.{commits_of}
-use Rattle.log_reading.specs.image_blocks.Layout.{slot_count}
+use Rattle.store_laws.specs.cut_finder.cut_searches.Records.{IsAscending}
+use Rattle.store_laws.specs.cut_finder.cut_laws.Agreeing.{nothing}
+use Rattle.store_laws.specs.cut_finder.cut_laws.Records.{commits_of}
+use Rattle.store_laws.specs.log_reading.image_form.Layout.{slot_count}
 use Rattle.page_shadow.specs.Ledger.{Ledger}
-use Rattle.page_words.specs.store_model.Books.{Logged, logged_recs}
-use Rattle.snapshot_store.specs.Keeping.{AreKept}
-use Rattle.snapshot_store.specs.Shelves.{is_from}
-use Rattle.snapshot_store.proofs.Choices.{closed_still, few_recs, kept_ascending, kept_settled, room_either}
-use Rattle.snapshot_store.proofs.Listing.{recounted_then}
+use Rattle.store_laws.specs.page_words.store_model.Books.{Logged, logged_recs}
+use Rattle.store_laws.specs.Keeping.{AreKept}
+use Rattle.store_laws.specs.Shelves.{is_from}
+use Rattle.store_laws.proofs.Choices.{closed_still, few_recs, kept_ascending, kept_settled, room_either}
+use Rattle.store_laws.proofs.Listing.{recounted_then}
 use Rattle.snapshot_store.proofs.settling.settle.Goals as goal
 
 pub push-requires : goal.push-requires

@@ -1,7 +1,7 @@
 use Rattle.std.proofs.Common.{◌+◌, ◌∙◌, arith}
 use Rattle.std.specs.Prelude.{slice_index}
 use Rattle.std.proofs.lemmas.List.{length-set}
-use Rattle.snapshot_store.proofs.Tallies.{none_tallied, tally_next}
+use Rattle.store_laws.proofs.Tallies.{none_tallied, tally_next}
 use Rattle.snapshot_store.proofs.shelf.tally.Goals as goal
 
 pub loop-rec-init : goal.loop-rec-init

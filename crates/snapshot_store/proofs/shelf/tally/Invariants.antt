@@ -1,5 +1,5 @@
 use Rattle.std.proofs.Common.{◌≡◌, length, take}
-use Rattle.snapshot_store.specs.Shelves.{AreTallied}
+use Rattle.store_laws.specs.Shelves.{AreTallied}
 use Rattle.snapshot_store.proofs.shelf.tally.Given as goal
 
 abbrev pub invariant-loop-rec : goal.invariant-loop-rec

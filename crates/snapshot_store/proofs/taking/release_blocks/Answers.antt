@@ -1,4 +1,4 @@
-use Rattle.snapshot_store.proofs.Marks.{released_more, still_held, still_range}
+use Rattle.store_laws.proofs.Marks.{released_more, still_held, still_range}
 use Rattle.snapshot_store.proofs.taking.release_blocks.Goals as goal
 
 pub give_back-requires-clause-range : goal.give_back-requires-clause-range

@@ -1,4 +1,4 @@
-use Rattle.snapshot_store.specs.Taking.{HasReleased}
+use Rattle.store_laws.specs.Taking.{HasReleased}
 use Rattle.snapshot_store.proofs.taking.release_blocks.Given as goal
 
 abbrev pub invariant-loop-block : goal.invariant-loop-block

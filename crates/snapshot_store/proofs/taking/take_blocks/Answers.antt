@@ -1,8 +1,8 @@
 use Rattle.std.proofs.Common.{◌≡◌, ◌∙◌, ◌<◌, ◌≤◌, ◌+◌, ◌||◌, ℕ, sym, subst, set, true, false, arith}
 use Rattle.std.proofs.lemmas.List.{length-set}
 use Rattle.page_shadow.specs.Ledger.{Ledger, is_held, is_named}
-use Rattle.snapshot_store.specs.Taking.{HasTaken}
-use Rattle.snapshot_store.proofs.Marks.{ok_if, ok_on, taken_more}
+use Rattle.store_laws.specs.Taking.{HasTaken}
+use Rattle.store_laws.proofs.Marks.{ok_if, ok_on, taken_more}
 use Rattle.snapshot_store.proofs.taking.take_blocks.Goals as goal
 
 pub loop-i-preserved : goal.loop-i-preserved

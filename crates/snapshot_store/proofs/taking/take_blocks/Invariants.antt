@@ -1,6 +1,6 @@
 use Rattle.std.proofs.Common.{◌≡◌, ◌≤◌, ◌+◌, length}
 use Rattle.page_shadow.specs.Ledger.{unused_blocks}
-use Rattle.snapshot_store.specs.Taking.{HasTaken}
+use Rattle.store_laws.specs.Taking.{HasTaken}
 use Rattle.snapshot_store.proofs.taking.take_blocks.Given as goal
 
 abbrev pub invariant-loop-i : goal.invariant-loop-i

@@ -1,7 +1,7 @@
 use Rattle.std.proofs.Common.{sym, ap, ◌∙◌}
 use Rattle.address_resolve.specs.hop_model.Acts.{Act}
 use Rattle.address_resolve.specs.locus_machine.Loci.{locus_of}
-use Rattle.address_resolve.proofs.locus_machine_lemmas.Alone.{seen_same}
+use Rattle.address_resolve.proofs.wanted_laws_lemmas.Alone.{seen_same}
 use Rattle.address_resolve.specs.wanted_act.Views.{act_of}
 use Rattle.map_steps.proofs.beside_steps_lemmas.Touching.{refused_alone, not_refused}
 use Rattle.step_plans.proofs.plans.plan_of.Goals as goal

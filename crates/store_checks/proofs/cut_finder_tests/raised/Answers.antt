@@ -1,5 +1,5 @@
 use Rattle.std.proofs.Common.{◌+◌, arith}
-use Rattle.cut_finder.proofs.Fronts.{zeros, greatest_of_none, closed_with_next, ascending_front}
+use Rattle.cut_finder.proofs.cut_searches_lemmas.Fronts.{zeros, greatest_of_none, closed_with_next, ascending_front}
 use Rattle.store_checks.proofs.cut_finder_tests.raised.Goals as goal
 
 pub loop-i-init : goal.loop-i-init

@@ -2,7 +2,7 @@ use Rattle.std.proofs.Common.{◌≡◌, ◌<◌, List, sym, ap, subst, ◌∙�
 use Rattle.std.specs.Prelude.{All, slice_index}
 use Rattle.std.proofs.lemmas.Bool.{ltb-true}
 use Rattle.hop_base.specs.declared.records.Rec.{Rec}
-use Rattle.snapshot_store.specs.State.{books}
+use Rattle.snapshot_store.specs.store_laws.State.{books}
 use Rattle.store_checks.proofs.Kept.{kept_many}
 use Rattle.store_checks.proofs.own.is_fit.Goals as goal
 

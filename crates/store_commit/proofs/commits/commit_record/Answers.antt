@@ -3,7 +3,7 @@ use Rattle.std.proofs.lemmas.Result.{on_ok_weaker}
 use Rattle.disk_trait.proofs.Images.{SameOutside-weaker}
 use Rattle.disk_trait.proofs.Phases.{LeavesOnly-then, LeavesOnly-weaker, told}
 use Rattle.disk_tally.proofs.Counting.{Begins-fewer, Begins-then}
-use Rattle.store_model.specs.image_blocks.Layout.{slot_count}
+use Rattle.store_model.specs.image_form.Layout.{slot_count}
 use Rattle.store_model.proofs.log_turn_lemmas.Appending.{on_ok_two}
 use Rattle.store_model.specs.log_turn.Standing.{area_of, used_of}
 use Rattle.store_model.specs.Books.{IsBeforePool}

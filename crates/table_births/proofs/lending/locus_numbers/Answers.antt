@@ -1,5 +1,5 @@
 use Rattle.std.proofs.Common.{◌≡◌, ◌+◌, unwrap_or, sym, ap, subst, ◌∙◌}
-use Rattle.atlas_dir.specs.Directory.{entity_named}
+use Rattle.atlas_dir.specs.directory_form.Directory.{entity_named}
 use Rattle.table_steps.specs.script_form.Scripts.{locus_of}
 use Rattle.cell_births.specs.Bearing.{MayBearLocus}
 use Rattle.table_births.proofs.Nexts.{host_found}

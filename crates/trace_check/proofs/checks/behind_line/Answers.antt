@@ -1,6 +1,6 @@
 use Rattle.std.proofs.Common.{◌∙◌, sym}
 use Rattle.std.proofs.lemmas.Bool.{false≢true}
-use Rattle.trace_check.proofs.Lining.{no_end, no_text, some_line}
+use Rattle.trace_laws.proofs.Lining.{no_end, no_text, some_line}
 use Rattle.trace_check.proofs.checks.behind_line.Goals as goal
 
 pub returns-then-not-is_same-clause-none : goal.returns-then-not-is_same-clause-none

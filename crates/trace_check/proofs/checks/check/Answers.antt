@@ -1,10 +1,11 @@
 use Rattle.std.proofs.Common.{◌≡◌, ◌+◌, ◌<◌, ◌≤◌, [], ◌∷◌, ◌++◌, length, ap, sym, refl, arith}
 use Rattle.std.proofs.lemmas.List.{length-append}
 use Rattle.text_lines.specs.hop_model.State.{Text}
-use Rattle.actor_laws.specs.script_form.Scripts.{tables_of}
-use Rattle.trace_steps.specs.Standing.{fresh}
+use Rattle.trace_laws.specs.actor_laws.script_form.Scripts.{tables_of}
+use Rattle.trace_laws.specs.trace_steps.trace_rules.Standing.{fresh}
 use Rattle.trace_check.proofs.Alike.{fault_anyway, spells_anyway}
-use Rattle.trace_check.proofs.Lining.{few_lines, read_more, read_none, shorter, spells_all, stopped}
+use Rattle.trace_laws.proofs.Lining.{few_lines, read_more, read_none, shorter, spells_all}
+use Rattle.trace_check.proofs.Lining.{stopped}
 use Rattle.trace_check.proofs.checks.check.Goals as goal
 
 no_bytes : (t : Text) → length t ≤ 0 → t ≡ []

@@ -1,9 +1,9 @@
 -- The lines so far are those of a legal history.
 use Rattle.std.proofs.Common.{◌≡◌, List, length}
 use Rattle.hop_base.specs.declared.histories.Entry.{Entry}
-use Rattle.actor_laws.specs.script_form.Scripts.{tables_of}
-use Rattle.trace_steps.specs.Standing.{fresh}
-use Rattle.trace_check.specs.Reading.{HasRead}
+use Rattle.trace_laws.specs.actor_laws.script_form.Scripts.{tables_of}
+use Rattle.trace_laws.specs.trace_steps.trace_rules.Standing.{fresh}
+use Rattle.trace_laws.specs.Reading.{HasRead}
 use Rattle.trace_check.proofs.checks.check.Given as goal
 
 abbrev pub ghost-read_line : goal.ghost-read_line

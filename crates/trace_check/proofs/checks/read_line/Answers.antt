@@ -1,12 +1,13 @@
 use Rattle.std.proofs.Common.{◌≡◌, ◌∙◌, ◌++◌, ◌∷◌, ap, subst}
-use Rattle.actor_laws.proofs.history_model_lemmas.PlainBirths.{sound_here}
-use Rattle.actor_laws.specs.history_model.Plains.{atlas_of}
+use Rattle.trace_laws.proofs.actor_laws_lemmas.history_model_lemmas.PlainBirths.{sound_here}
+use Rattle.trace_laws.specs.actor_laws.history_model.Plains.{atlas_of}
 use Rattle.text_lines.specs.hop_model.State.{Text}
-use Rattle.actor_laws.specs.script_form.Scripts.{tables_of}
-use Rattle.trace_steps.proofs.run_rules_lemmas.Single.{where_none}
-use Rattle.trace_check.specs.Reading.{NamesAlone, NamesNone, WantsFrom}
-use Rattle.trace_check.proofs.Lining.{reads_on, some_of, unwanted_stop, wrong_stop}
-use Rattle.trace_check.proofs.Names.{short_names}
+use Rattle.trace_laws.specs.actor_laws.script_form.Scripts.{tables_of}
+use Rattle.trace_laws.proofs.trace_steps_lemmas.run_rules_lemmas.Single.{where_none}
+use Rattle.trace_laws.specs.Reading.{NamesAlone, NamesNone, WantsFrom}
+use Rattle.trace_laws.proofs.Lining.{reads_on, some_of}
+use Rattle.trace_check.proofs.Lining.{unwanted_stop, wrong_stop}
+use Rattle.trace_laws.proofs.Names.{short_names}
 use Rattle.trace_check.proofs.checks.read_line.Goals as goal
 
 pub returns-in_default-clause-err : goal.returns-in_default-clause-err

@@ -1,7 +1,7 @@
 -- No entity so far has the name.
 use Rattle.std.proofs.Common.{ℕ, ◌<◌}
-use Rattle.actor_laws.specs.history_model.Plains.{atlas_of}
-use Rattle.trace_check.specs.Words.{IsNamed}
+use Rattle.trace_laws.specs.actor_laws.history_model.Plains.{atlas_of}
+use Rattle.trace_laws.specs.Words.{IsNamed}
 use Rattle.trace_check.proofs.naming.entity_named.Given as goal
 
 abbrev pub invariant-loop-x : goal.invariant-loop-x

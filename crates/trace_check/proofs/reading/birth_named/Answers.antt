@@ -1,13 +1,13 @@
 use Rattle.std.proofs.Common.{◌≡◌, ◌∙◌, sym, subst, refl}
 use Rattle.std.proofs.lemmas.Bool.{false≢true}
 use Rattle.hop_base.specs.declared.histories.Entry.{Entry}
-use Rattle.trace_steps.proofs.plain_run_lemmas.Answering.{few_names_of}
-use Rattle.actor_laws.specs.script_form.Scripts.{tables_of}
+use Rattle.trace_laws.proofs.trace_steps_lemmas.plain_run_lemmas.Answering.{few_names_of}
+use Rattle.trace_laws.specs.actor_laws.script_form.Scripts.{tables_of}
 use Rattle.text_lines.specs.Lines.{name_in}
-use Rattle.trace_steps.specs.Standing.{run_of}
-use Rattle.trace_steps.proofs.run_rules_lemmas.Single.{one_birth, where_none}
-use Rattle.trace_words.specs.Traces.{names_after}
-use Rattle.trace_check.proofs.Actors.{newborn_here, tried_refuses}
+use Rattle.trace_laws.specs.trace_steps.trace_rules.Standing.{run_of}
+use Rattle.trace_laws.proofs.trace_steps_lemmas.run_rules_lemmas.Single.{one_birth, where_none}
+use Rattle.trace_laws.specs.trace_words.Traces.{names_after}
+use Rattle.trace_laws.proofs.Actors.{newborn_here, tried_refuses}
 use Rattle.trace_check.proofs.reading.birth_named.Goals as goal
 
 pub returns-then-checker-clause-none : goal.returns-then-checker-clause-none

@@ -1,12 +1,12 @@
 use Rattle.std.proofs.Common.{◌∙◌, ap, sym, subst}
-use Rattle.entry_laws.specs.entry_lines.Entries.{event_word}
-use Rattle.actor_laws.specs.history_model.Plains.{atlas_of}
-use Rattle.trace_steps.proofs.plain_run_lemmas.Answering.{few_names_of}
-use Rattle.actor_laws.specs.script_form.Scripts.{tables_of}
-use Rattle.trace_steps.proofs.run_rules_lemmas.Single.{map_none, map_some}
-use Rattle.trace_check.specs.Reading.{NamesBirthAt, NamesNoBirth}
-use Rattle.trace_check.specs.Words.{IsNamed, first_word}
-use Rattle.trace_check.proofs.Actors.{birth_alone, birth_none, birth_wants, next_alone, next_none, next_wants, no_event, unnamed}
+use Rattle.trace_laws.specs.entry_laws.entry_lines.Entries.{event_word}
+use Rattle.trace_laws.specs.actor_laws.history_model.Plains.{atlas_of}
+use Rattle.trace_laws.proofs.trace_steps_lemmas.plain_run_lemmas.Answering.{few_names_of}
+use Rattle.trace_laws.specs.actor_laws.script_form.Scripts.{tables_of}
+use Rattle.trace_laws.proofs.trace_steps_lemmas.run_rules_lemmas.Single.{map_none, map_some}
+use Rattle.trace_laws.specs.Reading.{NamesBirthAt, NamesNoBirth}
+use Rattle.trace_laws.specs.Words.{IsNamed, first_word}
+use Rattle.trace_laws.proofs.Actors.{birth_alone, birth_none, birth_wants, next_alone, next_none, next_wants, no_event, unnamed}
 use Rattle.trace_check.proofs.reading.wanted.Goals as goal
 use Rattle.text_lines.specs.hop_model.State.{Text}
 

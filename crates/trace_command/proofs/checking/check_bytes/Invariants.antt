@@ -1,5 +1,5 @@
 use Rattle.manager_form.specs.Managing.{managers_of}
-use Rattle.trace_command.specs.Booked.{over}
+use Rattle.command_laws.specs.TraceBooked.{over}
 use Rattle.trace_command.proofs.checking.check_bytes.Given as goal
 
 abbrev pub ghosts-check_read-N-Answers : goal.ghosts-check_read-N-Answers

@@ -1,10 +1,11 @@
 use Rattle.std.proofs.Common.{sym, subst}
-use Rattle.trace_check.specs.trace_steps.Standing.{Managers}
+use Rattle.trace_check.specs.trace_rules.Standing.{Managers}
 use Rattle.script_source.specs.command_parts.Seen.{gave, seen_disk, seen_sink}
 use Rattle.script_source.specs.command_parts.Statuses.{ending}
 use Rattle.script_source.proofs.command_parts_lemmas.SeenDisks.{only_read}
-use Rattle.trace_command.specs.Leaving.{TraceLeaves}
-use Rattle.trace_command.specs.Sources.{from_parts, traced_of}
+use Rattle.command_laws.specs.TraceLeaving.{TraceLeaves}
+use Rattle.command_laws.specs.Sources.{from_parts}
+use Rattle.trace_command.specs.Sources.{traced_of}
 use Rattle.trace_command.specs.Verdicts.{IsJudged}
 use Rattle.trace_command.proofs.Ending.{ends_by}
 use Rattle.trace_command.proofs.checking.check_read.Goals as goal

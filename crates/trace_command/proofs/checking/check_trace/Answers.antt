@@ -1,7 +1,7 @@
 use Rattle.script_source.specs.command_parts.Seen.{Call, gave, seen_disk, seen_sink, seen_source}
 use Rattle.script_source.specs.command_parts.Statuses.{ending}
-use Rattle.trace_command.specs.Sources.{from_bytes, from_source}
-use Rattle.trace_command.proofs.Complete.{complete}
+use Rattle.command_laws.specs.Sources.{from_bytes, from_source}
+use Rattle.command_laws.proofs.Traced.{complete}
 use Rattle.trace_command.proofs.Ending.{leaves_from, of_source, refused_source, unread_leaves, untouched}
 use Rattle.trace_command.proofs.checking.check_trace.Goals as goal
 

@@ -2,7 +2,7 @@ use Rattle.std.proofs.Common.{Err, ap, sym, subst}
 use Rattle.script_source.specs.script_form.Scripts.{tables_of}
 use Rattle.script_source.specs.command_parts.Seen.{seen_disk}
 use Rattle.script_source.specs.command_parts.declared.faults.Fault.{Fault}
-use Rattle.trace_check.specs.trace_steps.Standing.{Managers}
+use Rattle.trace_check.specs.trace_rules.Standing.{Managers}
 use Rattle.trace_command.specs.Verdicts.{StopsJudging}
 use Rattle.trace_command.proofs.Verdicts.{judged, unread}
 use Rattle.trace_command.proofs.judging.judge.Goals as goal

@@ -1,7 +1,7 @@
 use Rattle.std.proofs.Common.{Result, Ok, Err, IfErr, IfOk, ℕ, sym, subst}
 use Rattle.image_tools.specs.history_model.Plains.{atlas_of, cells_of}
 use Rattle.trace_check.specs.hop_model.State.{KernelState}
-use Rattle.trace_check.proofs.plain_run_lemmas.Suppliers.{sound_any}
+use Rattle.trace_check.proofs.plain_laws_lemmas.Suppliers.{sound_any}
 use Rattle.script_source.specs.script_form.Scripts.{tables_of}
 use Rattle.script_source.specs.command_parts.declared.faults.Fault.{Fault}
 use Rattle.trace_check.specs.Reading.{IsFault}

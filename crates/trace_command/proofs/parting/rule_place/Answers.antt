@@ -1,7 +1,7 @@
 use Rattle.std.proofs.Common.{◌≡◌, ◌&&◌, ◌<◌, ℕ, Bool, [], true, false, drop, length, ap, sym, ◌∙◌, arith}
 use Rattle.std.proofs.lemmas.List.{drop_all}
 use Rattle.trace_check.specs.hop_model.State.{Text}
-use Rattle.trace_command.specs.Parts.{is_rule}
+use Rattle.command_laws.specs.SourceParts.{is_rule}
 use Rattle.trace_command.proofs.Ruling.{rest_whole, rule_end, rule_here, rule_later}
 use Rattle.trace_command.proofs.parting.rule_place.Goals as goal
 

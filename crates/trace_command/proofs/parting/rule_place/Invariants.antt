@@ -1,5 +1,5 @@
 use Rattle.std.proofs.Common.{◌≡◌, true, drop}
-use Rattle.trace_command.specs.Parts.{rule_from}
+use Rattle.command_laws.specs.SourceParts.{rule_from}
 use Rattle.trace_command.proofs.parting.rule_place.Given as goal
 
 -- no line that begins before this byte is it

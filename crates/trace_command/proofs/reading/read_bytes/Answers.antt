@@ -1,6 +1,6 @@
 use Rattle.std.proofs.Common.{Err, ap}
 use Rattle.script_source.specs.command_parts.Seen.{seen_source}
-use Rattle.trace_command.proofs.Meaning.{stop_fault}
+use Rattle.command_laws.proofs.TracedMeaning.{stop_fault}
 use Rattle.trace_command.proofs.reading.read_bytes.Goals as goal
 
 pub returns-in-Err-clause-fault : goal.returns-in-Err-clause-fault

@@ -1,5 +1,5 @@
 use Rattle.script_source.specs.script_read.Views.{source_of}
-use Rattle.trace_command.proofs.Meaning.{meaning_fault, meaning_ok}
+use Rattle.command_laws.proofs.TracedMeaning.{meaning_fault, meaning_ok}
 use Rattle.trace_command.proofs.reading.read_parts.Goals as goal
 
 pub returns-in-Ok-clause-means : goal.returns-in-Ok-clause-means

@@ -1,5 +1,5 @@
 use Rattle.std.proofs.Common.{sym}
-use Rattle.trace_command.proofs.Meaning.{none_fault}
+use Rattle.command_laws.proofs.TracedMeaning.{none_fault}
 use Rattle.trace_command.proofs.reading.read_traced.Goals as goal
 
 pub returns-in-None-clause-fault : goal.returns-in-None-clause-fault

@@ -1,5 +1,6 @@
 use Rattle.std.proofs.Common.{◌≡◌, ℕ, ◌<◌, ◌≤◌, ◌||◌}
-use Rattle.trace_parts.specs.Flags.{mark_at, wrote_in}
+use Rattle.cut_finder.specs.cut_searches.Searches.{mark_at}
+use Rattle.trace_parts.specs.Flags.{wrote_in}
 use Rattle.trace_parts.proofs.wishes.mark.Given as goal
 
 abbrev pub invariant-loop-x : goal.invariant-loop-x

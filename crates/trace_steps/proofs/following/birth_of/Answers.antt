@@ -1,7 +1,7 @@
 use Rattle.std.proofs.Common.{◌∙◌, ap, sym}
 use Rattle.hop_base.specs.declared.histories.Entry.{Entry}
-use Rattle.plain_run.specs.script_form.Scripts.{tables_of}
-use Rattle.trace_steps.specs.Standing.{run_of}
+use Rattle.trace_rules.specs.plain_run.script_form.Scripts.{tables_of}
+use Rattle.trace_rules.specs.Standing.{run_of}
 use Rattle.run_rules.proofs.Single.{one_birth, where_none}
 use Rattle.trace_steps.proofs.following.birth_of.Goals as goal
 

@@ -2,8 +2,9 @@ use Rattle.std.proofs.Common.{ap, sym, subst, ◌∙◌, slice_index, refl}
 use Rattle.std.proofs.lemmas.Bool.{false≢true}
 use Rattle.hop_base.specs.declared.histories.Entry.{Entry}
 use Rattle.hop_base.specs.declared.histories.Event.TheVariants.{Snap as SnapEvent}
-use Rattle.plain_run.specs.hop_model.Histories.{mark}
-use Rattle.trace_steps.specs.Standing.{Follows, run_of}
+use Rattle.trace_rules.specs.plain_run.hop_model.Histories.{mark}
+use Rattle.trace_steps.specs.Standing.{Follows}
+use Rattle.trace_rules.specs.Standing.{run_of}
 use Rattle.trace_steps.proofs.Marking.{snap_commits, snap_may}
 use Rattle.trace_steps.proofs.snaps.snap.Goals as goal
 

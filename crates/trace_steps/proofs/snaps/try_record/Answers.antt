@@ -2,8 +2,9 @@ use Rattle.std.proofs.Common.{true, ap, sym, subst, ◌∙◌, slice_index, refl
 use Rattle.std.proofs.lemmas.Bool.{false≢true}
 use Rattle.hop_base.specs.declared.histories.Entry.{Entry}
 use Rattle.hop_base.specs.declared.histories.Event.TheVariants.{Tried as TriedEvent}
-use Rattle.plain_run.specs.hop_model.Histories.{mark}
-use Rattle.trace_steps.specs.Standing.{Follows, run_of}
+use Rattle.trace_rules.specs.plain_run.hop_model.Histories.{mark}
+use Rattle.trace_steps.specs.Standing.{Follows}
+use Rattle.trace_rules.specs.Standing.{run_of}
 use Rattle.trace_steps.proofs.Marking.{try_commits, try_may, try_stands}
 use Rattle.trace_steps.proofs.snaps.try_record.Goals as goal
 

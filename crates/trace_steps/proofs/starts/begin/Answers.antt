@@ -1,8 +1,8 @@
 use Rattle.std.proofs.Common.{◌≡◌, length, sym, ◌∙◌, rules}
-use Rattle.plain_run.proofs.history_model_lemmas.PlainBirths.{few_names}
-use Rattle.plain_run.specs.hop_model.Scripts.{next_name as next_of}
-use Rattle.plain_run.specs.history_model.Plains.{atlas_of}
-use Rattle.plain_run.specs.script_form.Scripts.{tables_of}
+use Rattle.trace_rules.proofs.plain_run_lemmas.history_model_lemmas.PlainBirths.{few_names}
+use Rattle.trace_rules.specs.plain_run.hop_model.Scripts.{next_name as next_of}
+use Rattle.trace_rules.specs.plain_run.history_model.Plains.{atlas_of}
+use Rattle.trace_rules.specs.plain_run.script_form.Scripts.{tables_of}
 use Rattle.trace_steps.proofs.Beginning.{begin_stands, left_same, low_at, none_past}
 use Rattle.trace_steps.proofs.starts.begin.Goals as goal
 

@@ -2,10 +2,10 @@ use Rattle.std.proofs.Common.{◌≡◌, ℕ, ◌+◌, ◌<◌, ap, sym, refl, �
 use Rattle.std.specs.List.{list_any}
 use Rattle.std.proofs.lemmas.Bool.{false≢true}
 use Rattle.hop_base.specs.declared.histories.Touch.{Touch}
-use Rattle.plain_run.specs.hop_model.Histories.{locus_in}
-use Rattle.plain_run.specs.hop_model.Words.{put}
-use Rattle.plain_run.specs.history_model.Plains.{cells_of}
-use Rattle.plain_run.specs.script_form.Scripts.{tables_of}
+use Rattle.trace_rules.specs.plain_run.hop_model.Histories.{locus_in}
+use Rattle.trace_rules.specs.plain_run.hop_model.Words.{put}
+use Rattle.trace_rules.specs.plain_run.history_model.Plains.{cells_of}
+use Rattle.trace_rules.specs.plain_run.script_form.Scripts.{tables_of}
 use Rattle.trace_steps.specs.Asking.{due_at, if_ok}
 use Rattle.trace_steps.proofs.Stepping.{asked_ok, can_of, due_refuses, few_versions, idle_refuses, named, owed_ok, step_may, step_stands}
 use Rattle.trace_steps.proofs.steps.step.Goals as goal

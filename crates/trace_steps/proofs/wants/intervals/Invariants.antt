@@ -1,7 +1,7 @@
 use Rattle.std.proofs.Common.{◌≡◌, ℕ, ◌<◌, slice_index}
-use Rattle.plain_run.specs.hop_model.Histories.{every_of}
-use Rattle.plain_run.specs.hop_model.State.{Supply}
-use Rattle.plain_run.specs.history_model.Plains.{cells_of}
+use Rattle.trace_rules.specs.plain_run.hop_model.Histories.{every_of}
+use Rattle.trace_rules.specs.plain_run.hop_model.State.{Supply}
+use Rattle.trace_rules.specs.plain_run.history_model.Plains.{cells_of}
 use Rattle.trace_steps.proofs.wants.intervals.Given as goal
 
 abbrev pub invariant-loop-x : goal.invariant-loop-x

@@ -1,5 +1,5 @@
 use Rattle.std.proofs.Common.{arith}
-use Rattle.atlas_dir.proofs.Digits.{made_one, made_two}
+use Rattle.directory_form.proofs.Digits.{made_one, made_two}
 use Rattle.atlas_dir.proofs.names.Name.made.Goals as goal
 
 pub returns-then-number-lt10 : goal.returns-then-number-lt10

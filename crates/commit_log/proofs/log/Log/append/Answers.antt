@@ -3,9 +3,10 @@ use Rattle.std.proofs.lemmas.List.{length-append}
 use Rattle.disk_trait.specs.Image.{Image}
 use Rattle.disk_trait.proofs.Phases.{IsImage-reading, told}
 use Rattle.disk_tally.proofs.Counting.{CountsOn-then}
-use Rattle.image_blocks.specs.Layout.{slot_count, slot_gate_at}
+use Rattle.image_blocks.specs.image_form.Layout.{slot_count}
+use Rattle.image_blocks.specs.Layout.{slot_gate_at}
 use Rattle.image_blocks.specs.Logs.{HasSlots}
-use Rattle.commit_log.proofs.Through.{first_half, gates_written, reads_added, second_half}
+use Rattle.log_laws.proofs.Through.{first_half, gates_written, reads_added, second_half}
 use Rattle.commit_log.proofs.log.Log.append.Goals as goal
 
 pub returns-in_err-write_body-clause-any_moment : goal.returns-in_err-write_body-clause-any_moment

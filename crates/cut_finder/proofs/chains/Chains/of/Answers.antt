@@ -1,7 +1,7 @@
 use Rattle.std.proofs.Common.{arith, refl, ◌≡◌, None, IfSome, sym, subst, ℕ, ◌<◌, Option, List}
 use Rattle.vector_stamps.proofs.Blanks.{get_or-replicate_all}
 use Rattle.hop_base.specs.declared.records.Rec.{Rec}
-use Rattle.cut_finder.specs.Searches.{IsOf, IsLastOf}
+use Rattle.cut_searches.specs.Searches.{IsOf, IsLastOf}
 use Rattle.cut_finder.proofs.chains.Chains.of.Goals as goal
 
 -- of no record none is the last

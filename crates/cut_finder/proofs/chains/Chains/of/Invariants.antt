@@ -1,6 +1,6 @@
 use Rattle.std.proofs.Common.{◌≡◌, ℕ, ◌<◌, length}
-use Rattle.cut_finder.specs.Records.{choice}
-use Rattle.cut_finder.specs.Searches.{place_at, entity_at, IsLastOf, IsChain}
+use Rattle.cut_searches.specs.Records.{choice}
+use Rattle.cut_searches.specs.Searches.{place_at, entity_at, IsLastOf, IsChain}
 use Rattle.cut_finder.proofs.chains.Chains.of.Given as goal
 
 abbrev pub invariant-loop-i : goal.invariant-loop-i

@@ -1,9 +1,9 @@
 use Rattle.std.proofs.Common.{ℕ, ◌||◌, None, false, get_or, arith, ap, ◌∙◌, get_or-set_same, get_or-set_other}
 use Rattle.std.proofs.Math.ListN.{set}
 use Rattle.vector_stamps.specs.Stamps.{component}
-use Rattle.cut_finder.specs.Records.{choice}
-use Rattle.cut_finder.specs.Searches.{place_at, mark_at, needs_more}
-use Rattle.cut_finder.proofs.Lowering.{falls_to}
+use Rattle.cut_searches.specs.Records.{choice}
+use Rattle.cut_searches.specs.Searches.{place_at, mark_at, needs_more}
+use Rattle.cut_searches.proofs.Lowering.{falls_to}
 use Rattle.cut_finder.proofs.search.Search.lower.Goals as goal
 
 pub returns-in-Some-clause-search : goal.returns-in-Some-clause-search

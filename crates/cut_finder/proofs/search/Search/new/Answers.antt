@@ -1,9 +1,9 @@
 use Rattle.std.proofs.Common.{None, arith}
 use Rattle.std.proofs.lemmas.List.{get_or_past}
 use Rattle.vector_stamps.specs.Stamps.{component}
-use Rattle.cut_finder.specs.Records.{choice}
-use Rattle.cut_finder.specs.Searches.{place_at, mark_at}
-use Rattle.cut_finder.proofs.Lowering.{starts}
+use Rattle.cut_searches.specs.Records.{choice}
+use Rattle.cut_searches.specs.Searches.{place_at, mark_at}
+use Rattle.cut_searches.proofs.Lowering.{starts}
 use Rattle.cut_finder.proofs.search.Search.new.Goals as goal
 
 pub returns : goal.returns

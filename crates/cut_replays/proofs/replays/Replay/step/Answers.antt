@@ -1,5 +1,5 @@
 use Rattle.manager_gate.specs.Managers.{counted_word}
-use Rattle.plain_run.proofs.Suppliers.{sound_any}
+use Rattle.plain_run.proofs.plain_laws_lemmas.Suppliers.{sound_any}
 use Rattle.cut_replays.proofs.replays.Replay.step.Goals as goal
 
 pub counted_step-requires-clause-sound : goal.counted_step-requires-clause-sound

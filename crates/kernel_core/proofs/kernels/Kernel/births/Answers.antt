@@ -1,18 +1,18 @@
 use Rattle.std.proofs.Common.{◌*◌, sym, ap, subst, ◌∙◌}
 use Rattle.std.specs.Prelude.{OnOk}
-use Rattle.birth_views.specs.fitting_births.Fitting.{Fits}
+use Rattle.core_laws.specs.birth_views.fitting_births.Fitting.{Fits}
 use Rattle.disk_trait.specs.Counts.{Rose}
-use Rattle.birth_views.specs.script_form.Scripts.{tables_of}
-use Rattle.birth_views.specs.cell_table.Tables.{AreClean}
-use Rattle.birth_views.specs.record_laws.Cells.{words_on}
-use Rattle.birth_views.specs.table_births.Births.{atlas_state_in}
-use Rattle.kernel_commits.specs.Parts.{Parts}
-use Rattle.kernel_commits.specs.Pieces.{CountsWithin}
-use Rattle.kernel_core.specs.Bearing.{HasOpened, IsShortBehind}
-use Rattle.kernel_core.specs.Kernels.{Held}
-use Rattle.kernel_core.proofs.Begun.{in_births_first}
-use Rattle.kernel_core.proofs.BirthsKept.{births_kept, failed_rose, first_births, opened_lives, stopped_lives}
-use Rattle.kernel_core.proofs.Kept.{while_going}
+use Rattle.core_laws.specs.birth_views.script_form.Scripts.{tables_of}
+use Rattle.core_laws.specs.birth_views.cell_table.Tables.{AreClean}
+use Rattle.core_laws.specs.birth_views.record_laws.Cells.{words_on}
+use Rattle.core_laws.specs.birth_views.table_births.Births.{atlas_state_in}
+use Rattle.core_laws.specs.kernel_commits.commit_laws.Parts.{Parts}
+use Rattle.core_laws.specs.kernel_commits.commit_laws.Pieces.{CountsWithin}
+use Rattle.core_laws.specs.Bearing.{HasOpened, IsShortBehind}
+use Rattle.core_laws.specs.Kernels.{Held}
+use Rattle.core_laws.proofs.Begun.{in_births_first}
+use Rattle.core_laws.proofs.BirthsKept.{births_kept, failed_rose, first_births, opened_lives, stopped_lives}
+use Rattle.core_laws.proofs.Kept.{while_going}
 use Rattle.kernel_core.proofs.kernels.Kernel.births.Goals as goal
 
 pub invariant_of-self : goal.invariant_of-self

@@ -1,17 +1,17 @@
 use Rattle.std.proofs.Common.{◌≡◌, ◌↔◌, true, Ok, sym, ap, subst}
 use Rattle.std.specs.Prelude.{IsErrOf, OnErr, OnOk}
 use Rattle.disk_trait.specs.declared.disk.NoBlocks.{NoBlocks as TooFewBlocks}
-use Rattle.kernel_commits.specs.hop_model.Histories.{Policy}
-use Rattle.birth_views.specs.kernel_model.Beginnings.{run_of}
-use Rattle.birth_views.specs.serial_runs.Serial.{wished_snap}
-use Rattle.kernel_core.specs.Kernels.{Held, Lives, StaysClean}
-use Rattle.kernel_commits.specs.Lacking.{LacksIn}
-use Rattle.kernel_commits.specs.Parts.{Parts}
-use Rattle.kernel_commits.specs.Pieces.{StopsIn}
-use Rattle.kernel_commits.specs.Recording.{HasRecorded, IsShort}
-use Rattle.kernel_commits.specs.Snapping.{Snaps}
-use Rattle.kernel_commits.specs.declared.stopping.Stopped.TheVariants.{TooFew}
-use Rattle.kernel_core.proofs.Kept.{kept_after, lives_after, runs_free, while_going}
+use Rattle.core_laws.specs.kernel_commits.hop_model.Histories.{Policy}
+use Rattle.core_laws.specs.birth_views.kernel_model.Beginnings.{run_of}
+use Rattle.core_laws.specs.birth_views.serial_runs.Serial.{wished_snap}
+use Rattle.core_laws.specs.Kernels.{Held, Lives, StaysClean}
+use Rattle.core_laws.specs.kernel_commits.commit_laws.Lacking.{LacksIn}
+use Rattle.core_laws.specs.kernel_commits.commit_laws.Parts.{Parts}
+use Rattle.core_laws.specs.kernel_commits.commit_laws.Pieces.{StopsIn}
+use Rattle.core_laws.specs.kernel_commits.commit_laws.Recording.{HasRecorded, IsShort}
+use Rattle.core_laws.specs.kernel_commits.commit_laws.Snapping.{Snaps}
+use Rattle.core_laws.specs.kernel_commits.declared.stopping.Stopped.TheVariants.{TooFew}
+use Rattle.core_laws.proofs.Kept.{kept_after, lives_after, runs_free, while_going}
 use Rattle.kernel_core.proofs.kernels.Kernel.snap.Goals as goal
 
 pub invariant_of-self : goal.invariant_of-self

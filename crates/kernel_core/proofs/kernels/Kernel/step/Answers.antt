@@ -2,19 +2,19 @@ use Rattle.std.proofs.Common.{◌≡◌, Some, Ok, sym, ap, subst, ◌∙◌}
 use Rattle.std.specs.Prelude.{◌↔◌, IfErr, IsErrOf, OnErr}
 use Rattle.disk_trait.specs.Counts.{Rose}
 use Rattle.disk_trait.specs.declared.disk.NoBlocks.{NoBlocks as TooFewBlocks}
-use Rattle.birth_views.specs.cell_table.Tables.{AreClean}
-use Rattle.birth_views.specs.record_laws.Cells.{words_on}
-use Rattle.birth_views.specs.kernel_model.Beginnings.{run_of}
-use Rattle.birth_views.specs.serial_runs.Serial.{look}
-use Rattle.kernel_core.specs.Kernels.{Held, Lives}
-use Rattle.kernel_core.specs.Looking.{StopsLook}
-use Rattle.kernel_core.specs.Stepping.{idle_at}
+use Rattle.core_laws.specs.birth_views.cell_table.Tables.{AreClean}
+use Rattle.core_laws.specs.birth_views.record_laws.Cells.{words_on}
+use Rattle.core_laws.specs.birth_views.kernel_model.Beginnings.{run_of}
+use Rattle.core_laws.specs.birth_views.serial_runs.Serial.{look}
+use Rattle.core_laws.specs.Kernels.{Held, Lives}
+use Rattle.core_laws.specs.Looking.{StopsLook}
+use Rattle.core_laws.specs.Stepping.{idle_at}
 use Rattle.kernel_core.specs.declared.looking.Looked.TheVariants.{Idle}
-use Rattle.kernel_commits.specs.Lacking.{LacksIn}
-use Rattle.kernel_commits.specs.Parts.{Parts}
-use Rattle.kernel_commits.specs.Pieces.{StopsIn}
-use Rattle.kernel_commits.specs.declared.stopping.Stopped.TheVariants.{Failed, TooFew}
-use Rattle.kernel_core.proofs.Kept.{runs_free, while_going}
+use Rattle.core_laws.specs.kernel_commits.commit_laws.Lacking.{LacksIn}
+use Rattle.core_laws.specs.kernel_commits.commit_laws.Parts.{Parts}
+use Rattle.core_laws.specs.kernel_commits.commit_laws.Pieces.{StopsIn}
+use Rattle.core_laws.specs.kernel_commits.declared.stopping.Stopped.TheVariants.{Failed, TooFew}
+use Rattle.core_laws.proofs.Kept.{runs_free, while_going}
 use Rattle.kernel_core.proofs.LookKept.{look_entries, look_kept, look_lives}
 use Rattle.kernel_core.proofs.kernels.Kernel.step.Goals as goal
 

@@ -2,8 +2,8 @@ use Rattle.std.proofs.Common.{subst, sym, ap, ◌∙◌, refl}
 use Rattle.hop_model.specs.Outcomes.{Outcome}
 use Rattle.wanted_act.specs.Views.{act_of, IsReadyLocus}
 use Rattle.locus_machine.specs.Loci.{locus_of}
-use Rattle.locus_machine.proofs.Alone.{act_instr, act_refusal, act_allowed, act_touches, refused_within, place_within, makes_refusal, makes_act}
-use Rattle.locus_machine.proofs.Kept.{ready_finish, ready_act}
+use Rattle.wanted_laws.proofs.Alone.{act_instr, act_refusal, act_allowed, act_touches, refused_within, place_within, makes_refusal, makes_act}
+use Rattle.wanted_laws.proofs.Kept.{ready_finish, ready_act}
 use Rattle.locus_machine.proofs.loci.Locus.local.Goals as goal
 
 pub finish-requires : goal.finish-requires

@@ -3,14 +3,15 @@ use Rattle.disk_trait.specs.Image.{Image, SameOutside, block_at}
 use Rattle.disk_trait.specs.Moments.{LeavesOnly}
 use Rattle.disk_trait.proofs.Phases.{told}
 use Rattle.disk_tally.proofs.Counting.{CountsOn-then}
-use Rattle.commit_log.specs.image_blocks.Layout.{closed_gate, gate_at, header_at, open_gate, other}
+use Rattle.commit_log.specs.image_form.Layout.{closed_gate, open_gate}
+use Rattle.commit_log.specs.image_blocks.Layout.{gate_at, header_at, other}
 use Rattle.commit_log.specs.image_blocks.declared.areas.Area.{Area}
 use Rattle.commit_log.specs.image_blocks.Logs.{HasLog}
-use Rattle.commit_log.proofs.Through.{gate_open}
+use Rattle.commit_log.proofs.log_laws_lemmas.Through.{gate_open}
 use Rattle.commit_log.specs.Standing.{area_of as log_area}
-use Rattle.log_turn.specs.Stages.{IsEitherGate, IsSwitching}
+use Rattle.commit_log.specs.log_laws.Stages.{IsEitherGate, IsSwitching}
 use Rattle.log_turn.specs.Standing.{area_of, place_of}
-use Rattle.log_turn.proofs.Turning.{Closing, Switching, Writing, gates_stay, moments_closing, moments_switching, moments_writing, outside_closing, outside_switch, outside_writing, reads_turned}
+use Rattle.commit_log.proofs.log_laws_lemmas.Turning.{Closing, Switching, Writing, gates_stay, moments_closing, moments_switching, moments_writing, outside_closing, outside_switch, outside_writing, reads_turned}
 use Rattle.log_turn.proofs.areas.Areas.turn.Goals as goal
 
 pub returns-in_err-close_area-clause-any_moment : goal.returns-in_err-close_area-clause-any_moment

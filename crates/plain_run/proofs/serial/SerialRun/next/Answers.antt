@@ -1,4 +1,4 @@
-use Rattle.history_model.specs.script_form.Scripts.{tables_of}
+use Rattle.plain_steps.specs.history_model.script_form.Scripts.{tables_of}
 use Rattle.plain_run.proofs.serial.SerialRun.next.Goals as goal
 
 pub returns-in-Some-clause-further : goal.returns-in-Some-clause-further

@@ -1,9 +1,9 @@
 use Rattle.std.proofs.Common.{◌≡◌, false, set, ap, subst, sym, ◌∙◌, true, length, ◌<◌, refl, arith}
 use Rattle.page_shadow.specs.Ledger.{Ledger, is_held}
-use Rattle.page_words.specs.store_model.Books.{free_in}
-use Rattle.snapshot_store.specs.State.{State, books, state_of}
-use Rattle.snapshot_store.proofs.Holding.{held_by}
-use Rattle.snapshot_store.proofs.PageCalls.{free_given, held_put}
+use Rattle.store_laws.specs.page_words.store_model.Books.{free_in}
+use Rattle.store_laws.specs.State.{State, books, state_of}
+use Rattle.store_laws.proofs.Holding.{held_by}
+use Rattle.store_laws.proofs.PageCalls.{free_given, held_put}
 use Rattle.snapshot_store.proofs.paged_store.StorePageStore.give_back.Goals as goal
 
 pub returns-clause-between : goal.returns-clause-between

@@ -1,5 +1,5 @@
 use Rattle.std.proofs.Common.{◌∙◌}
-use Rattle.snapshot_store.proofs.Holding.{named_is}
+use Rattle.store_laws.proofs.Holding.{named_is}
 use Rattle.snapshot_store.proofs.paged_store.StorePageStore.kept.Goals as goal
 
 pub returns : goal.returns

@@ -1,7 +1,7 @@
 use Rattle.std.proofs.Common.{refl, sym, ◌∙◌}
 use Rattle.disk_trait.proofs.Phases.{told}
-use Rattle.snapshot_store.specs.State.{State, books, state_of}
-use Rattle.snapshot_store.proofs.PageCalls.{read_between, words_read, worked}
+use Rattle.store_laws.specs.State.{State, books, state_of}
+use Rattle.store_laws.proofs.PageCalls.{read_between, words_read, worked}
 use Rattle.snapshot_store.proofs.paged_store.StorePageStore.read_page.Goals as goal
 
 pub returns-then-self-clause-same_words : goal.returns-then-self-clause-same_words

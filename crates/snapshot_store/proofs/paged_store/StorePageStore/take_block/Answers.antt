@@ -1,9 +1,9 @@
 use Rattle.std.proofs.Common.{◌≡◌, ◌+◌, ℕ, ap, length, set, refl, sym, true, ◌∙◌, arith}
 use Rattle.std.proofs.lemmas.Result.{on_ok_weaker}
 use Rattle.page_shadow.specs.Ledger.{Ledger, is_held, unused_blocks}
-use Rattle.snapshot_store.specs.State.{State, state_of}
-use Rattle.snapshot_store.proofs.Holding.{err_weaker, free_is, free_moves, fresh_by, held_by, marks_of}
-use Rattle.snapshot_store.proofs.PageCalls.{taken_put, taken_within}
+use Rattle.store_laws.specs.State.{State, state_of}
+use Rattle.store_laws.proofs.Holding.{err_weaker, free_is, free_moves, fresh_by, held_by, marks_of}
+use Rattle.store_laws.proofs.PageCalls.{taken_put, taken_within}
 use Rattle.snapshot_store.proofs.paged_store.StorePageStore.take_block.Goals as goal
 
 pub returns-clause-between : goal.returns-clause-between

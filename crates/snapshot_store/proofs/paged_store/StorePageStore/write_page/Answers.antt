@@ -2,9 +2,9 @@ use Rattle.std.proofs.Common.{◌≡◌, ◌<◌, true, false, length, refl, sym
 use Rattle.disk_trait.proofs.Phases.{IsImage-reading, told}
 use Rattle.disk_trait.proofs.Ticks.{Ticks-one}
 use Rattle.page_shadow.specs.Ledger.{is_held}
-use Rattle.page_words.specs.store_model.Books.{kept_names}
-use Rattle.snapshot_store.specs.State.{State, books, state_of}
-use Rattle.snapshot_store.proofs.PageCalls.{words_same, words_written, worked, write_between}
+use Rattle.store_laws.specs.page_words.store_model.Books.{kept_names}
+use Rattle.store_laws.specs.State.{State, books, state_of}
+use Rattle.store_laws.proofs.PageCalls.{words_same, words_written, worked, write_between}
 use Rattle.snapshot_store.proofs.paged_store.StorePageStore.write_page.Goals as goal
 
 pub write-written-requires : goal.write-written-requires

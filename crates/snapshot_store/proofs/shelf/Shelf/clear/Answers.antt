@@ -1,5 +1,5 @@
 use Rattle.std.proofs.Common.{arith}
-use Rattle.snapshot_store.proofs.Tallies.{none_tallied}
+use Rattle.store_laws.proofs.Tallies.{none_tallied}
 use Rattle.snapshot_store.proofs.shelf.Shelf.clear.Goals as goal
 
 pub invariant_of-self : goal.invariant_of-self

@@ -1,6 +1,6 @@
 use Rattle.std.proofs.Common.{◌≡◌, sym, subst, ◌∙◌, arith}
-use Rattle.snapshot_store.proofs.Shelving.{CopiedSoFar, copied_more}
-use Rattle.snapshot_store.proofs.Tallies.{tally_copied}
+use Rattle.store_laws.proofs.Shelving.{CopiedSoFar, copied_more}
+use Rattle.store_laws.proofs.Tallies.{tally_copied}
 use Rattle.snapshot_store.proofs.shelf.Shelf.copy_from.Goals as goal
 
 pub loop-i-preserved : goal.loop-i-preserved

@@ -1,4 +1,4 @@
-use Rattle.snapshot_store.proofs.Shelving.{CopiedSoFar}
+use Rattle.store_laws.proofs.Shelving.{CopiedSoFar}
 use Rattle.snapshot_store.proofs.shelf.Shelf.copy_from.Given as goal
 
 abbrev pub invariant-loop-i : goal.invariant-loop-i

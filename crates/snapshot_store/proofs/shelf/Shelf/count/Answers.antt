@@ -1,6 +1,6 @@
 use Rattle.std.proofs.Common.{sym, ap, ◌∙◌, arith}
 use Rattle.std.specs.Prelude.{slice_index}
-use Rattle.snapshot_store.proofs.Tallies.{tally_read}
+use Rattle.store_laws.proofs.Tallies.{tally_read}
 use Rattle.snapshot_store.proofs.shelf.Shelf.count.Goals as goal
 
 pub returns : goal.returns

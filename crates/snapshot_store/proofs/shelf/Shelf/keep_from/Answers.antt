@@ -1,6 +1,6 @@
 use Rattle.std.proofs.Common.{◌≤◌, ◌<◌, ℕ, subst}
 use Rattle.std.specs.Prelude.{slice_index}
-use Rattle.snapshot_store.proofs.Shelving.{keeps_none, keeps_one}
+use Rattle.store_laws.proofs.Shelving.{keeps_none, keeps_one}
 use Rattle.snapshot_store.proofs.shelf.Shelf.keep_from.Goals.{then-cut-number, else-cut-number}
 use Rattle.snapshot_store.proofs.shelf.Shelf.keep_from.Goals as goal
 

@@ -1,5 +1,5 @@
 use Rattle.std.specs.Prelude.{slice_index}
-use Rattle.snapshot_store.proofs.Shelving.{KeepsSoFar}
+use Rattle.store_laws.proofs.Shelving.{KeepsSoFar}
 use Rattle.snapshot_store.proofs.shelf.Shelf.keep_from.Given as goal
 
 abbrev pub invariant-loop-i : goal.invariant-loop-i

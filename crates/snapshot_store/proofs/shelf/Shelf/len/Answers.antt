@@ -1,5 +1,5 @@
 use Rattle.std.proofs.Common.{sym, ◌∙◌, arith}
-use Rattle.snapshot_store.proofs.Shelving.{used_len}
+use Rattle.store_laws.proofs.Shelving.{used_len}
 use Rattle.snapshot_store.proofs.shelf.Shelf.len.Goals as goal
 
 pub returns-clause-len : goal.returns-clause-len

@@ -1,5 +1,5 @@
 use Rattle.std.proofs.Common.{arith, rules}
-use Rattle.snapshot_store.proofs.Tallies.{none_tallied}
+use Rattle.store_laws.proofs.Tallies.{none_tallied}
 use Rattle.snapshot_store.proofs.shelf.Shelf.new.Goals as goal
 
 pub invariant_of-result : goal.invariant_of-result

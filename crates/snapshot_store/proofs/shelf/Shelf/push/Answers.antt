@@ -1,8 +1,8 @@
 use Rattle.std.proofs.Common.{sym, ◌≡◌, ◌∙◌, length, arith}
 use Rattle.std.proofs.lemmas.List.{length-set}
-use Rattle.log_reading.specs.image_blocks.Layout.{slot_count}
-use Rattle.snapshot_store.proofs.Shelving.{has_room, one_pushed, used_len}
-use Rattle.snapshot_store.proofs.Tallies.{tally_pushed}
+use Rattle.store_laws.specs.log_reading.image_form.Layout.{slot_count}
+use Rattle.store_laws.proofs.Shelving.{has_room, one_pushed, used_len}
+use Rattle.store_laws.proofs.Tallies.{tally_pushed}
 use Rattle.snapshot_store.proofs.shelf.Shelf.push.Goals as goal
 
 pub index_mut-requires : goal.index_mut-requires

@@ -1,5 +1,5 @@
 use Rattle.std.proofs.Common.{sym, ◌∙◌, arith}
-use Rattle.snapshot_store.proofs.Shelving.{read_rec}
+use Rattle.store_laws.proofs.Shelving.{read_rec}
 use Rattle.snapshot_store.proofs.shelf.Shelf.rec.Goals as goal
 
 pub returns : goal.returns

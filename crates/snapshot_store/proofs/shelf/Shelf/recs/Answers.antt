@@ -1,6 +1,6 @@
 use Rattle.std.proofs.Common.{sym, ap, ◌∙◌, List, take}
 use Rattle.hop_base.specs.declared.records.Rec.{Rec}
-use Rattle.snapshot_store.proofs.Shelving.{first_recs}
+use Rattle.store_laws.proofs.Shelving.{first_recs}
 use Rattle.snapshot_store.proofs.shelf.Shelf.recs.Goals as goal
 
 pub returns : goal.returns

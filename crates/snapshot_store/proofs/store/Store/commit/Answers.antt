@@ -1,13 +1,13 @@
 use Rattle.std.proofs.Common.{◌≡◌, ◌+◌, ◌/◌, ◌<◌, ◌≤◌, length, inl, sym, ap, ◌∙◌, arith}
 use Rattle.disk_trait.proofs.Phases.{LeavesOnly-start, told}
 use Rattle.disk_trait.specs.declared.disk.NoBlocks.{NoBlocks as TooFew}
-use Rattle.log_reading.specs.image_blocks.Bodies.{blocks_for}
-use Rattle.page_words.specs.store_model.Between.{stored_each}
-use Rattle.page_words.specs.store_model.Books.{free_in, kept_of, recs_in}
-use Rattle.snapshot_store.specs.Committed.{StoresKeptOrMore}
-use Rattle.snapshot_store.specs.State.{State, books, state_of}
+use Rattle.store_laws.specs.log_reading.image_form.Bodies.{blocks_for}
+use Rattle.store_laws.specs.page_words.store_model.Between.{stored_each}
+use Rattle.store_laws.specs.page_words.store_model.Books.{free_in, kept_of, recs_in}
+use Rattle.store_laws.specs.Committed.{StoresKeptOrMore}
+use Rattle.store_laws.specs.State.{State, books, state_of}
 use Rattle.snapshot_store.proofs.CommitAnswering.{made_answers, short_answers, shut_answers}
-use Rattle.snapshot_store.proofs.Holding.{free_is}
+use Rattle.store_laws.proofs.Holding.{free_is}
 use Rattle.snapshot_store.proofs.store.Store.commit.Goals as goal
 
 pub returns-then-free-need-clause-any_moment : goal.returns-then-free-need-clause-any_moment

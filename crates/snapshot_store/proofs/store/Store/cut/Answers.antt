@@ -1,5 +1,5 @@
 use Rattle.std.proofs.Common.{ℕ, ap}
-use Rattle.snapshot_store.proofs.Holding.{cut_is}
+use Rattle.store_laws.proofs.Holding.{cut_is}
 use Rattle.snapshot_store.proofs.store.Store.cut.Goals as goal
 
 pub returns : goal.returns

@@ -1,5 +1,5 @@
 use Rattle.std.proofs.Common.{◌∙◌}
-use Rattle.snapshot_store.proofs.Holding.{free_is}
+use Rattle.store_laws.proofs.Holding.{free_is}
 use Rattle.snapshot_store.proofs.store.Store.free.Goals as goal
 
 pub returns : goal.returns

@@ -5,16 +5,16 @@ use Rattle.std.proofs.lemmas.List.{length-take}
 use Rattle.disk_trait.specs.Moments.{LeavesOnly}
 use Rattle.disk_trait.proofs.Phases.{told}
 use Rattle.hop_base.specs.declared.records.Rec.{Rec}
-use Rattle.log_reading.specs.image_blocks.Logs.{AreFitting}
+use Rattle.store_laws.specs.log_reading.image_form.Logs.{AreFitting}
 use Rattle.page_shadow.specs.Ledger.{Ledger, is_held}
-use Rattle.page_words.specs.store_model.Books.{Logged, recs_in}
-use Rattle.snapshot_store.specs.Choosing.{IsKeeping, are_chosen, with_tables}
-use Rattle.snapshot_store.specs.Holds.{names_page}
-use Rattle.snapshot_store.specs.State.{State, books, state_of}
-use Rattle.snapshot_store.proofs.Holds.{held_whole}
-use Rattle.snapshot_store.proofs.Keep.{chosen_fit, chosen_row, found_logged, placed_row, whole_rows}
-use Rattle.snapshot_store.proofs.PageCalls.{worked}
-use Rattle.snapshot_store.proofs.Turned.{kept_books_true, moments_keeping, next_is}
+use Rattle.store_laws.specs.page_words.store_model.Books.{Logged, recs_in}
+use Rattle.store_laws.specs.Choosing.{IsKeeping, are_chosen, with_tables}
+use Rattle.store_laws.specs.Holds.{names_page}
+use Rattle.store_laws.specs.State.{State, books, state_of}
+use Rattle.store_laws.proofs.Holds.{held_whole}
+use Rattle.store_laws.proofs.Keep.{chosen_fit, chosen_row, found_logged, placed_row, whole_rows}
+use Rattle.store_laws.proofs.PageCalls.{worked}
+use Rattle.store_laws.proofs.Turned.{kept_books_true, moments_keeping, next_is}
 use Rattle.snapshot_store.proofs.store.Store.keep_chosen.Goals as goal
 
 pub turn-requires-clause-stands : goal.turn-requires-clause-stands

@@ -1,6 +1,6 @@
 use Rattle.std.proofs.Common.{ap, ◌∙◌}
-use Rattle.snapshot_store.specs.Shelves.{records_of}
-use Rattle.snapshot_store.proofs.Holding.{kept_is}
+use Rattle.store_laws.specs.Shelves.{records_of}
+use Rattle.store_laws.proofs.Holding.{kept_is}
 use Rattle.snapshot_store.proofs.store.Store.kept_count.Goals as goal
 
 pub returns : goal.returns

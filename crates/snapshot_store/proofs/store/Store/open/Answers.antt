@@ -1,4 +1,4 @@
-use Rattle.snapshot_store.proofs.Opened.{over_range, over_records}
+use Rattle.store_laws.proofs.Opened.{over_range, over_records}
 use Rattle.snapshot_store.proofs.store.Store.open.Goals as goal
 
 pub returns-clause-records : goal.returns-clause-records

@@ -1,9 +1,9 @@
 use Rattle.std.proofs.Common.{List, map, sym, ap, subst, ◌∙◌}
 use Rattle.hop_base.specs.declared.records.Rec.{Rec}
 use Rattle.disk_trait.proofs.Phases.{IsImage-reading}
-use Rattle.log_reading.specs.Logs.{AreInRange}
-use Rattle.snapshot_store.specs.Opening.{fresh_ledger, unread}
-use Rattle.snapshot_store.proofs.Opened.{empty_true, none_logged, over_log, synced_stands}
+use Rattle.store_laws.specs.log_reading.log_laws.Logs.{AreInRange}
+use Rattle.store_laws.specs.Opening.{fresh_ledger, unread}
+use Rattle.store_laws.proofs.Opened.{empty_true, none_logged, over_log, synced_stands}
 use Rattle.snapshot_store.proofs.store.Store.over.Goals as goal
 
 pub on_shelves-requires-clause-range : goal.on_shelves-requires-clause-range

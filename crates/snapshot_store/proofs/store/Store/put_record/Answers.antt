@@ -1,10 +1,10 @@
 use Rattle.std.proofs.Common.{List, [], ◌∷◌, ◌++◌, length, sym, ap, subst, arith}
 use Rattle.std.proofs.lemmas.List.{length-map}
 use Rattle.hop_base.specs.declared.records.Rec.{Rec}
-use Rattle.page_words.specs.log_turn.Standing.{Stands, used_of}
-use Rattle.page_words.specs.store_model.Books.{Logged}
-use Rattle.store_commit.specs.Storing.{HasLogged, IsReady, new_of, roomy_log}
-use Rattle.snapshot_store.proofs.Committable.{places_within}
+use Rattle.store_laws.specs.page_words.log_turn.Standing.{Stands, used_of}
+use Rattle.store_laws.specs.page_words.store_model.Books.{Logged}
+use Rattle.store_laws.specs.store_commit.Storing.{HasLogged, IsReady, new_of, roomy_log}
+use Rattle.store_laws.proofs.Committable.{places_within}
 use Rattle.snapshot_store.proofs.store.Store.put_record.Goals as goal
 
 pub commit_record-requires-clause-enough : goal.commit_record-requires-clause-enough

@@ -1,7 +1,7 @@
 use Rattle.disk_trait.proofs.Phases.{told}
-use Rattle.snapshot_store.specs.State.{State, books, state_of}
-use Rattle.snapshot_store.proofs.Opened.{log_read}
-use Rattle.snapshot_store.proofs.PageCalls.{read_between}
+use Rattle.store_laws.specs.State.{State, books, state_of}
+use Rattle.store_laws.proofs.Opened.{log_read}
+use Rattle.store_laws.proofs.PageCalls.{read_between}
 use Rattle.snapshot_store.proofs.store.Store.read_blob.Goals as goal
 
 pub returns-in-Err-clause-between : goal.returns-in-Err-clause-between

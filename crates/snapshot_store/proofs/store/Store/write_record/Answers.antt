@@ -4,17 +4,17 @@ use Rattle.disk_trait.proofs.Phases.{told}
 use Rattle.disk_trait.specs.Image.{SameOutside}
 use Rattle.disk_tally.proofs.Counting.{Begins-fewer}
 use Rattle.hop_base.specs.declared.records.Rec.{Rec}
-use Rattle.log_reading.specs.image_blocks.Bodies.{blocks_for}
+use Rattle.store_laws.specs.log_reading.image_form.Bodies.{blocks_for}
 use Rattle.page_shadow.specs.Ledger.{Ledger}
-use Rattle.store_commit.specs.Storing.{HasPlaces, IsCommitBlock}
-use Rattle.page_words.specs.store_model.Books.{recs_in}
-use Rattle.snapshot_store.specs.Keeping.{HasRecounted}
-use Rattle.snapshot_store.specs.State.{State, books, state_of}
-use Rattle.snapshot_store.specs.Taking.{HasReleased}
-use Rattle.snapshot_store.proofs.Committable.{IsRecordOf, blob_bytes, in_free, taken_placed, taken_places}
-use Rattle.snapshot_store.proofs.Course.{commits, failed_shut, moments_behind, new_record, recounted_either, stands_now, true_behind, used_same}
-use Rattle.snapshot_store.proofs.Holding.{free_is, kept_is}
-use Rattle.snapshot_store.proofs.Listing.{few_blocks}
+use Rattle.store_laws.specs.store_commit.Storing.{HasPlaces, IsCommitBlock}
+use Rattle.store_laws.specs.page_words.store_model.Books.{recs_in}
+use Rattle.store_laws.specs.Keeping.{HasRecounted}
+use Rattle.store_laws.specs.State.{State, books, state_of}
+use Rattle.store_laws.specs.Taking.{HasReleased}
+use Rattle.store_laws.proofs.Committable.{IsRecordOf, blob_bytes, in_free, taken_placed, taken_places}
+use Rattle.store_laws.proofs.Course.{commits, failed_shut, moments_behind, new_record, recounted_either, stands_now, true_behind, used_same}
+use Rattle.store_laws.proofs.Holding.{free_is, kept_is}
+use Rattle.store_laws.proofs.Listing.{few_blocks}
 use Rattle.snapshot_store.proofs.store.Store.write_record.Goals as goal
 use Rattle.snapshot_store.proofs.store.Store.write_record.Goals.{in-Ok, in-Err}
 

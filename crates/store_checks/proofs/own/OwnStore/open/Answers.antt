@@ -1,6 +1,6 @@
 use Rattle.std.proofs.Common.{◌≡◌, [], sym, ap, ◌∙◌, eqb-true, length}
-use Rattle.snapshot_store.specs.Opening.{is_some_rec}
-use Rattle.snapshot_store.specs.State.{books}
+use Rattle.snapshot_store.specs.store_laws.Opening.{is_some_rec}
+use Rattle.snapshot_store.specs.store_laws.State.{books}
 use Rattle.snapshot_store.specs.store_model.Books.{recs_in}
 use Rattle.store_checks.proofs.Owned.{none_of}
 use Rattle.store_checks.proofs.own.OwnStore.open.Goals as goal

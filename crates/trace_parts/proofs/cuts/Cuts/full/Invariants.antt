@@ -1,6 +1,6 @@
 use Rattle.std.proofs.Common.{◌≡◌, ℕ, ◌<◌, nat_le}
 use Rattle.trace_parts.specs.Cuts.{records_of}
-use Rattle.trace_parts.specs.Flags.{mark_at}
+use Rattle.cut_finder.specs.cut_searches.Searches.{mark_at}
 use Rattle.trace_parts.proofs.cuts.Cuts.full.Given as goal
 
 abbrev pub invariant-loop-x : goal.invariant-loop-x

@@ -1,7 +1,7 @@
 use Rattle.std.proofs.Common.{rules}
 use Rattle.std.proofs.lemmas.Fn.{filter_same}
 use Rattle.cut_finder.specs.cut_laws.Records.{is_rec_from}
-use Rattle.cut_finder.specs.Records.{choice}
+use Rattle.cut_finder.specs.cut_searches.Records.{choice}
 use Rattle.trace_parts.proofs.cuts.Cuts.raise.Goals as goal
 
 pub returns-clause-kept : goal.returns-clause-kept

@@ -1,0 +1,14 @@
+pub mod Booked
+pub mod Drilling
+pub mod Leaving
+pub mod OfScript
+pub mod Playing
+pub mod Short
+pub mod Tellings
+pub mod Openings
+pub mod Ready
+pub mod TraceBooked
+pub mod TraceLeaving
+pub mod SourceParts
+pub mod Sources
+pub mod Traces

@@ -1,0 +1,5 @@
+pub mod Bodies
+pub mod Checks
+pub mod Examples
+pub mod Layout
+pub mod Logs

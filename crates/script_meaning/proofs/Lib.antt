@@ -1,0 +1,5 @@
+pub mod Allowed
+pub mod Each
+pub mod Lists
+pub mod Managed
+pub mod Readings

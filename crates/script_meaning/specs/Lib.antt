@@ -1,0 +1,5 @@
+pub mod Fields
+pub mod Meaning
+pub mod Ordered
+pub mod Reading
+pub mod Strings
