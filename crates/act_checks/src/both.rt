@@ -11,12 +11,12 @@ use crate::made::{head_from, locus_from};
 use crate::same::{same_atlas, same_head, same_locus};
 use atlas_dir::Atlas;
 use history_model::Plain;
-use history_model::wanted_act::Act;
 use hop_base::{Answer, Condition, Entity, Entry, Instr, Kind};
-use kernel_calls::locus_machine::{Head, Locus};
+use locus_machine::{Head, Locus};
 use plain_steps::plain_step;
 use std::alloc::AllocError;
 use std::process::Abort;
+use wanted_act::Act;
 
 /// A step on a supplier whose words are the container's tag.
 fn step(

@@ -6,7 +6,7 @@ use crate::kernel::{Around, kernel_step};
 use atlas_dir::Atlas;
 use cap_list::CapList;
 use hop_base::{Answer, Call, Cap, Condition, Entity, Instr, Kind, Region, Reply, Rights};
-use kernel_calls::locus_machine::{Head, Locus};
+use locus_machine::{Head, Locus};
 use std::process::Abort;
 
 /// The container in which the locus begins.

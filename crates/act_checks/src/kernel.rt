@@ -9,12 +9,12 @@ ghost use Rattle.kernel_calls.specs.Calls.{is_map, is_unmap};
 
 use crate::{is_counted, names_born};
 use atlas_dir::Atlas;
-use history_model::wanted_act::Act;
 use hop_base::{Answer, Entity, Instr, Kind, Reply};
-use kernel_calls::invocation::{back, invoke, leave};
-use kernel_calls::locus_machine::{Head, Locus};
+use invocation::{back, invoke, leave};
 use kernel_calls::{give, go, go_itself, make, map, spawn, stop, stop_itself, take, unmap};
+use locus_machine::{Head, Locus};
 use std::process::Abort;
+use wanted_act::Act;
 
 /// What stands beside the locus that makes a step.
 #[derive(Drop)]

@@ -34,7 +34,7 @@ fn answers(locus: &mut Locus, wanted: &[Answer]) -> bool
     true
 }
 
-const SUMS: [Answer; 6] = [
+const SUMS: &[Answer] = &[
     Answer::Quiet,
     Answer::Quiet,
     Answer::Print(18_446_744_073_709_551_611),
@@ -54,17 +54,17 @@ fn sums_wrap_and_refusals_are_answered_in_register_7(rt: HostRuntime) -> Result<
         Instr::Print(7),
     ];
     let mut locus = Locus::new(host, 0, 0, &code);
-    assert!(rt; answers(&mut locus, &SUMS));
+    assert!(rt; answers(&mut locus, SUMS));
     assert!(rt; (locus.printed, locus.place) == (2, 5));
     assert!(rt; locus.condition == Condition::Halted);
     Ok(())
 }
 
-const MAPPED: [Answer; 2] = [Answer::Quiet, Answer::Reply(Reply::Ok)];
+const MAPPED: &[Answer] = &[Answer::Quiet, Answer::Reply(Reply::Ok)];
 
-const UNMAPPED: [Answer; 2] = [Answer::Reply(Reply::Overlap), Answer::Reply(Reply::Ok)];
+const UNMAPPED: &[Answer] = &[Answer::Reply(Reply::Overlap), Answer::Reply(Reply::Ok)];
 
-const DROPPED: [Answer; 2] = [Answer::Reply(Reply::NoRegion), Answer::Reply(Reply::Ok)];
+const DROPPED: &[Answer] = &[Answer::Reply(Reply::NoRegion), Answer::Reply(Reply::Ok)];
 
 #[test]
 fn private_regions_are_made_and_taken_out(rt: HostRuntime) -> Result<(), Fail> {
@@ -84,9 +84,9 @@ fn private_regions_are_made_and_taken_out(rt: HostRuntime) -> Result<(), Fail> {
         rights: Rights(3),
     };
     assert!(rt; locus.caps.put(cap) == Ok(0));
-    assert!(rt; answers(&mut locus, &MAPPED) && locus.privates.as_slice().len() == 1);
-    assert!(rt; answers(&mut locus, &UNMAPPED) && locus.privates.as_slice().is_empty());
-    assert!(rt; answers(&mut locus, &DROPPED));
+    assert!(rt; answers(&mut locus, MAPPED) && locus.privates.as_slice().len() == 1);
+    assert!(rt; answers(&mut locus, UNMAPPED) && locus.privates.as_slice().is_empty());
+    assert!(rt; answers(&mut locus, DROPPED));
     assert!(rt; locus.caps.at(0) == Err(Reply::NoSlot));
     Ok(())
 }

@@ -2,7 +2,7 @@
 use cap_list::{CapList, SLOTS};
 use history_model::{PlainContainer, PlainLocus};
 use hop_base::{Call, Cap, Entity, Instr, MOST_CALLS, Private, Region, Rights};
-use kernel_calls::locus_machine::{Chain, Code, Head, Locus, Privates};
+use locus_machine::{Chain, Code, Head, Locus, Privates};
 use region_map::RegionMap;
 
 fn code_from(code: &[Instr]) -> Option<Code> {

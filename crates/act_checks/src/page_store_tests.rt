@@ -1,4 +1,5 @@
-use page_store::{MemoryPages, NoBlocks, PageFault, PageStore};
+use disk_trait::NoBlocks;
+use page_store::{MemoryPages, PageFault, PageStore};
 use std::test::Fail;
 
 #[test]

@@ -9,8 +9,8 @@ ghost use Rattle.history_model.specs.script_form.Rules.{IsScript};
 ghost use Rattle.history_model.specs.script_form.Scripts.{tables_of};
 ghost use Rattle.history_model.specs.Born.{AreOfOneKind, KnowsNames};
 
-use history_model::script_form::{Script, ScriptCap, ScriptContainer, ScriptLocus};
 use hop_base::{Instr, Rights};
+use script_form::{Script, ScriptCap, ScriptContainer, ScriptLocus};
 use std::alloc::{AllocError, Global};
 
 /// Numbers that look random, the same each time.

@@ -6,7 +6,7 @@ ghost use Rattle.history_model.specs.wanted_act.Views.{IsReadyLocus, IsInside};
 ghost use Rattle.kernel_calls.specs.locus_machine.Loci.{locus_of};
 
 use hop_base::{Instr, Region, Rights, Walk};
-use kernel_calls::locus_machine::Locus;
+use locus_machine::Locus;
 
 /// Read, Write or both.
 fn is_access(rights: Rights) -> bool

@@ -2,7 +2,7 @@
 use atlas_dir::Atlas;
 use history_model::{Edge, PlainAtlas, PlainContainer, PlainLocus};
 use hop_base::{Entity, Region};
-use kernel_calls::locus_machine::{Head, Locus};
+use locus_machine::{Head, Locus};
 use region_map::RegionMap;
 
 /// Whether both are the same locus.

@@ -1,8 +1,8 @@
 //! A script with one container and its locus, and atlases that it meets.
 use atlas_dir::Atlas;
-use fitting_births::script_form::{Script, ScriptContainer, ScriptFault, ScriptLocus, Why};
 use hop_base::Kind;
 use script_against::{NextTable, Progress, against, next_table};
+use script_form::{Script, ScriptContainer, ScriptFault, ScriptLocus, Why};
 use std::alloc::{AllocError, Global};
 use std::test::Fail;
 

@@ -13,9 +13,6 @@ ghost use Rattle.history_model.specs.sound_runs.Names.{KeepsNames};
 ghost use Rattle.history_model.specs.script_form.Rules.{IsScript};
 ghost use Rattle.history_model.specs.sound_runs.Kinds.{NamesNoLocus};
 
-pub use history_model;
-pub use history_model::script_form;
-
 /// A step takes no name from the atlas and gives none to another number.
 pub fn kept_names_law()
     ensures { (s : Supply) (l : ℕ) (w : KernelState) (r : Entry × KernelState)

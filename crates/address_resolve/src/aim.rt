@@ -9,8 +9,7 @@ ghost use Rattle.invocation.specs.Entries.{WantsBeside};
 ghost use Rattle.address_resolve.specs.Looks.{address_of, done_by, is_look, is_store, needed_by, writes, NamesRegister};
 
 use hop_base::{Instr, Rights};
-use invocation::locus_machine::Locus;
-use invocation::wanted_act::{fetch, next_address};
+use invocation::{Locus, fetch, next_address};
 
 /// What is done with a word.
 #[derive(Clone, Copy)]

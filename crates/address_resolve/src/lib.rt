@@ -16,13 +16,9 @@ ghost use Rattle.address_resolve.specs.Looks.{address_of, comes_to_word, is_look
 use crate::aim::aim_of;
 use crate::shown::shown;
 use crate::word::at_word;
-pub use fault_paging;
-pub use fault_paging::page_store;
-use fault_paging::page_store::PageStore;
-use fault_paging::{PageFault, PagedMemory};
+use fault_paging::{PageFault, PageStore, PagedMemory};
 use hop_base::{Answer, PAGE_WORDS};
-use invocation::locus_machine::{Head, Locus};
-pub use invocation::{locus_machine, wanted_act};
+pub use invocation::{Head, Locus};
 use manager_gate::{Gate, Policy, Supplier};
 
 mod aim;

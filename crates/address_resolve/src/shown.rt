@@ -6,8 +6,7 @@ ghost use Rattle.invocation.specs.locus_machine.Loci.{locus_of, container_with};
 ghost use Rattle.address_resolve.specs.Looks.{comes_to_word, Shows};
 
 use hop_base::{Answer, PAGE_WORDS, Region, Reply, Rights};
-use invocation::locus_machine::{Head, Locus};
-use invocation::wanted_act::next_walk;
+use invocation::{Head, Locus, next_walk};
 
 /// What a region that shows the address makes of the walk: a denial, one hop more, or the end.
 fn follow(locus: &mut Locus, region: &Region, address: u64, needed: Rights) -> Answer

@@ -7,10 +7,9 @@ ghost use Rattle.fault_paging.specs.Calls.{Counts, IsCausedBy, Keeps, KeepsBlock
 ghost use Rattle.address_resolve.specs.Looks.{done_by, writes, Looked, NamesRegister, ReachesSomehow};
 
 use crate::aim::{Access, Aim};
-use fault_paging::page_store::PageStore;
-use fault_paging::{PageFault, PagedMemory};
+use fault_paging::{PageFault, PageStore, PagedMemory};
 use hop_base::{Answer, PAGE_WORDS, Reply};
-use invocation::locus_machine::Locus;
+use invocation::Locus;
 use manager_gate::{Gate, Policy, Supplier};
 
 /// The look at a word: it is read or written, and the walk ends. A fault leaves the locus and the words as they were.

@@ -9,8 +9,8 @@ ghost use Rattle.snapshot_reading.specs.Places.{IsBadBlob};
 use crate::edges::read_edges;
 use crate::names::read_names;
 use atlas_dir::Atlas;
+use blob_grammar::ATLAS_BLOB;
 use hop_base::{Kind, MOST_CONTAINERS, MOST_LOCI};
-use snapshot_reading::blob_grammar::ATLAS_BLOB;
 use snapshot_reading::fields::{Parsed, read_byte};
 use snapshot_reading::{BadBlob, place_of};
 

@@ -6,5 +6,4 @@ mod edges;
 mod names;
 
 pub use atlases::read_atlas;
-pub use snapshot_reading;
-pub use snapshot_reading::locus_machine;
+pub use snapshot_reading::{BadBlob, ContainerBlob, read_container, read_locus};

@@ -11,8 +11,7 @@ ghost use Rattle.beside_steps.specs.Besides.{pair_of, FitsBeside, KeepsMemory, W
 
 use crate::parts::act_in_parts;
 use hop_base::{Answer, Entry, Event, Instr};
-use kernel_cells::Cell;
-use kernel_cells::event_clocks::{Clock, write_two};
+use kernel_cells::{Cell, Clock, write_two};
 
 /// The entry of a step that writes the locus and another entity.
 fn write_both(locus: &mut Clock, other: &mut Clock, answer: Answer) -> Entry

@@ -5,5 +5,4 @@ mod besides;
 mod parts;
 
 pub use besides::step_beside;
-pub use kernel_cells;
-pub use kernel_cells::{event_clocks, kernel_calls, locus_machine};
+pub use kernel_cells::{Cell, Head, Locus, Part, Storage, map, unmap, write_three};

@@ -11,10 +11,7 @@ ghost use Rattle.kernel_cells.specs.Cells.{part_of, IsRunning};
 ghost use Rattle.beside_steps.specs.Besides.{calls_container, is_snap, FitsBeside, KeepsMemory, MakesBoth, WantsOther};
 
 use hop_base::{Answer, Entity, Instr, Reply};
-use kernel_cells::invocation::{back, invoke, leave};
-use kernel_cells::kernel_calls::{give, go, stop, take};
-use kernel_cells::locus_machine::{Head, Locus};
-use kernel_cells::{Part, Storage};
+use kernel_cells::{Head, Locus, Part, Storage, back, give, go, invoke, leave, stop, take};
 
 /// A snap, which leaves the other entity as it is.
 fn record_it(locus: &mut Locus, number: Entity, instr: Instr) -> Reply

@@ -12,8 +12,7 @@ ghost use Rattle.birth_steps.specs.Bearing.{IsNewContainer, IsUnbornContainer};
 use crate::containers::make_in_parts;
 use crate::loci::spawn_in_parts;
 use hop_base::{Entry, Event};
-use kernel_cells::event_clocks::write_three;
-use kernel_cells::{Cell, Part};
+use kernel_cells::{Cell, Part, write_three};
 
 /// The step of a running locus that makes a container, where a number is free. The cell of the lowest free number becomes
 /// the container. It takes no memory. Wishes and steps left are as before.

@@ -13,10 +13,7 @@ ghost use Rattle.birth_steps.specs.Bearing.{IsNewContainer, IsUnbornContainer, M
 
 use atlas_dir::Atlas;
 use hop_base::{Answer, Reply};
-use kernel_cells::fault_paging::ShadowTable;
-use kernel_cells::kernel_calls::make;
-use kernel_cells::locus_machine::{Head, Locus};
-use kernel_cells::{Part, Storage};
+use kernel_cells::{Head, Locus, Part, ShadowTable, Storage, make};
 
 /// Puts a new container into its place. No page is resident, and none has a block.
 fn begin(storage: &mut Storage, head: Head)

@@ -7,5 +7,4 @@ mod loci;
 mod refused;
 
 pub use births::{step_make, step_spawn};
-pub use kernel_cells;
 pub use refused::step_no_number;

@@ -13,9 +13,7 @@ ghost use Rattle.birth_steps.specs.Bearing.{MakesNewborn};
 
 use atlas_dir::Atlas;
 use hop_base::{Answer, Reply};
-use kernel_cells::Part;
-use kernel_cells::kernel_calls::spawn;
-use kernel_cells::locus_machine::Locus;
+use kernel_cells::{Locus, Part, spawn};
 
 fn spawn_locus(locus: &mut Locus, atlas: &mut Atlas, newborn: &mut Option<Locus>) -> Reply
     requires ready { IsReadyLocus (locus_of locus.old) }

@@ -13,9 +13,7 @@ ghost use Rattle.kernel_cells.specs.Steps.{Steps};
 ghost use Rattle.birth_steps.specs.Bearing.{MakesNone, NoNumberFree};
 
 use hop_base::{Answer, Entry, Event, Reply};
-use kernel_cells::event_clocks::write_two;
-use kernel_cells::locus_machine::Locus;
-use kernel_cells::{Cell, Part};
+use kernel_cells::{Cell, Locus, Part, write_two};
 
 fn refuse(locus: &mut Locus) -> Answer
     requires ready { IsReadyLocus (locus_of locus.old) }

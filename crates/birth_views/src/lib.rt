@@ -4,9 +4,8 @@
 ghost use Rattle.birth_views.specs.Births.{BirthLaw};
 
 use disk_trait::Disk;
-pub use kernel_views::{kernel_cells, page_store, script_form, snapshot_store};
-pub use table_births;
-pub use table_births::script_against;
+pub use kernel_views::{Idle, OpenFault, OpenWhy, Store};
+pub use table_births::{Cell, Part, Progress, StepFault, Storage, bear_next};
 
 /// A kernel whose run is in its births goes on by the next one over its cells. The store stays as it is.
 pub fn birth_law<D: Disk>()

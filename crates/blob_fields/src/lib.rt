@@ -8,7 +8,7 @@ ghost use Rattle.hop_base.specs.declared.entities.Kind.{Kind};
 ghost use Rattle.hop_base.specs.declared.entities.Kind.TheVariants.{Atlas};
 ghost use Rattle.std.specs.Prelude.{List, None, length, ℕ, ◌<◌, ◌≡◌};
 
-pub use directory_laws::{kernel_calls, locus_machine};
+pub use directory_laws::{Chain, Code, Head, Locus, MOST_INSTRS, Privates};
 
 /// A name that an atlas has room for leaves a directory.
 pub fn names_law()

@@ -7,7 +7,5 @@ mod places;
 mod rooms;
 
 pub use loading::load;
-pub use log_reading;
-pub use log_reading::image_blocks;
-pub use part_checks;
-pub use part_checks::snapshot_reading;
+pub use log_reading::{ImageLog, ReadingFault};
+pub use part_checks::{ChosenEntity, ChosenPart, ContainerBlob, first_unfit};

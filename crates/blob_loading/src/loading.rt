@@ -14,7 +14,7 @@ use crate::rooms::read_room;
 use block_code::{Blob, MOST_BLOB_BYTES};
 use disk_trait::{Disk, DiskFault};
 use hop_base::Rec;
-use log_reading::image_blocks::Bad;
+use image_blocks::Bad;
 use part_checks::ChosenPart;
 
 // The blocks of a record's blob.

@@ -6,9 +6,7 @@ ghost use Rattle.part_checks.specs.snapshot_reading.Places.{IsBadBlob};
 ghost use Rattle.blob_loading.specs.Loading.{IsRead};
 
 use hop_base::Kind;
-use part_checks::ChosenPart;
-use part_checks::atlas_reading::read_atlas;
-use part_checks::snapshot_reading::{BadBlob, read_container, read_locus};
+use part_checks::{BadBlob, ChosenPart, read_atlas, read_container, read_locus};
 
 // What the bytes of an entity of this kind spell.
 pub(crate) fn parse(kind: Kind, bytes: &[u8]) -> Result<ChosenPart, BadBlob>

@@ -6,8 +6,8 @@ ghost use Rattle.blob_loading.specs.Loading.{bad_for, place_in};
 use block_code::MOST_BLOB_BYTES;
 use disk_trait::BLOCK_BYTES;
 use hop_base::Rec;
-use log_reading::image_blocks::Bad;
-use part_checks::snapshot_reading::BadBlob;
+use image_blocks::Bad;
+use part_checks::BadBlob;
 
 /// The bytes of a block.
 const BLOCK: u32 = BLOCK_BYTES as u32;

@@ -11,10 +11,10 @@ ghost use Rattle.birth_steps.specs.Bearing.{IsNewContainer, IsUnbornContainer};
 ghost use Rattle.cell_births.specs.Bearing.{Bears, IsBirthEntry, MayBearContainer, MayBearLocus};
 
 use crate::{containers, loci};
+use event_clocks::{write_three, write_two};
 use hop_base::{Answer, Entry, Event};
-use script_against::script_form::{ScriptContainer, ScriptLocus};
-use wish_laws::event_clocks::{write_three, write_two};
-use wish_laws::kernel_cells::{Cell, Part, Wish};
+use script_form::{ScriptContainer, ScriptLocus};
+use wish_laws::{Cell, Part, Wish};
 
 /// The wish of a written cell: a birth is its last writer.
 fn born(wish: &Wish) -> Wish

@@ -18,10 +18,10 @@ ghost use Rattle.cell_births.specs.Bearing.{MayBearContainer};
 use crate::tables::{caps_from, regions_from};
 use atlas_dir::Atlas;
 use hop_base::{Entity, Kind, Region};
-use script_against::script_form::ScriptContainer;
-use wish_laws::fault_paging::ShadowTable;
-use wish_laws::kernel_cells::{Part, Storage};
-use wish_laws::locus_machine::Head;
+use locus_machine::Head;
+use page_shadow::ShadowTable;
+use script_form::ScriptContainer;
+use wish_laws::{Part, Storage};
 
 /// The container of a table.
 fn head_from(atlas: &Atlas, newborn: Entity, table: &ScriptContainer) -> Head

@@ -11,5 +11,5 @@ mod tables;
 
 pub use births::{bear_container, bear_locus};
 pub use laws::{next_births_are_named, next_births_may_be_made};
-pub use script_against;
-pub use wish_laws::kernel_cells;
+pub use script_against::{NextTable, Progress, next_table};
+pub use wish_laws::{Part, Storage};

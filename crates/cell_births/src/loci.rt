@@ -14,9 +14,9 @@ ghost use Rattle.cell_births.specs.Bearing.{MayBearLocus};
 use crate::tables::caps_from;
 use atlas_dir::Atlas;
 use hop_base::{Entity, Instr, Kind};
-use script_against::script_form::ScriptLocus;
-use wish_laws::kernel_cells::{Part, Storage};
-use wish_laws::locus_machine::Locus;
+use locus_machine::Locus;
+use script_form::ScriptLocus;
+use wish_laws::{Part, Storage};
 
 /// The code of a container that is born, and else none.
 fn code_of(part: &Part) -> &[Instr]

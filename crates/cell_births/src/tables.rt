@@ -12,7 +12,7 @@ use atlas_dir::Atlas;
 use cap_list::CapList;
 use hop_base::{Cap, Entity, Region};
 use region_map::RegionMap;
-use script_against::script_form::{ScriptCap, ScriptRegion};
+use script_form::{ScriptCap, ScriptRegion};
 
 /// The capabilities of a table, in the slots from 0 on.
 pub(crate) fn caps_from(atlas: &Atlas, own: &str, newborn: Entity, tables: &[ScriptCap]) -> CapList

@@ -7,7 +7,7 @@ ghost use Rattle.address_resolve.specs.locus_machine.Loci.{container_with, locus
 ghost use Rattle.cell_blobs.specs.Blobs.{bytes_of, spelt_in, spelt_locus, spelt_storage, HasFormedHead, IsFormed, IsFormedLocus};
 
 use crate::ranges::{fits_number, fits_word, read_blocks, read_rights, read_walk, read_words};
-use address_resolve::locus_machine::{Head, Locus};
+use address_resolve::{Head, Locus};
 use block_code::Blob;
 use kernel_cells::{Part, Storage};
 use snapshot_form::{write_atlas, write_container, write_locus};

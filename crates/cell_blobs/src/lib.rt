@@ -5,8 +5,6 @@ mod blobs;
 mod needs;
 mod ranges;
 
-pub use address_resolve::locus_machine;
 pub use blobs::write_part;
-pub use kernel_cells;
-pub use kernel_cells::{event_clocks, fault_paging};
+pub use kernel_cells::{Cell, Part, Storage, Wish};
 pub use needs::{is_recorded, need_cell};

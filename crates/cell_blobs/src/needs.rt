@@ -4,8 +4,7 @@ ghost use Rattle.cell_blobs.specs.Blobs.{blob_need, is_recorded, need_in, page_n
 
 use crate::blobs::write_part;
 use block_code::Blob;
-use kernel_cells::page_store::PageStore;
-use kernel_cells::{Cell, Part};
+use kernel_cells::{Cell, PageStore, Part};
 
 /// The blocks for pages: those that changed and have no block of their own.
 #[tactic(auto, using(crate::proofs::Shortage::few_pages))]

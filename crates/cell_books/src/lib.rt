@@ -14,7 +14,7 @@ ghost use Rattle.kernel_views.specs.store_model.Between.{OnlyPages};
 ghost use Rattle.kernel_views.specs.store_model.Books.{Books};
 
 use disk_trait::Disk;
-pub use kernel_views::{kernel_records, snapshot_store};
+pub use kernel_views::{FULL, Store, StoreFault, commit_cell, mark_entry};
 
 /// A record of a cell that has changed since its newest one may be made, where no entity has more than five kept records.
 pub fn may_commit_law()

@@ -10,7 +10,7 @@ ghost use Rattle.cell_blobs.specs.kernel_cells.Cells.{HasCell};
 ghost use Rattle.cell_blobs.specs.Blobs.{IsFormed};
 ghost use Rattle.cell_laws.specs.Memories.{HasOwnMemory, blocks_named, pages_born};
 
-pub use cell_blobs;
+pub use cell_blobs::{is_recorded, need_cell};
 
 /// Each cell that a sound state has keeps what its blob needs to have a spelling, where a container's memory is its own.
 pub fn formed_cell_law()

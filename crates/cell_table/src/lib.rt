@@ -13,12 +13,11 @@ ghost use Rattle.cell_table.specs.Quiet.{GoesQuietly};
 ghost use Rattle.cell_table.specs.Steps.{StepsQuietly};
 ghost use Rattle.cell_table.specs.Tables.{AreNumbered};
 
-pub use cell_laws::cell_blobs;
-pub use plan_laws::{
-    fault_paging, kernel_cells, locus_machine, page_store, step_plans, wanted_act,
+pub use cell_laws::{is_recorded, need_cell};
+pub use step_cells::{
+    Cell, Idle, Part, Plan, advance_alone, advance_barren, advance_beside, advance_looking,
+    advance_making, advance_mapping, advance_spawning, next_plan,
 };
-pub use step_cells;
-pub use touch_laws::script_form;
 
 /// A step over at most three cells that are lent from a table, which leaves all blocks as they are, is the step over the table, which it leaves in order.
 pub fn lent_step_law()

@@ -11,8 +11,9 @@ ghost use Rattle.hop_base.specs.declared.records.Rec.{Rec};
 ghost use Rattle.blob_loading.specs.log_laws.Logs.{AreInRange};
 ghost use Rattle.std.specs.Prelude.{List, length, ℕ, ◌<◌, ◌≡◌};
 
-pub use blob_loading;
-pub use cut_finder;
+pub use blob_loading::{
+    ChosenEntity, ChosenPart, ContainerBlob, ImageLog, ReadingFault, first_unfit, load,
+};
 
 /// Over records in range, the greatest closed choice is the cut; and the place of a chosen record is one of theirs.
 pub fn chosen_law()

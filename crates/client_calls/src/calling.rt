@@ -5,12 +5,12 @@ ghost use Rattle.command_words.specs.declared.Command.{Command};
 ghost use Rattle.client_calls.specs.Calls.{IsCalled};
 ghost use Rattle.client_calls.specs.Images.{HasNewImage};
 
+use command_parts::{Outcome, Status};
 use disk_trait::MemoryDisk;
-use hopper_top::command_parts::{Outcome, Status};
 use hopper_top::hopper;
-use hopper_top::stream_edge::{MemorySink, MemorySource};
 use manager_gate::{CountedWords, EveryVersions, Policy, Supplier};
 use std::alloc::{AllocError, Global};
+use stream_edge::{MemorySink, MemorySource};
 
 /// How many blocks the disk has, all of which the image takes.
 const BLOCKS: u32 = 4096;

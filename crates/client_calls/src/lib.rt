@@ -4,4 +4,3 @@
 mod calling;
 
 pub use calling::{Called, call, new_image, one_word, two_words};
-pub use hopper_top;

@@ -1,8 +1,8 @@
 //! The sentences of refusals and faults.
 use command_parts::Status;
-use command_parts::script_form::{Refusal, Why};
 use disk_trait::NoBlocks;
-use fault_sentences::{command_parts, put_sentence, put_unopened, stream_edge};
+use fault_sentences::{put_sentence, put_unopened};
+use script_form::{Refusal, Why};
 use std::alloc::{AllocError, Global};
 use std::test::Fail;
 use stream_edge::{MemorySink, SinkFault};
@@ -46,7 +46,7 @@ fn a_refused_script_is_told_by_its_key(rt: HostRuntime) -> Result<(), Fail> {
             "script refused: it is no TOML in UTF-8 (docs/SCRIPTS.md)\n",
         ),
     ];
-    for (why, key, sentence) in refusals {
+    for &(why, key, sentence) in &refusals {
         assert!(rt;
             says(alloc, &refused(alloc, why, key)?, sentence)?,
             "{sentence}"

@@ -1,10 +1,10 @@
 //! Empty images made by the command, and disks that are too small or fail.
-use command_parts::stream_edge::MemorySink;
 use command_parts::{Outcome, Status};
 use disk_trait::{Disk, MemoryDisk};
 use format_command::format_image;
 use std::alloc::Global;
 use std::test::Fail;
+use stream_edge::MemorySink;
 
 // Formats 2,600 blocks on a disk of so many, of which the calls of these numbers fail.
 fn format(

@@ -2,6 +2,10 @@
 #![tactic(auto)]
 
 #[cfg(test)]
+mod drill_gen_tests;
+#[cfg(test)]
+mod entry_lines_tests;
+#[cfg(test)]
 mod fault_sentences_tests;
 #[cfg(test)]
 mod format_command_tests;
@@ -17,3 +21,7 @@ mod run_command_tests;
 mod run_opening_tests;
 #[cfg(test)]
 mod script_source_tests;
+#[cfg(test)]
+mod trace_command_tests;
+#[cfg(test)]
+mod traced_lines_tests;

@@ -1,12 +1,12 @@
 //! Images shown and reported: an empty one, and one as a first run leaves it; a disk without an image; reads and puts that fail.
 use command_parts::Outcome;
-use command_parts::stream_edge::MemorySink;
 use disk_trait::{Disk, DiskFault, MemoryDisk};
 use hop_base::{Entity, Rec};
-use image_tools::image_blocks::{body_block, closed_gate, header_block, open_gate, superblock};
-use reading_commands::{command_parts, report_image, show_image};
+use image_blocks::{body_block, closed_gate, header_block, open_gate, superblock};
+use reading_commands::{report_image, show_image};
 use std::alloc::Global;
 use std::test::Fail;
+use stream_edge::MemorySink;
 
 /// Names a container `a` and a locus `l`.
 const ATLAS: [u8; 9] = [0, 1, 1, 0x61, 1, 1, 0x6c, 0, 0];

@@ -1,12 +1,12 @@
 //! Runs and drills on a disk in memory: lines, faults, and each failing call.
 ghost use Rattle.std.specs.Prelude.{◌≤◌};
 
+use command_parts::{Outcome, Status};
 use disk_trait::{MemoryDisk, NoBlocks};
 use manager_gate::{CountedWords, EveryVersions, Policy, Supplier};
-use run_command::{Lines, run_drill, run_script, stream_edge};
-use run_opening::command_parts::{Outcome, Status};
-use run_opening::restart::{FormatFault, format};
-use run_opening::script_form::Why;
+use restart::{FormatFault, format};
+use run_command::{Lines, run_drill, run_script};
+use script_form::Why;
 use std::alloc::{AllocError, Global};
 use std::test::Fail;
 use stream_edge::{MemorySink, MemorySource};

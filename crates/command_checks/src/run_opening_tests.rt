@@ -5,12 +5,12 @@ ghost use Rattle.command_parts.specs.script_form.Rules.{IsScript};
 ghost use Rattle.command_parts.specs.script_form.Scripts.{tables_of};
 
 use command_parts::Fault;
-use command_parts::script_form::{Script, Why};
 use disk_trait::MemoryDisk;
 use hop_base::Entity;
-use kernel_opening::Ended;
+use kernel_core::Ended;
 use restart::format;
 use run_opening::{Unopened, open_for};
+use script_form::{Script, Why};
 use script_read::read_script;
 use std::alloc::Global;
 use std::test::Fail;
@@ -89,7 +89,7 @@ fn a_script_that_fits_finds_its_kernel(rt: HostRuntime) -> Result<(), Fail> {
 #[test]
 fn a_name_of_the_other_kind_is_refused(rt: HostRuntime) -> Result<(), Fail> {
     let mut disk = born(rt.alloc(), formatted(rt.alloc(), &[])?)?;
-    for (text, key) in [(CONTAINER_L, "container.1.name"), (LOCUS_A, "locus.1.name")] {
+    for &(text, key) in &[(CONTAINER_L, "container.1.name"), (LOCUS_A, "locus.1.name")] {
         let Unopened { fault, disk: same } = stopped(rt.alloc(), text, disk)?.ok_or("a refusal")?;
         match fault {
             Fault::Script(refusal) => {

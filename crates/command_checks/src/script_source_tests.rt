@@ -1,10 +1,10 @@
 //! Sources in memory: a script, refused ones, the longest, and takes that fail.
 use command_parts::Fault;
-use command_parts::script_form::{Refusal, Why};
-use command_parts::stream_edge::{MemorySource, Source};
-use script_source::{command_parts, read_source, script_form};
+use script_form::{Refusal, Why};
+use script_source::read_source;
 use std::alloc::Global;
 use std::test::Fail;
+use stream_edge::{MemorySource, Source};
 
 /// How many bytes a source may have.
 const MOST: usize = 1_048_576;
@@ -69,7 +69,7 @@ fn a_refusal_has_its_reason_and_its_key(rt: HostRuntime) -> Result<(), Fail> {
         (b"steps = ".as_slice(), Why::NotToml, "-"),
         (long.as_slice(), Why::Long, "-"),
     ];
-    for (bytes, why, key) in rows {
+    for &(bytes, why, key) in &rows {
         let told = refusal(alloc, bytes)?;
         assert!(rt; told.why == why && told.key.as_str() == key, "at {key}");
     }
@@ -88,7 +88,7 @@ fn a_source_of_the_most_bytes_is_read(rt: HostRuntime) -> Result<(), Fail> {
 #[test]
 fn a_take_that_fails_is_told(rt: HostRuntime) -> Result<(), Fail> {
     // The second take finds the end, and a third is not made.
-    for (call, failed) in [(1, true), (2, true), (3, false)] {
+    for &(call, failed) in &[(1, true), (2, true), (3, false)] {
         let mut source = source(rt.alloc(), SCRIPT, &[call])?;
         let script = read_source(rt.alloc(), &mut source);
         assert!(rt; matches!(script, Err(Fault::Source)) == failed, "at {call}");

@@ -7,6 +7,4 @@ mod statuses;
 
 pub use ends::{empty_outcome, end_with};
 pub use faults::{Fault, put_fault};
-pub use script_form;
 pub use statuses::{Outcome, Status, status_of};
-pub use stream_edge;

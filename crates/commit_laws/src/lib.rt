@@ -8,8 +8,8 @@ ghost use Rattle.std.specs.Prelude.{Bool, List, ℕ, ◌≤◌};
 ghost use Rattle.table_steps.specs.cell_table.Tables.{IsOrderly};
 ghost use Rattle.table_steps.specs.kernel_cells.declared.cells.Cell.{Cell};
 
-pub use cell_books;
-pub use table_steps;
+pub use cell_books::{FULL, Store, StoreFault, commit_cell, mark_entry};
+pub use table_steps::{Cell, is_recorded, need_cell};
 
 /// The steps to come are among the entries to come; and in a table in order no record is newer than its entity.
 pub fn room_law()

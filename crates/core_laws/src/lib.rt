@@ -9,8 +9,10 @@ ghost use Rattle.kernel_commits.specs.hop_model.Histories.{locus_in};
 ghost use Rattle.kernel_commits.specs.hop_model.State.{Supply};
 ghost use Rattle.std.specs.Prelude.{List, Some, slice_get, ℕ, ◌≡◌};
 
-pub use birth_views;
-pub use kernel_commits;
+pub use birth_views::{
+    Cell, Idle, OpenFault, OpenWhy, Part, Progress, StepFault, Storage, Store, bear_next,
+};
+pub use kernel_commits::{Core, Notes, Stopped, settle, snap_one, snap_written};
 
 /// The locus at a number, in the state that cells make, is that of the cell there.
 pub fn cell_locus_law()

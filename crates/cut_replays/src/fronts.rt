@@ -4,11 +4,11 @@ ghost use Rattle.script_read.specs.script_form.Scripts.{tables_of};
 
 use crate::replays::part_of;
 use crate::shows::{facts_of, shown};
+use cut_finder::{MOST_RECORDS, greatest, is_ascending};
 use disk_trait::MemoryDisk;
 use hop_base::{Cut, Entry, Rec};
 use image_tools::ImageFacts;
-use image_tools::cut_finder::{MOST_RECORDS, greatest, is_ascending};
-use script_read::script_form::Script;
+use script_form::Script;
 use std::alloc::Global;
 use std::test::Fail;
 

@@ -10,12 +10,12 @@ ghost use Rattle.script_read.specs.script_form.Rules.{IsScript};
 ghost use Rattle.script_read.specs.script_form.Scripts.{tables_of};
 
 use crate::shows::shown_of;
+use history_model::{Plain, PlainAtlas, plain_birth};
 use hop_base::{Cut, Entity, Entry, Event};
 use manager_gate::{CountedWords, Supplier};
-use plain_run::history_model::{Plain, PlainAtlas, plain_birth};
-use plain_run::plain_steps::plain_step;
 use plain_run::{against, next_name};
-use script_read::script_form::Script;
+use plain_steps::plain_step;
+use script_form::Script;
 use std::alloc::{AllocError, Global};
 use std::marker::Model;
 use std::test::Fail;

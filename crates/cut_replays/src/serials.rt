@@ -4,11 +4,11 @@ ghost use Rattle.script_read.specs.script_form.Rules.{IsScript};
 ghost use Rattle.script_read.specs.script_form.Scripts.{tables_of};
 
 use crate::clocks::{Clocks, Commits, commit_behind, newest};
+use cut_finder::{MOST_RECORDS, greatest, is_ascending};
 use hop_base::{Answer, Cut, Entity, Entry, Event, Kind, Rec, Touched};
-use image_tools::cut_finder::{MOST_RECORDS, greatest, is_ascending};
 use manager_gate::{CountedWords, EveryVersions, Policy, Supplier};
 use plain_run::play;
-use script_read::script_form::Script;
+use script_form::Script;
 use snapless_code::has_no_snaps;
 use std::alloc::Global;
 use std::test::Fail;

@@ -5,13 +5,13 @@ ghost use Rattle.plain_run.specs.hop_model.Soundness.{IsSound};
 ghost use Rattle.manager_gate.specs.Managers.{counted_word};
 
 use disk_trait::MemoryDisk;
-use image_tools::plain_show::write_show;
-use image_tools::stream_edge::MemorySink;
+use history_model::Plain;
 use image_tools::{ImageFacts, read_image};
 use manager_gate::{CountedWords, Supplier};
-use plain_run::history_model::Plain;
+use plain_show::write_show;
 use std::alloc::Global;
 use std::test::Fail;
+use stream_edge::MemorySink;
 
 /// The text that a sink holds.
 pub fn text_of(alloc: Global, sink: &MemorySink) -> Result<String, Fail> {

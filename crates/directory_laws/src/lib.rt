@@ -9,8 +9,7 @@ ghost use Rattle.atlas_dir.specs.directory_form.Directory.{Directory, entity_nam
 ghost use Rattle.kernel_calls.specs.Calls.{atlas_state};
 ghost use Rattle.directory_laws.specs.Mapping.{MeetsMapping};
 
-pub use kernel_calls;
-pub use kernel_calls::locus_machine;
+pub use kernel_calls::{Chain, Code, Head, Locus, MOST_INSTRS, Privates};
 
 /// The directory and the model take the same texts for names that may be given.
 pub fn given_names_are_the_models()

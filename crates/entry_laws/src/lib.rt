@@ -7,8 +7,6 @@ ghost use Rattle.entry_lines.specs.hop_model.State.{AtlasState};
 ghost use Rattle.entry_lines.specs.Entries.{entry_text};
 ghost use Rattle.entry_laws.specs.Telling.{HasCleanNames, IsWritten, TellsSame};
 
-pub use entry_lines;
-
 /// Two entries with one line, by names of letters, digits, `_`, `-` and `.`, record the same event of entities with the same
 /// name, with the same touches, versions and answer. So a load's `read 0` is no other answer's `reply 0`, and the line of
 /// an entry that may be next is that of no other.

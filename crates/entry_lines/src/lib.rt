@@ -6,6 +6,4 @@ mod summaries;
 mod touches;
 
 pub use entries::{put_trace, write_entry};
-pub use stream_edge;
 pub use summaries::put_summary;
-pub use text_lines;

@@ -7,8 +7,9 @@ ghost use Rattle.fault_paging.specs.Words.{AreCleanTrue, IsSoundTable, block_at,
 ghost use Rattle.fault_paging.specs.Calls.{AllStay, Chooses, Evicts, IsCausedBy, IsNoRead, IsRead, Keeps, KeepsPages, Later, Reads, Stands};
 
 use crate::paged::PagedMemory;
+use disk_trait::NoBlocks;
 use manager_gate::{Gate, Policy, Supplier};
-use page_store::{NoBlocks, PageFault, PageStore};
+use page_store::{PageFault, PageStore};
 
 impl PagedMemory {
     // Where no frame is empty, takes the clock's victim out of its frame, once it was saved.

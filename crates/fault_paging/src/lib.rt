@@ -15,7 +15,7 @@ mod loads;
 mod paged;
 mod saving;
 
+pub use disk_trait::NoBlocks;
 pub use page_shadow::ShadowTable;
-pub use page_store;
-pub use page_store::{MemoryPages, NoBlocks, PageFault, PageStore};
+pub use page_store::{MemoryPages, PageFault, PageStore};
 pub use paged::PagedMemory;

@@ -3,6 +3,4 @@
 
 mod sentences;
 
-pub use command_parts;
 pub use sentences::{put_sentence, put_unopened};
-pub use stream_edge;

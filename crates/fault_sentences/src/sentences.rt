@@ -7,9 +7,9 @@ ghost use Rattle.fault_sentences.specs.Sentences.{blocks_text, is_of_program, mi
 
 use arrayvec::ArrayString;
 use command_parts::Status;
-use command_parts::script_form::{Refusal, Why};
 use disk_trait::NoBlocks;
 use itoa::Buffer;
+use script_form::{Refusal, Why};
 use stream_edge::{Sink, SinkFault};
 
 /// A length that no text of two numbers exceeds.

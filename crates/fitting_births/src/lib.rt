@@ -13,8 +13,6 @@ ghost use Rattle.sound_runs.specs.hop_model.Steps.{atlas_in};
 ghost use Rattle.sound_runs.specs.script_form.Rules.{IsScript};
 ghost use Rattle.fitting_births.specs.Fitting.{Fits};
 
-pub use sound_runs::script_form;
-
 /// From a sound state each birth of an allowed script that fits is defined, and behind it the script still fits; so its births come
 /// to their end: no name of the script is owed behind them. Every allowed script fits where nothing but the atlas is born.
 pub fn fitting_births_law()

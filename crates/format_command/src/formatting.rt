@@ -5,11 +5,11 @@ ghost use Rattle.command_parts.specs.Seen.{gave, seen_disk, seen_sink};
 ghost use Rattle.command_parts.specs.Statuses.{ending};
 ghost use Rattle.format_command.specs.Formats.{FormatLeaves, fault_of_format};
 
-use command_parts::stream_edge::Sink;
 use command_parts::{Fault, Outcome, Status, empty_outcome, end_with};
 use disk_trait::Disk;
 use restart::{FormatWhy, format};
 use std::alloc::Global;
+use stream_edge::Sink;
 
 // Why an empty image was not made, as the command tells it.
 fn fault_of(why: FormatWhy) -> Fault

@@ -15,7 +15,7 @@ use crate::names::{
 use crate::plain::{Edge, Plain, PlainContainer, PlainLocus};
 use crate::tables::{container_from, edges_from, locus_from};
 use hop_base::{Answer, Entity, Entry, Event, Touch, Touched};
-use sound_runs::script_form::{Script, ScriptContainer, ScriptLocus};
+use script_form::{Script, ScriptContainer, ScriptLocus};
 use std::alloc::{AllocError, Global};
 
 /// The version of a written entity rises.

@@ -18,6 +18,4 @@ pub use hop_model::{
 };
 pub use names::{container_named, free_container, free_locus, number_among, number_of};
 pub use plain::{Edge, Plain, PlainAtlas, PlainContainer, PlainLocus};
-pub use sound_runs::script_form;
 pub use tables::insert_region;
-pub use wanted_act;

@@ -7,7 +7,7 @@ ghost use Rattle.history_model.specs.Plains.{atlas_of};
 
 use crate::plain::PlainAtlas;
 use hop_base::{Entity, FIRST_CONTAINER, FIRST_LOCUS, MOST_CONTAINERS, MOST_LOCI};
-use sound_runs::script_form::{ScriptContainer, ScriptLocus};
+use script_form::{ScriptContainer, ScriptLocus};
 
 fn is_same(a: &str, b: &str) -> bool
     ensures { result ≡ text_eq a.now b.now }

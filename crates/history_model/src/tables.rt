@@ -11,7 +11,7 @@ ghost use Rattle.history_model.specs.Plains.{atlas_of, container_of, locus_of};
 use crate::names::known_number;
 use crate::plain::{Edge, PlainAtlas, PlainContainer, PlainLocus};
 use hop_base::{Cap, Condition, Entity, Instr, MOST_CAPS, Region};
-use sound_runs::script_form::{ScriptCap, ScriptContainer, ScriptLocus, ScriptRegion};
+use script_form::{ScriptCap, ScriptContainer, ScriptLocus, ScriptRegion};
 use std::alloc::{AllocError, Global};
 use std::collections::BTreeMap;
 

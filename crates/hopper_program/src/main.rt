@@ -3,8 +3,7 @@
 //! error gets a sentence for people where the status isn't 0. The program ends with the status's number.
 #![tactic(auto)]
 
-use fault_sentences::command_parts::{Fault, Status, put_fault, status_of};
-use fault_sentences::stream_edge::{FileDisk, ReadSource, Sink, WriteSink};
+use command_parts::{Fault, Status, put_fault, status_of};
 use fault_sentences::{put_sentence, put_unopened};
 use hopper_top::hopper;
 use manager_gate::{CountedWords, EveryVersions, Policy, Supplier};
@@ -14,6 +13,7 @@ use std::io::ErrorKind;
 use std::process::ExitCode;
 use std::rt::Env;
 use std::{env, io};
+use stream_edge::{FileDisk, ReadSource, Sink, WriteSink};
 
 /// The words of the command line, the program's own name first. Words that are no text are of no known form.
 fn words(rt: &(impl Env + Alloc<A = Global>)) -> Result<Vec<String>, Fault> {

@@ -3,6 +3,4 @@
 
 mod top;
 
-pub use reading_commands::{command_parts, script_form};
-pub use run_command::stream_edge;
 pub use top::hopper;

@@ -10,14 +10,14 @@ ghost use Rattle.reading_commands.specs.command_parts.Statuses.{IsComplete};
 ghost use Rattle.run_command.specs.Openings.{Managers};
 ghost use Rattle.hopper_top.specs.Leaving.{CanDo, CommandLeaves, HasCause, IsNoCommand, Leaves, UsageLeaves, asked_lines as told_lines};
 
+use command_parts::{Fault, Outcome, Status, end_with};
 use command_words::{Command, read_command};
 use disk_trait::Disk;
 use format_command::format_image;
-use reading_commands::command_parts::{Fault, Outcome, Status, end_with};
 use reading_commands::{report_image, show_image};
-use run_command::stream_edge::{Sink, Source};
 use run_command::{Lines, run_drill, run_script};
 use std::alloc::Global;
+use stream_edge::{Sink, Source};
 use trace_command::check_trace;
 
 // Which lines a run is asked for.

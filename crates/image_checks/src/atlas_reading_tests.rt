@@ -55,7 +55,7 @@ fn an_atlas_is_read(rt: HostRuntime) -> Result<(), Fail> {
     };
     let (first, second) = (Entity::of(1), Entity::of(2));
     assert!(rt; (read.named(Kind::Container), read.named(Kind::Locus)) == (2, 1));
-    for (name, number) in [("#1", 1), ("b", 2), ("#41", 41)] {
+    for &(name, number) in &[("#1", 1), ("b", 2), ("#41", 41)] {
         assert!(rt; is_found(&read, name, number), "{name}");
     }
     assert!(rt; (read.count(second, first), read.count(first, second)) == (2, 0));
@@ -63,7 +63,7 @@ fn an_atlas_is_read(rt: HostRuntime) -> Result<(), Fail> {
 }
 
 /// The small atlas, in its names.
-const NAMES: [Row; 14] = [
+const NAMES: &[Row] = &[
     (&[], None),
     (&[(0, 1)], Some(0)),
     (&[(1, 41)], Some(1)),
@@ -86,14 +86,14 @@ const NAMES: [Row; 14] = [
 
 #[test]
 fn names_are_refused_where_none_goes_on(rt: HostRuntime) {
-    for (changes, place) in NAMES {
+    for &(changes, place) in NAMES {
         let mut bytes = SMALL;
         assert!(rt; is_bad_at(&mut bytes, changes, place), "{changes:?}");
     }
 }
 
 /// The made atlas, in its edges.
-const EDGES: [Row; 11] = [
+const EDGES: &[Row] = &[
     (&[], None),
     // a made name has as many bytes as its number wants
     (&[(2, 3)], Some(3)),
@@ -112,7 +112,7 @@ const EDGES: [Row; 11] = [
 
 #[test]
 fn edges_are_refused_where_none_goes_on(rt: HostRuntime) {
-    for (changes, place) in EDGES {
+    for &(changes, place) in EDGES {
         let mut bytes = MADE;
         assert!(rt; is_bad_at(&mut bytes, changes, place), "{changes:?}");
     }
@@ -149,7 +149,7 @@ fn there_are_as_many_names_of_one_byte_as_letters(rt: HostRuntime) {
 
 #[test]
 fn a_blob_is_neither_cut_off_nor_longer(rt: HostRuntime) {
-    for (count, place) in [(9, None), (8, Some(8)), (0, Some(0))] {
+    for &(count, place) in &[(9, None), (8, Some(8)), (0, Some(0))] {
         let mut bytes = SMALL;
         assert!(rt; is_bad_at(&mut bytes[..count], &[], place), "{count} bytes");
     }

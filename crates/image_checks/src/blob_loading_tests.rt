@@ -1,9 +1,9 @@
 //! The atlas of two names in 9 bytes, whole and changed.
-use blob_loading::{image_blocks, load, log_reading, part_checks};
+use blob_loading::load;
 use block_code::Blob;
 use disk_trait::{Disk, DiskFault, MemoryDisk};
 use hop_base::{Entity, Kind, Rec};
-use log_reading::image_blocks::Bad;
+use image_blocks::Bad;
 use part_checks::ChosenPart;
 use std::test::Fail;
 

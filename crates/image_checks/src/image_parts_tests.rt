@@ -1,9 +1,9 @@
 //! The small image read into parts: whole, changed, and read from a disk that fails.
 use crate::small_image::{WRITES, alter, cut, image};
-use blob_loading::image_blocks::Bad;
-use blob_loading::log_reading::{ReadingFault, read_log};
 use disk_trait::MemoryDisk;
-use image_parts::{ImageParts, log_reading, page_tables, read_parts};
+use image_blocks::Bad;
+use image_parts::{ImageParts, page_tables, read_parts};
+use log_reading::{ReadingFault, read_log};
 use std::alloc::Global;
 use std::test::Fail;
 
@@ -42,7 +42,7 @@ fn the_first_bad_place_is_told(rt: HostRuntime) -> Result<(), Fail> {
         (2565, 23, 8, 5, 0),
         (12, 0, 1, 11, 0),
     ];
-    for (at, in_block, byte, block, place) in table {
+    for &(at, in_block, byte, block, place) in &table {
         let mut disk = image(rt.alloc(), &[])?;
         alter(&mut disk, at, in_block, byte)?;
         let bad = Bad { block, place };
@@ -57,7 +57,7 @@ fn the_first_bad_place_is_told(rt: HostRuntime) -> Result<(), Fail> {
 #[test]
 fn a_failed_read_is_told(rt: HostRuntime) -> Result<(), Fail> {
     // The log takes thirteen reads, and each blob one.
-    for read in [14, 15, 16] {
+    for &read in &[14, 15, 16] {
         let mut disk = image(rt.alloc(), &[WRITES + read])?;
         assert!(rt; fault_of(rt.alloc(), &mut disk) == Some(ReadingFault::Disk));
     }

@@ -1,14 +1,14 @@
 //! Bytes changed in each field of a small image, with the first bad place by the format.
 use crate::image_tools_tests::altered;
-use image_parts::log_reading::ReadingFault;
-use report_lines::image_blocks::Bad;
+use image_blocks::Bad;
+use log_reading::ReadingFault;
 use std::test::Fail;
 
 // A block, a place in it and a byte that is put there; the block and the place that are told.
 type Flip = (u32, usize, u8, u32, u16);
 
 /// The superblock, the gates, the active header and the body of the first slot, which is the container's.
-const FRONT: [Flip; 26] = [
+const FRONT: &[Flip] = &[
     // the eight bytes, the format, the number of blocks: more than the disk's and too few, zeros
     (0, 0, 0, 0, 0),
     (0, 7, 0, 0, 0),
@@ -45,7 +45,7 @@ const FRONT: [Flip; 26] = [
 ];
 
 /// The blobs: of the atlas, 9 bytes in block 2,566; of the container, 27 in 2,565; of the locus, 77 in 2,567.
-const BLOBS: [Flip; 37] = [
+const BLOBS: &[Flip] = &[
     // the kind; more containers than 40; no byte of a name; none of a name's bytes; a name twice; an edge that is missing
     (2566, 0, 1, 2566, 0),
     (2566, 1, 41, 2566, 1),
@@ -96,7 +96,7 @@ const BLOBS: [Flip; 37] = [
 
 #[test]
 fn the_log_is_checked(rt: HostRuntime) -> Result<(), Fail> {
-    for (at, in_block, byte, block, place) in FRONT {
+    for &(at, in_block, byte, block, place) in FRONT {
         let told = altered(rt.alloc(), &[(at, in_block, byte)])?;
         assert!(rt;
             told == Some(ReadingFault::Foreign(Bad { block, place })),
@@ -108,7 +108,7 @@ fn the_log_is_checked(rt: HostRuntime) -> Result<(), Fail> {
 
 #[test]
 fn the_blobs_are_checked(rt: HostRuntime) -> Result<(), Fail> {
-    for (at, in_block, byte, block, place) in BLOBS {
+    for &(at, in_block, byte, block, place) in BLOBS {
         let told = altered(rt.alloc(), &[(at, in_block, byte)])?;
         assert!(rt;
             told == Some(ReadingFault::Foreign(Bad { block, place })),

@@ -5,13 +5,13 @@ ghost use Rattle.plain_parts.specs.hop_model.Soundness.{IsSound};
 
 use crate::small_image::{WRITES, alter, cut, formatted, image};
 use disk_trait::MemoryDisk;
-use image_parts::log_reading::ReadingFault;
+use history_model::PlainContainer;
+use image_blocks::Area;
 use image_tools::{ImageFacts, read_image, write_report, write_show};
-use plain_parts::history_model::PlainContainer;
-use plain_show::stream_edge::{MemorySink, SinkFault};
-use report_lines::image_blocks::Area;
+use log_reading::ReadingFault;
 use std::alloc::Global;
 use std::test::Fail;
+use stream_edge::{MemorySink, SinkFault};
 
 // Reads over a supplier whose words are the tags.
 fn read(alloc: Global, disk: &mut MemoryDisk) -> Result<ImageFacts, ReadingFault>

@@ -1,12 +1,12 @@
 //! Chosen entities that fit, and those that a change keeps from fitting.
 use atlas_dir::Atlas;
-use atlas_reading::locus_machine::{Head, Locus};
-use atlas_reading::snapshot_reading::ContainerBlob;
 use hop_base::{Cap, Entity, Instr, Kind, MOST_ENTITIES, Rec, Region, Rights, Walk};
+use locus_machine::{Head, Locus};
 use part_checks::{
-    ChosenEntity, ChosenPart, are_born, atlas_reading, first_unfit, has_no_circle, is_born,
-    is_born_container, snapshot_reading, ties_container, ties_locus,
+    ChosenEntity, ChosenPart, are_born, first_unfit, has_no_circle, is_born, is_born_container,
+    ties_container, ties_locus,
 };
+use snapshot_reading::ContainerBlob;
 use std::alloc::{AllocError, Global};
 use std::test::Fail;
 
@@ -149,7 +149,7 @@ fn unfit(alloc: Global, image: &Image) -> Result<Option<u8>, Fail> {
 }
 
 /// Images, and the first entity that does not fit.
-const IMAGES: [(Image, Option<u8>); 20] = [
+const IMAGES: &[(Image, Option<u8>)] = &[
     (GOOD, None),
     // a container that the atlas doesn't name, which a region, a walk and the chosen record name
     (

@@ -2,8 +2,8 @@
 use atlas_dir::Atlas;
 use history_model::{Edge, PlainContainer};
 use hop_base::{Entity, Instr, Kind, Region, Rights};
-use kernel_calls::locus_machine::{Head, Locus};
-use plain_parts::{history_model, locus_machine, plain_atlas, plain_head, plain_locus};
+use locus_machine::{Head, Locus};
+use plain_parts::{plain_atlas, plain_head, plain_locus};
 use std::collections::BTreeMap;
 use std::test::Fail;
 

@@ -1,8 +1,8 @@
 //! A small image for tests: an atlas, a container of two pages and a locus.
 use disk_trait::{Disk, DiskFault, MemoryDisk};
 use hop_base::{Cut, Entity, Rec};
+use image_blocks::{body_block, header_block, open_gate, superblock};
 use page_words::block_with;
-use report_lines::image_blocks::{body_block, header_block, open_gate, superblock};
 use std::alloc::Global;
 use std::test::Fail;
 

@@ -4,7 +4,7 @@ use atlas_dir::Atlas;
 use block_code::Blob;
 use cap_list::CapList;
 use hop_base::{Call, Cap, Condition, Entity, Instr, Kind, Private, Region, Rights, Walk};
-use kernel_calls::locus_machine::{Code, Head, Locus};
+use locus_machine::{Code, Head, Locus};
 use region_map::RegionMap;
 use snapshot_form::{write_atlas, write_container, write_locus};
 use std::alloc::{AllocError, Global};

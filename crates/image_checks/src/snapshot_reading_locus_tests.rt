@@ -1,6 +1,6 @@
 //! Blobs of loci, byte by byte, and the places where they are refused.
 use hop_base::{Call, Cap, Condition, Entity, Instr, Private, Region, Rights, Walk};
-use snapshot_reading::locus_machine::Locus;
+use locus_machine::Locus;
 use snapshot_reading::{BadBlob, read_locus};
 use std::test::Fail;
 
@@ -112,7 +112,7 @@ fn a_locus_is_read(rt: HostRuntime) -> Result<(), Fail> {
 }
 
 /// The short form, in each field.
-const SHORT_ROWS: [Row; 23] = [
+const SHORT_ROWS: &[Row] = &[
     (&[], None),
     (&[(0, 1)], Some(0)),
     (&[(0, 4)], Some(0)),
@@ -144,14 +144,14 @@ const SHORT_ROWS: [Row; 23] = [
 
 #[test]
 fn the_short_form_is_refused_where_no_spelling_goes_on(rt: HostRuntime) {
-    for (changes, place) in SHORT_ROWS {
+    for &(changes, place) in SHORT_ROWS {
         let mut bytes = SHORT;
         assert!(rt; is_bad_at(&mut bytes, changes, place), "{changes:?}");
     }
 }
 
 /// The long form, where it differs.
-const LONG_ROWS: [Row; 6] = [
+const LONG_ROWS: &[Row] = &[
     // with so little it has the short form, unless it printed something
     (&[], Some(100)),
     (&[(72, 1)], None),
@@ -164,7 +164,7 @@ const LONG_ROWS: [Row; 6] = [
 
 #[test]
 fn the_long_form_is_refused_where_no_spelling_goes_on(rt: HostRuntime) {
-    for (changes, place) in LONG_ROWS {
+    for &(changes, place) in LONG_ROWS {
         let mut bytes = long_form();
         assert!(rt; is_bad_at(&mut bytes, changes, place), "{changes:?}");
     }

@@ -1,6 +1,6 @@
 //! Blobs, byte by byte, and the places where they are refused.
 use hop_base::{Cap, Entity, Instr, Region, Rights};
-use snapshot_reading::locus_machine::Head;
+use locus_machine::Head;
 use snapshot_reading::{BadBlob, read_container};
 use std::test::Fail;
 
@@ -66,7 +66,7 @@ fn a_container_is_read(rt: HostRuntime) -> Result<(), Fail> {
 }
 
 /// The small container, in each field.
-const ROWS: [Row; 28] = [
+const ROWS: &[Row] = &[
     (&[], None),
     (&[(0, 2)], Some(0)),
     // 257 pages are refused at the second byte, and 0 at the second as well
@@ -118,7 +118,7 @@ const ROWS: [Row; 28] = [
 
 #[test]
 fn bytes_are_refused_where_no_spelling_goes_on(rt: HostRuntime) {
-    for (changes, place) in ROWS {
+    for &(changes, place) in ROWS {
         assert!(rt; is_bad_at(changes, place), "{changes:?}");
     }
 }

@@ -16,8 +16,6 @@ ghost use Rattle.image_meaning.specs.Foreign.{IsForeign};
 ghost use Rattle.image_meaning.specs.Meaning.{Accepted, Means};
 ghost use Rattle.image_meaning.specs.Resting.{RestsOnLaw};
 
-pub use image_blocks;
-
 /// What an image means rests on a few of its blocks: an image of as many blocks that agrees there means the same.
 pub fn rests_on_law()
     ensures { RestsOnLaw }

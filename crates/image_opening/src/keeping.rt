@@ -12,8 +12,7 @@ ghost use Rattle.opening_laws.specs.Images.{AreReadOf, HasBegun, HasImageCause, 
 
 use crate::reading::{ReadImage, read_image};
 use disk_trait::Disk;
-use opening_laws::kernel_views::snapshot_store::{OpenFault, OpenWhy, Store};
-use opening_laws::opened_cells::image_parts::ImageParts;
+use opening_laws::{ImageParts, OpenFault, OpenWhy, Store};
 use std::alloc::Global;
 
 // The store of an image that was read, which keeps its chosen records alone.

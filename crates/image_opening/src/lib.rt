@@ -10,4 +10,4 @@ mod reading;
 pub use keeping::keep_image;
 pub use laws::{keeping_law, opened_law};
 pub use opening::open_parts;
-pub use opening_laws::kernel_views::{kernel_cells, snapshot_store};
+pub use opening_laws::{OpenFault, OpenWhy};

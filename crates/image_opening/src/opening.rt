@@ -10,9 +10,7 @@ ghost use Rattle.opening_laws.specs.Images.{AreOfImage, HasBegun, HasImageCause,
 
 use crate::keeping::keep_image;
 use disk_trait::Disk;
-use opening_laws::kernel_views::kernel_cells::Cell;
-use opening_laws::kernel_views::snapshot_store::{OpenFault, OpenWhy, Store};
-use opening_laws::opened_cells::cells_of;
+use opening_laws::{Cell, OpenFault, OpenWhy, Store, cells_of};
 use std::alloc::Global;
 
 /// Opens the image that a disk holds for a kernel: a store that keeps the chosen records alone (`keep_image`), and the 64 cells as these

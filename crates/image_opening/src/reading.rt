@@ -9,10 +9,9 @@ ghost use Rattle.opening_laws.specs.kernel_views.store_laws.Opening.{IsSynced, S
 ghost use Rattle.opening_laws.specs.Images.{AreReadOf, HasImageCause, HasPartsCause};
 
 use disk_trait::Disk;
-use opening_laws::kernel_views::log_reading::ImageLog;
-use opening_laws::kernel_views::snapshot_store::{OpenFault, OpenWhy, SyncedLog};
-use opening_laws::opened_cells::image_parts::{ImageParts, page_tables, read_parts};
-use opening_laws::opened_cells::page_shadow::ShadowTable;
+use log_reading::ImageLog;
+use opening_laws::{ImageParts, OpenFault, OpenWhy, SyncedLog, page_tables, read_parts};
+use page_shadow::ShadowTable;
 use std::alloc::Global;
 
 // An image that was read.

@@ -5,7 +5,7 @@ ghost use Rattle.chosen_laws.specs.blob_loading.image_meaning.Parts.{chosen_by, 
 ghost use Rattle.chosen_laws.specs.blob_loading.log_laws.Logs.{AreInRange, IsOlder};
 ghost use Rattle.chosen_laws.specs.Choosing.{IsChosenSlot};
 
-use chosen_laws::cut_finder::greatest;
+use cut_finder::greatest;
 use hop_base::{Cut, Entity, Rec};
 
 // The greatest closed choice over the records of an image of so many blocks.

@@ -12,12 +12,10 @@ ghost use Rattle.chosen_laws.specs.Choosing.{IsBadEntity, IsBadSlot};
 
 use crate::choosing::chosen_slot;
 use block_code::Blob;
-use chosen_laws::blob_loading::image_blocks::body_of;
-use chosen_laws::blob_loading::load;
-use chosen_laws::blob_loading::log_reading::{ImageLog, ReadingFault};
-use chosen_laws::blob_loading::part_checks::ChosenEntity;
+use chosen_laws::{ChosenEntity, ImageLog, ReadingFault, load};
 use disk_trait::Disk;
 use hop_base::{Cut, Entity, MOST_ENTITIES};
+use image_blocks::body_of;
 use std::alloc::Global;
 
 // The record of a slot, with what its blob spells.

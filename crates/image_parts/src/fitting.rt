@@ -9,10 +9,9 @@ ghost use Rattle.chosen_laws.specs.blob_loading.part_checks.Chosen.{parts_of};
 ghost use Rattle.chosen_laws.specs.blob_loading.part_checks.Fits.{AreChosen, AreFit};
 
 use crate::choosing::chosen_slot;
-use chosen_laws::blob_loading::image_blocks::{Bad, body_of};
-use chosen_laws::blob_loading::log_reading::ImageLog;
-use chosen_laws::blob_loading::part_checks::{ChosenEntity, first_unfit};
+use chosen_laws::{ChosenEntity, ImageLog, first_unfit};
 use hop_base::{Cut, MOST_ENTITIES};
+use image_blocks::{Bad, body_of};
 use std::alloc::{AllocError, Global};
 
 // The body of the first chosen entity that doesn't fit the others.

@@ -9,8 +9,6 @@ mod fitting;
 mod parts;
 mod tables;
 
-pub use chosen_laws::blob_loading::{log_reading, part_checks, snapshot_reading};
-pub use chosen_laws::cut_finder;
-pub use page_shadow;
+pub use chosen_laws::{ChosenEntity, ChosenPart, ContainerBlob};
 pub use parts::{ImageParts, read_parts};
 pub use tables::{page_tables, table_for};

@@ -7,7 +7,7 @@ ghost use Rattle.image_parts.specs.Parts.{ArePartsOf};
 ghost use Rattle.chosen_laws.specs.Tables.{ArePlaced, AreTablesOf, IsTableOf, blocks_in};
 
 use crate::parts::ImageParts;
-use chosen_laws::blob_loading::part_checks::{ChosenEntity, ChosenPart};
+use chosen_laws::{ChosenEntity, ChosenPart};
 use hop_base::MOST_PAGES;
 use page_shadow::ShadowTable;
 use std::alloc::{AllocError, Global};

@@ -14,11 +14,9 @@ ghost use Rattle.shown_states.specs.States.{AreOnDisk, IsCellOf, IsContainerPart
 use crate::faults::PagesFault;
 use crate::pages::words_of;
 use disk_trait::Disk;
+use history_model::PlainContainer;
 use hop_base::MOST_ENTITIES;
-use shown_states::image_parts::part_checks::{ChosenEntity, ChosenPart};
-use shown_states::image_parts::snapshot_reading::ContainerBlob;
-use shown_states::plain_parts::history_model::PlainContainer;
-use shown_states::plain_parts::plain_head;
+use shown_states::{ChosenEntity, ChosenPart, ContainerBlob, plain_head};
 use std::alloc::Global;
 
 // A container, with its words from the disk.

@@ -16,10 +16,10 @@ ghost use Rattle.shown_states.specs.States.{IsSparseContainer};
 use crate::faults::PagesFault;
 use crate::state::state_of;
 use disk_trait::Disk;
+use history_model::Plain;
 use hop_base::Cut;
-use shown_states::image_parts::log_reading::{ImageLog, ReadingFault, read_log};
-use shown_states::image_parts::read_parts;
-use shown_states::plain_parts::history_model::Plain;
+use log_reading::{ImageLog, ReadingFault, read_log};
+use shown_states::read_parts;
 use std::alloc::Global;
 
 /// What an image says: its log, the greatest closed choice over the log's records, and the state that it means. The version of each

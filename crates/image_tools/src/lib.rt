@@ -11,9 +11,4 @@ mod state;
 mod words;
 
 pub use image::{ImageFacts, read_image};
-pub use plain_show;
-pub use plain_show::stream_edge;
 pub use printing::{write_report, write_show};
-pub use report_lines::image_blocks;
-pub use shown_states::image_parts::cut_finder;
-pub use shown_states::plain_parts::{history_model, locus_machine};

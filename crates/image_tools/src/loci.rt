@@ -6,10 +6,9 @@ ghost use Rattle.shown_states.specs.plain_parts.hop_model.State.{LocusCell, no_a
 ghost use Rattle.shown_states.specs.image_parts.part_checks.Chosen.{part_in, parts_of};
 ghost use Rattle.shown_states.specs.States.{IsLocusPart, atlas_by, cell_with};
 
+use history_model::{PlainAtlas, PlainLocus};
 use hop_base::MOST_ENTITIES;
-use shown_states::image_parts::part_checks::{ChosenEntity, ChosenPart};
-use shown_states::plain_parts::history_model::{PlainAtlas, PlainLocus};
-use shown_states::plain_parts::{plain_atlas, plain_locus};
+use shown_states::{ChosenEntity, ChosenPart, plain_atlas, plain_locus};
 use std::alloc::{AllocError, Global};
 
 // An atlas that names nobody.

@@ -15,8 +15,8 @@ use crate::faults::PagesFault;
 use crate::words::keep_page;
 use disk_trait::{Disk, DiskFault};
 use hop_base::MOST_PAGES;
-use shown_states::page_words::words_in;
-use shown_states::plain_parts::locus_machine::Head;
+use locus_machine::Head;
+use shown_states::words_in;
 use std::alloc::Global;
 use std::collections::BTreeMap;
 

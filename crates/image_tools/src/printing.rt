@@ -9,8 +9,8 @@ ghost use Rattle.report_lines.specs.Reports.{report_text};
 ghost use Rattle.plain_show.specs.stream_edge.Streams.{Puts};
 
 use crate::image::ImageFacts;
-use plain_show::stream_edge::{Sink, SinkFault};
 use report_lines::{LogFacts, put_report};
+use stream_edge::{Sink, SinkFault};
 
 /// Puts the report of an image: a line for its log, one for each record with its state, and one for each entity of which a version is
 /// chosen, each line in one call: 705 at most. It takes no memory. After a fault a front of the text was put.

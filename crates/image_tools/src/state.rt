@@ -16,8 +16,8 @@ use crate::containers::containers_of;
 use crate::faults::PagesFault;
 use crate::loci::{atlas_at, loci_of};
 use disk_trait::Disk;
-use shown_states::image_parts::ImageParts;
-use shown_states::plain_parts::history_model::Plain;
+use history_model::Plain;
+use shown_states::ImageParts;
 use std::alloc::Global;
 
 // The state of the parts, with the words of the pages from the disk.

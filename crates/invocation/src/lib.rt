@@ -10,9 +10,10 @@ ghost use Rattle.locus_machine.specs.Loci.{locus_of, container_with};
 ghost use Rattle.invocation.specs.Entries.{is_invoke, is_leave, is_return, WantsBeside, Invoked};
 
 use hop_base::{Call, Entity, MOST_CALLS, Reply};
-pub use locus_machine;
-pub use locus_machine::wanted_act;
-use locus_machine::{Code, Head, Locus};
+pub use locus_machine::{
+    Chain, Code, Head, Locus, MOST_INSTRS, Privates, fetch, named_entity, named_rights, new_region,
+    next_address, next_walk,
+};
 
 /// Refuses the act.
 fn refuse(locus: &mut Locus, reply: Reply) -> Reply

@@ -14,8 +14,7 @@ ghost use Rattle.kernel_calls.specs.Calls.{is_make, is_spawn, atlas_state, born_
 use crate::replies::reply_with;
 use atlas_dir::Atlas;
 use hop_base::{Cap, Condition, Entity, Instr, Kind, Reply, Rights};
-use invocation::locus_machine::{Chain, Code, Head, Locus, Privates};
-use invocation::wanted_act::fetch;
+use invocation::{Chain, Code, Head, Locus, Privates, fetch};
 
 /// The lowest empty slot gets a capability on the newborn with all rights but Stabilise, and the register the slot.
 fn hold(locus: &mut Locus, d: u8, newborn: Entity)

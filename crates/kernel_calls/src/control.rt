@@ -11,7 +11,7 @@ ghost use Rattle.kernel_calls.specs.Calls.{is_stop, is_go, CallMade};
 
 use crate::replies::reply_with;
 use hop_base::{Condition, Reply};
-use invocation::locus_machine::Locus;
+use invocation::Locus;
 
 fn stopped_from(condition: Condition) -> Condition
     ensures { result ≡ stopped condition }

@@ -9,7 +9,6 @@ mod sharing;
 
 pub use births::{make, spawn};
 pub use control::{go, go_itself, stop, stop_itself};
-pub use invocation;
-pub use invocation::locus_machine;
+pub use invocation::{Chain, Code, Head, Locus, MOST_INSTRS, Privates, back, invoke, leave};
 pub use mappings::{map, unmap};
 pub use sharing::{give, take};

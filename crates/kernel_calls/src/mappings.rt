@@ -12,8 +12,7 @@ ghost use Rattle.kernel_calls.specs.Calls.{is_map, is_unmap, atlas_state, NamesB
 use crate::replies::reply_with;
 use atlas_dir::Atlas;
 use hop_base::{Entity, Instr, Region, Reply};
-use invocation::locus_machine::{Head, Locus};
-use invocation::wanted_act::{fetch, new_region};
+use invocation::{Head, Locus, fetch, new_region};
 
 fn map_into(
     locus: &mut Locus,

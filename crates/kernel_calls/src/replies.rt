@@ -3,7 +3,7 @@ ghost use Rattle.invocation.specs.hop_model.Outcomes.{finish as finished};
 ghost use Rattle.invocation.specs.locus_machine.Loci.{locus_of};
 
 use hop_base::Reply;
-use invocation::locus_machine::Locus;
+use invocation::Locus;
 
 /// Ends the call with this reply.
 pub(crate) fn reply_with(locus: &mut Locus, reply: Reply) -> Reply

@@ -11,8 +11,7 @@ ghost use Rattle.kernel_calls.specs.Calls.{is_take, is_give, CallMade};
 
 use crate::replies::reply_with;
 use hop_base::{Cap, Instr, Reply, Rights};
-use invocation::locus_machine::{Head, Locus};
-use invocation::wanted_act::{fetch, named_entity, named_rights};
+use invocation::{Head, Locus, fetch, named_entity, named_rights};
 
 fn take_from(locus: &mut Locus, head: &Head, d: u8, y: u8) -> Reply
     requires d { d < 8 }

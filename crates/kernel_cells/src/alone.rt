@@ -15,8 +15,7 @@ ghost use Rattle.kernel_cells.specs.Steps.{MakesAlone, Steps};
 use crate::cells::{Cell, Part};
 use event_clocks::write_one;
 use hop_base::{Answer, Entity, Entry, Event, Instr, Reply};
-use kernel_calls::locus_machine::Locus;
-use kernel_calls::{go_itself, stop_itself};
+use kernel_calls::{Locus, go_itself, stop_itself};
 
 /// An act of the locus with this number that names the locus itself.
 fn on_itself(me: Entity, locus: &mut Locus, instr: Instr) -> Answer

@@ -2,7 +2,7 @@
 use atlas_dir::Atlas;
 use event_clocks::Clock;
 use fault_paging::PagedMemory;
-use kernel_calls::locus_machine::{Head, Locus};
+use kernel_calls::{Head, Locus};
 
 /// What a container's cell keeps: its head, where it is born, and its memory, which is there from the start so that a birth
 /// takes none.

@@ -7,8 +7,8 @@ mod wishes;
 
 pub use alone::{act_alone, step_alone};
 pub use cells::{Cell, Part, Storage, Wish};
-pub use event_clocks;
-pub use fault_paging;
-pub use fault_paging::page_store;
-pub use kernel_calls;
-pub use kernel_calls::{invocation, locus_machine};
+pub use event_clocks::{Clock, read_and_write, write_three, write_two};
+pub use fault_paging::{PageFault, PageStore, ShadowTable};
+pub use kernel_calls::{
+    Head, Locus, back, give, go, invoke, leave, make, map, spawn, stop, take, unmap,
+};

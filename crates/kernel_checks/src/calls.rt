@@ -8,15 +8,15 @@ use crate::own::OwnKernel;
 use crate::scripts::names_of;
 use cut_replays::text_of;
 use disk_trait::{DiskFault, MemoryDisk};
-use entry_lines::stream_edge::MemorySink;
-use entry_lines::text_lines::NameLists;
 use hop_base::{Entity, Entry};
 use image_tools::{ImageFacts, write_report};
-use kernel_opening::kernel_core::Ended;
+use kernel_core::Ended;
 use restart::format;
-use script_read::script_form::Script;
+use script_form::Script;
 use std::alloc::Global;
 use std::test::Fail;
+use stream_edge::MemorySink;
+use text_lines::NameLists;
 
 /// A disk with an empty image of so many blocks, made by its first ten calls, which keeps so many writes and syncs.
 pub(crate) fn formatted(

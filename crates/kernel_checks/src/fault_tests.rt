@@ -12,8 +12,9 @@ use cut_replays::{commits_of, common, facts_of, fronts_from, is_cut_off, means_o
 use disk_trait::{MemoryDisk, NoBlocks};
 use drill_gen::drill_script;
 use hop_base::{Entity, Entry, Event};
-use kernel_opening::kernel_core::{Ended, Stopped};
-use script_read::script_form::Script;
+use kernel_commits::Stopped;
+use kernel_core::Ended;
+use script_form::Script;
 use std::alloc::Global;
 use std::process::Abort;
 use std::test::Fail;
@@ -26,13 +27,13 @@ fn goes_on_no_more(
     why: Stopped,
 ) {
     let len = own.kernel().history().len();
-    assert_eq!(rt; own.step(Entity::of(41)), Err(why));
-    assert_eq!(rt; own.step(Entity::of(63)), Err(why));
-    assert_eq!(rt; own.snap(Entity::of(1)), Err(why));
-    assert_eq!(rt; own.play(script), Err(why));
-    assert_eq!(rt; own.finish(), Err(why));
-    assert_eq!(rt; own.kernel().history().len(), len);
-    assert_eq!(rt; own.kernel().stopped(), Some(why));
+    assert!(rt; own.step(Entity::of(41)) == Err(why));
+    assert!(rt; own.step(Entity::of(63)) == Err(why));
+    assert!(rt; own.snap(Entity::of(1)) == Err(why));
+    assert!(rt; own.play(script) == Err(why));
+    assert!(rt; own.finish() == Err(why));
+    assert!(rt; own.kernel().history().len() == len);
+    assert!(rt; own.kernel().stopped() == Some(why));
 }
 
 // The run of a script, stopped by a call that fails. What it has made, if it was opened.
@@ -49,7 +50,7 @@ fn stopped_run(
         None => return None,
     };
     if own.births(alloc, script).is_ok() && own.play(script).is_ok() {
-        assert_eq!(rt; own.finish(), Err(Stopped::Failed));
+        assert!(rt; own.finish() == Err(Stopped::Failed));
     }
     goes_on_no_more(rt, &mut own, script, Stopped::Failed);
     Some(own.into_ended())
@@ -144,9 +145,9 @@ fn an_eviction_without_a_block_stops_the_kernel(rt: HostRuntime) -> Result<(), F
     let script = with_frames(script_of(alloc, ALL_PAGES)?, 1);
     let ended = run(alloc, formatted(alloc, 2600, 1000, &[])?, &script)?;
     let none = NoBlocks { need: 1, free: 0 };
-    assert_eq!(rt; ended.stopped, Some(Stopped::TooFew(none)));
+    assert!(rt; ended.stopped == Some(Stopped::TooFew(none)));
     let shown = shown_behind(alloc, ended)?;
-    assert_eq!(rt; shown.as_str(), BORN);
+    assert!(rt; shown.as_str() == BORN, "{shown}");
     Ok(())
 }
 
@@ -166,11 +167,11 @@ fn is_short_of(
     let script = with_frames(script, 256);
     let ended = run(alloc, formatted(alloc, 2600, 1000, &[])?, &script)?;
     let few = NoBlocks { need, free: FREE };
-    assert_eq!(rt; ended.stopped, Some(Stopped::TooFew(few)));
+    assert!(rt; ended.stopped == Some(Stopped::TooFew(few)));
     let mark = ended.marks.last().ok_or("a mark")?;
-    assert_eq!(rt; *mark, ended.disk.moments().saturating_sub(10));
+    assert!(rt; *mark == ended.disk.moments().saturating_sub(10));
     let entry = ended.history.last().ok_or("an entry")?;
-    assert_eq!(rt; entry.event, Event::Step);
+    assert!(rt; entry.event == Event::Step);
     Ok(ended)
 }
 

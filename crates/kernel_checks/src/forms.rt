@@ -3,8 +3,8 @@ ghost use Rattle.std.specs.Prelude.{◌≤◌, IfOk};
 ghost use Rattle.script_read.specs.script_form.Rules.{IsScript};
 ghost use Rattle.script_read.specs.script_form.Scripts.{tables_of};
 
+use script_form::Script;
 use script_read::read_script;
-use script_read::script_form::Script;
 use std::alloc::Global;
 use std::test::Fail;
 

@@ -7,10 +7,11 @@ use crate::scripts::{
 };
 use cut_replays::{facts_of, shown};
 use hop_base::{Answer, Entity, Entry, Event, Reply};
-use image_tools::image_blocks::Area;
-use kernel_opening::kernel_core::{Idle, Looked};
+use image_blocks::Area;
+use kernel_core::Looked;
 use std::alloc::Global;
 use std::test::Fail;
+use step_plans::Idle;
 
 const BORN: &str = "birth a atlas:1,a:1
 birth l atlas:2,a:2,l:1

@@ -8,13 +8,14 @@ ghost use Rattle.kernel_opening.specs.table_births.Births.{atlas_state_in};
 
 use disk_trait::Disk;
 use hop_base::Entity;
-use kernel_opening::kernel_core::{Ended, Kernel, Looked, Stopped};
+use kernel_commits::Stopped;
+use kernel_core::{Ended, Kernel, Looked};
 use kernel_opening::open_image;
-use kernel_opening::script_against::against;
-use kernel_opening::snapshot_store::OpenFault;
 use kernel_runs::{finish, play};
 use manager_gate::{CountedWords, EveryVersions, Gate};
-use script_read::script_form::Script;
+use script_against::against;
+use script_form::Script;
+use snapshot_store::OpenFault;
 use std::alloc::Global;
 use std::marker::Model;
 

@@ -7,12 +7,12 @@ use crate::own::OwnKernel;
 use cut_replays::{Clocks, Replay, commits_of, front_of, is_played, means_one_of};
 use disk_trait::MemoryDisk;
 use drill_gen::drill_script;
+use history_model::PlainLocus;
 use hop_base::{Entity, Entry};
-use image_tools::locus_machine::Locus;
-use kernel_opening::kernel_cells::{Cell, Part};
-use kernel_opening::kernel_core::Kernel;
-use plain_run::history_model::PlainLocus;
-use script_read::script_form::Script;
+use kernel_cells::{Cell, Part};
+use kernel_core::Kernel;
+use locus_machine::Locus;
+use script_form::Script;
 use std::alloc::Global;
 use std::process::Abort;
 use std::test::Fail;
@@ -146,7 +146,7 @@ fn drawn_beside(rt: &impl Abort, alloc: Global, number: u64) -> Result<(), Fail>
 
 #[test]
 fn drawn_programs_go_beside_the_plain_kernel(rt: HostRuntime) -> Result<(), Fail> {
-    for number in [1, 2, 3] {
+    for &number in &[1, 2, 3] {
         drawn_beside(&rt, rt.alloc(), number)?;
     }
     Ok(())

@@ -11,8 +11,8 @@ use cut_replays::{Front, acknowledged, are_rising, commits_of, fronts_from, mean
 use disk_trait::{MemoryDisk, Torn};
 use drill_gen::drill_script;
 use hop_base::Rec;
-use kernel_opening::kernel_core::Ended;
-use script_read::script_form::Script;
+use kernel_core::Ended;
+use script_form::Script;
 use std::alloc::Global;
 use std::process::Abort;
 use std::test::Fail;
@@ -27,7 +27,7 @@ fn stop_leaves(
 ) -> Result<(), Fail>
     requires { moment ≤ moments_of disk.now }
 {
-    for torn in [Torn::Old, Torn::New, Torn::Fill(1)] {
+    for &torn in &[Torn::Old, Torn::New, Torn::Fill(1)] {
         let mut left = disk.crash(moment, torn)?;
         means_one_of(alloc, &mut left, fronts, recs)?;
     }

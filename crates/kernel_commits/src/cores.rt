@@ -1,8 +1,7 @@
 // What a kernel is made of.
 use crate::notes::Notes;
 use block_code::Blob;
-use commit_laws::cell_books::snapshot_store::Store;
-use commit_laws::table_steps::kernel_cells::Cell;
+use commit_laws::{Cell, Store};
 use disk_trait::Disk;
 use std::marker::Model;
 

@@ -9,8 +9,6 @@ mod snapping;
 mod stabilising;
 mod stopping;
 
-pub use commit_laws::table_steps;
-pub use commit_laws::table_steps::{locus_machine, step_plans, wanted_act};
 pub use cores::Core;
 pub use notes::Notes;
 pub use snapping::{snap_one, snap_written};

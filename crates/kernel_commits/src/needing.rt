@@ -8,9 +8,7 @@ ghost use Rattle.commit_laws.specs.cell_books.store_model.Books.{kept_names};
 
 use crate::cores::Core;
 use block_code::Blob;
-use commit_laws::cell_books::snapshot_store::Store;
-use commit_laws::table_steps::cell_blobs::need_cell;
-use commit_laws::table_steps::kernel_cells::Cell;
+use commit_laws::{Cell, Store, need_cell};
 use disk_trait::{Disk, NoBlocks};
 
 /// The blocks that a record of each changed cell needs, together. What was in `blob` is lost.

@@ -18,9 +18,7 @@ use crate::cores::Core;
 use crate::notes::Notes;
 use crate::stopping::Stopped;
 use block_code::Blob;
-use commit_laws::cell_books::kernel_records::{commit_cell, mark_entry};
-use commit_laws::cell_books::snapshot_store::{Store, StoreFault};
-use commit_laws::table_steps::kernel_cells::Cell;
+use commit_laws::{Cell, Store, StoreFault, commit_cell, mark_entry};
 use disk_trait::Disk;
 use hop_base::{Entity, Event};
 

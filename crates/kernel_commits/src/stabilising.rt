@@ -24,9 +24,7 @@ use crate::cores::Core;
 use crate::needing::shortage;
 use crate::recording::record_one;
 use crate::stopping::Stopped;
-use commit_laws::cell_books::kernel_records::mark_entry;
-use commit_laws::table_steps::cell_blobs::is_recorded;
-use commit_laws::table_steps::kernel_cells::Cell;
+use commit_laws::{Cell, is_recorded, mark_entry};
 use disk_trait::Disk;
 use hop_base::{Entity, Event};
 

@@ -14,13 +14,10 @@ ghost use Rattle.core_laws.specs.kernel_commits.Stops.{LeavesStopped};
 ghost use Rattle.core_laws.specs.Bearing.{HasBorne, HasBorneAll, HasOpened, IsInBirths, IsShortBehind, OpensRun, RunsInBirths};
 ghost use Rattle.core_laws.specs.birth_views.kernel_model.Beginnings.{Beginning};
 
-use core_laws::birth_views::kernel_cells::Cell;
-use core_laws::birth_views::script_against::Progress;
-use core_laws::birth_views::script_form::Script;
-use core_laws::birth_views::table_births::bear_next;
-use core_laws::kernel_commits::{Core, Notes, Stopped, settle};
+use core_laws::{Cell, Core, Notes, Progress, Stopped, bear_next, settle};
 use disk_trait::Disk;
 use hop_base::Entity;
+use script_form::Script;
 
 // At most 63 entities are born, so one of so many searches finds none left.
 const MOST_SEARCHES: usize = 64;

@@ -29,13 +29,11 @@ use crate::bearing::open_core;
 use crate::looking::{Looked, look_core};
 use atlas_dir::Atlas;
 use block_code::Blob;
-use core_laws::birth_views::kernel_cells::{Cell, Part};
-use core_laws::birth_views::script_form::Script;
-use core_laws::birth_views::snapshot_store::{OpenFault, OpenWhy, Store};
-use core_laws::kernel_commits::{Core, Notes, Stopped, snap_one};
+use core_laws::{Cell, Core, Notes, OpenFault, OpenWhy, Part, Stopped, Store, snap_one};
 use disk_trait::Disk;
 use hop_base::{Entity, Entry};
 use manager_gate::{Gate, Policy, Supplier};
+use script_form::Script;
 use std::alloc::{AllocError, Global};
 use std::marker::Model;
 

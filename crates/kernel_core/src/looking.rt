@@ -27,8 +27,7 @@ ghost use Rattle.core_laws.specs.birth_views.serial_runs.Serial.{kept_behind, lo
 
 use crate::owing::{owes_stable, stabilises_at};
 use crate::stepping::{Stepping, step_core};
-use core_laws::kernel_commits::step_plans::Idle;
-use core_laws::kernel_commits::{Core, Stopped, settle, snap_written};
+use core_laws::{Core, Idle, Stopped, settle, snap_written};
 use disk_trait::Disk;
 use hop_base::{Entity, Entry};
 use manager_gate::{Gate, Policy, Supplier};

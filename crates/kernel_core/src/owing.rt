@@ -14,10 +14,10 @@ ghost use Rattle.core_laws.specs.birth_views.cell_table.Steps.{IsInOrder};
 ghost use Rattle.core_laws.specs.birth_views.cell_table.Tables.{state_in};
 ghost use Rattle.core_laws.specs.Stepping.{is_ok};
 
-use core_laws::birth_views::kernel_cells::{Cell, Part, Storage};
-use core_laws::kernel_commits::locus_machine::Locus;
-use core_laws::kernel_commits::wanted_act::fetch;
+use core_laws::{Cell, Part, Storage};
 use hop_base::{Answer, Entity, Instr, Reply};
+use locus_machine::Locus;
+use wanted_act::fetch;
 
 /// Whether the locus's next instruction is a stabilise.
 fn stabilises_next(locus: &Locus) -> bool

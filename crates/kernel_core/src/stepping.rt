@@ -7,15 +7,11 @@ ghost use Rattle.kernel_core.specs.Stepping.{StepsOnce};
 ghost use Rattle.core_laws.specs.Stepping.{stop_by};
 ghost use Rattle.core_laws.specs.birth_views.record_laws.Cells.{words_on};
 
-use core_laws::birth_views::kernel_cells::Cell;
-use core_laws::birth_views::page_store::PageFault;
-use core_laws::birth_views::snapshot_store::Store;
-use core_laws::kernel_commits::step_plans::Idle;
-use core_laws::kernel_commits::table_steps::StepFault;
-use core_laws::kernel_commits::{Core, Notes, Stopped};
+use core_laws::{Cell, Core, Idle, Notes, StepFault, Stopped, Store};
 use disk_trait::Disk;
 use hop_base::{Entity, Entry};
 use manager_gate::{Gate, Policy, Supplier};
+use page_store::PageFault;
 use store_steps::step_over;
 
 /// What came of a step.

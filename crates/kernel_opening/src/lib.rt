@@ -3,7 +3,6 @@
 
 mod opening;
 
-pub use image_opening::{kernel_cells, snapshot_store};
-pub use kernel_core;
-pub use kernel_core::{Ended, Kernel, Stopped, script_against};
+pub use image_opening::{OpenFault, OpenWhy};
+pub use kernel_core::{Ended, Kernel, Stopped};
 pub use opening::open_image;

@@ -11,8 +11,7 @@ ghost use Rattle.kernel_opening.specs.Starts.{LivesFrom, Opens};
 ghost use Rattle.image_opening.specs.store_laws.State.{books};
 
 use disk_trait::Disk;
-use image_opening::open_parts;
-use image_opening::snapshot_store::{OpenFault, OpenWhy};
+use image_opening::{OpenFault, OpenWhy, open_parts};
 use kernel_core::Kernel;
 use std::alloc::Global;
 

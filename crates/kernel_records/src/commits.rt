@@ -14,9 +14,8 @@ use crate::flushing::flush_part;
 use crate::recording::record_cell;
 use block_code::Blob;
 use disk_trait::{Disk, NoBlocks};
-use record_laws::cell_blobs::{is_recorded, need_cell};
+use record_laws::{Cell, Wish, is_recorded, need_cell};
 use snapshot_store::{Store, StoreFault};
-use wish_laws::kernel_cells::{Cell, Wish};
 
 /// Writes the changed pages of a cell and commits a record of it, for all of which enough blocks are free. Then no record is wished.
 fn put_cell<D: Disk>(

@@ -8,8 +8,8 @@ ghost use Rattle.record_laws.specs.cell_blobs.Blobs.{page_need};
 ghost use Rattle.record_laws.specs.Cells.{IsCleanIn, IsSettled, IsSoundIn};
 ghost use Rattle.kernel_records.specs.Flushing.{FewWrites, Flushes};
 
-use snapshot_store::page_store::{PageFault, PageStore};
-use wish_laws::kernel_cells::Part;
+use page_store::{PageFault, PageStore};
+use record_laws::Part;
 
 /// Writes the changed pages of a container, for which enough blocks are free. What has no pages is left as it is.
 ///

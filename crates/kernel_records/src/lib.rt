@@ -12,8 +12,5 @@ pub use flushing::flush_part;
 pub use laws::{
     few_kept_law, kept_more_law, left_cell_law, newest_law, settled_store_law, told_commit_law,
 };
-pub use record_laws::locus_machine;
 pub use snaps::{FULL, mark_entry, snap_cell};
-pub use snapshot_store;
-pub use snapshot_store::{log_reading, page_store};
-pub use wish_laws::{event_clocks, kernel_cells};
+pub use snapshot_store::{OpenFault, OpenWhy, Store, StoreFault, SyncedLog};

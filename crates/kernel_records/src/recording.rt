@@ -15,10 +15,9 @@ ghost use Rattle.record_laws.specs.store_model.Books.{AreSmall, AreTrue, free_in
 
 use block_code::Blob;
 use disk_trait::Disk;
-use record_laws::cell_blobs::write_part;
-use snapshot_store::page_shadow::ShadowTable;
+use page_shadow::ShadowTable;
+use record_laws::{Cell, Part, write_part};
 use snapshot_store::{Store, StoreFault};
-use wish_laws::kernel_cells::{Cell, Part};
 
 /// The block of each page, 0 for none; of what has no pages 0 for each.
 fn table_of(part: &Part) -> ShadowTable

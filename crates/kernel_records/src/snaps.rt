@@ -17,8 +17,8 @@ use block_code::Blob;
 use disk_trait::Disk;
 use hop_base::{Answer, Entity, Entry, Event, Touched};
 use manager_gate::{Gate, Policy, Supplier};
+use record_laws::Cell;
 use snapshot_store::{Store, StoreFault};
-use wish_laws::kernel_cells::Cell;
 
 /// An entity with so many kept records has no further snapshot made.
 pub const FULL: u16 = 4;

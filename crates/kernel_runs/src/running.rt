@@ -14,9 +14,9 @@ ghost use Rattle.kernel_core.specs.table_births.Births.{atlas_state_in};
 use crate::looking::play;
 use crate::rounds::finish;
 use disk_trait::Disk;
-use kernel_core::script_form::Script;
 use kernel_core::{Kernel, Stopped};
 use manager_gate::{Gate, Policy, Supplier};
+use script_form::Script;
 
 /// Runs a script: its births, the picks of its order, and rounds over the loci until none can step. A kernel that has stopped does
 /// nothing, and tells why it stopped; one that a fault meets stops there.

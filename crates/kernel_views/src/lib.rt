@@ -15,10 +15,11 @@ ghost use Rattle.kernel_views.specs.Events.{EventLaw, StopLaw};
 ghost use Rattle.kernel_views.specs.Snaps.{FullLaw, OrderLaw, SnapLaw, TriedLaw};
 ghost use Rattle.kernel_views.specs.Views.{FollowsRun, view_in};
 
-pub use cell_table::script_form;
+pub use cell_table::Idle;
 use disk_trait::Disk;
-pub use kernel_records;
-pub use kernel_records::{kernel_cells, log_reading, page_store, snapshot_store};
+pub use kernel_records::{
+    FULL, OpenFault, OpenWhy, Store, StoreFault, SyncedLog, commit_cell, mark_entry,
+};
 
 /// The kernel follows its history exactly where its cells are what the run makes.
 pub fn follows_law()

@@ -23,7 +23,7 @@ fn an_edge_that_closes_a_circle_is_refused(rt: HostRuntime) -> Result<(), Fail> 
         (3, 1, Err(Reply::Circle)),
         (1, 1, Err(Reply::Circle)),
     ];
-    for (from, to, want) in links {
+    for &(from, to, want) in &links {
         assert!(rt; link(&rt, &mut atlas, from, to) == want, "{from} to {to}");
     }
     let (two, three) = (Entity::of(2), Entity::of(3));
@@ -59,7 +59,7 @@ fn names_are_made(rt: HostRuntime) -> Result<(), Fail> {
         ("#41", Some(41)),
         ("#2", None),
     ];
-    for (name, number) in names {
+    for &(name, number) in &names {
         assert!(rt; found(atlas, name) == number, "{name}");
     }
     assert!(rt; made.number() == 1 && locus.number() == 41);
@@ -77,7 +77,7 @@ fn names_are_given(rt: HostRuntime) -> Result<(), Fail> {
     assert!(rt; is_name(name) && atlas.find(name).is_none());
     let given = atlas.birth(Some(name), Kind::Container)?;
     assert!(rt; atlas.find(name) == Some(given));
-    for (kind, count) in [(Kind::Atlas, 1), (Kind::Container, 2), (Kind::Locus, 1)] {
+    for &(kind, count) in &[(Kind::Atlas, 1), (Kind::Container, 2), (Kind::Locus, 1)] {
         assert!(rt; atlas.named(kind) == count, "{kind:?}");
     }
     Ok(())
@@ -85,7 +85,7 @@ fn names_are_given(rt: HostRuntime) -> Result<(), Fail> {
 
 #[test]
 fn other_texts_are_no_names(rt: HostRuntime) {
-    for other in ["", "atlas", "#1", "2b", "a b", "abcdefghijklmnopqrstuvwxy"] {
+    for &other in &["", "atlas", "#1", "2b", "a b", "abcdefghijklmnopqrstuvwxy"] {
         assert!(rt; !is_name(other), "{other}");
     }
 }

@@ -12,7 +12,7 @@ fn read_line(alloc: Global, line: &str) -> Result<Option<Command>, AllocError> {
 }
 
 // Lines of words, and the commands that they are.
-const COMMANDS: [(&str, Command); 12] = [
+const COMMANDS: &[(&str, Command)] = &[
     ("run", Command::Run { trace: false }),
     ("run --trace", Command::Run { trace: true }),
     ("show", Command::Show),
@@ -28,7 +28,7 @@ const COMMANDS: [(&str, Command); 12] = [
 ];
 
 // Lines of words that are no command.
-const OTHERS: [&str; 61] = [
+const OTHERS: &[&str] = &[
     "format 000000000000000002600",
     "format 2599",
     "format 65537",
@@ -95,7 +95,7 @@ const OTHERS: [&str; 61] = [
 
 #[test]
 fn words_are_read_as_commands(rt: HostRuntime) -> Result<(), Fail> {
-    for (line, want) in COMMANDS {
+    for &(line, want) in COMMANDS {
         let read = read_line(rt.alloc(), line)?;
         assert!(rt; read == Some(want), "{line}");
     }

@@ -58,7 +58,7 @@ fn a_new_disk_is_zero_before_and_after_a_stop(rt: HostRuntime) -> Result<(), Fai
     assert!(rt; disk.calls() == 0);
     let mut left = stopped(&disk, 0, Torn::Old)?;
     assert!(rt; left.blocks() == 2700);
-    for at in [0, 1, 2699] {
+    for &at in &[0, 1, 2699] {
         assert!(rt; filling(&mut disk, at) == Ok(0));
         assert!(rt; filling(&mut left, at) == Ok(0));
     }
@@ -81,7 +81,7 @@ fn a_stop_leaves_pending_blocks_torn(rt: HostRuntime) -> Result<(), Fail> {
         (3, [7, 9, 3], [0, 0, 0]),
         (4, [7, 9, 3], [0, 5, 3]),
     ];
-    for (moment, one, two) in table {
+    for &(moment, one, two) in &table {
         for (i, torn) in [Torn::Old, Torn::New, Torn::Fill(3)].iter().enumerate() {
             let left = blocks_left(&rt, &disk, moment, *torn)?;
             assert!(rt; left == (one[i], two[i]), "moment {moment}, {torn:?}");

@@ -34,7 +34,7 @@ fn clean(rt: &impl Abort, frames: &mut Frames, page: u8) {
 
 #[test]
 fn one_to_256_frames_can_be_made(rt: HostRuntime) -> Result<(), Fail> {
-    for count in [1, 2, 256] {
+    for &count in &[1, 2, 256] {
         let mut frames = Frames::new(rt.alloc(), count)?;
         assert!(rt; frames.frames() == count);
         assert!(rt; frames.victim() == None);
@@ -95,7 +95,7 @@ fn a_page_that_is_removed_is_gone(rt: HostRuntime) -> Result<(), Fail> {
 #[test]
 fn a_page_used_since_the_hand_passed_is_spared_once(rt: HostRuntime) -> Result<(), Fail> {
     let mut frames = Frames::new(rt.alloc(), 3)?;
-    for page in [1, 2, 3] {
+    for &page in &[1, 2, 3] {
         place_filled(&rt, &mut frames, page, 0);
     }
     // all three were used as they came, so the hand goes round once and stops at the first

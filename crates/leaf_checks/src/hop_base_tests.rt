@@ -11,7 +11,7 @@ fn denials_and_numbers_are_those_of_the_tables(rt: HostRuntime) -> Result<(), Fa
     assert!(rt; Reply::Denied(Right::Write).number() == 17);
     assert!(rt; Reply::NoNumber.number() == 10);
     assert!(rt; Touched::none().as_slice().len() == 0);
-    for (n, kind) in [
+    for &(n, kind) in &[
         (1, Kind::Container),
         (40, Kind::Container),
         (41, Kind::Locus),

@@ -52,7 +52,7 @@ fn instructions_are_read_and_written_back(rt: HostRuntime) {
         ("print r1", Instr::Print(1)),
         ("halt", Instr::Halt),
     ];
-    for (text, want) in lines {
+    for &(text, want) in &lines {
         reads_and_writes(&rt, text, want);
     }
 }
@@ -60,7 +60,7 @@ fn instructions_are_read_and_written_back(rt: HostRuntime) {
 #[test]
 fn sets_of_rights_are_written_by_their_letters(rt: HostRuntime) {
     let sets = [(0, "-"), (1, "r"), (3, "rw"), (20, "ic"), (255, "rwimcskt")];
-    for (set, text) in sets {
+    for &(set, text) in &sets {
         let mut out = ArrayString::new();
         out.push_str("what stood there");
         write_rights(Rights(set), &mut out);
@@ -95,7 +95,7 @@ fn other_texts_are_refused_at_the_first_bad_byte(rt: HostRuntime) {
         ("make r0 r1 r2 @", 15),
         ("copy r1 r2 r3", 10),
     ];
-    for (text, place) in lines {
+    for &(text, place) in &lines {
         assert!(rt; read_line(text) == Err(BadInstr { place }), "at {text}");
     }
 }

@@ -21,7 +21,7 @@ fn word_at<S: Supplier, P: Policy>(gate: &Gate<S, P>, tag: u64, n: u32, k: u16) 
 #[test]
 fn the_default_managers_answer_by_tag_page_and_interval(rt: HostRuntime) {
     let gate = Gate::new(CountedWords, EveryVersions);
-    for (tag, n, k, want) in [
+    for &(tag, n, k, want) in &[
         (0, 255, 127, 0),
         (7, 1, 2, 137),
         (1000, 0, 0, 1000),
@@ -34,7 +34,7 @@ fn the_default_managers_answer_by_tag_page_and_interval(rt: HostRuntime) {
             "tag {tag}, page {n}, place {k}"
         );
     }
-    for (every, since, want) in [
+    for &(every, since, want) in &[
         (0, 5, false),
         (1, 0, false),
         (1, 1, true),

@@ -1,4 +1,5 @@
-use page_shadow::{Ledger, NoBlocks, Pool, ShadowTable, Uses};
+use disk_trait::NoBlocks;
+use page_shadow::{Ledger, Pool, ShadowTable, Uses};
 use std::process::Abort;
 use std::test::Fail;
 
@@ -14,7 +15,7 @@ fn give(rt: &impl Abort, pool: &mut Pool, block: u32) {
 fn the_pool_of_blocks_2565_to_2599_has_35_free(rt: HostRuntime) -> Result<(), Fail> {
     let mut pool = Pool::new(rt.alloc(), 2565, 2600)?;
     assert!(rt; pool.free() == 35);
-    for (block, want) in [
+    for &(block, want) in &[
         (0, false),
         (2564, false),
         (2565, true),
@@ -42,11 +43,11 @@ fn blocks_come_back_in_their_place(rt: HostRuntime) -> Result<(), Fail> {
     assert!(rt; free);
     pool.take_this(150);
     assert!(rt; pool.free() == 59);
-    for block in [130, 63, 64] {
+    for &block in &[130, 63, 64] {
         give(&rt, &mut pool, block);
     }
     assert!(rt; pool.free() == 62);
-    for want in [63, 64, 130, 140] {
+    for &want in &[63, 64, 130, 140] {
         assert!(rt; pool.take_block() == Ok(want));
     }
     assert!(rt; !pool.is_free(150) && pool.is_free(151));
@@ -58,7 +59,7 @@ fn the_whole_of_the_largest_disk_fits(rt: HostRuntime) -> Result<(), Fail> {
     let mut pool = Pool::new(rt.alloc(), 0, 65536)?;
     assert!(rt; pool.free() == 65536);
     assert!(rt; pool.take_block() == Ok(0));
-    for (first, end) in [(7, 7), (70, 7)] {
+    for &(first, end) in &[(7, 7), (70, 7)] {
         let mut none = Pool::new(rt.alloc(), first, end)?;
         assert!(rt; none.take_block() == Err(NoBlocks { need: 1, free: 0 }));
     }

@@ -80,7 +80,7 @@ fn a_memory_sink_fails_at_the_given_puts_and_past_its_room(rt: HostRuntime) -> R
         (b"cd", true, b"abcd"),
         (b"e", false, b"abcd"),
     ];
-    for (bytes, succeeds, held) in puts {
+    for &(bytes, succeeds, held) in &puts {
         assert!(rt; sink.put(bytes).is_ok() == succeeds);
         assert!(rt; sink.held() == held);
     }
@@ -96,7 +96,7 @@ fn a_memory_sink_of_a_hundred_bytes_is_made(rt: HostRuntime) {
 #[test]
 fn a_source_is_read_up_to_the_limit_and_not_past_it(rt: HostRuntime) -> Result<(), Fail> {
     let alloc = rt.alloc();
-    for (count, limit) in [(0, 0), (1, 0), (3, 3), (4, 3), (5000, 5000), (5000, 4999)] {
+    for &(count, limit) in &[(0, 0), (1, 0), (3, 3), (4, 3), (5000, 5000), (5000, 4999)] {
         let bytes = vec![in alloc; 7u8; count]?;
         let mut source = MemorySource::new(bytes, Vec::new(alloc));
         match read_all(alloc, &mut source, limit) {
@@ -190,7 +190,7 @@ fn a_file_is_a_disk(rt: HostRuntime) -> Result<(), Fail> {
     let mut disk = FileDisk::new(file);
     assert!(rt; reads(&mut disk, 0, &ends_inside));
     assert!(rt; disk.write(2, &[7; 1024]).is_ok() && disk.sync().is_ok());
-    for (at, wanted) in [(2, [7; 1024]), (1, zeros), (0, ends_inside)] {
+    for &(at, wanted) in &[(2, [7; 1024]), (1, zeros), (0, ends_inside)] {
         assert!(rt; reads(&mut disk, at, &wanted), "block {at}");
     }
     fs::remove_file(&rt, "a_file_is_a_disk.img")?;
@@ -210,7 +210,7 @@ fn a_file_is_a_source(rt: HostRuntime) -> Result<(), Fail> {
     let path = "a_file_is_a_source.txt";
     let long = bytes_past_two_blocks(alloc)?;
     let contents: [&[u8]; 3] = [b"", b"abc", &long];
-    for content in contents {
+    for &content in &contents {
         fs::write(&rt, path, content)?;
         let mut source = ReadSource::new(File::open(&rt, path)?);
         let read = read_all(alloc, &mut source, 2500)?;
@@ -229,7 +229,7 @@ fn a_file_is_read_in_pieces_and_not_past_a_limit(rt: HostRuntime) -> Result<(), 
     fs::write(&rt, path, &long)?;
     let mut source = ReadSource::new(File::open(&rt, path)?);
     let mut out = [0; 1000];
-    for count in [1000, 1000, 500, 0] {
+    for &count in &[1000, 1000, 500, 0] {
         assert!(rt; source.take(&mut out) == Ok(count) && out[999] == 7);
     }
     assert!(rt; out[499] == 9);
@@ -252,7 +252,7 @@ fn a_file_is_a_sink(rt: HostRuntime) -> Result<(), Fail> {
     let mut sink = WriteSink::new(fs::create(&rt, path)?);
     let puts: [&[u8]; 4] = [b"ab", b"", &long, b"c\n"];
     let mut whole = Vec::new(alloc);
-    for bytes in puts {
+    for &bytes in &puts {
         assert!(rt; sink.put(bytes) == Ok(()));
         whole.extend_from_slice(bytes)?;
         // What was put is seen at once.

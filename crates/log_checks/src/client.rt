@@ -6,14 +6,12 @@ ghost use Rattle.log_reading.specs.image_form.Layout.{pool_at, slot_count};
 ghost use Rattle.log_turn.specs.Standing.{Stands, epoch_of, has_failed, place_of};
 ghost use Rattle.log_checks.specs.Uses.{IsOneOf};
 
+use commit_log::LogFault;
 use disk_tally::Tally;
 use disk_trait::{Disk, DiskFault};
 use hop_base::Rec;
-use log_reading::image_blocks::{
-    Area, body_of, closed_gate, gate_of, header_block, header_of, open_gate,
-};
+use image_blocks::{Area, body_of, closed_gate, gate_of, header_block, header_of, open_gate};
 use log_turn::Areas;
-use log_turn::commit_log::LogFault;
 
 /// Begins an empty log on a disk, in area A with epoch 1, by four writes and a sync. Every other block is left as it is.
 pub fn begin_log<D: Disk>(disk: &mut D) -> Result<Areas, DiskFault>

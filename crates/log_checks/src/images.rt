@@ -2,12 +2,12 @@
 ghost use Rattle.std.specs.Prelude.{◌≡◌};
 
 use crate::quiet_disk::QuietDisk;
+use commit_log::LogFault;
 use disk_trait::{Disk, DiskFault, MemoryDisk, Torn};
 use hop_base::{Entity, Rec};
-use log_reading::image_blocks::{POOL_AT, header_block, open_gate, superblock};
+use image_blocks::{POOL_AT, header_block, open_gate, superblock};
 use log_reading::{ImageLog, read_log};
 use log_turn::Areas;
-use log_turn::commit_log::LogFault;
 use std::alloc::Global;
 use std::test::Fail;
 

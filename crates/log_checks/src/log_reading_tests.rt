@@ -1,7 +1,7 @@
 use disk_trait::{Disk, DiskFault, MemoryDisk};
 use hop_base::{Entity, Rec};
 use image_blocks::{Area, Bad, body_block, header_block, open_gate, superblock};
-use log_reading::{ReadingFault, image_blocks, read_log};
+use log_reading::{ReadingFault, read_log};
 use std::alloc::Global;
 use std::test::Fail;
 
@@ -103,7 +103,7 @@ fn the_first_bad_place_is_told(rt: HostRuntime) -> Result<(), Fail> {
         (5, 532, 1, 5, 532),
         (7, 1000, 1, 7, 1000),
     ];
-    for (at, in_block, byte, block, place) in table {
+    for &(at, in_block, byte, block, place) in &table {
         let mut disk = image(rt.alloc(), &[])?;
         alter(&mut disk, at, in_block, byte)?;
         let bad = Bad { block, place };

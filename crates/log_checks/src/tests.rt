@@ -1,12 +1,12 @@
 use crate::client::{append_and_turn, begin_log};
 use crate::images::{append, empty_image, log_at, log_of, open_b, record, records, turn};
 use crate::quiet_disk::QuietDisk;
+use commit_log::LogFault;
 use disk_tally::Tally;
 use disk_trait::{Disk, MemoryDisk, Torn};
 use hop_base::Rec;
-use log_reading::image_blocks::{Area, POOL_AT, superblock};
+use image_blocks::{Area, POOL_AT, superblock};
 use log_turn::Areas;
-use log_turn::commit_log::LogFault;
 use std::alloc::Global;
 use std::process::Abort;
 use std::test::Fail;
@@ -168,7 +168,7 @@ fn stops_leave(
     let (old, new) = logs;
     let end = disk.memory.moments();
     for moment in start..=end {
-        for torn in [Torn::Old, Torn::New, Torn::Fill(1)] {
+        for &torn in &[Torn::Old, Torn::New, Torn::Fill(1)] {
             let log = log_at(alloc, disk, moment, torn)?;
             let is_old = log.area == old.0 && log.recs.as_slice() == old.1;
             let is_new = log.area == new.0 && log.recs.as_slice() == new.1;
@@ -187,7 +187,7 @@ fn a_stop_at_any_moment_leaves_the_old_log_or_the_new_one(rt: HostRuntime) -> Re
     let two = records(alloc, 1, 2)?;
     let three = records(alloc, 1, 3)?;
     let kept = records(alloc, 2, 3)?;
-    for was_open in [false, true] {
+    for &was_open in &[false, true] {
         let mut disk = empty_image(alloc, 60, &[])?;
         if was_open {
             open_b(&mut disk)?;

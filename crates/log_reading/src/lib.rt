@@ -13,5 +13,5 @@ mod looks;
 mod slots;
 
 pub use faults::ReadingFault;
-pub use image_blocks;
+pub use image_blocks::{Bad, LAST_NUMBER, POOL_AT, SLOT_COUNT};
 pub use log::{ImageLog, read_log};

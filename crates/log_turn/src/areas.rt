@@ -12,8 +12,7 @@ ghost use Rattle.commit_log.specs.log_laws.Stages.{IsLogging};
 
 use crate::filling::write_kept;
 use crate::gates::{close_area, switch};
-use commit_log::image_blocks::{Area, other_area};
-use commit_log::{Log, LogFault};
+use commit_log::{Area, Log, LogFault, other_area};
 use disk_tally::Tally;
 use disk_trait::{Disk, DiskFault};
 use hop_base::Rec;

@@ -10,7 +10,7 @@ ghost use Rattle.commit_log.specs.image_form.Layout.{closed_gate as closed_block
 ghost use Rattle.commit_log.specs.image_blocks.Logs.{HasSlots};
 ghost use Rattle.commit_log.specs.log_laws.Stages.{HasFilled, HasSlotGates, IsBehindGate, IsGateOf, IsOfSlot};
 
-use commit_log::image_blocks::{
+use commit_log::{
     Area, SLOT_COUNT, body_block, body_of, closed_gate, header_block, header_of, open_gate,
 };
 use disk_tally::Tally;

@@ -8,7 +8,7 @@ ghost use Rattle.commit_log.specs.image_form.Layout.{closed_gate as closed_block
 ghost use Rattle.commit_log.specs.image_blocks.Layout.{gate_at, other};
 ghost use Rattle.commit_log.specs.log_laws.Stages.{IsClosing, IsEitherGate, IsSwitching};
 
-use commit_log::image_blocks::{Area, closed_gate, gate_of, is_open, open_gate, other_area};
+use commit_log::{Area, closed_gate, gate_of, is_open, open_gate, other_area};
 use disk_tally::Tally;
 use disk_trait::{Disk, DiskFault};
 

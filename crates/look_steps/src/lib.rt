@@ -4,5 +4,5 @@
 mod looks;
 mod parts;
 
-pub use kernel_cells;
+pub use kernel_cells::{Cell, Part, step_alone};
 pub use looks::step_look;

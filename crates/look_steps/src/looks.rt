@@ -14,10 +14,7 @@ ghost use Rattle.look_steps.specs.Looking.{is_stored, looking, LeavesMemory, Loo
 
 use crate::parts::look_in_parts;
 use hop_base::{Answer, Entry, Event, Reply};
-use kernel_cells::Cell;
-use kernel_cells::event_clocks::{Clock, read_and_write, write_two};
-use kernel_cells::fault_paging::PageFault;
-use kernel_cells::page_store::PageStore;
+use kernel_cells::{Cell, Clock, PageFault, PageStore, read_and_write, write_two};
 use manager_gate::{Gate, Policy, Supplier};
 
 /// Whether a look that is answered so stored a word.

@@ -12,12 +12,9 @@ ghost use Rattle.address_resolve.specs.Looks.{is_look};
 ghost use Rattle.kernel_cells.specs.Cells.{part_of, IsRunning};
 ghost use Rattle.look_steps.specs.Looking.{ComesToWord, LeavesMemory, MakesLook, MakesSomehow, MayLook};
 
-use address_resolve::locus_machine::Locus;
-use address_resolve::look;
+use address_resolve::{Locus, look};
 use hop_base::Answer;
-use kernel_cells::fault_paging::PageFault;
-use kernel_cells::page_store::PageStore;
-use kernel_cells::{Part, Storage};
+use kernel_cells::{PageFault, PageStore, Part, Storage};
 use manager_gate::{Gate, Policy, Supplier};
 
 /// The look of a locus at a container, with its memory.

@@ -5,6 +5,5 @@
 mod mappings;
 mod parts;
 
-pub use beside_steps;
-pub use beside_steps::kernel_cells;
+pub use beside_steps::{Cell, Part, Storage, step_beside};
 pub use mappings::step_mapping;

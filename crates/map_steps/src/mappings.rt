@@ -11,8 +11,7 @@ ghost use Rattle.beside_steps.specs.Besides.{KeepsMemory};
 ghost use Rattle.map_steps.specs.Mapping.{IsDirectoryPart, IsHeadPart, MayMap, WantsMapping};
 
 use crate::parts::map_in_parts;
-use beside_steps::event_clocks::write_three;
-use beside_steps::kernel_cells::Cell;
+use beside_steps::{Cell, write_three};
 use hop_base::{Entry, Event, Instr};
 
 /// The step of a running locus that maps pages of one container into another, or unmaps them. The locus, the atlas and the

@@ -14,9 +14,7 @@ ghost use Rattle.beside_steps.specs.Besides.{KeepsMemory};
 ghost use Rattle.map_steps.specs.Mapping.{IsDirectoryPart, IsHeadPart, MakesThree, MayMap, WantsMapping};
 
 use atlas_dir::Atlas;
-use beside_steps::kernel_calls::{map, unmap};
-use beside_steps::kernel_cells::{Part, Storage};
-use beside_steps::locus_machine::{Head, Locus};
+use beside_steps::{Head, Locus, Part, Storage, map, unmap};
 use hop_base::{Answer, Entity, Instr, Reply};
 
 fn map_head(

@@ -15,8 +15,6 @@ ghost use Rattle.meant_states.specs.Restoring.{MakeUpState};
 ghost use Rattle.meant_states.specs.Versions.{AreCutVersions};
 ghost use Rattle.sound_states.specs.States.{IsSoundState};
 
-pub use image_meaning::image_blocks;
-
 /// What an image means is a sound state: its cells, its versions, its clocks, and the words past a container's pages.
 pub fn meant_state_law()
     ensures { (s : Supply) (image : Image) (v : KernelState) → Means s image v → IsSoundState s v }

@@ -6,12 +6,11 @@ ghost use Rattle.image_parts.specs.part_checks.Chosen.{part_of};
 ghost use Rattle.opened_cells.specs.Opened.{IsChosenCell, IsFormedEntity};
 
 use crate::parts::{chosen_part, unborn_part};
+use event_clocks::Clock;
 use hop_base::Entity;
-use image_parts::page_shadow::ShadowTable;
-use image_parts::part_checks::ChosenEntity;
-use image_parts::table_for;
-use record_laws::event_clocks::Clock;
-use record_laws::kernel_cells::{Cell, Part, Wish};
+use image_parts::{ChosenEntity, table_for};
+use page_shadow::ShadowTable;
+use record_laws::{Cell, Part, Wish};
 use std::alloc::{AllocError, Global};
 use vector_stamps::Stamp;
 

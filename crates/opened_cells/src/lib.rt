@@ -6,8 +6,7 @@ mod laws;
 mod parts;
 mod table;
 
-pub use image_parts;
-pub use image_parts::page_shadow;
+pub use image_parts::{ImageParts, page_tables, read_parts};
 pub use laws::no_blocks_law;
-pub use meant_states::image_blocks;
+pub use record_laws::Cell;
 pub use table::cells_of;

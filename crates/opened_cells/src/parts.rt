@@ -6,12 +6,11 @@ ghost use Rattle.image_parts.specs.part_checks.Chosen.{part_of};
 ghost use Rattle.opened_cells.specs.Opened.{IsChosenPart, memory_with};
 
 use atlas_dir::Atlas;
+use fault_paging::PagedMemory;
 use hop_base::{Entity, Kind};
-use image_parts::page_shadow::ShadowTable;
-use image_parts::part_checks::{ChosenEntity, ChosenPart};
-use image_parts::snapshot_reading::ContainerBlob;
-use record_laws::fault_paging::PagedMemory;
-use record_laws::kernel_cells::{Part, Storage};
+use image_parts::{ChosenEntity, ChosenPart, ContainerBlob};
+use page_shadow::ShadowTable;
+use record_laws::{Part, Storage};
 use std::alloc::{AllocError, Global};
 
 // The part of an entity of which nothing is chosen.

@@ -18,9 +18,8 @@ ghost use Rattle.opened_cells.specs.Opened.{AreChosenCells, HaveFrames};
 
 use crate::cells::cell_for;
 use hop_base::{Entity, MOST_ENTITIES};
-use image_parts::ImageParts;
-use image_parts::part_checks::ChosenEntity;
-use record_laws::kernel_cells::Cell;
+use image_parts::{ChosenEntity, ImageParts};
+use record_laws::Cell;
 use std::alloc::{AllocError, Global};
 
 // The cells of these entities.

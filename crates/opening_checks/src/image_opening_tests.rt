@@ -1,9 +1,9 @@
 //! Images made by hand, opened: without a record, and with one of the atlas.
 use disk_trait::{Disk, DiskFault, MemoryDisk};
 use hop_base::{Entity, Rec};
-use image_opening::{open_parts, snapshot_store};
-use kernel_views::snapshot_store::OpenWhy;
-use opened_cells::image_blocks::{body_block, header_block, open_gate, superblock};
+use image_blocks::{body_block, header_block, open_gate, superblock};
+use image_opening::open_parts;
+use snapshot_store::OpenWhy;
 use std::alloc::Global;
 use std::test::Fail;
 
@@ -73,7 +73,7 @@ fn the_chosen_record_is_kept(rt: HostRuntime) -> Result<(), Fail> {
 #[test]
 fn a_call_that_fails_hands_the_disk_back(rt: HostRuntime) -> Result<(), Fail> {
     // Three writes make the image, the sync is the fourth call, and the log and no blob are read behind it.
-    for (failing, why) in [
+    for &(failing, why) in &[
         (4, OpenWhy::WriteFault),
         (5, OpenWhy::ReadFault),
         (14, OpenWhy::WriteFault),

@@ -1,11 +1,11 @@
 // Images made by hand, and what stands on a disk.
 use disk_trait::{Disk, DiskFault, MemoryDisk};
 use hop_base::{Entity, Rec};
-use kernel_opening::kernel_core::Kernel;
+use image_blocks::{body_block, epoch_of, header_block, open_gate, superblock};
+use kernel_core::Kernel;
 use kernel_opening::open_image;
-use kernel_opening::snapshot_store::OpenWhy;
 use restart::format;
-use restart::image_blocks::{body_block, epoch_of, header_block, open_gate, superblock};
+use snapshot_store::OpenWhy;
 use std::alloc::Global;
 use std::test::Fail;
 

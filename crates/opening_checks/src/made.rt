@@ -4,7 +4,7 @@ ghost use Rattle.restart.specs.image_form.Layout.{least_blocks, most_blocks};
 ghost use Rattle.opening_checks.specs.Made.{GoesFromNothing};
 
 use disk_trait::Disk;
-use kernel_opening::kernel_core::Kernel;
+use kernel_core::Kernel;
 use kernel_opening::open_image;
 use restart::format;
 use std::alloc::Global;

@@ -1,11 +1,11 @@
 //! The cells of an image without a record, and of one of an atlas, a container and a locus.
 use disk_trait::{Disk, DiskFault, MemoryDisk};
 use hop_base::{Entity, Rec};
-use image_parts::log_reading::{ReadingFault, read_log};
+use image_blocks::{body_block, header_block, open_gate, superblock};
 use image_parts::read_parts;
-use meant_states::image_blocks::{body_block, header_block, open_gate, superblock};
-use opened_cells::{cells_of, image_blocks, image_parts};
-use record_laws::kernel_cells::{Cell, Part};
+use kernel_cells::{Cell, Part};
+use log_reading::{ReadingFault, read_log};
+use opened_cells::cells_of;
 use std::alloc::Global;
 use std::test::Fail;
 

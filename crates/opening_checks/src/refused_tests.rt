@@ -1,8 +1,8 @@
 //! Images that are refused, each by one byte. In the tables stand a block, a place and the byte that is put there, and block and place of the
 //! first bad place that is told then.
 use crate::images::{alter, fault_of, of_three};
-use kernel_opening::snapshot_store::OpenWhy;
-use restart::image_blocks::Bad;
+use image_blocks::Bad;
+use snapshot_store::OpenWhy;
 use std::alloc::Global;
 use std::process::Abort;
 use std::test::Fail;

@@ -7,8 +7,8 @@ use crate::open_made;
 use disk_trait::{DiskFault, MemoryDisk, Torn};
 use hop_base::Entity;
 use kernel_opening::open_image;
-use kernel_opening::snapshot_store::OpenWhy;
 use manager_gate::{CountedWords, EveryVersions, Gate};
+use snapshot_store::OpenWhy;
 use std::alloc::Global;
 use std::test::Fail;
 
@@ -77,7 +77,7 @@ fn a_stop_at_any_moment_leaves_the_same(rt: HostRuntime) -> Result<(), Fail> {
     let ended = opened(rt.alloc(), disk)?.into_ended();
     let disk = ended.disk;
     for moment in synced..=disk.moments() {
-        for torn in [Torn::Old, Torn::New, Torn::Fill(1)] {
+        for &torn in &[Torn::Old, Torn::New, Torn::Fill(1)] {
             assert!(rt;
                 is_same_behind(rt.alloc(), &disk, moment, torn)?,
                 "moment {moment}"
@@ -90,7 +90,7 @@ fn a_stop_at_any_moment_leaves_the_same(rt: HostRuntime) -> Result<(), Fail> {
 #[test]
 fn a_failing_disk_comes_back(rt: HostRuntime) -> Result<(), Fail> {
     // Ten calls make the image, the sync is the eleventh, and the first read of it comes behind.
-    for (failing, why) in [(11, OpenWhy::WriteFault), (12, OpenWhy::ReadFault)] {
+    for &(failing, why) in &[(11, OpenWhy::WriteFault), (12, OpenWhy::ReadFault)] {
         let disk = formatted(rt.alloc(), &[failing])?;
         let fault = match open_image(rt.alloc(), disk, 1, 10) {
             Ok(_) => return Err(DiskFault.into()),

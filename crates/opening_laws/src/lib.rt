@@ -8,8 +8,8 @@ ghost use Rattle.kernel_views.specs.snapshot_store.declared.opening.OpenWhy.{Ope
 ghost use Rattle.opening_laws.specs.Images.{HasKeepCause};
 ghost use Rattle.std.specs.Prelude.{ℕ, ◌≡◌};
 
-pub use kernel_views;
-pub use opened_cells;
+pub use kernel_views::{OpenFault, OpenWhy, Store, SyncedLog};
+pub use opened_cells::{Cell, ImageParts, cells_of, page_tables, read_parts};
 
 /// What stopped the keeping of the chosen records is never that the image is foreign.
 pub fn kept_law()

@@ -14,8 +14,6 @@ ghost use Rattle.trace_check.specs.trace_words.entry_lines.hop_model.Soundness.{
 ghost use Rattle.trace_check.specs.trace_words.entry_lines.hop_model.State.{KernelState, Supply, Text};
 ghost use Rattle.trace_check.specs.trace_words.entry_lines.hop_model.Steps.{atlas_in};
 
-pub use trace_check;
-
 /// In a legal run from a sound state each line is the same by the names of the end and by those behind its own entry: an entry names none
 /// but entities that are born behind it, and those keep their names.
 pub fn own_trace_law()

@@ -6,7 +6,7 @@ ghost use Rattle.block_code.specs.Fields.{number_at};
 ghost use Rattle.store_model.specs.Books.{words_of_bytes};
 
 use block_code::{get_u64, put_u64};
-pub use store_model::{commit_log, log_turn};
+pub use store_model::{Areas, LogFault};
 
 // The word at a place of the block.
 fn word_at(block: &[u8; 1024], place: usize) -> u64

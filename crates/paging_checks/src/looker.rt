@@ -2,9 +2,9 @@ ghost use Rattle.address_resolve.specs.wanted_act.Views.{IsReadyLocus};
 ghost use Rattle.address_resolve.specs.locus_machine.Loci.{locus_of};
 
 use crate::own::OwnPages;
-use address_resolve::fault_paging::PageFault;
-use address_resolve::locus_machine::{Head, Locus};
 use hop_base::{Answer, Condition, Entity};
+use locus_machine::{Head, Locus};
+use page_store::PageFault;
 use std::marker::Model;
 
 /// A locus that makes what touches it alone, and looks.

@@ -7,11 +7,13 @@ ghost use Rattle.address_resolve.specs.locus_machine.Loci.{locus_of};
 ghost use Rattle.paging_checks.specs.declared.own.TheConstants.{PAGES, TAG};
 ghost use Rattle.paging_checks.specs.Own.{own_words, IsOwn};
 
-use address_resolve::fault_paging::{MemoryPages, PageFault, PagedMemory, ShadowTable};
-use address_resolve::locus_machine::{Head, Locus};
 use address_resolve::look;
+use fault_paging::PagedMemory;
 use hop_base::{Answer, Instr, PAGE_WORDS};
+use locus_machine::{Head, Locus};
 use manager_gate::{CountedWords, EveryVersions, Gate};
+use page_shadow::ShadowTable;
+use page_store::{MemoryPages, PageFault};
 use std::alloc::{AllocError as Memory, Global};
 
 /// The tag for the supplier's words.

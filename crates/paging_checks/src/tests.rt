@@ -1,9 +1,10 @@
 ghost use Rattle.std.specs.Prelude.{◌≡◌, ◌<◌, ◌≤◌};
 
 use super::*;
-use address_resolve::fault_paging::{NoBlocks, PageFault};
-use address_resolve::locus_machine::{Head, Locus};
+use disk_trait::NoBlocks;
 use hop_base::{Answer, Cap, Entity, Instr, PAGE_WORDS, Region, Reply, Right, Rights};
+use locus_machine::{Head, Locus};
+use page_store::PageFault;
 use rand_core::utils::NextWord;
 use rand_pcg::Pcg32;
 use std::alloc::{AllocError, Global};

@@ -1,8 +1,8 @@
 //! What is chosen of an entity.
 use atlas_dir::Atlas;
-use atlas_reading::locus_machine::Locus;
-use atlas_reading::snapshot_reading::ContainerBlob;
+use atlas_reading::ContainerBlob;
 use hop_base::Rec;
+use locus_machine::Locus;
 
 /// What the blob of a chosen record spells.
 #[derive(Drop, Debug)]

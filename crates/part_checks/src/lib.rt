@@ -12,8 +12,7 @@ mod fits;
 mod names;
 mod ties;
 
-pub use atlas_reading;
-pub use atlas_reading::snapshot_reading;
+pub use atlas_reading::{BadBlob, ContainerBlob, read_atlas, read_container, read_locus};
 pub use born::{are_born, is_born, is_born_container};
 pub use chosen::{ChosenEntity, ChosenPart};
 pub use circles::has_no_circle;

@@ -8,8 +8,9 @@ ghost use Rattle.part_laws.specs.Naming.{AreUses, block_passes, count_of, one_at
 ghost use Rattle.part_checks.specs.Naming.{names_in, names_of};
 
 use crate::chosen::{ChosenEntity, ChosenPart};
+use disk_trait::BLOCK_BYTES;
 use hop_base::Rec;
-use part_laws::image_meaning::image_blocks::{BLOCK_BYTES, POOL_AT};
+use image_blocks::POOL_AT;
 use std::alloc::{AllocError, Global};
 
 // How often a block is named where it is named more than once.

@@ -11,8 +11,8 @@ ghost use Rattle.part_laws.specs.Ties.{IsTiedWalk};
 
 use crate::born::{are_born, is_born_container};
 use atlas_dir::Atlas;
-use atlas_reading::locus_machine::{Head, Locus};
 use hop_base::{Call, Instr, Private, Region};
+use locus_machine::{Head, Locus};
 
 // Whether each region shows a container that is born.
 fn all_shown(atlas: &Atlas, regions: &[Region]) -> bool

@@ -10,8 +10,6 @@ ghost use Rattle.part_laws.specs.Ties.{slot_born};
 ghost use Rattle.std.specs.List.{list_all};
 ghost use Rattle.std.specs.Prelude.{IsTrue, List, Option, Some, slice_get, ℕ, ◌↔◌, ◌≡◌, ◌≤◌};
 
-pub use image_meaning;
-
 /// A block that stands at one place at most is counted once at most; and all named entities are born where each slot names a
 /// born one.
 pub fn counted_law()

@@ -8,12 +8,10 @@ ghost use Rattle.plain_show.specs.history_model.Born.{AreEdges, AreOfOneKind, Kn
 ghost use Rattle.plain_show.specs.history_model.Events.{AreFewVersions};
 ghost use Rattle.plain_show.specs.history_model.Plains.{cells_of};
 
+use history_model::{Plain, PlainAtlas, PlainLocus, container_named, number_among, plain_birth};
 use hop_base::{Answer, Cap, Entity, Entry, Instr, Reply, Rights};
-use plain_run::plain_steps::plain_step;
-use plain_show::history_model::{
-    Plain, PlainAtlas, PlainLocus, container_named, number_among, plain_birth,
-};
-use script_read::script_form::{Script, ScriptContainer, ScriptLocus};
+use plain_steps::plain_step;
+use script_form::{Script, ScriptContainer, ScriptLocus};
 use std::alloc::{AllocError, Global};
 use std::process::Abort;
 use std::test::Fail;
@@ -188,7 +186,7 @@ fn spawned(rt: &impl Abort, alloc: Global) -> Result<Plain, Fail> {
     let script = one_of_each(alloc)?;
     let mut state = empty_state(alloc);
     let mut versions = [0; 64];
-    for name in ["a", "l"] {
+    for &name in &["a", "l"] {
         let born = bear(rt, alloc, &mut state, &mut versions, &script, name)?;
         assert!(rt; born.is_some(), "{name}");
     }

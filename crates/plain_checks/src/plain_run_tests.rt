@@ -1,8 +1,9 @@
 use crate::scripts_played::played;
+use history_model::PlainAtlas;
 use hop_base::Answer;
 use plain_run::against;
-use plain_show::history_model::PlainAtlas;
-use script_read::{ScriptFault, Why, read_script};
+use script_form::{ScriptFault, Why};
+use script_read::read_script;
 use std::test::Fail;
 
 /// Locus `l` prints 5, and locus `m` prints 0; `m` is picked first.
@@ -24,7 +25,7 @@ fn picks_come_before_rounds(rt: HostRuntime) -> Result<(), Fail> {
         assert!(rt; entry.actor.number() == actor);
     }
     let printed = [(5, 0), (8, 5)];
-    for (i, value) in printed {
+    for &(i, value) in &printed {
         let entry = played.history.get(i).ok_or("an entry")?;
         assert!(rt; entry.answer == Answer::Print(value));
     }
@@ -35,7 +36,7 @@ fn picks_come_before_rounds(rt: HostRuntime) -> Result<(), Fail> {
 fn a_name_of_the_other_kind_clashes(rt: HostRuntime) -> Result<(), Fail> {
     let alloc = rt.alloc();
     let script = read_script(alloc, TWO_OF_EACH.as_bytes())?.script;
-    for (name, key) in [("m", "locus.1.name"), ("a", ""), ("x", "")] {
+    for &(name, key) in &[("m", "locus.1.name"), ("a", ""), ("x", "")] {
         let atlas = PlainAtlas {
             containers: vec![in alloc; String::from_str(alloc, name)?]?,
             loci: Vec::new(alloc),

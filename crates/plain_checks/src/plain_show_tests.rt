@@ -3,10 +3,10 @@ ghost use Rattle.plain_show.specs.hop_model.Soundness.{IsSound};
 ghost use Rattle.plain_show.specs.history_model.Plains.{cells_of};
 
 use crate::scripts_played::played;
-use plain_show::history_model::Plain;
-use plain_show::stream_edge::{MemorySink, SinkFault};
+use history_model::Plain;
 use plain_show::write_show;
 use std::test::Fail;
+use stream_edge::{MemorySink, SinkFault};
 
 /// What is shown of a state on a supplier whose words are the tag.
 fn show(state: &Plain, sink: &mut MemorySink) -> Result<(), SinkFault>

@@ -1,6 +1,6 @@
 use hop_base::{Instr, Rights};
-use script_read::script_form::{ScriptCap, ScriptContainer, ScriptRegion};
-use script_read::{Refusal, ScriptFault, Why, read_script};
+use script_form::{Refusal, ScriptCap, ScriptContainer, ScriptFault, ScriptRegion, Why};
+use script_read::read_script;
 use std::alloc::Global;
 use std::test::Fail;
 
@@ -12,7 +12,7 @@ fn refusal(alloc: Global, source: &[u8]) -> Result<Refusal, Fail> {
 }
 
 /// Refused sources, each with the first refusal of the walk and its key.
-const REFUSED: [(&str, Why, &str); 32] = [
+const REFUSED: &[(&str, Why, &str)] = &[
     ("steps = ", Why::NotToml, "-"),
     ("steps = 9223372036854775808", Why::NotToml, "-"),
     ("stop = 1\nsteps = 0\nalso = 2", Why::Unknown, "also"),
@@ -135,7 +135,7 @@ fn is_refused(alloc: Global, source: &[u8], why: Why, key: &str) -> Result<bool,
 
 #[test]
 fn the_first_refusal_is_told(rt: HostRuntime) -> Result<(), Fail> {
-    for (source, why, key) in REFUSED {
+    for &(source, why, key) in REFUSED {
         let told = is_refused(rt.alloc(), source.as_bytes(), why, key)?;
         assert!(rt; told, "at {source}");
     }
@@ -266,7 +266,7 @@ fn is_refused_behind(alloc: Global, line: &str, why: Why, key: &str) -> Result<b
 }
 
 /// The same, with the programs behind.
-const REFUSED_MANAGERS: [(&str, Why, &str); 16] = [
+const REFUSED_MANAGERS: &[(&str, Why, &str)] = &[
     ("supply = '7 p'", Why::Kind, "supply"),
     ("supply = [7, '0 x']", Why::Kind, "supply.0"),
     ("supply = ['7']", Why::BadCode, "supply.0"),
@@ -295,7 +295,7 @@ const REFUSED_MANAGERS: [(&str, Why, &str); 16] = [
 
 #[test]
 fn the_first_refusal_of_managers_is_told(rt: HostRuntime) -> Result<(), Fail> {
-    for (source, why, key) in REFUSED_MANAGERS {
+    for &(source, why, key) in REFUSED_MANAGERS {
         let told = is_refused_behind(rt.alloc(), source, why, key)?;
         assert!(rt; told, "at {source}");
     }

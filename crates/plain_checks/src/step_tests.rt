@@ -1,7 +1,7 @@
 use crate::scripts_played::{played, program_played};
+use history_model::Edge;
 use hop_base::{Answer, Cap, Entity, Event, Instr, Region, Reply, Right, Rights};
 use plain_run::Played;
-use plain_show::history_model::Edge;
 use std::alloc::Global;
 use std::test::Fail;
 
@@ -33,14 +33,14 @@ fn answers_at(alloc: Global, program: &str, wanted: &[(usize, Answer)]) -> Resul
 // 22 times a birth and a jump, then NoNumber, no jump, the print and the halt.
 const SPAWNS: &str = "'spawn r1 @5', 'jz r7 @0', 'print r7', 'halt', 'halt', 'halt'";
 
-const SPAWNED: [(usize, Answer); 2] = [
+const SPAWNED: &[(usize, Answer)] = &[
     (44, Answer::Reply(Reply::NoNumber)),
     (46, Answer::Print(10)),
 ];
 
 const CALLS: &str = "'set r0 1', 'make r1 r0 r2 @2', 'invoke r1', 'print r7', 'halt'";
 
-const CALLED: [(usize, Answer); 3] = [
+const CALLED: &[(usize, Answer)] = &[
     (65, Answer::Reply(Reply::Ok)),
     (66, Answer::Reply(Reply::ListFull)),
     (67, Answer::Print(6)),
@@ -49,7 +49,7 @@ const CALLED: [(usize, Answer); 3] = [
 const LOOKS: &str =
     "'set r0 1', 'set r2 7', 'make r1 r0 r2 @8', 'set r6 8', 'make r3 r0 r6 -', 'lmap r4 r3 r4 r0 r', 'load r5 r4', 'leave r1', 'load r5 r4', 'print r5', 'halt'";
 
-const LOOKED: [(usize, Answer); 3] = [
+const LOOKED: &[(usize, Answer)] = &[
     (6, Answer::Read(8)),
     (8, Answer::Read(7)),
     (9, Answer::Print(7)),
@@ -58,7 +58,7 @@ const LOOKED: [(usize, Answer); 3] = [
 const MAPS_ON: &str =
     "'set r0 1', 'make r1 r0 r2 @6', 'make r3 r0 r2 -', 'map r1 r2 r3 r2 r0 r', 'map r3 r2 r1 r2 r0 r', 'leave r1', 'load r4 r2', 'store r2 r4', 'halt'";
 
-const MAPPED_ON: [(usize, Answer); 5] = [
+const MAPPED_ON: &[(usize, Answer)] = &[
     (3, Answer::Reply(Reply::Ok)),
     (4, Answer::Reply(Reply::Circle)),
     (6, Answer::Hop),
@@ -69,7 +69,7 @@ const MAPPED_ON: [(usize, Answer); 5] = [
 const GIVES: &str =
     "'set r0 1', 'make r1 r0 r2 -', 'give r3 r1 r1 r', 'take r4 r1 r3', 'print r4', 'take r4 r1 r4', 'give r3 r4 r1 r', 'halt'";
 
-const GIVEN: [(usize, Answer); 5] = [
+const GIVEN: &[(usize, Answer)] = &[
     (2, Answer::Reply(Reply::Ok)),
     (3, Answer::Reply(Reply::Ok)),
     (4, Answer::Print(2)),
@@ -80,26 +80,26 @@ const GIVEN: [(usize, Answer); 5] = [
 #[test]
 fn loci_are_spawned_until_no_number_is_left(rt: HostRuntime) -> Result<(), Fail> {
     assert!(rt; answers_of(rt.alloc(), SPAWNS)?.len() == 48);
-    assert!(rt; answers_at(rt.alloc(), SPAWNS, &SPAWNED)?);
+    assert!(rt; answers_at(rt.alloc(), SPAWNS, SPAWNED)?);
     Ok(())
 }
 
 #[test]
 fn a_chain_takes_64_calls(rt: HostRuntime) -> Result<(), Fail> {
     assert!(rt; answers_of(rt.alloc(), CALLS)?.len() == 69);
-    assert!(rt; answers_at(rt.alloc(), CALLS, &CALLED)?);
+    assert!(rt; answers_at(rt.alloc(), CALLS, CALLED)?);
     Ok(())
 }
 
 #[test]
 fn a_private_region_counts_in_its_host_alone(rt: HostRuntime) -> Result<(), Fail> {
-    assert!(rt; answers_at(rt.alloc(), LOOKS, &LOOKED)?);
+    assert!(rt; answers_at(rt.alloc(), LOOKS, LOOKED)?);
     Ok(())
 }
 
 #[test]
 fn a_mapping_denies_and_closes_no_circle(rt: HostRuntime) -> Result<(), Fail> {
-    assert!(rt; answers_at(rt.alloc(), MAPS_ON, &MAPPED_ON)?);
+    assert!(rt; answers_at(rt.alloc(), MAPS_ON, MAPPED_ON)?);
     Ok(())
 }
 
@@ -107,7 +107,7 @@ fn a_mapping_denies_and_closes_no_circle(rt: HostRuntime) -> Result<(), Fail> {
 fn what_is_given_is_cut_and_what_is_taken_goes_to_the_lowest_slot(
     rt: HostRuntime,
 ) -> Result<(), Fail> {
-    assert!(rt; answers_at(rt.alloc(), GIVES, &GIVEN)?);
+    assert!(rt; answers_at(rt.alloc(), GIVES, GIVEN)?);
     Ok(())
 }
 
@@ -183,7 +183,7 @@ locus = [{ name = 'l', host = 'a' }]
 ";
 
 /// The code of `MAKES`.
-const MADE: [Instr; 6] = [
+const MADE: &[Instr] = &[
     Instr::Set(0, 2),
     Instr::Set(1, 7),
     Instr::Set(3, 9),
@@ -198,7 +198,7 @@ fn is_made(run: &Played) -> Result<bool, Fail> {
     let name = run.state.atlas.containers.get(1).ok_or("a name")?;
     Ok(
         (c.pages, c.tag, c.entry) == (2, 7, Some(1))
-            && c.code.as_slice() == MADE.as_slice()
+            && c.code.as_slice() == MADE
             && run.state.atlas.containers.len() == 2
             && name.as_str() == "#2",
     )

@@ -1,8 +1,8 @@
 ghost use Rattle.hop_base.specs.Instructions.{IsInstruction};
 
 use hop_base::{Cap, Condition, Entity, Instr, Private, Region, Reply, Right, Rights};
-use plain_show::wanted_act::{LocusView, wants};
 use std::test::Fail;
+use wanted_act::{LocusView, wants};
 
 /// What is refused to a locus in container 1, which has capabilities on container 2 with all rights but Read, on
 /// itself with all rights, and on the atlas with none. Registers 0 to 5 have their own numbers, 6 and 7 have 200

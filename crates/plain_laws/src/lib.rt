@@ -12,8 +12,6 @@ ghost use Rattle.hop_model.specs.State.{Cell, KernelState, Supply};
 ghost use Rattle.plain_laws.specs.Standing.{Reaches, run_from};
 ghost use Rattle.std.specs.Prelude.{List, None, false, ℕ, ◌≡◌};
 
-pub use history_model;
-
 /// A step from a sound state leaves one that is sound; a locus that does not run can make none.
 pub fn plain_law()
     ensures sound { (s : Supply) (n : ℕ) (old new : ℕ → Cell) (us vs : List ℕ) (e : Entry) → StepsTo s n old us e new vs

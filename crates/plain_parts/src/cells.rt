@@ -6,7 +6,7 @@ ghost use Rattle.kernel_calls.specs.locus_machine.Loci.{container_with, locus_of
 ghost use Rattle.plain_parts.specs.Words.{words_with};
 
 use history_model::{PlainContainer, PlainLocus};
-use kernel_calls::locus_machine::{Head, Locus};
+use locus_machine::{Head, Locus};
 use std::alloc::{AllocError, Global};
 use std::collections::BTreeMap;
 

@@ -6,5 +6,3 @@ mod cells;
 
 pub use atlases::plain_atlas;
 pub use cells::{plain_head, plain_locus};
-pub use history_model;
-pub use kernel_calls::locus_machine;

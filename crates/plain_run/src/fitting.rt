@@ -8,12 +8,10 @@ ghost use Rattle.plain_steps.specs.history_model.script_form.declared.refusals.W
 ghost use Rattle.plain_steps.specs.serial_turns.fitting_births.Fitting.{Fits, new_containers as new_of_containers, new_loci as new_of_loci};
 ghost use Rattle.plain_steps.specs.serial_turns.fitting_births.Misfits.{IsClash, IsMisfit, IsNoRoom, clash_key, container_clash as clash_of_containers, locus_clash as clash_of_loci, name_key as key_of_name, room_key};
 
+use history_model::{PlainAtlas, container_named, number_among, number_of};
 use hop_base::{FIRST_LOCUS, MOST_CONTAINERS, MOST_LOCI};
 use itoa::Buffer;
-use plain_steps::history_model::script_form::{
-    Refusal, Script, ScriptContainer, ScriptFault, ScriptLocus, Why,
-};
-use plain_steps::history_model::{PlainAtlas, container_named, number_among, number_of};
+use script_form::{Refusal, Script, ScriptContainer, ScriptFault, ScriptLocus, Why};
 use std::alloc::{AllocError, Global};
 
 /// The first container's table whose name is a locus.

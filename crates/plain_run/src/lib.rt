@@ -10,8 +10,6 @@ mod serial;
 
 pub use fitting::against;
 pub use names::next_name;
-pub use plain_steps;
-pub use plain_steps::history_model;
-pub use plain_steps::history_model::script_form;
+pub use plain_steps::plain_step;
 pub use plays::{Played, finish, play, replay};
 pub use serial::SerialRun;

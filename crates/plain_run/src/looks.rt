@@ -11,10 +11,10 @@ ghost use Rattle.plain_run.specs.declared.serial.Place.TheVariants.{Pick as AtPi
 ghost use Rattle.plain_steps.specs.history_model.script_form.Scripts.{tables_of};
 
 use crate::serial::{Place, SerialRun};
+use history_model::{PlainLocus, number_among};
 use hop_base::{Answer, Entity, Entry, FIRST_LOCUS, Instr, MOST_ENTITIES, Reply};
-use plain_steps::history_model::script_form::Script;
-use plain_steps::history_model::{PlainLocus, number_among};
 use plain_steps::plain_step;
+use script_form::Script;
 use std::alloc::AllocError;
 
 /// Whether the next instruction of this locus is a stabilise.

@@ -5,8 +5,8 @@ ghost use Rattle.plain_steps.specs.history_model.Born.{HasFewNames};
 ghost use Rattle.plain_steps.specs.history_model.Plains.{atlas_of};
 ghost use Rattle.plain_steps.specs.history_model.script_form.Scripts.{container_of, locus_of, tables_of};
 
-use plain_steps::history_model::script_form::{Script, ScriptContainer, ScriptLocus};
-use plain_steps::history_model::{PlainAtlas, number_of};
+use history_model::{PlainAtlas, number_of};
+use script_form::{Script, ScriptContainer, ScriptLocus};
 
 /// The first container's name that is not in the atlas.
 fn next_container<'a>(tables: &'a [ScriptContainer], atlas: &PlainAtlas) -> Option<&'a str>

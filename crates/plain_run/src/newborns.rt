@@ -16,9 +16,9 @@ ghost use Rattle.plain_steps.specs.serial_turns.fitting_births.Fitting.{Fits};
 
 use crate::names::next_name;
 use crate::serial::{Place, SerialRun};
+use history_model::{Plain, plain_birth};
 use hop_base::{Entity, Entry};
-use plain_steps::history_model::script_form::Script;
-use plain_steps::history_model::{Plain, plain_birth};
+use script_form::Script;
 use std::alloc::{AllocError, Global};
 
 /// The birth of the script's next name. A script that fits always has one that is defined.

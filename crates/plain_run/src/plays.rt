@@ -11,9 +11,9 @@ ghost use Rattle.plain_steps.specs.history_model.script_form.Rules.{IsScript};
 ghost use Rattle.plain_steps.specs.history_model.script_form.Scripts.{tables_of};
 
 use crate::serial::SerialRun;
+use history_model::{Plain, PlainAtlas};
 use hop_base::Entry;
-use plain_steps::history_model::script_form::Script;
-use plain_steps::history_model::{Plain, PlainAtlas};
+use script_form::Script;
 use std::alloc::{AllocError, Global};
 
 /// Goes on for so many entries. False exactly where the serial history has fewer left; then, and on want of memory, as many

@@ -10,9 +10,9 @@ ghost use Rattle.plain_steps.specs.history_model.script_form.Scripts.{tables_of}
 
 use crate::looks::{next_in_rounds, next_pick};
 use crate::newborns::next_birth;
+use history_model::Plain;
 use hop_base::{Answer, Entity, Entry, Event, Touched};
-use plain_steps::history_model::Plain;
-use plain_steps::history_model::script_form::Script;
+use script_form::Script;
 use std::alloc::{AllocError, Global};
 
 /// What comes next in the serial history.

@@ -8,7 +8,4 @@ mod loci;
 mod names;
 mod shows;
 
-pub use history_model;
-pub use history_model::wanted_act;
 pub use shows::write_show;
-pub use stream_edge;

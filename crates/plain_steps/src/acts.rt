@@ -10,10 +10,10 @@ ghost use Rattle.plain_laws.specs.Acts.{Acted};
 
 use crate::beside_acts::{back, give, invoke, leave, take};
 use crate::local_acts::finish;
+use history_model::looks::{next_address, region_at};
+use history_model::reads::{given_cap, register};
+use history_model::{PlainContainer, PlainLocus};
 use hop_base::{Answer, Entity, Instr, PAGE_WORDS, Region, Reply, Rights};
-use plain_laws::history_model::looks::{next_address, region_at};
-use plain_laws::history_model::reads::{given_cap, register};
-use plain_laws::history_model::{PlainContainer, PlainLocus};
 use std::alloc::AllocError;
 use wanted_act::next_walk;
 

@@ -10,10 +10,10 @@ ghost use Rattle.plain_laws.specs.history_model.Plains.{atlas_of, container_of, 
 ghost use Rattle.plain_laws.specs.AtlasActs.{ActedOnBoth, with_regions};
 
 use crate::local_acts::finish;
+use history_model::circles::leads;
+use history_model::edges::{count_down, count_up};
+use history_model::{PlainAtlas, PlainContainer, PlainLocus, insert_region};
 use hop_base::{Answer, Entity, MOST_REGIONS, Region, Reply};
-use plain_laws::history_model::circles::leads;
-use plain_laws::history_model::edges::{count_down, count_up};
-use plain_laws::history_model::{PlainAtlas, PlainContainer, PlainLocus, insert_region};
 use std::alloc::AllocError;
 
 // MAPPINGS

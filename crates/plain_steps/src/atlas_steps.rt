@@ -18,10 +18,10 @@ ghost use Rattle.plain_laws.specs.AtlasActs.{ActedOnBoth};
 
 use crate::atlas_acts::{map, unmap};
 use crate::program_births::{MadeContainer, SpawnedLocus, make, spawn};
+use history_model::entries::{entry_of_three, entry_of_two, wrote};
+use history_model::reads::{new_region, register};
+use history_model::{Plain, PlainAtlas, PlainContainer, PlainLocus, push_within};
 use hop_base::{Answer, Entity, Entry, Instr};
-use plain_laws::history_model::entries::{entry_of_three, entry_of_two, wrote};
-use plain_laws::history_model::reads::{new_region, register};
-use plain_laws::history_model::{Plain, PlainAtlas, PlainContainer, PlainLocus, push_within};
 use std::alloc::AllocError;
 
 // MAPPINGS

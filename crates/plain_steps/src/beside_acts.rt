@@ -6,9 +6,9 @@ ghost use Rattle.plain_laws.specs.Acts.{Acted, going_on_in};
 
 use crate::acts::{Made, read_only, written};
 use crate::local_acts::finish;
+use history_model::reads::{cap_at, free_slot};
+use history_model::{PlainContainer, PlainLocus};
 use hop_base::{Answer, Call, Cap, Condition, Entity, Instr, MOST_CALLS, Reply};
-use plain_laws::history_model::reads::{cap_at, free_slot};
-use plain_laws::history_model::{PlainContainer, PlainLocus};
 use std::alloc::AllocError;
 
 // INVOCATION

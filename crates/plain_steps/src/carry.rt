@@ -14,9 +14,9 @@ ghost use Rattle.plain_laws.specs.Acts.{controlled as controlled_by};
 use crate::acts::beside_container;
 use crate::beside_acts::{let_go_on, stop_other};
 use crate::local_acts::{finish, local};
+use history_model::entries::{Mark, entry_alone, entry_of_two, wrote};
+use history_model::{Plain, PlainLocus};
 use hop_base::{Answer, Entity, Entry, FIRST_LOCUS, Instr, Reply};
-use plain_laws::history_model::entries::{Mark, entry_alone, entry_of_two, wrote};
-use plain_laws::history_model::{Plain, PlainLocus};
 use std::alloc::AllocError;
 
 /// The step of a locus that refuses its act itself.

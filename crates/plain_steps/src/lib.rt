@@ -10,5 +10,4 @@ mod local_acts;
 mod program_births;
 mod steps;
 
-pub use plain_laws::history_model;
 pub use steps::plain_step;

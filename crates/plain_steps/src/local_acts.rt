@@ -9,9 +9,9 @@ ghost use Rattle.wanted_act.specs.Views.{IsReadyLocus};
 ghost use Rattle.plain_laws.specs.history_model.Plains.{locus_of};
 ghost use Rattle.plain_laws.specs.Acts.{stands_before as is_before};
 
+use history_model::PlainLocus;
+use history_model::reads::{new_region, register};
 use hop_base::{Answer, Condition, Entity, Instr, MOST_PRINTED, Private, Region, Reply, Rights};
-use plain_laws::history_model::PlainLocus;
-use plain_laws::history_model::reads::{new_region, register};
 use std::alloc::AllocError;
 
 /// The next place, and nothing to tell.

@@ -6,11 +6,9 @@ ghost use Rattle.plain_laws.specs.history_model.Plains.{atlas_of, container_of, 
 ghost use Rattle.plain_laws.specs.AtlasActs.{ActedOnAtlas, container_bears, locus_bears};
 
 use crate::local_acts::finish;
+use history_model::reads::free_slot;
+use history_model::{PlainAtlas, PlainContainer, PlainLocus, free_container, free_locus};
 use hop_base::{Answer, Cap, Condition, Entity, Instr, MOST_CAPS, Reply, Rights};
-use plain_laws::history_model::reads::free_slot;
-use plain_laws::history_model::{
-    PlainAtlas, PlainContainer, PlainLocus, free_container, free_locus,
-};
 use std::alloc::{AllocError, Global};
 use std::collections::BTreeMap;
 

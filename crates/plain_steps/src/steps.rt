@@ -12,8 +12,8 @@ ghost use Rattle.plain_laws.specs.history_model.Plains.{atlas_of, cells_of};
 
 use crate::atlas_steps::{step_make, step_mapping, step_spawn};
 use crate::carry::{step_atlas, step_container, step_local, step_locus, step_refused};
+use history_model::{Plain, PlainLocus};
 use hop_base::{Condition, Entity, Entry, FIRST_LOCUS, Instr, Kind};
-use plain_laws::history_model::{Plain, PlainLocus};
 use std::alloc::AllocError;
 use wanted_act::{Act, wants};
 

@@ -18,11 +18,6 @@ ghost use Rattle.birth_steps.specs.Bearing.{IsUnbornContainer};
 ghost use Rattle.step_plans.specs.map_steps.Mapping.{IsHeadPart, MayMap, WantsMapping};
 ghost use Rattle.step_plans.specs.Plans.{IsCallBeside};
 
-pub use birth_steps::kernel_cells;
-pub use history_model::wanted_act;
-pub use step_plans;
-pub use step_plans::{fault_paging, locus_machine, page_store};
-
 /// The entity beside which a locus calls is born, of a kind on which the call works, and not the locus.
 pub fn sound_states_fit_calls()
     ensures { (s : Supply) (words : ℕ → List ℕ) (a : AtlasState) (cells : ℕ → ModelCell) (me x : ℕ) (l : LocusState) (i : AnInstr) (p : APart)

@@ -4,7 +4,5 @@
 mod reports;
 mod shows;
 
-pub use command_parts;
-pub use command_parts::script_form;
 pub use reports::report_image;
 pub use shows::show_image;

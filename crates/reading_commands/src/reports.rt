@@ -9,11 +9,11 @@ ghost use Rattle.command_parts.specs.Seen.{gave, seen_disk, seen_sink};
 ghost use Rattle.command_parts.specs.Statuses.{IsComplete, ending};
 ghost use Rattle.reading_commands.specs.Reports.{ReportLeaves};
 
-use command_parts::stream_edge::Sink;
 use command_parts::{Fault, Outcome, Status, empty_outcome, end_with};
 use disk_trait::Disk;
 use image_tools::{ImageFacts, read_image, write_report};
 use std::alloc::Global;
+use stream_edge::Sink;
 
 // Puts the report, and tells how that ended.
 fn put_report<W: Sink>(sink: &mut W, facts: &ImageFacts) -> Status

@@ -11,11 +11,11 @@ ghost use Rattle.command_parts.specs.Seen.{gave, seen_disk, seen_sink};
 ghost use Rattle.command_parts.specs.Statuses.{IsComplete, ending};
 ghost use Rattle.reading_commands.specs.Shows.{ShowLeaves};
 
-use command_parts::stream_edge::Sink;
 use command_parts::{Fault, Outcome, Status, empty_outcome, end_with};
 use disk_trait::Disk;
 use image_tools::{ImageFacts, read_image, write_show};
 use std::alloc::Global;
+use stream_edge::Sink;
 
 // Shows the state that was read, and tells how that ended.
 fn put_show<W: Sink, S: Fn(u64, u32, u16) -> u64>(

@@ -10,13 +10,13 @@ ghost use Rattle.kernel_records.specs.wish_laws.Founded.{IsFoundedCell};
 
 use block_code::Blob;
 use disk_trait::Disk;
+use event_clocks::Clock;
 use hop_base::{Entity, Entry};
-use kernel_records::event_clocks::Clock;
-use kernel_records::kernel_cells::{Cell, Part, Wish};
-use kernel_records::locus_machine::Locus;
+use kernel_cells::{Cell, Part, Wish};
 use kernel_records::snap_cell;
-use kernel_records::snapshot_store::Store;
+use locus_machine::Locus;
 use manager_gate::{CountedWords, EveryVersions, Gate, Policy, Supplier};
+use snapshot_store::Store;
 use std::alloc::Global;
 use vector_stamps::Stamp;
 

@@ -3,5 +3,4 @@
 
 mod reports;
 
-pub use image_blocks;
 pub use reports::{LogFacts, put_report};

@@ -9,10 +9,10 @@ ghost use Rattle.image_meaning.specs.Meaning.{Means};
 ghost use Rattle.restart.specs.Formats.{HasEmptyFront, IsAreaGate, IsClosed, IsFormatting, IsFrontBlock, IsMade};
 
 use disk_trait::{Disk, DiskFault, NoBlocks, write_and_sync, write_run};
-use image_meaning::empty_image_law;
-use image_meaning::image_blocks::{
+use image_blocks::{
     Area, body_of, closed_gate, gate_of, header_block, header_of, open_gate, superblock,
 };
+use image_meaning::empty_image_law;
 
 /// Why an empty image was not made.
 #[derive(Clone, Copy, Debug, PartialEq, Eq, Drop)]

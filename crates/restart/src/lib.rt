@@ -4,4 +4,3 @@
 mod formatting;
 
 pub use formatting::{FormatFault, FormatWhy, format};
-pub use image_meaning::image_blocks;

@@ -14,11 +14,11 @@ ghost use Rattle.run_opening.specs.command_laws.Drilling.{CanDrill, DrillLeaves}
 
 use crate::putting::Lines;
 use crate::watching::run_read;
+use command_parts::{Fault, Outcome, Status, end_with};
 use disk_trait::Disk;
 use drill_gen::drill_script;
 use manager_form::ScriptManagers;
-use run_opening::command_parts::{Fault, Outcome, Status, end_with};
-use run_opening::script_read::ManagedScript;
+use script_read::ManagedScript;
 use std::alloc::{AllocError, Global};
 use std::marker::Brand;
 use stream_edge::Sink;

@@ -10,4 +10,3 @@ mod watching;
 pub use drilling::run_drill;
 pub use putting::Lines;
 pub use running::run_script;
-pub use stream_edge;

@@ -13,12 +13,12 @@ ghost use Rattle.run_command.specs.Tellings.{lines_of};
 ghost use Rattle.run_opening.specs.command_laws.Playing.{PlayLeaves, StartsRun};
 
 use crate::putting::{Lines, put_run};
+use command_parts::Outcome;
 use disk_trait::Disk;
 use kernel_runs::run;
 use manager_gate::{Gate, Policy, Supplier};
-use run_opening::command_parts::Outcome;
-use run_opening::script_form::Script;
 use run_opening::{Ended, Kernel};
+use script_form::Script;
 use stream_edge::Sink;
 
 /// Runs a script on a kernel that was opened for it, and puts these lines.

@@ -10,13 +10,13 @@ ghost use Rattle.run_command.specs.Tellings.{lines_of};
 ghost use Rattle.run_opening.specs.command_laws.Playing.{IsPutBy, fault_of_stop as told_stop};
 
 use atlas_dir::Atlas;
+use command_parts::{Fault, Status, put_fault, status_of};
+use entry_lines::put_summary;
 use hop_base::Entry;
+use kernel_cells::{Cell, Part};
 use printed_lines::put_output;
 use run_opening::Stopped;
-use run_opening::command_parts::{Fault, Status, put_fault, status_of};
-use run_opening::kernel_cells::{Cell, Part};
 use stream_edge::{Sink, SinkFault};
-use traced_lines::entry_lines::put_summary;
 use traced_lines::put_traced;
 
 /// What a run puts of its history: `lines_of` in specs/.

@@ -10,8 +10,8 @@ ghost use Rattle.run_opening.specs.command_laws.Openings.{Managers};
 
 use crate::putting::Lines;
 use crate::watching::run_read;
+use command_parts::{Outcome, Status, end_with};
 use disk_trait::Disk;
-use run_opening::command_parts::{Outcome, Status, end_with};
 use script_source::read_source;
 use std::alloc::Global;
 use std::marker::Brand;

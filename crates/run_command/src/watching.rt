@@ -13,12 +13,12 @@ ghost use Rattle.run_opening.specs.command_laws.Playing.{IsHandedIn};
 
 use crate::playing::run_opened;
 use crate::putting::Lines;
+use command_parts::{Outcome, end_with};
 use disk_trait::Disk;
 use manager_code::Book;
 use manager_gate::{Answers, AskedPolicy, AskedSupplier, Gate};
-use run_opening::command_parts::{Outcome, end_with};
-use run_opening::script_read::ManagedScript;
 use run_opening::{Unopened, open_for};
+use script_read::ManagedScript;
 use std::alloc::Global;
 use std::marker::PhantomData;
 use stream_edge::Sink;

@@ -18,11 +18,10 @@ ghost use Rattle.kernel_opening.specs.store_laws.State.{books};
 ghost use Rattle.kernel_opening.specs.table_births.Births.{atlas_state_in};
 
 use command_parts::Fault;
-use command_parts::script_form::{Script, ScriptFault};
 use disk_trait::Disk;
-use kernel_opening::script_against::against;
-use kernel_opening::snapshot_store::{OpenFault, OpenWhy};
-use kernel_opening::{Kernel, open_image};
+use kernel_opening::{Kernel, OpenFault, OpenWhy, open_image};
+use script_against::against;
+use script_form::{Script, ScriptFault};
 use std::alloc::Global;
 
 /// Why an image was not opened for a script, and the disk.

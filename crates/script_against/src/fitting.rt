@@ -10,11 +10,9 @@ ghost use Rattle.fitting_births.specs.script_form.declared.refusals.Why.{Why as 
 
 use crate::names::{is_container, is_known, is_locus};
 use atlas_dir::Atlas;
-use fitting_births::script_form::{
-    Refusal, Script, ScriptContainer, ScriptFault, ScriptLocus, Why,
-};
 use hop_base::{Kind, MOST_CONTAINERS, MOST_LOCI};
 use itoa::Buffer;
+use script_form::{Refusal, Script, ScriptContainer, ScriptFault, ScriptLocus, Why};
 use std::alloc::{AllocError, Global};
 
 /// The first container's table whose name is a locus.

@@ -7,6 +7,5 @@ mod names;
 mod tables;
 
 pub use fitting::against;
-pub use fitting_births::script_form;
 pub use laws::births_keep_progress;
 pub use tables::{NextTable, Progress, next_table};

@@ -10,7 +10,7 @@ ghost use Rattle.script_against.specs.NextTables.{AreBornBefore, IsNextTable};
 
 use crate::names::is_known;
 use atlas_dir::Atlas;
-use fitting_births::script_form::{Script, ScriptContainer, ScriptLocus};
+use script_form::{Script, ScriptContainer, ScriptLocus};
 
 /// The table that is born next.
 #[derive(Clone, Copy)]

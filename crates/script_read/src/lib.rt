@@ -12,7 +12,6 @@ mod tables;
 
 pub use manager_form::{ScriptManager, ScriptManagers};
 pub use reading::{ManagedScript, read_script};
-pub use script_form;
 pub use script_form::{
     Refusal, Script, ScriptCap, ScriptContainer, ScriptFault, ScriptLocus, ScriptRegion, Why,
 };

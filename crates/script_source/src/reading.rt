@@ -7,11 +7,11 @@ ghost use Rattle.command_parts.specs.Seen.{seen_source};
 ghost use Rattle.script_source.specs.Sources.{HasRead, IsFaultOfStop, MeansScript, StopsSource};
 
 use command_parts::Fault;
-use command_parts::script_form::{Refusal, Why};
-use command_parts::stream_edge::{ReadStop, Source, read_all};
 use hop_base::MOST_SCRIPT_BYTES;
+use script_form::{Refusal, Why};
 use script_read::{ManagedScript, read_script};
 use std::alloc::{AllocError, Global};
+use stream_edge::{ReadStop, Source, read_all};
 
 // The refusal of a source that is too long.
 fn too_long(alloc: Global) -> Result<Refusal, AllocError>

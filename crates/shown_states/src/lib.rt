@@ -7,9 +7,9 @@ ghost use Rattle.page_words.specs.store_model.Books.{words_of_bytes};
 ghost use Rattle.plain_parts.specs.hop_model.State.{Supply};
 ghost use Rattle.std.specs.Prelude.{List, slice_index, ℕ, ◌*◌, ◌+◌, ◌<◌, ◌≡◌, ◌≢◌};
 
-pub use image_parts;
-pub use page_words;
-pub use plain_parts;
+pub use image_parts::{ChosenEntity, ChosenPart, ContainerBlob, ImageParts, read_parts};
+pub use page_words::words_in;
+pub use plain_parts::{plain_atlas, plain_head, plain_locus};
 
 /// A word of a page that has a block is the word that the block spells.
 pub fn block_word_law()

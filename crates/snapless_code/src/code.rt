@@ -5,7 +5,7 @@ ghost use Rattle.plain_run.specs.plain_laws.Snaps.{HasNoSnapTables, has_no_snap,
 ghost use Rattle.plain_run.specs.script_form.Scripts.{tables_of};
 
 use hop_base::Instr;
-use plain_run::script_form::{Script, ScriptContainer};
+use script_form::{Script, ScriptContainer};
 
 fn is_no_snap(instr: &Instr) -> bool
     ensures { result ≡ is_no_snap instr.now }

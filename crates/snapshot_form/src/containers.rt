@@ -7,7 +7,7 @@ ghost use Rattle.blob_fields.specs.Pieces.{head_front};
 
 use crate::lists::{put_caps, put_code, put_regions};
 use crate::numbers::put_blocks;
-use blob_fields::kernel_calls::locus_machine::Head;
+use blob_fields::Head;
 use blob_grammar::{CONTAINER_BLOB, NO_ENTRY};
 use block_code::Blob;
 use hop_base::MOST_PAGES;

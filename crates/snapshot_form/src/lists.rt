@@ -5,7 +5,7 @@ ghost use Rattle.blob_grammar.specs.Spelling.{call_bytes, caps_bytes, instr_byte
 
 use crate::instructions::put_instr;
 use crate::parts::{put_call, put_private, put_region, put_slot};
-use blob_fields::kernel_calls::locus_machine::{Chain, Code, Privates};
+use blob_fields::{Chain, Code, Privates};
 use block_code::Blob;
 use cap_list::{CapList, SLOTS};
 use hop_base::Cap;

@@ -6,7 +6,7 @@ ghost use Rattle.blob_fields.specs.kernel_calls.locus_machine.Loci.{locus_of};
 
 use crate::lists::{put_caps, put_chain, put_code, put_privates};
 use crate::numbers::put_registers;
-use blob_fields::kernel_calls::locus_machine::Locus;
+use blob_fields::Locus;
 use blob_grammar::{LONG_LOCUS, SHORT_CALLS, SHORT_LOCUS, SHORT_PRIVATES};
 use block_code::Blob;
 use hop_base::{Condition, Walk};

@@ -4,7 +4,7 @@ ghost use Rattle.blob_fields.specs.Fields.{IsFound, IsRefused, Spells};
 ghost use Rattle.blob_fields.specs.Loci.{AreCallsSpelled, AreRegistersSpelled, IsCallSpelled, IsConditionSpelled};
 
 use crate::fields::{Parsed, read_byte, read_number};
-use blob_fields::locus_machine::{Chain, MOST_INSTRS};
+use blob_fields::{Chain, MOST_INSTRS};
 use hop_base::{Call, Condition, Entity, MOST_CALLS, MOST_ENTITIES};
 
 /// The registers of a locus.

@@ -12,7 +12,7 @@ use crate::lists::{read_code, read_table};
 use crate::places::{BadBlob, place_of};
 use crate::regions::read_regions;
 use crate::slots::read_caps;
-use blob_fields::locus_machine::{Code, Head, MOST_INSTRS};
+use blob_fields::{Code, Head, MOST_INSTRS};
 use blob_grammar::{CONTAINER_BLOB, NO_ENTRY};
 use cap_list::CapList;
 use hop_base::{Instr, MOST_PAGES};

@@ -18,8 +18,6 @@ mod regions;
 mod slots;
 mod walks;
 
-pub use blob_fields::locus_machine;
-pub use blob_grammar;
 pub use containers::{ContainerBlob, read_container};
 pub use loci::read_locus;
 pub use places::{BadBlob, place_of};

@@ -5,7 +5,7 @@ ghost use Rattle.blob_fields.specs.Parts.{IsCodeSpelled, IsTableSpelled};
 
 use crate::fields::{Parsed, read_byte, read_number};
 use crate::instrs::read_instr;
-use blob_fields::locus_machine::MOST_INSTRS;
+use blob_fields::MOST_INSTRS;
 use hop_base::{Instr, MOST_PAGES};
 
 /// Puts the instructions of a code at the front of these, and tells how many there are.

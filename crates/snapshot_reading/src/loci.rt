@@ -14,7 +14,7 @@ use crate::places::{BadBlob, place_of};
 use crate::privates::read_privates;
 use crate::slots::read_caps;
 use crate::walks::read_walk;
-use blob_fields::locus_machine::{Chain, Code, Locus, MOST_INSTRS, Privates};
+use blob_fields::{Chain, Code, Locus, MOST_INSTRS, Privates};
 use cap_list::CapList;
 use hop_base::{Entity, Instr, MOST_ENTITIES};
 

@@ -5,7 +5,7 @@ ghost use Rattle.blob_fields.specs.Loci.{ArePrivatesIn, IsPrivateIn, end_page as
 
 use crate::fields::{Parsed, read_byte};
 use crate::regions::{end_of, read_region};
-use blob_fields::locus_machine::Privates;
+use blob_fields::Privates;
 use hop_base::{Entity, MOST_ENTITIES, MOST_PAGES, MOST_PRIVATES, Private};
 
 /// The last number of an entity.

@@ -27,9 +27,7 @@ use block_code::Blob;
 use disk_trait::{Disk, NoBlocks};
 use hop_base::{Entity, Rec};
 use page_shadow::ShadowTable;
-use store_laws::log_reading::image_blocks::SLOT_COUNT;
-use store_laws::page_words::commit_log::LogFault;
-use store_laws::store_commit::{commit_record, spelled_blocks};
+use store_laws::{LogFault, SLOT_COUNT, commit_record, spelled_blocks};
 
 impl<D: Disk> Store<D> {
     // Writes a record's blob and appends the record, and keeps it in memory: the log is turned to the kept records where all slots

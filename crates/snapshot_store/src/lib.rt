@@ -20,8 +20,4 @@ mod taking;
 pub use faults::StoreFault;
 pub use laws::same_kept_law;
 pub use opening::{OpenFault, OpenWhy, SyncedLog};
-pub use page_shadow;
-pub use page_store;
 pub use store::Store;
-pub use store_laws::log_reading::image_blocks;
-pub use store_laws::{cut_finder, log_reading};

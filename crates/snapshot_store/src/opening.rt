@@ -18,10 +18,7 @@ use disk_trait::{Disk, DiskFault};
 use hop_base::{Cut, Rec};
 use page_shadow::{Ledger, ShadowTable};
 use std::alloc::{AllocError, Global};
-use store_laws::cut_finder::greatest;
-use store_laws::log_reading::image_blocks::{Bad, POOL_AT};
-use store_laws::log_reading::{ImageLog, ReadingFault, read_log};
-use store_laws::page_words::log_turn::Areas;
+use store_laws::{Areas, Bad, ImageLog, POOL_AT, ReadingFault, greatest, read_log};
 
 /// Why an image was not opened.
 #[derive(Clone, Copy, Debug, PartialEq, Eq, Drop)]

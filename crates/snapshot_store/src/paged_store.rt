@@ -5,7 +5,7 @@ use crate::paging::read_words;
 use crate::store::Store;
 use disk_trait::{Disk, NoBlocks};
 use page_store::{PageFault, PageStore};
-use store_laws::page_words::block_with;
+use store_laws::block_with;
 
 /// Pages in the blocks of the image. A block that is held, or that a kept record names, holds the words that the disk reads; where
 /// there is no block on the disk they are zeros.

@@ -6,7 +6,7 @@ ghost use Rattle.store_laws.specs.log_reading.log_laws.Reads.{ReadsOnly};
 ghost use Rattle.store_laws.specs.page_words.store_model.Books.{words_of_bytes};
 
 use disk_trait::{Disk, DiskFault};
-use store_laws::page_words::words_in;
+use store_laws::words_in;
 
 // The words of a block, zeros where the disk has no such block.
 pub(crate) fn read_words<D: Disk>(

@@ -10,7 +10,7 @@ use crate::naming::{name_record, unname_below};
 use crate::shelf::Shelf;
 use hop_base::{Cut, Rec};
 use page_shadow::{Ledger, ShadowTable};
-use store_laws::cut_finder::raise;
+use store_laws::raise;
 
 // A record is kept behind the others, and names its blocks.
 pub(crate) fn list_record(kept: &mut Shelf, ledger: &mut Ledger, rec: &Rec, table: &ShadowTable)

@@ -8,7 +8,7 @@ use hop_base::{Cut, Entity, Rec};
 use page_shadow::ShadowTable;
 use std::alloc::{AllocError as Memory, Global};
 use std::marker::Model;
-use store_laws::log_reading::image_blocks::SLOT_COUNT;
+use store_laws::SLOT_COUNT;
 
 // Up to 640 records in order, each with the block of each page that its blob names. Memory is taken when it is made, and never
 // again.

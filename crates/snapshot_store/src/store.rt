@@ -8,7 +8,7 @@ use disk_trait::Disk;
 use hop_base::{Cut, Entity, Rec};
 use page_shadow::Ledger;
 use std::marker::Model;
-use store_laws::page_words::log_turn::Areas;
+use store_laws::Areas;
 
 /// The records of an image, over its disk. In memory it has the records of the log, with the block of each page that their
 /// blobs name, once more those that are kept, the greatest closed choice of them, and for each block whether it is held and how

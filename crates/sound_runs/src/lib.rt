@@ -14,8 +14,6 @@ ghost use Rattle.sound_steps.specs.hop_model.Vectors.{StampsBelow};
 ghost use Rattle.run_laws.specs.Versions.{OnlyBelow64};
 ghost use Rattle.sound_runs.specs.Kinds.{NamesNoLocus};
 
-pub use script_form;
-
 /// A birth of a script's next name leaves a sound state, in which no name of the script's containers is a locus's either.
 pub fn sound_birth_law()
     ensures birth { (s : Supply) (script : Script) (w : KernelState) (r : Entry × KernelState)

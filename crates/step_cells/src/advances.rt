@@ -8,8 +8,8 @@ ghost use Rattle.step_cells.specs.Advances.{StepsCells};
 
 use crate::noting::{named_by_snap, note};
 use hop_base::{Entry, Instr};
-use look_steps::kernel_cells::{Cell, step_alone};
-use step_plans::beside_steps::step_beside;
+use look_steps::{Cell, step_alone};
+use step_plans::step_beside;
 
 /// The step of a locus that touches it alone.
 pub fn advance_alone(locus: &mut Cell) -> Entry

@@ -16,8 +16,8 @@ ghost use Rattle.step_cells.specs.Advances.{StepsCells};
 use crate::noting::{named_by_snap, note};
 use birth_steps::{step_make, step_no_number, step_spawn};
 use hop_base::{Entry, Instr};
-use look_steps::kernel_cells::{Cell, Part};
-use step_plans::map_steps::step_mapping;
+use look_steps::{Cell, Part};
+use step_plans::step_mapping;
 
 /// The step of a locus that maps pages into a container, or unmaps them.
 pub fn advance_mapping(locus: &mut Cell, atlas: &mut Cell, other: &mut Cell, instr: Instr) -> Entry

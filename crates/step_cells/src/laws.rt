@@ -11,7 +11,7 @@ ghost use Rattle.look_steps.specs.kernel_cells.declared.cells.Part.{Part as APar
 ghost use Rattle.look_steps.specs.Looking.{MayLook};
 ghost use Rattle.step_plans.specs.beside_steps.Besides.{KeepsMemory};
 
-use step_plans::page_store::PageStore;
+use page_store::PageStore;
 
 /// A cell whose entity a step doesn't write is as it was.
 pub fn unlent_cells_law()

@@ -10,4 +10,6 @@ mod noting;
 pub use advances::{advance_alone, advance_beside};
 pub use bearings::{advance_barren, advance_making, advance_mapping, advance_spawning};
 pub use laws::{kept_memory_law, noting_law, unlent_cells_law};
+pub use look_steps::{Cell, Part};
 pub use lookings::advance_looking;
+pub use step_plans::{Idle, Plan, next_plan};

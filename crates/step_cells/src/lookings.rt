@@ -9,11 +9,9 @@ ghost use Rattle.step_cells.specs.Advances.{AdvancesSomehow, StepsCells};
 
 use crate::noting::{named_by_snap, note};
 use hop_base::Entry;
-use look_steps::kernel_cells::Cell;
-use look_steps::step_look;
+use look_steps::{Cell, step_look};
 use manager_gate::{Gate, Policy, Supplier};
-use step_plans::fault_paging::PageFault;
-use step_plans::page_store::PageStore;
+use page_store::{PageFault, PageStore};
 
 /// The step of a locus that makes one look of a load or a store at a container. On a fault of paging nothing has
 /// changed in the model, so that the same step can be tried again.

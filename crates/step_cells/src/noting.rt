@@ -12,9 +12,9 @@ ghost use Rattle.look_steps.specs.kernel_cells.Cells.{part_of, IsRunning};
 ghost use Rattle.step_cells.specs.Advances.{TakesIn};
 
 use hop_base::{Answer, Entity, Entry, Instr, Reply};
-use look_steps::kernel_cells::{Cell, Part};
-use step_plans::locus_machine::Locus;
-use step_plans::wanted_act::{fetch, named_entity};
+use look_steps::{Cell, Part};
+use step_plans::Locus;
+use wanted_act::{fetch, named_entity};
 
 /// The entity that the locus names where its instruction is a snap.
 fn named_by_locus(locus: &Locus) -> Option<Entity>

@@ -5,7 +5,7 @@ ghost use Rattle.map_steps.specs.kernel_cells.Cells.{part_of};
 ghost use Rattle.step_plans.specs.Plans.{idle_by, idle_of};
 
 use hop_base::Condition;
-use map_steps::kernel_cells::{Cell, Part, Storage};
+use map_steps::{Cell, Part, Storage};
 
 /// Why a locus can't step.
 #[derive(Clone, Copy, PartialEq, Eq, Debug)]

@@ -4,8 +4,7 @@
 mod idle;
 mod plans;
 
-pub use address_resolve::{fault_paging, locus_machine, page_store, wanted_act};
+pub use address_resolve::Locus;
 pub use idle::{Idle, why_idle};
-pub use map_steps;
-pub use map_steps::beside_steps;
+pub use map_steps::{step_beside, step_mapping};
 pub use plans::{Plan, next_plan};

@@ -11,9 +11,9 @@ ghost use Rattle.map_steps.specs.kernel_cells.Cells.{part_of, IsRunning};
 ghost use Rattle.step_plans.specs.Plans.{idle_of, BearsNone, IsPlanned, PlansFor};
 
 use crate::idle::{Idle, why_idle};
-use address_resolve::locus_machine::Locus;
+use address_resolve::Locus;
 use hop_base::{Entity, Instr};
-use map_steps::kernel_cells::{Cell, Part};
+use map_steps::{Cell, Part};
 
 /// What the next step of a locus touches besides the locus.
 #[derive(Clone, Copy, Debug)]

@@ -5,6 +5,3 @@
 mod stopping;
 
 pub use stopping::{Shown, run_and_stop};
-
-#[cfg(test)]
-mod tests;

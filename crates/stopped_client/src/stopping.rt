@@ -3,8 +3,8 @@ ghost use Rattle.std.specs.Prelude.{◌≡◌, ◌<◌, ◌+◌, IfOk, min};
 ghost use Rattle.disk_trait.specs.MemoryDisk.{moments_of};
 ghost use Rattle.stopped_client.specs.Promise.{KeepsPromise};
 
-use client_calls::hopper_top::command_parts::Status;
 use client_calls::{Called, call, new_image, one_word};
+use command_parts::Status;
 use disk_trait::{MemoryDisk, Torn};
 use hop_base::Entry;
 use std::alloc::{AllocError, Global};

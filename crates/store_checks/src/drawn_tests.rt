@@ -2,11 +2,11 @@
 use crate::own::{OwnStore, Unmade};
 use crate::test_stores::empty_store;
 use block_code::Blob;
+use cut_finder::{MOST_RECORDS, greatest, is_ascending};
 use disk_trait::{MemoryDisk, NoBlocks};
 use hop_base::{Cut, Entity, Rec};
 use rand_core::utils::NextWord;
 use rand_pcg::Pcg32;
-use snapshot_store::cut_finder::{MOST_RECORDS, greatest, is_ascending};
 use snapshot_store::{Store, StoreFault};
 use std::alloc::Global;
 use std::process::Abort;

@@ -13,8 +13,8 @@ ghost use Rattle.snapshot_store.specs.store_laws.State.{books};
 ghost use Rattle.snapshot_store.specs.store_model.Books.{kept_of, recs_in};
 
 use disk_trait::Disk;
-use snapshot_store::page_shadow::ShadowTable;
-use snapshot_store::page_store::PageStore;
+use page_shadow::ShadowTable;
+use page_store::PageStore;
 use snapshot_store::{Store, StoreFault};
 
 /// Keeps the chosen records of an image that was opened, and gives back a block that one of their tables names.

@@ -7,7 +7,7 @@ ghost use Rattle.store_checks.specs.Fit.{IsFit};
 use block_code::Blob;
 use disk_trait::Disk;
 use hop_base::{Cut, Entity, Rec};
-use snapshot_store::page_shadow::ShadowTable;
+use page_shadow::ShadowTable;
 use snapshot_store::{OpenFault, Store, StoreFault};
 use std::alloc::Global;
 use std::marker::Model;

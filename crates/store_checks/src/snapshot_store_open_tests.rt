@@ -1,7 +1,7 @@
 use block_code::Blob;
 use disk_trait::{Disk, DiskFault, MemoryDisk};
 use hop_base::{Entity, Rec};
-use log_reading::image_blocks::{body_block, header_block, open_gate, superblock};
+use image_blocks::{body_block, header_block, open_gate, superblock};
 use snapshot_store::{OpenWhy, Store};
 use std::alloc::Global;
 use std::test::Fail;
@@ -70,7 +70,7 @@ fn a_record_that_was_found_is_read(rt: HostRuntime) -> Result<(), Fail> {
 #[test]
 fn a_call_that_fails_hands_the_disk_back(rt: HostRuntime) -> Result<(), Fail> {
     // Three writes make the image. The fourth call is the sync, and the next one reads.
-    for (failing, why) in [(4, OpenWhy::WriteFault), (5, OpenWhy::ReadFault)] {
+    for &(failing, why) in &[(4, OpenWhy::WriteFault), (5, OpenWhy::ReadFault)] {
         let fault = match Store::open(rt.alloc(), image(rt.alloc(), &[failing])?) {
             Ok(_) => return Err(DiskFault.into()),
             Err(fault) => fault,

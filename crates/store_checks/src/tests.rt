@@ -1,14 +1,15 @@
 ghost use Rattle.std.specs.Prelude.{◌≤◌};
 ghost use Rattle.snapshot_store.specs.image_form.Layout.{least_blocks, most_blocks};
 
+use crate::cut_finder_tests::put_three;
 use crate::test_stores::{commit_versions, empty_store, ends_of, last_is_spelt, stamp_of};
 use block_code::Blob;
+use cut_finder::{MOST_RECORDS, greatest, is_ascending};
 use disk_trait::{MemoryDisk, Torn};
 use hop_base::{Cut, Entity};
+use image_blocks::Area;
+use log_reading::read_log;
 use snapshot_store::Store;
-use snapshot_store::cut_finder::{MOST_RECORDS, greatest, is_ascending};
-use snapshot_store::image_blocks::Area;
-use snapshot_store::log_reading::read_log;
 use std::alloc::Global;
 use std::process::Abort;
 use std::test::Fail;
@@ -27,11 +28,11 @@ fn commits_leave(
     let (area, epoch, ends) = log;
     let mut own = empty_store(alloc, blocks, room)?;
     commit_versions(rt, &mut own, &mut Blob::new(alloc)?, 1, commits);
-    assert_eq!(rt; ends_of(own.store().recs()), Some(ends));
+    assert!(rt; ends_of(own.store().recs()) == Some(ends));
     let found = read_log(alloc, &mut own.into_disk()).ok().ok_or("a log")?;
     assert!(rt; found.area == area);
-    assert_eq!(rt; found.epoch, epoch);
-    assert_eq!(rt; ends_of(&found.recs), Some(ends));
+    assert!(rt; found.epoch == epoch);
+    assert!(rt; ends_of(&found.recs) == Some(ends));
     Ok(())
 }
 
@@ -51,13 +52,11 @@ fn five_thousand_records_go_into_35_blocks(rt: HostRuntime) -> Result<(), Fail> 
 // The choice is the one given, which is the greatest over the log.
 fn cut_is(rt: &impl Abort, store: &Store<MemoryDisk>, versions: [u64; 3]) {
     let mut all = [0; 64];
-    all[1] = versions[0];
-    all[2] = versions[1];
-    all[3] = versions[2];
-    assert_eq!(rt; store.cut(), Cut(all));
+    put_three(&mut all, versions);
+    assert!(rt; store.cut() == Cut(all));
     let recs = store.recs();
     assert!(rt; recs.len() <= MOST_RECORDS && is_ascending(recs));
-    assert_eq!(rt; greatest(recs), Cut(all));
+    assert!(rt; greatest(recs) == Cut(all));
 }
 
 #[test]
@@ -73,13 +72,11 @@ fn the_choice_rises_with_the_records(rt: HostRuntime) -> Result<(), Fail> {
     let mut own = empty_store(rt.alloc(), 2600, 60)?;
     let mut blob = Blob::new(rt.alloc())?;
     blob.put_u64(7);
-    for (number, version, components, versions) in table {
+    for &(number, version, components, versions) in &table {
         let entity = Entity::new(number).ok_or("an entity")?;
         let mut stamp = [0; 64];
-        stamp[1] = components[0];
-        stamp[2] = components[1];
-        stamp[3] = components[2];
-        assert_eq!(rt; own.commit(entity, version, &stamp, &blob), Ok(()));
+        put_three(&mut stamp, components);
+        assert!(rt; own.commit(entity, version, &stamp, &blob) == Ok(()));
         cut_is(&rt, own.store(), versions);
     }
     Ok(())
@@ -114,7 +111,7 @@ fn stops_leave(
     new: (u64, u64),
 ) -> Result<(), Fail> {
     for before in 0..=calls {
-        for torn in [Torn::Old, Torn::New, Torn::Fill(1)] {
+        for &torn in &[Torn::Old, Torn::New, Torn::Fill(1)] {
             let moment = disk.moments().saturating_sub(before);
             let left = left_at(rt, alloc, disk, moment, torn)?;
             let is_new = left == new && before < 2;
@@ -141,7 +138,7 @@ fn stops_in_commit(
     let before = own.store().begun();
     let next = commits.saturating_add(1);
     commit_versions(rt, &mut own, &mut blob, next, next);
-    assert_eq!(rt; own.store().begun(), before.saturating_add(calls));
+    assert!(rt; own.store().begun() == before.saturating_add(calls));
     stops_leave(rt, alloc, &own.into_disk(), calls, old, new)
 }
 

@@ -9,7 +9,7 @@ ghost use Rattle.store_commit.specs.Storing.{HasBlob, HasPlaces, IsBlobBlock};
 
 use disk_trait::{Disk, DiskFault};
 use hop_base::Rec;
-use store_model::log_turn::Areas;
+use store_model::Areas;
 
 // Writes blocks where the record names them, and counts those that are begun. It makes nothing stable.
 pub(crate) fn write_blob<D: Disk>(

@@ -18,9 +18,7 @@ ghost use Rattle.store_commit.specs.Storing.{HasBlob, HasLogged, HasPlaces, IsCo
 use crate::blobs::write_blob;
 use disk_trait::Disk;
 use hop_base::Rec;
-use store_model::commit_log::LogFault;
-use store_model::image_blocks::SLOT_COUNT;
-use store_model::log_turn::Areas;
+use store_model::{Areas, LogFault, SLOT_COUNT};
 
 // Turns the log to the kept records where all its slots are used.
 fn make_room<D: Disk>(areas: &mut Areas, disk: &mut D, kept: &[Rec]) -> Result<(), LogFault>

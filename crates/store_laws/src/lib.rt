@@ -14,10 +14,10 @@ ghost use Rattle.store_laws.specs.Keeping.{AreKept};
 ghost use Rattle.store_laws.specs.Opening.{unread};
 ghost use Rattle.store_laws.specs.Shelves.{is_from};
 
-pub use cut_finder;
-pub use log_reading;
-pub use page_words;
-pub use store_commit;
+pub use cut_finder::{greatest, raise};
+pub use log_reading::{Bad, ImageLog, LAST_NUMBER, POOL_AT, ReadingFault, SLOT_COUNT, read_log};
+pub use page_words::{Areas, LogFault, block_with, words_in};
+pub use store_commit::{commit_record, spelled_blocks};
 
 /// Records that a log has, with the greatest closed choice over them, are kept as the choice says.
 pub fn shelved_law()

@@ -12,9 +12,8 @@ ghost use Rattle.store_model.specs.Books.{AreSmall, AreTrue, Books, HaveComponen
 ghost use Rattle.store_model.specs.Owning.{OwnedLaw};
 
 use disk_trait::Disk;
-pub use image_meaning::image_blocks;
-pub use log_turn;
-pub use log_turn::commit_log;
+pub use image_blocks::SLOT_COUNT;
+pub use log_turn::{Areas, LogFault};
 
 /// While the books are true, no number was too large and the disk hasn't failed, each image that a stop may leave stores the
 /// kept records.

@@ -19,10 +19,9 @@ ghost use Rattle.store_steps.specs.Leaving.{LeavesInOrder};
 
 use disk_trait::Disk;
 use hop_base::{Entity, Entry};
-use kernel_views::kernel_cells::Cell;
-use kernel_views::snapshot_store::Store;
+use kernel_views::Store;
 use manager_gate::{Gate, Policy, Supplier};
-use table_steps::{StepFault, advance};
+use table_steps::{Cell, StepFault, advance};
 
 /// One step of the locus with this number, over the cells and the store of a kernel.
 ///

@@ -3,13 +3,13 @@ ghost use Rattle.std.specs.Prelude.{◌≡◌, [], IfOk, length, replicate};
 ghost use Rattle.disk_trait.specs.Kept.{IsTorn};
 ghost use Rattle.disk_trait.specs.MemoryDisk.{StartsWith, moments_of, reading_of, room_of, stood_at};
 
+use command_parts::Outcome;
 use disk_trait::{MemoryDisk, Torn};
-use hopper_top::command_parts::Outcome;
 use hopper_top::hopper;
-use hopper_top::stream_edge::{MemorySink, MemorySource};
 use manager_gate::{CountedWords, EveryVersions, Policy, Supplier};
 use std::alloc::{AllocError, Global};
 use std::test::Fail;
+use stream_edge::{MemorySink, MemorySource};
 
 /// Calls that `format` makes of a disk, all of them writes and syncs.
 pub const FORMAT_CALLS: u64 = 10;

@@ -7,4 +7,3 @@ pub mod scripts;
 pub use calls::{
     FORMAT_CALLS, copy_of, disk_of, formatted, formatted_with, put, put_failing, run, shown, small,
 };
-pub use hopper_top;

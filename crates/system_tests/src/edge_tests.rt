@@ -1,6 +1,6 @@
 //! Sources and sinks that fail.
+use command_parts::Status;
 use std::test::Fail;
-use system_calls::hopper_top::command_parts::Status;
 use system_calls::scripts::{FIVE, PAST_THE_PAGE};
 use system_calls::{formatted, put_failing};
 
@@ -8,7 +8,7 @@ use system_calls::{formatted, put_failing};
 fn a_source_that_fails_gives_its_own_status(rt: HostRuntime) -> Result<(), Fail> {
     let alloc = rt.alloc();
     // The first take fails, and then the one that would tell the end.
-    for take in [1, 2] {
+    for &take in &[1, 2] {
         let disk = formatted(alloc, &[])?;
         let (lines, outcome) = put_failing(alloc, &["run"], FIVE, (&[take], &[]), disk)?;
         assert!(rt; lines.as_str() == "fault 6 source\n");
@@ -21,7 +21,7 @@ fn a_source_that_fails_gives_its_own_status(rt: HostRuntime) -> Result<(), Fail>
 #[test]
 fn a_sink_that_fails_holds_a_front_of_the_lines(rt: HostRuntime) -> Result<(), Fail> {
     let alloc = rt.alloc();
-    for (put, held) in [(1, ""), (2, "l 3\n")] {
+    for &(put, held) in &[(1, ""), (2, "l 3\n")] {
         let disk = formatted(alloc, &[])?;
         let (lines, outcome) = put_failing(alloc, &["run"], PAST_THE_PAGE, (&[], &[put]), disk)?;
         assert!(rt; lines.as_str() == held);

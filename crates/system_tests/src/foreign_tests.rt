@@ -1,16 +1,16 @@
 //! Disks that hold no image, and images of which a byte is another.
+use command_parts::Status;
 use disk_trait::{Disk, MemoryDisk};
 use std::alloc::Global;
 use std::test::Fail;
-use system_calls::hopper_top::command_parts::Status;
 use system_calls::scripts::FIVE;
 use system_calls::{copy_of, disk_of, put, run};
 
 #[test]
 fn a_disk_of_zeros_is_foreign(rt: HostRuntime) -> Result<(), Fail> {
     let alloc = rt.alloc();
-    for blocks in [0, 8, 2700] {
-        for words in [["show"], ["report"], ["run"]] {
+    for &blocks in &[0, 8, 2700] {
+        for &words in &[["show"], ["report"], ["run"]] {
             let (lines, outcome) = put(alloc, &words, FIVE, disk_of(alloc, blocks, &[])?)?;
             assert!(rt; lines.as_str() == "fault 4 0 0\n");
             assert!(rt; matches!(outcome.status, Status::Foreign { block: 0, place: 0 }));
@@ -64,7 +64,7 @@ fn poke(disk: &mut MemoryDisk, spot: Spot, place: u16, value: u8) -> Result<(), 
 type Change = (Spot, u16, u8, Spot, u16);
 
 // The image of a run of five instructions: area B has three records, of the atlas, of container `a` and of locus `l`.
-const CHANGES: [Change; 26] = [
+const CHANGES: &[Change] = &[
     // The eight bytes, the format, the number of blocks, and the zeros of the superblock.
     (Block(0), 0, 0, Block(0), 0),
     (Block(0), 7, b'Q', Block(0), 0),
@@ -117,8 +117,8 @@ fn lines_for(
 fn a_changed_byte_is_told_by_the_first_bad_place(rt: HostRuntime) -> Result<(), Fail> {
     let alloc = rt.alloc();
     let (_, outcome) = run(alloc, FIVE)?;
-    for change in CHANGES {
-        for words in [["show"], ["run"]] {
+    for &change in CHANGES {
+        for &words in &[["show"], ["run"]] {
             let (lines, wanted) = lines_for(alloc, &outcome.disk, &words, change)?;
             assert!(rt; lines.as_str() == wanted.as_str());
         }

@@ -1,9 +1,9 @@
 //! Images that runs leave.
 ghost use Rattle.std.specs.Prelude.{◌≡◌, IfOk};
 
+use command_parts::Status;
 use hop_base::{Entity, Event, Touch, Touched};
 use std::test::Fail;
-use system_calls::hopper_top::command_parts::Status;
 use system_calls::scripts::{
     ALL_PAGES, ALWAYS_STABLE, BORN_WISHED, COUNTS_ON, FIVE, STABILISES, STABLE, WISHED,
     WISHED_BY_TWO, WISHED_BY_TWO_KEPT, WISHES, WISHES_KEPT,
@@ -20,7 +20,7 @@ fn a_state_is_shown_as_it_was_made_stable(rt: HostRuntime) -> Result<(), Fail> {
         (WISHED, BORN_WISHED),
         (WISHES, WISHES_KEPT),
     ];
-    for (script, kept) in runs {
+    for &(script, kept) in &runs {
         let (lines, outcome) = run(alloc, script)?;
         assert!(rt; lines.as_str() == "");
         assert!(rt; matches!(outcome.status, Status::Done));

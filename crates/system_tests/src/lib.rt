@@ -6,6 +6,8 @@ mod edge_tests;
 #[cfg(test)]
 mod foreign_tests;
 #[cfg(test)]
+mod hostile;
+#[cfg(test)]
 mod image_tests;
 #[cfg(test)]
 mod line_tests;
@@ -17,3 +19,9 @@ mod refusal_tests;
 mod run_tests;
 #[cfg(test)]
 mod stop_tests;
+#[cfg(test)]
+mod stopped_client_tests;
+#[cfg(test)]
+mod traced_client_tests;
+#[cfg(test)]
+mod traces;

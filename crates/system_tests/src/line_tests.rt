@@ -1,10 +1,10 @@
 //! The line of each fault.
+use command_parts::{Fault, put_fault};
 use disk_trait::NoBlocks;
+use script_form::{Refusal, Why};
 use std::alloc::{AllocError, Global};
 use std::test::Fail;
-use system_calls::hopper_top::command_parts::{Fault, put_fault};
-use system_calls::hopper_top::script_form::{Refusal, Why};
-use system_calls::hopper_top::stream_edge::{MemorySink, SinkFault};
+use stream_edge::{MemorySink, SinkFault};
 
 fn refused(alloc: Global, why: Why, key: &str) -> Result<Fault, AllocError> {
     Ok(Fault::Script(Refusal {
@@ -45,9 +45,9 @@ fn each_fault_has_its_last_line(rt: HostRuntime) -> Result<(), Fail> {
             "fault 9 4294967295 1281\n",
         ),
     ];
-    for (fault, line) in faults {
+    for (fault, line) in &faults {
         let mut sink = MemorySink::new(alloc, 100, Vec::new(alloc))?;
-        assert!(rt; put_fault(&mut sink, &fault) == Ok(()));
+        assert!(rt; put_fault(&mut sink, fault) == Ok(()));
         assert!(rt; sink.held() == line.as_bytes());
     }
     Ok(())

@@ -1,6 +1,6 @@
 //! Managers that a script brings.
+use command_parts::Status;
 use std::test::Fail;
-use system_calls::hopper_top::command_parts::Status;
 use system_calls::scripts::{
     BORN_WISHED_BY_PROGRAM, NEVER_HALTS, PAGE_AND_PLACE, PRINTS, WISHED, WISHED_BY_PROGRAM,
 };
@@ -13,7 +13,7 @@ fn a_program_makes_the_words_of_its_tag(rt: HostRuntime) -> Result<(), Fail> {
         (NEVER_HALTS, "l 0\n"),
         (PRINTS, "fault 3 8 supply.0\n"),
     ];
-    for (script, lines) in runs {
+    for &(script, lines) in &runs {
         let (text, _) = run(rt.alloc(), script)?;
         assert!(rt; text.as_str() == lines);
     }

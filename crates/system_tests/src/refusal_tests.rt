@@ -1,12 +1,12 @@
 //! Words and scripts that are refused.
+use command_parts::Status;
 use disk_trait::Disk;
 use std::test::Fail;
-use system_calls::hopper_top::command_parts::Status;
 use system_calls::scripts::FIVE;
 use system_calls::{disk_of, formatted, put, run};
 
 // Lists of words that are no command.
-const OTHERS: [&[&str]; 12] = [
+const OTHERS: &[&[&str]] = &[
     &["run", "run"],
     &[],
     &["walk"],
@@ -24,7 +24,7 @@ const OTHERS: [&[&str]; 12] = [
 #[test]
 fn other_words_are_refused(rt: HostRuntime) -> Result<(), Fail> {
     let alloc = rt.alloc();
-    for words in OTHERS {
+    for &words in OTHERS {
         let (lines, outcome) = put(alloc, words, FIVE, formatted(alloc, &[])?)?;
         assert!(rt; lines.as_str() == "fault 2 usage\n");
         assert!(rt; matches!(outcome.status, Status::Usage));
@@ -45,7 +45,7 @@ fn a_refused_source_is_told_by_its_key(rt: HostRuntime) -> Result<(), Fail> {
 #[test]
 fn a_source_past_a_mebibyte_is_too_long(rt: HostRuntime) -> Result<(), Fail> {
     let alloc = rt.alloc();
-    for (len, line, status) in [(1_048_576, "", 0), (1_048_577, "fault 3 9 -\n", 3)] {
+    for &(len, line, status) in &[(1_048_576, "", 0), (1_048_577, "fault 3 9 -\n", 3)] {
         let mut bytes = Vec::new(alloc);
         bytes.resize(len, b'\n')?;
         let (lines, outcome) = run(alloc, &bytes)?;

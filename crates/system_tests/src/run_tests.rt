@@ -1,9 +1,9 @@
 //! What runs print, and their histories.
 ghost use Rattle.std.specs.Prelude.{◌≡◌};
 
+use command_parts::Status;
 use hop_base::{Answer, Entity, Entry, Event, Reply, Touch, Touched};
 use std::test::Fail;
-use system_calls::hopper_top::command_parts::Status;
 use system_calls::run;
 use system_calls::scripts::{
     ALL_PAGES, CIRCLES, COUNTS_ON, DENIED_OVER_A_MAPPING, FIVE, FULL_CHAIN, INVOKES_WITHOUT_ENTRY,
@@ -12,7 +12,7 @@ use system_calls::scripts::{
 };
 
 // Scripts, what their runs print, and how many entries their histories have.
-const RUNS: [(&[u8], &[u8], usize); 21] = [
+const RUNS: &[(&[u8], &[u8], usize)] = &[
     (FIVE, b"l 5\n", 8),
     (PAST_THE_PAGE, b"l 3\nl 0\n", 10),
     (b"", b"", 0),
@@ -40,7 +40,7 @@ const RUNS: [(&[u8], &[u8], usize); 21] = [
 
 #[test]
 fn a_run_prints_its_lines_and_ends(rt: HostRuntime) -> Result<(), Fail> {
-    for (text, lines, entries) in RUNS {
+    for &(text, lines, entries) in RUNS {
         let (put, outcome) = run(rt.alloc(), text)?;
         assert!(rt; put.as_bytes() == lines);
         assert!(rt; matches!(outcome.status, Status::Done));

@@ -6,10 +6,10 @@ use system_calls::scripts::{BORN_WITH_WISHES, FIVE, WISHES, WISHES_KEPT};
 use system_calls::{FORMAT_CALLS, formatted, put, shown, small};
 
 // Every way in which a block that was not synced may be torn here.
-const TORN: [Torn; 3] = [Torn::Old, Torn::New, Torn::Fill(1)];
+const TORN: &[Torn] = &[Torn::Old, Torn::New, Torn::Fill(1)];
 
 // What an image of `WISHES` shows: nothing, the births, and a record of each entity, of which one makes no cut without the other.
-const STAGES: [&str; 3] = ["", BORN_WITH_WISHES, WISHES_KEPT];
+const STAGES: &[&str] = &["", BORN_WITH_WISHES, WISHES_KEPT];
 
 // How far the run is that a disk's image shows.
 fn stage_of(alloc: Global, disk: MemoryDisk) -> Result<usize, Fail> {
@@ -28,7 +28,7 @@ fn a_record_is_there_from_its_gate_on(rt: HostRuntime) -> Result<(), Fail> {
     let disk = outcome.disk;
     let mark = outcome.marks.last().ok_or("a mark")?.saturating_add(since);
     assert!(rt; mark == disk.moments());
-    for torn in TORN {
+    for &torn in TORN {
         for back in 1..=6_u64 {
             let moment = disk.moments().checked_sub(back).ok_or("a moment")?;
             let stage = stage_of(alloc, disk.crash(moment, torn)?)?;
@@ -54,7 +54,7 @@ fn an_opening_that_is_stopped_changes_nothing(rt: HostRuntime) -> Result<(), Fai
     assert!(rt; outcome.marks.is_empty());
     assert!(rt; since < disk.moments());
     for earlier in since..disk.moments() {
-        for torn in TORN {
+        for &torn in TORN {
             let stage = stage_of(alloc, disk.crash(earlier + 1, torn)?)?;
             assert!(rt; stage == 2, "{torn:?} behind {earlier}");
         }

@@ -11,10 +11,10 @@ ghost use Rattle.table_steps.specs.cell_table.Tables.{AreFewWrites, IsOrderly};
 ghost use Rattle.table_births.specs.Births.{AreUnderWay, BearsOn, BearsQuietly, EntersBirth, NoBirthLeft, atlas_state_in, count_born};
 
 use crate::lending::{atlas_of, free_container, go_container, go_locus, locus_numbers};
-use cell_births::kernel_cells::Cell;
-use cell_births::script_against::{NextTable, Progress, next_table};
+use cell_births::{NextTable, Progress, next_table};
 use hop_base::Entry;
-use table_steps::script_form::Script;
+use script_form::Script;
+use table_steps::Cell;
 
 /// The birth of the table that is next.
 fn bear_table(cells: &mut [Cell], next: NextTable) -> Entry

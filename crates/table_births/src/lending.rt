@@ -12,10 +12,10 @@ ghost use Rattle.table_steps.specs.cell_table.Tables.{AreFewWrites};
 ghost use Rattle.table_births.specs.Births.{BearsQuietly, atlas_state_in};
 
 use atlas_dir::Atlas;
-use cell_births::kernel_cells::{Cell, Part};
-use cell_births::{bear_container, bear_locus};
+use cell_births::{Part, bear_container, bear_locus};
 use hop_base::{Entity, Entry, Kind};
-use table_steps::script_form::{ScriptContainer, ScriptLocus};
+use script_form::{ScriptContainer, ScriptLocus};
+use table_steps::Cell;
 
 /// The atlas of a table of cells.
 pub fn atlas_of(cells: &[Cell]) -> &Atlas

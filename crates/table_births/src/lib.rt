@@ -6,5 +6,6 @@ mod bearing;
 mod lending;
 
 pub use bearing::bear_next;
-pub use cell_births::script_against;
+pub use cell_births::{Part, Progress, Storage};
 pub use lending::atlas_of;
+pub use table_steps::{Cell, StepFault};

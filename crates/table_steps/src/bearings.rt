@@ -5,8 +5,7 @@ ghost use Rattle.cell_table.specs.step_plans.declared.plans.Plan.TheVariants as 
 ghost use Rattle.cell_table.specs.Steps.{HasDirectory, IsInOrder, IsPlannedAt, StepsQuietly};
 ghost use Rattle.cell_table.specs.Tables.{AreFewWrites};
 
-use cell_table::kernel_cells::{Cell, Part};
-use cell_table::step_cells::{advance_barren, advance_making, advance_mapping, advance_spawning};
+use cell_table::{Cell, Part, advance_barren, advance_making, advance_mapping, advance_spawning};
 use hop_base::{Entity, Entry, Instr, Kind, MOST_CONTAINERS, MOST_LOCI};
 
 /// A step that maps pages into a container, or unmaps them.

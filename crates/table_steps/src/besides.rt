@@ -4,8 +4,7 @@ ghost use Rattle.cell_table.specs.step_plans.declared.plans.Plan.TheVariants as 
 ghost use Rattle.cell_table.specs.Steps.{IsInOrder, IsPlannedAt, StepsQuietly};
 ghost use Rattle.cell_table.specs.Tables.{AreFewWrites};
 
-use cell_table::kernel_cells::Cell;
-use cell_table::step_cells::{advance_alone, advance_beside};
+use cell_table::{Cell, advance_alone, advance_beside};
 use hop_base::{Entity, Entry, Instr};
 
 /// A step that touches the locus alone.

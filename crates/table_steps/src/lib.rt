@@ -7,7 +7,5 @@ mod besides;
 mod looks;
 mod stepping;
 
-pub use cell_table::{
-    cell_blobs, kernel_cells, locus_machine, script_form, step_plans, wanted_act,
-};
+pub use cell_table::{Cell, is_recorded, need_cell};
 pub use stepping::{StepFault, advance};

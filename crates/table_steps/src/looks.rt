@@ -6,12 +6,10 @@ ghost use Rattle.cell_table.specs.Steps.{EntersStep, GoesOn, IsPlannedAt, StaysA
 ghost use Rattle.cell_table.specs.Tables.{tables_in, AreClean, AreFewWrites, HasNews, IsOrderly};
 ghost use Rattle.table_steps.specs.Wanting.{WantsWord};
 
-use cell_table::fault_paging::PageFault;
-use cell_table::kernel_cells::Cell;
-use cell_table::page_store::PageStore;
-use cell_table::step_cells::advance_looking;
+use cell_table::{Cell, advance_looking};
 use hop_base::{Entity, Entry};
 use manager_gate::{Gate, Policy, Supplier};
+use page_store::{PageFault, PageStore};
 
 /// A step that makes one look of a load or a store at a container.
 pub(crate) fn go_look<B: PageStore, S: Supplier, P: Policy>(

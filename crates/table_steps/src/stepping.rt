@@ -12,12 +12,10 @@ ghost use Rattle.table_steps.specs.Wanting.{WantsWord};
 use crate::bearings::{go_making, go_mapping, go_spawning};
 use crate::besides::{go_alone, go_beside};
 use crate::looks::go_look;
-use cell_table::fault_paging::PageFault;
-use cell_table::kernel_cells::Cell;
-use cell_table::page_store::PageStore;
-use cell_table::step_plans::{Idle, Plan, next_plan};
+use cell_table::{Cell, Idle, Plan, next_plan};
 use hop_base::{Entity, Entry};
 use manager_gate::{Gate, Policy, Supplier};
+use page_store::{PageFault, PageStore};
 
 /// Why a locus made no step.
 #[derive(Clone, Copy, PartialEq, Eq, Debug)]

@@ -17,8 +17,6 @@ ghost use Rattle.step_plans.specs.declared.plans.Plan.{Plan as APlan};
 ghost use Rattle.wish_laws.specs.Founded.{IsFoundedCell, IsFoundedIn};
 ghost use Rattle.touch_laws.specs.Touching.{run_with, IsNoted, IsTouchedBy};
 
-pub use sound_runs::script_form;
-
 /// A step writes its locus, and besides it at most what its plan names.
 pub fn planned_touches_law()
     ensures { (s : Supply) (words : ℕ → List ℕ) (w v : KernelState) (e : Entry) (c : ACell) (p : APlan) (x : ℕ)

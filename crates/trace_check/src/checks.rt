@@ -17,12 +17,12 @@ use crate::lines::{no_text, text_of};
 use crate::reading::wanted;
 use crate::words::before;
 use arrayvec::ArrayString;
+use history_model::Plain;
 use hop_base::{Entry, Event};
+use script_form::Script;
 use std::alloc::{AllocError, Global};
 use text_lines::LINE;
-use trace_laws::actor_laws::history_model::Plain;
-use trace_laws::actor_laws::script_form::Script;
-use trace_laws::trace_steps::{Checker, begin};
+use trace_laws::{Checker, begin};
 
 fn is_same(a: &[u8], b: &[u8]) -> bool
     ensures { IsTrue result ↔ (a.now ≡ b.now) }

@@ -10,5 +10,3 @@ mod words;
 
 pub use checks::check;
 pub use faults::TraceFault;
-pub use text_lines;
-pub use trace_laws::trace_steps::plain_run;

@@ -5,10 +5,10 @@ ghost use Rattle.trace_laws.specs.actor_laws.history_model.Plains.{atlas_of};
 ghost use Rattle.text_lines.specs.Lines.{HasShortNames};
 
 use arrayvec::ArrayString;
+use entry_lines::write_entry;
+use history_model::PlainAtlas;
 use hop_base::{Entity, Entry};
 use text_lines::{LINE, NameLists, Names};
-use trace_laws::actor_laws::history_model::PlainAtlas;
-use trace_laws::entry_laws::entry_lines::write_entry;
 
 /// The names of a plain atlas.
 #[derive(Clone, Copy)]

@@ -5,8 +5,8 @@ ghost use Rattle.trace_laws.specs.actor_laws.history_model.Born.{HasFewNames};
 ghost use Rattle.trace_laws.specs.actor_laws.history_model.Plains.{atlas_of};
 ghost use Rattle.trace_laws.specs.Words.{IsNamed};
 
+use history_model::PlainAtlas;
 use hop_base::{Entity, FIRST_CONTAINER, FIRST_LOCUS, Kind};
-use trace_laws::actor_laws::history_model::PlainAtlas;
 
 /// The name at a place of a list.
 fn name_at(names: &[String], place: u8) -> Option<&str>

@@ -8,9 +8,9 @@ ghost use Rattle.trace_laws.specs.trace_steps.trace_rules.Standing.{Managers};
 use crate::naming::{entity_named, is_named};
 use crate::words::{before, behind, event_named};
 use hop_base::{Entry, Event};
+use script_form::Script;
 use std::alloc::{AllocError, Global};
-use trace_laws::actor_laws::script_form::Script;
-use trace_laws::trace_steps::{Checker, birth, next};
+use trace_laws::{Checker, birth, next};
 
 /// The next birth, if it is of this name. After None or want of memory the checker stands nowhere.
 fn birth_named(

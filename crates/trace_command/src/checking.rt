@@ -15,13 +15,13 @@ ghost use Rattle.trace_command.specs.Sources.{traced_of};
 use crate::judging::judge_by;
 use crate::putting::end_by;
 use crate::reading::{Traced, read_bytes, read_traced};
+use command_parts::{Fault, Outcome, end_with};
 use disk_trait::Disk;
-use image_tools::stream_edge::{Sink, Source};
 use manager_code::Book;
 use manager_gate::{Answers, AskedPolicy, AskedSupplier, Gate};
-use script_source::command_parts::{Fault, Outcome, end_with};
 use std::alloc::Global;
 use std::marker::{Brand, PhantomData};
+use stream_edge::{Sink, Source};
 
 /// Checks a trace of a script that was read, by its managers over the handed-in ones, and puts the verdict. `N` has the answers of the
 /// handed-in ones, and `B` those of the script's over them.

@@ -13,16 +13,16 @@ ghost use Rattle.script_source.specs.command_parts.Seen.{seen_disk};
 ghost use Rattle.trace_command.specs.Verdicts.{IsJudged, IsVerdict, verdict_of as told_verdict};
 
 use arrayvec::ArrayString;
+use command_parts::Fault;
 use disk_trait::Disk;
+use history_model::Plain;
 use hop_base::Entry;
-use image_tools::history_model::Plain;
 use image_tools::{ImageFacts, read_image};
 use manager_gate::{Answers, Gate, Policy, Supplier};
-use script_source::command_parts::Fault;
-use script_source::script_form::Script;
+use plain_run::against;
+use script_form::Script;
 use std::alloc::Global;
-use trace_check::plain_run::against;
-use trace_check::text_lines::LINE;
+use text_lines::LINE;
 use trace_check::{TraceFault, check};
 
 /// What became of a trace that was to be checked.

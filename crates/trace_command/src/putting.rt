@@ -10,11 +10,11 @@ ghost use Rattle.trace_command.specs.Verdicts.{EndsWith};
 
 use crate::judging::Verdict;
 use arrayvec::ArrayString;
-use image_tools::stream_edge::{Sink, SinkFault};
+use command_parts::{Outcome, Status, empty_outcome, end_with};
 use itoa::Buffer;
-use script_source::command_parts::{Outcome, Status, empty_outcome, end_with};
 use std::alloc::Global;
-use trace_check::text_lines::LINE;
+use stream_edge::{Sink, SinkFault};
+use text_lines::LINE;
 
 /// A length that no text with one number exceeds.
 const NUMBER: usize = 48;

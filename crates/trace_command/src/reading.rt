@@ -11,12 +11,12 @@ ghost use Rattle.command_laws.specs.Sources.{MeansTraced, StopsTraced, most_byte
 ghost use Rattle.trace_command.specs.Sources.{traced_of};
 
 use crate::parting::{behind_rule, rule_place};
-use image_tools::stream_edge::{Source, read_all};
-use script_source::command_parts::Fault;
+use command_parts::Fault;
+use script_form::{Refusal, ScriptFault, Why};
+use script_read::{ManagedScript, read_script};
 use script_source::fault_of_stop;
-use script_source::script_form::{Refusal, ScriptFault, Why};
-use script_source::script_read::{ManagedScript, read_script};
 use std::alloc::Global;
+use stream_edge::{Source, read_all};
 
 /// How many bytes a script and its trace may have, with the line between them.
 const MOST_BYTES: usize = 67_108_864;

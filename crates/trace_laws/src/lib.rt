@@ -10,9 +10,7 @@ ghost use Rattle.trace_laws.specs.Reading.{HasRead};
 ghost use Rattle.trace_steps.specs.Standing.{Stands};
 ghost use Rattle.trace_steps.specs.declared.checker.Checker.{Checker};
 
-pub use actor_laws;
-pub use entry_laws;
-pub use trace_steps;
+pub use trace_steps::{Checker, begin, birth, next};
 
 /// Where nothing is read yet, the whole trace is left.
 pub fn unread_law()

@@ -11,8 +11,7 @@ ghost use Rattle.trace_parts.specs.cut_laws.Records.{commits_of, recs_from};
 ghost use Rattle.trace_parts.specs.declared.cuts.Cuts.{Cuts};
 ghost use Rattle.trace_rules.specs.Keeping.{HasCuts};
 
-pub use plain_run;
-pub use trace_parts;
+pub use plain_run::{next_name, plain_step};
 
 /// The commits of the records at or above a cut are those of the commits at or above it; and by kept cuts an entity is full
 /// where it has four.

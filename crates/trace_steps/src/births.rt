@@ -9,11 +9,11 @@ ghost use Rattle.trace_rules.specs.Standing.{Managers};
 ghost use Rattle.trace_rules.specs.plain_run.history_model.Born.{HasFewNames};
 
 use crate::checker::Checker;
+use history_model::plain_birth;
 use hop_base::{Entity, Entry};
+use script_form::Script;
 use std::alloc::{AllocError, Global};
-use trace_rules::plain_run::history_model::plain_birth;
-use trace_rules::plain_run::next_name;
-use trace_rules::plain_run::script_form::Script;
+use trace_rules::next_name;
 
 /// Whether names are left to be born. After the last birth the Stable of the atlas is owed.
 fn owe_births(checker: &mut Checker, script: &Script)

@@ -9,7 +9,7 @@ ghost use Rattle.trace_rules.specs.Recording.{AreRecordsAt, IsRecordAt, all_chan
 
 use hop_base::{Entity, Rec};
 use std::alloc::AllocError;
-use trace_rules::trace_parts::{Clocks, Cuts};
+use trace_parts::{Clocks, Cuts};
 
 /// The record of an entity at its version and with its clock.
 pub fn record_of(clocks: &Clocks, versions: &[u64; 64], entity: Entity) -> Rec

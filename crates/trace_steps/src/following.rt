@@ -11,8 +11,8 @@ use crate::snaps::{snap, try_record};
 use crate::stables::stable;
 use crate::steps::step;
 use hop_base::{Entity, Entry, Event};
+use script_form::Script;
 use std::alloc::{AllocError, Global};
-use trace_rules::plain_run::script_form::Script;
 
 /// The birth of this entity, if it is the next one.
 fn birth_of(

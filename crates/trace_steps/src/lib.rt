@@ -21,5 +21,4 @@ pub use snaps::{snap, try_record};
 pub use stables::stable;
 pub use starts::begin;
 pub use steps::step;
-pub use trace_rules::plain_run;
 pub use wants::{asked_at, intervals, is_any_due, owed_at, where_ok};

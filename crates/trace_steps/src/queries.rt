@@ -8,8 +8,8 @@ ghost use Rattle.trace_rules.specs.Recording.{first_changed};
 ghost use Rattle.trace_steps.specs.Standing.{Keeps};
 
 use crate::checker::Checker;
+use history_model::Plain;
 use hop_base::{Entity, FIRST_CONTAINER, FIRST_LOCUS, Kind};
-use trace_rules::plain_run::history_model::Plain;
 
 /// The interval of an entity's snapshots, 0 where it is not born. The atlas's is 1.
 pub fn every_at(state: &Plain, entity: Entity) -> u32

@@ -14,7 +14,7 @@ use crate::commits::record_of;
 use crate::snaps::mark;
 use hop_base::{Entity, Entry, Event};
 use std::alloc::AllocError;
-use trace_rules::trace_parts::{Clocks, Cuts};
+use trace_parts::{Clocks, Cuts};
 
 /// Appends the record of each entity that has changed since its newest commit, ascending. The cut stays as it was.
 pub(crate) fn append_changed(

@@ -14,12 +14,12 @@ ghost use Rattle.trace_rules.specs.Standing.{fresh};
 
 use crate::checker::Checker;
 use crate::stables::append_changed;
+use history_model::Plain;
 use hop_base::Cut;
+use script_form::Script;
 use std::alloc::{AllocError, Global};
-use trace_rules::plain_run::history_model::Plain;
-use trace_rules::plain_run::next_name;
-use trace_rules::plain_run::script_form::Script;
-use trace_rules::trace_parts::{Clocks, Cuts, Wishes};
+use trace_parts::{Clocks, Cuts, Wishes};
+use trace_rules::next_name;
 
 /// The cut at the start, and a record of each entity that has a version there.
 fn opened(alloc: Global, clocks: &Clocks, versions: &[u64; 64]) -> Result<Cuts, AllocError>

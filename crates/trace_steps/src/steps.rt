@@ -9,9 +9,9 @@ ghost use Rattle.trace_rules.specs.Standing.{Managers};
 use crate::checker::Checker;
 use crate::wants::{asked_at, intervals, is_any_due, owed_at, where_ok};
 use hop_base::{Entity, Entry, FIRST_LOCUS};
+use script_form::Script;
 use std::alloc::AllocError;
-use trace_rules::plain_run::plain_steps::plain_step;
-use trace_rules::plain_run::script_form::Script;
+use trace_rules::plain_step;
 
 /// Counts one more step of the locus.
 fn count_step(made: &mut [u32; 64], x: usize)

@@ -10,9 +10,9 @@ ghost use Rattle.trace_rules.specs.plain_run.history_model.Plains.{cells_of, loc
 ghost use Rattle.trace_steps.specs.Asking.{due_at, if_ok};
 
 use crate::queries::every_at;
+use history_model::{Plain, PlainLocus};
 use hop_base::{Answer, Entity, FIRST_LOCUS, Instr, Kind, Reply, Touch};
-use trace_rules::plain_run::history_model::{Plain, PlainLocus};
-use trace_rules::trace_parts::Wishes;
+use trace_parts::Wishes;
 
 /// The instruction at the locus's place. Past the end of the code it halts.
 fn next_instr(locus: &PlainLocus) -> Instr

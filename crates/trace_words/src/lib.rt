@@ -9,8 +9,6 @@ ghost use Rattle.entry_lines.specs.hop_model.Scripts.{Script};
 ghost use Rattle.entry_lines.specs.hop_model.State.{Supply};
 ghost use Rattle.trace_words.specs.Traces.{spelled};
 
-pub use entry_lines;
-
 /// The lines of a history are those of its front, and then those of the rest where the front ends.
 pub fn joined_law()
     ensures { (s : Supply) (script : Script) (r : Run) (es fs : List Entry) → spelled s script r (es ++ fs) ≡ spelled s script r es ++ spelled s script (run_after s script r es) fs }

@@ -5,6 +5,3 @@
 mod tracing;
 
 pub use tracing::{Checked, trace_and_check};
-
-#[cfg(test)]
-mod tests;

@@ -2,12 +2,12 @@
 ghost use Rattle.std.specs.Prelude.{◌≡◌, ◌++◌, ◌∷◌, ◌+◌, ◌≤◌, IfOk, codes, length};
 ghost use Rattle.traced_client.specs.Promise.{AcceptsOwn, IsTraceable, IsTraced, most_bytes, traced_source};
 
-use client_calls::hopper_top::command_parts::Status;
-use client_calls::hopper_top::stream_edge::{MemorySink, MemorySource};
 use client_calls::{Called, call, new_image, one_word, two_words};
+use command_parts::Status;
 use disk_trait::MemoryDisk;
 use hop_base::Entry;
 use std::alloc::{AllocError, Global};
+use stream_edge::{MemorySink, MemorySource};
 
 /// What became of a script that was run with its trace, and of the trace as it was checked.
 #[derive(Drop)]

@@ -3,5 +3,4 @@
 
 mod tracing;
 
-pub use entry_lines;
 pub use tracing::put_traced;

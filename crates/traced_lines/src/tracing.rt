@@ -8,8 +8,8 @@ ghost use Rattle.entry_lines.specs.stream_edge.Streams.{Puts};
 use arrayvec::ArrayString;
 use atlas_dir::Atlas;
 use entry_lines::put_trace;
-use entry_lines::stream_edge::{Sink, SinkFault};
 use hop_base::{Entity, Entry, Kind};
+use stream_edge::{Sink, SinkFault};
 use text_lines::{LINE, Names};
 
 /// The names of a directory.

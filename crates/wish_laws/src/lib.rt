@@ -13,8 +13,7 @@ ghost use Rattle.kernel_cells.specs.Cells.{HasCell};
 ghost use Rattle.kernel_cells.specs.Wishes.{HasWish};
 ghost use Rattle.wish_laws.specs.Founded.{IsFoundedCell, IsFoundedIn, IsRecordMark, IsRecordedNow, TakesBirth};
 
-pub use kernel_cells;
-pub use kernel_cells::{event_clocks, fault_paging, locus_machine};
+pub use kernel_cells::{Cell, Part, Storage, Wish};
 
 /// In a legal run an entity that a step wrote or a snap named since its newest commit has changed since, so each entity with an
 /// open wish has; and each cell that the run has says the same.

@@ -1,6 +1,6 @@
 //! Worked runs, told entry by entry, and what their images show.
-use crate::tracing::traced;
-use crate::worked::{
+use crate::traces::tracing::traced;
+use crate::traces::worked::{
     DENIED_TRACE, FIVE_TRACE, LOADS_TRACE, STABILISES_TRACE, STORES_ON_TRACE, WISHED_BY_TWO_TRACE,
     WISHED_TRACE, WISHES_TRACE,
 };
@@ -65,9 +65,9 @@ fn a_traced_run_tells_each_entry(rt: HostRuntime) -> Result<(), Fail> {
         (STORES_ON, STORES_ON_TRACE, BORN_WISHED),
         (STABILISES, STABILISES_TRACE, STABLE),
     ];
-    for worked in runs {
+    for &worked in &runs {
         let (fault, _) = wrong(alloc, worked, formatted(alloc, &[])?)?;
-        assert_eq!(rt; fault, "", "of {}", worked.1);
+        assert!(rt; fault == "", "of {}", worked.1);
     }
     Ok(())
 }
@@ -80,9 +80,9 @@ fn a_second_run_tells_its_own_entries_alone(rt: HostRuntime) -> Result<(), Fail>
         (WISHED, WISHED_TRACE, BORN_WISHED),
         (WISHED_BY_TWO, WISHED_BY_TWO_TRACE, WISHED_BY_TWO_KEPT),
     ];
-    for worked in runs {
+    for &worked in &runs {
         let (fault, left) = wrong(alloc, worked, disk)?;
-        assert_eq!(rt; fault, "", "of {}", worked.1);
+        assert!(rt; fault == "", "of {}", worked.1);
         disk = left;
     }
     Ok(())

@@ -5,21 +5,21 @@ ghost use Rattle.disk_trait.specs.MemoryDisk.{moments_of};
 ghost use Rattle.script_read.specs.script_form.Rules.{IsScript};
 ghost use Rattle.script_read.specs.script_form.Scripts.{tables_of};
 
-use crate::calls::formatted;
+use crate::hostile::calls::formatted;
+use command_parts::Outcome;
 use cut_replays::{
     Front, acknowledged, are_rising, commits_of, fronts_from, is_cut_off, serial_history,
 };
 use disk_trait::{MemoryDisk, Torn};
 use hop_base::{Answer, Entry, Event};
+use script_form::Script;
 use script_read::read_script;
-use script_read::script_form::Script;
 use std::alloc::Global;
 use std::test::Fail;
-use system_calls::hopper_top::command_parts::Outcome;
 use system_calls::{FORMAT_CALLS, copy_of, put, shown};
 
 // Every way in which a block that was not synced may be torn here.
-const TORN: [Torn; 3] = [Torn::Old, Torn::New, Torn::Fill(1)];
+const TORN: &[Torn] = &[Torn::Old, Torn::New, Torn::Fill(1)];
 
 // Three containers and three loci with wishes, a region, and picks of an order. Each record of `b` waits for the first of `m` behind it, and
 // that of `a` for the second of `l`. `c` has four records that wait for its locus at versions that no record has, and is snapped no more.
@@ -81,7 +81,7 @@ fn stop_shows_one_of(
 ) -> Result<bool, Fail>
     requires { moment ≤ moments_of disk.now }
 {
-    for torn in TORN {
+    for &torn in TORN {
         if !shows_one_of(alloc, disk.crash(moment, torn)?, fronts)? {
             return Ok(false);
         }
@@ -258,7 +258,8 @@ fn wrong_of(
 fn a_run_with_wishes_keeps_what_was_acknowledged(rt: HostRuntime) -> Result<(), Fail> {
     // Seven records of those born, and then 3, 4, 5 of b, 6 of m, 3, 4, 5 of c, 6 of n, 4, 6 of a, 5, 9 of l. The cut rises behind the
     // births, m at 6 and l at 9.
-    assert_eq!(rt; wrong_of(rt.alloc(), WISHES, (19, 16), false)?, ("", 0));
+    let (told, failing) = wrong_of(rt.alloc(), WISHES, (19, 16), false)?;
+    assert!(rt; told == "", "{told} at {failing}");
     Ok(())
 }
 
@@ -266,6 +267,7 @@ fn a_run_with_wishes_keeps_what_was_acknowledged(rt: HostRuntime) -> Result<(), 
 fn a_run_with_stabilises_of_many_containers_keeps_them(rt: HostRuntime) -> Result<(), Fail> {
     // Eleven records of those born, and then twice eight containers and the locus. The cut rises three times. From each of these cuts the
     // locus goes on to the last stabilise.
-    assert_eq!(rt; wrong_of(rt.alloc(), STABILISES, (29, 26), true)?, ("", 0));
+    let (told, failing) = wrong_of(rt.alloc(), STABILISES, (29, 26), true)?;
+    assert!(rt; told == "", "{told} at {failing}");
     Ok(())
 }

@@ -6,7 +6,7 @@ use rand_pcg::Lcg64Xsh32;
 use std::alloc::{AllocError, Global};
 
 // How instructions are spelled: X stands for a register, V for a small number, P for a place, W for rights to words.
-const FORMS: [&str; 28] = [
+const FORMS: &[&str] = &[
     "set rX V",
     "set rX V",
     "set rX V",
@@ -37,9 +37,9 @@ const FORMS: [&str; 28] = [
     "print rX",
 ];
 
-const WORD_RIGHTS: [&str; 3] = ["r", "w", "rw"];
+const WORD_RIGHTS: &[&str] = &["r", "w", "rw"];
 
-const CAP_RIGHTS: [&str; 4] = ["rwimcs", "rwimcsk", "rwm", "-"];
+const CAP_RIGHTS: &[&str] = &["rwimcs", "rwimcsk", "rwm", "-"];
 
 // How many instructions are drawn, behind those that set the registers.
 const DRAWN: u32 = 20;

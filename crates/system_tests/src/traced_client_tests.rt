@@ -1,13 +1,8 @@
 //! A counter and a container with wishes, each run with its trace, and the trace checked.
-use super::*;
+use crate::stopped_client_tests::COUNT;
+use std::alloc::Global;
 use std::test::Fail;
-
-// Counts in a page and prints the count; its first step behind that makes it stable.
-const COUNT: &str = "steps = 6
-program.p = ['set r2 1', 'load r1 r0', 'add r1 r2', 'store r0 r1', 'print r1', 'stabilise r3', 'jump @1']
-container = [{ name = 'box', pages = 1, program = 'p' }]
-locus = [{ name = 'counter', host = 'box', caps = ['atlas t'] }]
-";
+use traced_client::{Checked, trace_and_check};
 
 // Stores twice into a container of which each change is recorded.
 const WISH: &str = "program.p = ['set r1 7', 'store r0 r1', 'store r0 r1', 'halt']
@@ -32,27 +27,24 @@ fn wrong(c: &Checked, lines: usize, first: &[u8], verdict: &[u8]) -> &'static st
     ""
 }
 
+// What is wrong of a run of this script whose trace is then checked.
+fn wrong_of(
+    alloc: Global,
+    script: &str,
+    lines: usize,
+    first: &str,
+    verdict: &str,
+) -> Result<&'static str, Fail> {
+    let checked = trace_and_check(alloc, script)?;
+    Ok(wrong(&checked, lines, first.as_bytes(), verdict.as_bytes()))
+}
+
 #[test]
 fn own_traces_are_accepted(rt: HostRuntime) -> Result<(), Fail> {
-    let counted = trace_and_check(rt.alloc(), COUNT)?;
-    assert_eq!(rt;
-        wrong(
-            &counted,
-            10,
-            b"birth box atlas:1,box:1\n".as_slice(),
-            b"ok 10\n".as_slice()
-        ),
-        ""
-    );
-    let wished = trace_and_check(rt.alloc(), WISH)?;
-    assert_eq!(rt;
-        wrong(
-            &wished,
-            9,
-            b"birth a atlas:1,a:1\n".as_slice(),
-            b"ok 9\n".as_slice()
-        ),
-        ""
-    );
+    let alloc = rt.alloc();
+    let told = wrong_of(alloc, COUNT, 10, "birth box atlas:1,box:1\n", "ok 10\n")?;
+    assert!(rt; told == "", "{told}");
+    let told = wrong_of(alloc, WISH, 9, "birth a atlas:1,a:1\n", "ok 9\n")?;
+    assert!(rt; told == "", "{told}");
     Ok(())
 }

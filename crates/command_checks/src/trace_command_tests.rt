@@ -1,11 +1,11 @@
 //! Traces checked on an empty image: worked ones, sources that are refused, and calls that fail.
+use command_parts::{Outcome, Status};
 use disk_trait::{Disk, DiskFault, MemoryDisk};
-use image_tools::image_blocks::{header_block, open_gate, superblock};
-use image_tools::stream_edge::{MemorySink, MemorySource};
+use image_blocks::{header_block, open_gate, superblock};
 use manager_gate::{CountedWords, EveryVersions, Policy, Supplier};
-use script_source::command_parts::{Outcome, Status};
 use std::alloc::Global;
 use std::test::Fail;
+use stream_edge::{MemorySink, MemorySource};
 use trace_command::check_trace;
 
 // Writes a block, where there is one.
@@ -96,7 +96,7 @@ fn one_word_changed_goes_wrong_in_its_line(rt: HostRuntime) -> Result<(), Fail> 
         ("stable atlas\n", "", "fault 10 3 want none\n"),
         ("birth a", "birth b", "fault 10 1 want none\n"),
     ];
-    for (old, new, line) in rows {
+    for &(old, new, line) in &rows {
         let (front, back) = STORED_TRACE.split_once(old).ok_or("the words")?;
         let source = format!(in alloc; "{STORED}---\n{front}{new}{back}")?;
         assert!(rt; told(alloc, source.as_str())?.as_str() == line);
@@ -161,7 +161,7 @@ fn a_due_snapshot_stands_behind_its_store(rt: HostRuntime) -> Result<(), Fail> {
             "fault 10 7 want none\n",
         ),
     ];
-    for (locus_every, rest, line) in rows {
+    for &(locus_every, rest, line) in &rows {
         let source = twice(alloc, 1, locus_every, rest)?;
         assert!(rt; told(alloc, source.as_str())?.as_str() == line);
     }
@@ -196,7 +196,7 @@ fn words_are_by_the_script_s_suppliers(rt: HostRuntime) -> Result<(), Fail> {
         ("", "42", "fault 10 4 want step l a=2,l:2 read 7\n"),
         ("", "7", "ok 5\n"),
     ];
-    for (managers, word, line) in rows {
+    for &(managers, word, line) in &rows {
         let source = format!(in alloc;
             "{managers}\n{LOADED}step l a=2,l:2 read {word}\nstep l l:3 quiet\n"
         )?;
@@ -222,7 +222,7 @@ fn snapshots_are_by_the_script_s_policies(rt: HostRuntime) -> Result<(), Fail> {
         ("policy = ['6 always']", "fault 10 6 want none\n"),
         ("", "fault 10 6 want none\n"),
     ];
-    for (managers, line) in rows {
+    for &(managers, line) in &rows {
         let source = format!(in alloc;
             "{managers}\nprogram.always = ['set r3 1', 'halt']\n{source}"
         )?;
@@ -246,7 +246,7 @@ fn sources_are_refused_as_scripts_are(rt: HostRuntime) -> Result<(), Fail> {
         ("steps = 5\n---", "ok 0\n"),
         ("---\n---\n", "fault 10 1 want none\n"),
     ];
-    for (source, line) in rows {
+    for &(source, line) in &rows {
         assert!(rt; told(alloc, source)?.as_str() == line, "at {source}");
     }
     Ok(())

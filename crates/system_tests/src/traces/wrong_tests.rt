@@ -1,6 +1,8 @@
 //! Worked traces with a word changed, a line more or a line less, by the line that goes wrong and what it wants.
-use crate::tracing::checked;
-use crate::worked::{FIVE_TRACE, STABILISES_TRACE, STORES_ON_TRACE, WISHED_TRACE, WISHES_TRACE};
+use crate::traces::tracing::checked;
+use crate::traces::worked::{
+    FIVE_TRACE, STABILISES_TRACE, STORES_ON_TRACE, WISHED_TRACE, WISHES_TRACE,
+};
 use std::alloc::Global;
 use std::test::Fail;
 use system_calls::formatted;
@@ -10,7 +12,7 @@ use system_calls::scripts::{FIVE, STABILISES, STORES_ON, WISHED, WISHES};
 type Change = (&'static str, &'static str, &'static str);
 
 // Of a run with births, a store, a load and a print.
-const OF_FIVE: [Change; 36] = [
+const OF_FIVE: &[Change] = &[
     ("", "", "ok 8\n"),
     // A front of a legal history is one.
     ("step l l:5 print 5\nstep l l:6 quiet\n", "", "ok 6\n"),
@@ -116,7 +118,7 @@ const OF_FIVE: [Change; 36] = [
 ];
 
 // Of a run in which only the container is wished.
-const OF_WISHED: [Change; 4] = [
+const OF_WISHED: &[Change] = &[
     ("", "", "ok 7\n"),
     // A due wish forbids the next step that touches the container, and none comes.
     ("snap a 3\n", "", "ok 6\n"),
@@ -129,7 +131,7 @@ const OF_WISHED: [Change; 4] = [
 ];
 
 // Of a run in which the container and the locus are.
-const OF_WISHES: [Change; 14] = [
+const OF_WISHES: &[Change] = &[
     ("", "", "ok 8\n"),
     // Two wishes may be met in either order, and each one once.
     ("snap a 3\nsnap l 3\n", "snap l 3\nsnap a 3\n", "ok 8\n"),
@@ -167,7 +169,7 @@ const OF_WISHES: [Change; 14] = [
 ];
 
 // Of a run in which the container is wished at each version, and comes to have four records that no cut goes past.
-const OF_STORES: [Change; 3] = [
+const OF_STORES: &[Change] = &[
     ("", "", "ok 12\n"),
     // With three it has to have one more before it is touched again.
     ("snap a 5\n", "", "fault 10 9 want none\n"),
@@ -180,7 +182,7 @@ const OF_STORES: [Change; 3] = [
 ];
 
 // Of a run with a Stable of the locus.
-const OF_STABILISES: [Change; 7] = [
+const OF_STABILISES: &[Change] = &[
     ("", "", "ok 9\n"),
     // It is owed, by the locus that asked for it.
     ("stable l\n", "", "fault 10 7 want none\n"),
@@ -215,16 +217,16 @@ fn told(alloc: Global, script: &[u8], trace: &str, change: Change) -> Result<Str
 #[test]
 fn a_changed_trace_goes_wrong_in_its_line(rt: HostRuntime) -> Result<(), Fail> {
     let tables: [(&[u8], &str, &[Change]); 5] = [
-        (FIVE, FIVE_TRACE, &OF_FIVE),
-        (WISHED, WISHED_TRACE, &OF_WISHED),
-        (WISHES, WISHES_TRACE, &OF_WISHES),
-        (STORES_ON, STORES_ON_TRACE, &OF_STORES),
-        (STABILISES, STABILISES_TRACE, &OF_STABILISES),
+        (FIVE, FIVE_TRACE, OF_FIVE),
+        (WISHED, WISHED_TRACE, OF_WISHED),
+        (WISHES, WISHES_TRACE, OF_WISHES),
+        (STORES_ON, STORES_ON_TRACE, OF_STORES),
+        (STABILISES, STABILISES_TRACE, OF_STABILISES),
     ];
-    for (script, trace, changes) in tables {
+    for &(script, trace, changes) in &tables {
         for change in changes {
             let line = told(rt.alloc(), script, trace, *change)?;
-            assert_eq!(rt; line.as_str(), change.2, "{} for {}", change.1, change.0);
+            assert!(rt; line.as_str() == change.2, "{} for {}", change.1, change.0);
         }
     }
     Ok(())
@@ -234,6 +236,6 @@ fn a_changed_trace_goes_wrong_in_its_line(rt: HostRuntime) -> Result<(), Fail> {
 fn a_step_before_all_births_goes_wrong(rt: HostRuntime) -> Result<(), Fail> {
     let disk = formatted(rt.alloc(), &[])?;
     let line = checked(rt.alloc(), FIVE, "step l l:2 quiet\n", disk)?;
-    assert_eq!(rt; line.as_str(), "fault 10 1 want none\n");
+    assert!(rt; line.as_str() == "fault 10 1 want none\n", "{line}");
     Ok(())
 }

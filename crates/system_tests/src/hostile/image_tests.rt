@@ -1,7 +1,7 @@
 //! The image of a run with regions, capabilities, calls, private regions and a walk, of which fields are changed: the first bad place is
 //! told by each command that reads it.
-use crate::calls::formatted;
-use crate::images::{Poke, Spot, alter, block_of};
+use crate::hostile::calls::formatted;
+use crate::hostile::images::{Poke, Spot, alter, block_of};
 use Poke::{Byte, Like, Whole};
 use Spot::{Blob, Block, Second};
 use disk_trait::MemoryDisk;
@@ -57,7 +57,7 @@ fn lines_for(
 type Change = (Spot, u16, u8, Spot, u16);
 
 // Bodies, the atlas's blob of 16 bytes, and the blob of `b`, of 1,147.
-const BODIES: [Change; 33] = [
+const BODIES: &[Change] = &[
     // The number of blocks: too few. The last zero of the header.
     (Block(0), 13, 9, Block(0), 12),
     (Block(3), 1023, 1, Block(3), 1023),
@@ -101,7 +101,7 @@ const BODIES: [Change; 33] = [
 ];
 
 // The blob of the container `a`, of 245 bytes.
-const CONTAINER: [Change; 38] = [
+const CONTAINER: &[Change] = &[
     // The kind; no pages; more than 256; fewer than the regions need.
     (Blob(5), 0, 2, Blob(5), 0),
     (Blob(5), 1, 0, Blob(5), 2),
@@ -153,7 +153,7 @@ const CONTAINER: [Change; 38] = [
 ];
 
 // The blob of the locus `l`, of 301 bytes.
-const LOCUS: [Change; 35] = [
+const LOCUS: &[Change] = &[
     // The kind; the condition; no entity's number as the host; the place; too many instructions; no code.
     (Blob(6), 0, 1, Blob(6), 0),
     (Blob(6), 0, 4, Blob(6), 0),
@@ -202,7 +202,7 @@ const LOCUS: [Change; 35] = [
 ];
 
 // What fits each other: one byte that makes an entity name another one.
-const NAMED: [Change; 18] = [
+const NAMED: &[Change] = &[
     // The edges count a region more, or fewer than the atlas says, also where a region shows a locus.
     (Blob(0), 15, 1, Block(1285), 0),
     (Blob(0), 15, 3, Block(1285), 0),
@@ -231,7 +231,7 @@ const NAMED: [Change; 18] = [
 // Changes, and the first bad place that they make.
 type Changes = (&'static [Poke], Spot, u16);
 
-const TIES: [Changes; 12] = [
+const TIES: &[Changes] = &[
     // The second block of `b` is its first.
     (
         &[Like(Block(1287), 532, Block(1287), 528)],
@@ -337,19 +337,19 @@ const TIES: [Changes; 12] = [
 ];
 
 // Commands that read an image.
-const READERS: [[&str; 1]; 3] = [["show"], ["report"], ["run"]];
+const READERS: &[[&str; 1]] = &[["show"], ["report"], ["run"]];
 
 #[test]
 fn each_field_is_told_by_its_place(rt: HostRuntime) -> Result<(), Fail> {
     let alloc = rt.alloc();
     let image = image(alloc)?;
-    let tables: [&[Change]; 4] = [&BODIES, &CONTAINER, &LOCUS, &NAMED];
-    for table in tables {
+    let tables: [&[Change]; 4] = [BODIES, CONTAINER, LOCUS, NAMED];
+    for &table in &tables {
         for (spot, place, value, bad, at) in table {
-            for words in READERS {
+            for &words in READERS {
                 let pokes = [Byte(*spot, *place, *value)];
                 let (lines, wanted) = lines_for(alloc, &image, &words, &pokes, (*bad, *at))?;
-                assert_eq!(rt; lines.as_str(), wanted.as_str(), "{place}, {value}");
+                assert!(rt; lines.as_str() == wanted.as_str(), "{place}, {value}");
             }
         }
     }
@@ -360,10 +360,10 @@ fn each_field_is_told_by_its_place(rt: HostRuntime) -> Result<(), Fail> {
 fn what_does_not_fit_is_told_by_the_first_entity(rt: HostRuntime) -> Result<(), Fail> {
     let alloc = rt.alloc();
     let image = image(alloc)?;
-    for (pokes, bad, at) in TIES {
-        for words in READERS {
+    for &(pokes, bad, at) in TIES {
+        for &words in READERS {
             let (lines, wanted) = lines_for(alloc, &image, &words, pokes, (bad, at))?;
-            assert_eq!(rt; lines.as_str(), wanted.as_str());
+            assert!(rt; lines.as_str() == wanted.as_str(), "{lines}");
         }
     }
     Ok(())
@@ -371,7 +371,7 @@ fn what_does_not_fit_is_told_by_the_first_entity(rt: HostRuntime) -> Result<(), 
 
 // What no chosen record rests on: the blob of the first record of `m`, which was kept until the second was there, bytes of gates behind the
 // first eight, the body behind the log.
-const UNREAD: [Poke; 4] = [
+const UNREAD: &[Poke] = &[
     Byte(Blob(4), 0, 9),
     Byte(Block(4), 8, 5),
     Byte(Block(2), 1023, 5),
@@ -384,8 +384,8 @@ fn what_the_image_does_not_rest_on_is_not_read(rt: HostRuntime) -> Result<(), Fa
     let image = image(alloc)?;
     let mut disk = copy_of(&image)?;
     let (whole, _) = put(alloc, &["show"], b"", image)?;
-    alter(&mut disk, &UNREAD)?;
+    alter(&mut disk, UNREAD)?;
     let (text, _) = put(alloc, &["show"], b"", disk)?;
-    assert_eq!(rt; text.as_str(), whole.as_str());
+    assert!(rt; text.as_str() == whole.as_str(), "{text}");
     Ok(())
 }

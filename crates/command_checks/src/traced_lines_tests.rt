@@ -2,10 +2,10 @@
 ghost use Rattle.std.specs.Prelude.{◌≡◌};
 
 use atlas_dir::Atlas;
-use entry_lines::stream_edge::MemorySink;
 use hop_base::{Answer, Entity, Entry, Event, Kind, Reply, Touch, Touched};
 use std::alloc::Global;
 use std::test::Fail;
+use stream_edge::MemorySink;
 use traced_lines::put_traced;
 
 // A container `a` and a locus `l`.

@@ -1,5 +1,5 @@
 use Rattle.manager_gate.specs.Managers.{counted_word, is_due}
-use Rattle.trace_checks.proofs.trace_command_tests.checked.Given as goal
+use Rattle.command_checks.proofs.trace_command_tests.checked.Given as goal
 
 -- the managers of the program
 abbrev pub ghost-check_trace : goal.ghost-check_trace

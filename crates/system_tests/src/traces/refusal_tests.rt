@@ -1,5 +1,5 @@
 //! Sources of which no trace is checked.
-use crate::tracing::{checked, told};
+use crate::traces::tracing::{checked, told};
 use std::alloc::Global;
 use std::test::Fail;
 use system_calls::scripts::FIVE;
@@ -29,10 +29,10 @@ fn a_source_has_a_script_that_ends_with_a_rule(rt: HostRuntime) -> Result<(), Fa
         (1_048_577, b"", "fault 3 2 ---\n"),
         (0, b"---\nsteps = 0\n---\n", "fault 10 1 want none\n"),
     ];
-    for (count, text, wanted) in sources {
+    for &(count, text, wanted) in &sources {
         let source = blanks_before(alloc, count, text)?;
         let (line, _) = told(alloc, &source, formatted(alloc, &[])?)?;
-        assert_eq!(rt; line.as_str(), wanted, "behind {count}");
+        assert!(rt; line.as_str() == wanted, "behind {count}");
     }
     Ok(())
 }
@@ -45,6 +45,6 @@ fn a_script_that_does_not_fit_the_image_has_no_trace(rt: HostRuntime) -> Result<
 locus = [{ name = 'a', host = 'x' }]
 ";
     let line = checked(alloc, clash, "", outcome.disk)?;
-    assert_eq!(rt; line.as_str(), "fault 3 11 locus.0.name\n");
+    assert!(rt; line.as_str() == "fault 3 11 locus.0.name\n", "{line}");
     Ok(())
 }

@@ -1,8 +1,8 @@
 //! Drills, and the form of their line.
+use command_parts::Outcome;
 use disk_trait::MemoryDisk;
 use std::alloc::Global;
 use std::test::Fail;
-use system_calls::hopper_top::command_parts::Outcome;
 use system_calls::{formatted_with, put};
 
 // The first drill on a new image of 8,192 blocks.
@@ -15,7 +15,7 @@ fn drilled(alloc: Global) -> Result<(String, Outcome<MemoryDisk>), Fail> {
     )
 }
 
-const NAMES: [&str; 6] = ["entries", "prints", "refused", "snaps", "stables", "sum"];
+const NAMES: &[&str] = &["entries", "prints", "refused", "snaps", "stables", "sum"];
 
 // Whether the text is a number without leading zeros.
 fn is_number(text: &str) -> bool {
@@ -48,13 +48,13 @@ fn wrong_form(line: &str) -> &'static str {
 #[test]
 fn a_drill_puts_its_summary(rt: HostRuntime) -> Result<(), Fail> {
     let (line, first) = drilled(rt.alloc())?;
-    assert_eq!(rt; first.status.number(), 0);
-    assert_eq!(rt; wrong_form(line.as_str()), "", "in {line}");
+    assert!(rt; first.status.number() == 0);
+    assert!(rt; wrong_form(line.as_str()) == "", "in {line}");
     // Births of twelve containers and six loci, their Stable, and at most 5,000 steps of each locus.
     let front = format!(in rt.alloc(); "entries {} ", first.history.len())?;
     assert!(rt; line.starts_with(front.as_str()));
     let (again, second) = drilled(rt.alloc())?;
-    assert_eq!(rt; second.status.number(), 0);
-    assert_eq!(rt; again.as_str(), line.as_str());
+    assert!(rt; second.status.number() == 0);
+    assert!(rt; again.as_str() == line.as_str(), "{again}");
     Ok(())
 }

@@ -1,5 +1,5 @@
 //! Sources at and past their limits, and such that are no script: the line that a run puts.
-use crate::calls::formatted;
+use crate::hostile::calls::formatted;
 use std::alloc::{AllocError, Global};
 use std::test::Fail;
 use system_calls::put;
@@ -72,7 +72,7 @@ type Case = (Form, &'static str);
 const A: &str = "[[container]]\nname = 'a'\npages = 1\n";
 
 // How much there may be of what.
-const COUNTS: [Case; 19] = [
+const COUNTS: &[Case] = &[
     (Comment(1_048_576), ""),
     (Comment(1_048_577), "fault 3 9 -\n"),
     (Many("program.p = [", "'halt', ", 128, "]"), ""),
@@ -177,7 +177,7 @@ const COUNTS: [Case; 19] = [
 ];
 
 // Numbers at and past each range.
-const NUMBERS: [Case; 35] = [
+const NUMBERS: &[Case] = &[
     (Text("steps = 1"), ""),
     (Text("steps = 40000"), ""),
     (Text("steps = 40001"), "fault 3 6 steps\n"),
@@ -267,7 +267,7 @@ const FORMLESS: &str = "fault 3 8 container.1.regions.0\n";
 const NAMELESS: &str = "fault 3 4 container.0.name\n";
 
 // Names, and bytes that are no TOML.
-const TEXTS: [Case; 17] = [
+const TEXTS: &[Case] = &[
     (Named("abcdefghijklmnopqrstuvwx"), ""),
     (Named("abcdefghijklmnopqrstuvwxy"), NAMELESS),
     (Named("A-1.b_C"), ""),
@@ -309,10 +309,11 @@ fn wrong_at(alloc: Global, case: Case) -> Result<&'static str, Fail> {
 
 #[test]
 fn a_source_is_refused_exactly_past_its_limits(rt: HostRuntime) -> Result<(), Fail> {
-    let tables: [&[Case]; 3] = [&COUNTS, &NUMBERS, &TEXTS];
+    let tables: [&[Case]; 3] = [COUNTS, NUMBERS, TEXTS];
     for (table, cases) in tables.iter().enumerate() {
         for (place, case) in cases.iter().enumerate() {
-            assert_eq!(rt; wrong_at(rt.alloc(), *case)?, "", "{table}, {place}");
+            let told = wrong_at(rt.alloc(), *case)?;
+            assert!(rt; told == "", "{told}: {table}, {place}");
         }
     }
     Ok(())

@@ -1,8 +1,8 @@
 //! Runs that are traced, and traces that are checked.
+use command_parts::Outcome;
 use disk_trait::MemoryDisk;
 use std::alloc::Global;
 use std::test::Fail;
-use system_calls::hopper_top::command_parts::Outcome;
 use system_calls::put;
 
 /// A run of a script, told entry by entry.

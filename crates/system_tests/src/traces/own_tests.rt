@@ -1,6 +1,6 @@
 //! The traces of runs, checked on the images on which they were made.
-use crate::drawn::drawn;
-use crate::tracing::{checked, traced};
+use crate::traces::drawn::drawn;
+use crate::traces::tracing::{checked, traced};
 use disk_trait::MemoryDisk;
 use std::alloc::Global;
 use std::test::Fail;
@@ -12,7 +12,7 @@ use system_calls::scripts::{
 };
 use system_calls::{copy_of, formatted_with};
 
-const SCRIPTS: [&[u8]; 28] = [
+const SCRIPTS: &[&[u8]] = &[
     FIVE,
     PAST_THE_PAGE,
     TAGGED,
@@ -79,7 +79,8 @@ fn wrong(alloc: Global, script: &[u8]) -> Result<&'static str, Fail> {
 #[test]
 fn a_run_s_own_trace_is_accepted(rt: HostRuntime) -> Result<(), Fail> {
     for (place, script) in SCRIPTS.iter().enumerate() {
-        assert_eq!(rt; wrong(rt.alloc(), script)?, "", "at {place}");
+        let told = wrong(rt.alloc(), script)?;
+        assert!(rt; told == "", "{told}: at {place}");
     }
     Ok(())
 }
@@ -88,7 +89,8 @@ fn a_run_s_own_trace_is_accepted(rt: HostRuntime) -> Result<(), Fail> {
 fn a_drawn_run_s_own_trace_is_accepted(rt: HostRuntime) -> Result<(), Fail> {
     for number in 0..10 {
         let script = drawn(rt.alloc(), number)?;
-        assert_eq!(rt; wrong(rt.alloc(), script.as_bytes())?, "", "at {number}");
+        let told = wrong(rt.alloc(), script.as_bytes())?;
+        assert!(rt; told == "", "{told}: at {number}");
     }
     Ok(())
 }

@@ -1,0 +1,10 @@
+//! Traces, their checks and drills: `worked` has traces that were worked out by hand, `drawn` draws scripts from numbers, `tracing`
+//! makes runs and checks.
+mod drawn;
+mod drill_tests;
+mod own_tests;
+mod refusal_tests;
+mod tracing;
+mod worked;
+mod worked_tests;
+mod wrong_tests;
