@@ -5,12 +5,12 @@ use Rattle.std.proofs.lemmas.Bool.Decides.{nat_tests}
 use Rattle.std.proofs.lemmas.List.Sums.{count_by-le-length, sum_by-cons}
 use Rattle.std.specs.Prelude.{count_by}
 use Rattle.std.specs.List.{flat_map}
-use Rattle.hop_base.specs.Edges.{Edges, upto}
-use Rattle.hop_base.specs.declared.capabilities.Region.{Region}
-use Rattle.hop_model.proofs.Basics.{and_left, and_right}
-use Rattle.hop_model.proofs.Names.{name_short}
-use Rattle.hop_model.specs.Soundness.{AreSound, are_names_from, is_born, is_born_container, is_born_locus, is_name_of, regions_onto}
-use Rattle.hop_model.specs.State.{AtlasState, Cell, Text}
+use Rattle.model_kernel.specs.base_types.Edges.{Edges, upto}
+use Rattle.model_kernel.specs.base_types.declared.capabilities.Region.{Region}
+use Rattle.model_kernel.proofs.Basics.{and_left, and_right}
+use Rattle.model_kernel.proofs.Names.{name_short}
+use Rattle.model_kernel.specs.Soundness.{AreSound, are_names_from, is_born, is_born_container, is_born_locus, is_name_of, regions_onto}
+use Rattle.model_kernel.specs.State.{AtlasState, Cell, Text}
 use Rattle.blob_grammar.specs.Forms.{IsAtlasForm}
 use Rattle.blob_grammar.specs.Spelling.{Counted, atlas_blob, counted, counted_edges, edge_bytes, edges_bytes, listed, text_bytes}
 use Rattle.blob_grammar.proofs.Edges.{few_edges, few_over, length_next, row_none}

@@ -4,7 +4,7 @@ use Rattle.std.proofs.lemmas.Bool.{cases_lt, false≢true}
 use Rattle.std.proofs.lemmas.Grind.{flat_map-append}
 use Rattle.std.proofs.lemmas.List.{append-nil}
 use Rattle.std.specs.List.{flat_map}
-use Rattle.hop_base.specs.Edges.{Edges, upto}
+use Rattle.model_kernel.specs.base_types.Edges.{Edges, upto}
 use Rattle.blob_grammar.specs.Forms.{AreCounts}
 use Rattle.blob_grammar.specs.Spelling.{Counted, counted, counted_edges, edge_bytes, edges_bytes}
 use Rattle.blob_grammar.proofs.Fields.{Any, all_any}

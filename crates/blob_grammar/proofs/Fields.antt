@@ -3,15 +3,15 @@ use Rattle.std.proofs.Common.{◌≡◌, ◌<◌, ◌≤◌, ℕ, ◌+◌, ◌^�
 use Rattle.std.specs.Prelude.{slice_index}
 use Rattle.std.specs.List.{AllByRecursion}
 use Rattle.std.specs.Option.{ForSome}
-use Rattle.hop_base.specs.Instructions.{IsPlace}
-use Rattle.hop_base.specs.declared.capabilities.Cap.{Cap}
-use Rattle.hop_base.specs.declared.capabilities.Private.{Private}
-use Rattle.hop_base.specs.declared.capabilities.Region.{Region}
-use Rattle.hop_base.specs.declared.instructions.Call.{Call}
-use Rattle.hop_base.specs.declared.instructions.Condition.{Condition}
-use Rattle.hop_base.specs.declared.instructions.Condition.TheVariants.{Running, Stopped, Halted}
-use Rattle.hop_base.specs.declared.instructions.Walk.{Walk}
-use Rattle.hop_model.specs.State.{Text}
+use Rattle.model_kernel.specs.base_types.Instructions.{IsPlace}
+use Rattle.model_kernel.specs.base_types.declared.capabilities.Cap.{Cap}
+use Rattle.model_kernel.specs.base_types.declared.capabilities.Private.{Private}
+use Rattle.model_kernel.specs.base_types.declared.capabilities.Region.{Region}
+use Rattle.model_kernel.specs.base_types.declared.instructions.Call.{Call}
+use Rattle.model_kernel.specs.base_types.declared.instructions.Condition.{Condition}
+use Rattle.model_kernel.specs.base_types.declared.instructions.Condition.TheVariants.{Running, Stopped, Halted}
+use Rattle.model_kernel.specs.base_types.declared.instructions.Walk.{Walk}
+use Rattle.model_kernel.specs.State.{Text}
 use Rattle.byteorder.specs.Endian.{little_bytes}
 use Rattle.blob_grammar.specs.Spelling.{Slot, call_bytes, caps_bytes, condition_number, entry_byte, private_bytes, region_bytes, slot_bytes, text_bytes, used_slots, walk_bytes}
 use Rattle.blob_grammar.proofs.Telling.{Tells, and_then, byte, byte_then, list, number, same_length, when}

@@ -1,10 +1,10 @@
 -- Instructions are told by their 16 bytes: they can be read back.
 use Rattle.std.proofs.Common.{◌≡◌, ◌<◌, ℕ, ◌-◌, ◌^◌, ◌==◌, Bool, true, false, if◌then◌else◌, List, length, drop, Option, Some, None, refl, sym, ap, ◌∙◌, arith, eqb-true}
 use Rattle.std.specs.Prelude.{slice_index, IfSome}
-use Rattle.hop_base.specs.Instructions.{IsInstruction, IsPlace}
-use Rattle.hop_base.specs.declared.capabilities.Rights.{Rights}
-use Rattle.hop_base.specs.declared.instructions.Instr.{Instr}
-use Rattle.hop_base.specs.declared.instructions.Instr.TheVariants.{Set, Copy, Add, Sub, Jump, Jz, Load, Store, Invoke, Leave, Return, Map, Unmap, Lmap, Lunmap, Take, Give, Drop, Make, Spawn, Stop, Go, Snap, Stabilise, Print, Halt}
+use Rattle.model_kernel.specs.base_types.Instructions.{IsInstruction, IsPlace}
+use Rattle.model_kernel.specs.base_types.declared.capabilities.Rights.{Rights}
+use Rattle.model_kernel.specs.base_types.declared.instructions.Instr.{Instr}
+use Rattle.model_kernel.specs.base_types.declared.instructions.Instr.TheVariants.{Set, Copy, Add, Sub, Jump, Jz, Load, Store, Invoke, Leave, Return, Map, Unmap, Lmap, Lunmap, Take, Give, Drop, Make, Spawn, Stop, Go, Snap, Stabilise, Print, Halt}
 use Rattle.byteorder.specs.Endian.{little_bytes, little_number}
 use Rattle.blob_grammar.specs.Spelling.{entry_number, instr_bytes}
 use Rattle.blob_grammar.proofs.Telling.{Tells, read_back, same_length, when}

@@ -4,15 +4,15 @@ use Rattle.std.proofs.lemmas.Bool.{false≢true, leb-true, ltb-true}
 use Rattle.std.proofs.lemmas.List.Sums.{count_by-le-length, sum_by-cons}
 use Rattle.std.specs.Prelude.{All, IsTrue, count_by}
 use Rattle.std.specs.Option.{ForSome}
-use Rattle.hop_base.specs.declared.capabilities.Cap.{Cap}
-use Rattle.hop_base.specs.declared.capabilities.Region.{Region}
-use Rattle.hop_model.specs.Refusals.{instr_at}
-use Rattle.hop_model.specs.Soundness.{AreSound, IsSoundAtlas, IsSoundContainer, IsSoundLocus, IsSoundRegion, is_born, is_born_container, is_born_locus, looks, regions_onto}
-use Rattle.hop_model.specs.State.{AtlasState, Cell, ContainerState, LocusState}
+use Rattle.model_kernel.specs.base_types.declared.capabilities.Cap.{Cap}
+use Rattle.model_kernel.specs.base_types.declared.capabilities.Region.{Region}
+use Rattle.model_kernel.specs.Refusals.{instr_at}
+use Rattle.model_kernel.specs.Soundness.{AreSound, IsSoundAtlas, IsSoundContainer, IsSoundLocus, IsSoundRegion, is_born, is_born_container, is_born_locus, looks, regions_onto}
+use Rattle.model_kernel.specs.State.{AtlasState, Cell, ContainerState, LocusState}
 use Rattle.blob_grammar.specs.Forms.{IsAtlasForm, IsNumber}
 use Rattle.blob_grammar.specs.Shapes.{AreCapsOver, Born, BornContainer, IsContainerOver, IsLocusOver, IsRegionOver}
 use Rattle.blob_grammar.proofs.AtlasSizes.{none_shown}
-use Rattle.hop_model.proofs.Basics.{and_left, and_right}
+use Rattle.model_kernel.proofs.Basics.{and_left, and_right}
 
 -- FROM ONE PREDICATE TO A WIDER ONE
 module _ (N S M T : ℕ → Type 0) (wider : (x : ℕ) → N x → M x) (shown : (x : ℕ) → S x → T x) where

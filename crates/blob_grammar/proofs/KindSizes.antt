@@ -1,9 +1,9 @@
 -- How long the spellings of each kind are.
 use Rattle.std.proofs.Common.{◌≡◌, ◌≤◌, ℕ, List, length, ap, arith}
-use Rattle.hop_base.specs.declared.entities.Kind.{Kind}
-use Rattle.hop_base.specs.declared.entities.Kind.TheVariants.{Atlas, Container, Locus}
-use Rattle.hop_model.specs.Soundness.{AreSound}
-use Rattle.hop_model.specs.State.{AtlasState, Cell, ContainerState, LocusState}
+use Rattle.model_kernel.specs.base_types.declared.entities.Kind.{Kind}
+use Rattle.model_kernel.specs.base_types.declared.entities.Kind.TheVariants.{Atlas, Container, Locus}
+use Rattle.model_kernel.specs.Soundness.{AreSound}
+use Rattle.model_kernel.specs.State.{AtlasState, Cell, ContainerState, LocusState}
 use Rattle.blob_grammar.specs.Forms.{IsSpelling, SpellsAtlas, SpellsContainer, SpellsLocus}
 use Rattle.blob_grammar.specs.Laws.{bytes_of_blocks, most_bytes}
 use Rattle.blob_grammar.specs.Spelling.{atlas_blob, container_blob, locus_blob}

@@ -2,11 +2,11 @@
 use Rattle.std.proofs.Common.{◌≡◌, ◌≤◌, ℕ, List, length, Option, refl, ap, arith}
 use Rattle.std.specs.List.{flat_map}
 use Rattle.byteorder.specs.Endian.{little_bytes}
-use Rattle.hop_base.specs.declared.capabilities.Cap.{Cap}
-use Rattle.hop_base.specs.declared.capabilities.Private.{Private}
-use Rattle.hop_base.specs.declared.capabilities.Region.{Region}
-use Rattle.hop_base.specs.declared.instructions.Call.{Call}
-use Rattle.hop_base.specs.declared.instructions.Instr.{Instr}
+use Rattle.model_kernel.specs.base_types.declared.capabilities.Cap.{Cap}
+use Rattle.model_kernel.specs.base_types.declared.capabilities.Private.{Private}
+use Rattle.model_kernel.specs.base_types.declared.capabilities.Region.{Region}
+use Rattle.model_kernel.specs.base_types.declared.instructions.Call.{Call}
+use Rattle.model_kernel.specs.base_types.declared.instructions.Instr.{Instr}
 use Rattle.blob_grammar.specs.Spelling.{call_bytes, caps_bytes, instr_bytes, listed, private_bytes, region_bytes}
 use Rattle.blob_grammar.proofs.Sizes.{caps_len, code_len, numbers_len, same_items}
 

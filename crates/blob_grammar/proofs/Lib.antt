@@ -11,3 +11,4 @@ pub mod KindSizes
 pub mod Smallest
 mod Worked
 pub mod Lengths
+pub use Rattle.model_kernel.proofs as model_kernel_lemmas

@@ -3,10 +3,10 @@ use Rattle.std.proofs.Common.{◌≡◌, ◌≤◌, ℕ, ◌+◌, ◌*◌, Bool,
 use Rattle.std.specs.List.{flat_map}
 use Rattle.byteorder.specs.Endian.{little_bytes}
 use Rattle.byteorder.specs.Numbers.{length-bytes_low_first}
-use Rattle.hop_base.specs.declared.capabilities.Cap.{Cap}
-use Rattle.hop_base.specs.declared.instructions.Instr.{Instr}
-use Rattle.hop_base.specs.declared.instructions.Walk.{Walk}
-use Rattle.hop_model.specs.State.{ContainerState, LocusState}
+use Rattle.model_kernel.specs.base_types.declared.capabilities.Cap.{Cap}
+use Rattle.model_kernel.specs.base_types.declared.instructions.Instr.{Instr}
+use Rattle.model_kernel.specs.base_types.declared.instructions.Walk.{Walk}
+use Rattle.model_kernel.specs.State.{ContainerState, LocusState}
 use Rattle.blob_grammar.specs.Forms.{IsContainerForm, IsLocusForm}
 use Rattle.blob_grammar.specs.Spelling.{call_bytes, caps_bytes, container_blob, instr_bytes, is_short, listed, locus_blob, locus_front, locus_rest, private_bytes, region_bytes, slot_bytes, used_slots, walk_bytes}
 use Rattle.blob_grammar.proofs.Instructions.{length-instr_bytes}

@@ -2,11 +2,11 @@
 use Rattle.std.proofs.Common.{◌≡◌, ◌<◌, ℕ, zero, suc, ◌^◌, Bool, true, false, List, [], ◌∷◌, replicate, Option, Some, None, refl, ap, arith}
 use Rattle.std.proofs.lemmas.Bool.{false≢true}
 use Rattle.std.specs.Prelude.{All, slice_get}
-use Rattle.hop_base.specs.declared.capabilities.Cap.{Cap}
-use Rattle.hop_base.specs.declared.entities.Kind.{Kind}
-use Rattle.hop_base.specs.declared.entities.Kind.TheVariants.{Atlas, Container, Locus}
-use Rattle.hop_base.specs.declared.instructions.Condition.TheVariants.{Running}
-use Rattle.hop_model.specs.State.{ContainerState, LocusState, no_atlas}
+use Rattle.model_kernel.specs.base_types.declared.capabilities.Cap.{Cap}
+use Rattle.model_kernel.specs.base_types.declared.entities.Kind.{Kind}
+use Rattle.model_kernel.specs.base_types.declared.entities.Kind.TheVariants.{Atlas, Container, Locus}
+use Rattle.model_kernel.specs.base_types.declared.instructions.Condition.TheVariants.{Running}
+use Rattle.model_kernel.specs.State.{ContainerState, LocusState, no_atlas}
 use Rattle.blob_grammar.specs.Forms.{IsAtlasForm, IsContainerForm, IsLocusForm, IsSpelling}
 use Rattle.blob_grammar.specs.Spelling.{atlas_blob, container_blob, locus_blob}
 

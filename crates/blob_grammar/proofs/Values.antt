@@ -4,12 +4,12 @@ use Rattle.std.proofs.lemmas.List.{append-nil}
 use Rattle.std.specs.Prelude.{All}
 use Rattle.std.specs.List.{AllByRecursion}
 use Rattle.byteorder.specs.Endian.{little_bytes}
-use Rattle.hop_base.specs.Instructions.{IsInstruction}
-use Rattle.hop_base.specs.declared.capabilities.Private.{Private}
-use Rattle.hop_base.specs.declared.capabilities.Region.{Region}
-use Rattle.hop_base.specs.declared.entities.Kind.{Kind}
-use Rattle.hop_base.specs.declared.entities.Kind.TheVariants.{Atlas, Container, Locus}
-use Rattle.hop_model.specs.State.{AtlasState, ContainerState, LocusState}
+use Rattle.model_kernel.specs.base_types.Instructions.{IsInstruction}
+use Rattle.model_kernel.specs.base_types.declared.capabilities.Private.{Private}
+use Rattle.model_kernel.specs.base_types.declared.capabilities.Region.{Region}
+use Rattle.model_kernel.specs.base_types.declared.entities.Kind.{Kind}
+use Rattle.model_kernel.specs.base_types.declared.entities.Kind.TheVariants.{Atlas, Container, Locus}
+use Rattle.model_kernel.specs.State.{AtlasState, ContainerState, LocusState}
 use Rattle.blob_grammar.specs.Forms.{IsAtlasForm, IsContainerForm, IsLocusForm, IsNumber, IsSpelling, SpellsAtlas, SpellsContainer, SpellsLocus}
 use Rattle.blob_grammar.specs.Laws.{IsPrefixFree}
 use Rattle.blob_grammar.specs.Shapes.{IsPrivateOver, IsRegionOver}

@@ -6,13 +6,13 @@ use Rattle.std.proofs.lemmas.List.{take-append-drop}
 use Rattle.std.proofs.lemmas.List.Elements.{All-cons}
 use Rattle.std.specs.Prelude.{All, IsTrue, codes, decimal, slice_get, slice_index}
 use Rattle.std.specs.List.{flat_map}
-use Rattle.hop_base.specs.declared.capabilities.Cap.{Cap}
-use Rattle.hop_base.specs.declared.capabilities.Region.{Region}
-use Rattle.hop_base.specs.declared.entities.Kind.TheVariants.{Atlas, Container}
-use Rattle.hop_base.specs.declared.instructions.Instr.{Instr}
-use Rattle.hop_model.specs.Scripts.{text_eq}
-use Rattle.hop_model.specs.Soundness.{AreApart, are_names_from, is_given_name}
-use Rattle.hop_model.specs.State.{AtlasState, ContainerState, Text, no_atlas}
+use Rattle.model_kernel.specs.base_types.declared.capabilities.Cap.{Cap}
+use Rattle.model_kernel.specs.base_types.declared.capabilities.Region.{Region}
+use Rattle.model_kernel.specs.base_types.declared.entities.Kind.TheVariants.{Atlas, Container}
+use Rattle.model_kernel.specs.base_types.declared.instructions.Instr.{Instr}
+use Rattle.model_kernel.specs.Scripts.{text_eq}
+use Rattle.model_kernel.specs.Soundness.{AreApart, are_names_from, is_given_name}
+use Rattle.model_kernel.specs.State.{AtlasState, ContainerState, Text, no_atlas}
 use Rattle.blob_grammar.specs.Examples.{WorkedPlaces, WorkedSpellings, container_front}
 use Rattle.blob_grammar.specs.Forms.{IsAtlasForm, IsContainerForm, IsNumber, IsSpelling}
 use Rattle.blob_grammar.specs.Places.{Begins, IsBadPlace}

@@ -1,10 +1,10 @@
 -- Spellings and places worked out by hand.
 use Rattle.std.specs.Prelude.{◌≡◌, ℕ, zero, suc, List, [], ◌∷◌, ◌++◌, length, replicate, Option, Some, None, codes}
-use Rattle.hop_base.specs.declared.instructions.Instr.TheVariants.{Set, Store}
-use Rattle.hop_base.specs.declared.instructions.Condition.TheVariants.{Running}
-use Rattle.hop_base.specs.declared.capabilities.Cap.{Cap}
-use Rattle.hop_model.specs.State.{AtlasState, ContainerState, LocusState}
-use Rattle.hop_base.specs.declared.entities.Kind.TheVariants.{Atlas, Container}
+use Rattle.model_kernel.specs.base_types.declared.instructions.Instr.TheVariants.{Set, Store}
+use Rattle.model_kernel.specs.base_types.declared.instructions.Condition.TheVariants.{Running}
+use Rattle.model_kernel.specs.base_types.declared.capabilities.Cap.{Cap}
+use Rattle.model_kernel.specs.State.{AtlasState, ContainerState, LocusState}
+use Rattle.model_kernel.specs.base_types.declared.entities.Kind.TheVariants.{Atlas, Container}
 use Rattle.blob_grammar.specs.Forms.{IsSpelling}
 use Rattle.blob_grammar.specs.Places.{IsBadPlace}
 use Rattle.blob_grammar.specs.Spelling.{instr_bytes, atlas_blob, container_blob, locus_blob}

@@ -2,13 +2,13 @@
 -- either kind; and the ranges of the fields' types.
 use Rattle.std.specs.Prelude.{◌≡◌, ℕ, ◌<◌, ◌≤◌, ◌^◌, IsTrue, List, length, Option, Some, All, slice_get}
 use Rattle.std.specs.Option.{ForSome}
-use Rattle.hop_base.specs.Edges.{Edges}
-use Rattle.hop_base.specs.declared.capabilities.Cap.{Cap}
-use Rattle.hop_base.specs.declared.entities.Kind.{Kind}
-use Rattle.hop_base.specs.declared.entities.Kind.TheVariants.{Atlas, Container, Locus}
-use Rattle.hop_base.specs.declared.instructions.Walk.{Walk}
-use Rattle.hop_model.specs.State.{AtlasState, ContainerState, LocusState}
-use Rattle.hop_model.specs.Soundness.{AreDifferentNames, are_names_from}
+use Rattle.model_kernel.specs.base_types.Edges.{Edges}
+use Rattle.model_kernel.specs.base_types.declared.capabilities.Cap.{Cap}
+use Rattle.model_kernel.specs.base_types.declared.entities.Kind.{Kind}
+use Rattle.model_kernel.specs.base_types.declared.entities.Kind.TheVariants.{Atlas, Container, Locus}
+use Rattle.model_kernel.specs.base_types.declared.instructions.Walk.{Walk}
+use Rattle.model_kernel.specs.State.{AtlasState, ContainerState, LocusState}
+use Rattle.model_kernel.specs.Soundness.{AreDifferentNames, are_names_from}
 use Rattle.blob_grammar.specs.Shapes.{IsContainerOver, IsLocusOver}
 use Rattle.blob_grammar.specs.Spelling.{atlas_blob, container_blob, locus_blob}
 

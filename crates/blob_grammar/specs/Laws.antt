@@ -1,7 +1,7 @@
 -- Words of the laws of spellings.
 use Rattle.std.specs.Prelude.{◌≡◌, ℕ, ◌*◌, List, [], ◌++◌}
-use Rattle.hop_base.specs.declared.entities.Kind.{Kind}
-use Rattle.hop_base.specs.declared.entities.Kind.TheVariants.{Atlas, Container, Locus}
+use Rattle.model_kernel.specs.base_types.declared.entities.Kind.{Kind}
+use Rattle.model_kernel.specs.base_types.declared.entities.Kind.TheVariants.{Atlas, Container, Locus}
 
 -- no spelling is the front of another
 abbrev pub IsPrefixFree : (List ℕ → Type 0) → Type 0

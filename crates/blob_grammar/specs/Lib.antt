@@ -4,4 +4,4 @@ pub mod Forms
 pub mod Places
 pub mod Laws
 pub mod Examples
-pub use Rattle.hop_model.specs as hop_model
+pub use Rattle.model_kernel.specs as model_kernel

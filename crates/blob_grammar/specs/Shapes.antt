@@ -1,14 +1,14 @@
 -- What a sound value keeps, over who may be named in it: a sound state names those who are born, and a spelling any number of an entity.
 use Rattle.std.specs.Prelude.{◌≡◌, ℕ, ◌+◌, ◌<◌, ◌≤◌, ◌^◌, IsTrue, List, length, Option, Some, All, slice_get}
 use Rattle.std.specs.Option.{ForSome}
-use Rattle.hop_base.specs.Instructions.{IsPlace}
-use Rattle.hop_base.specs.declared.capabilities.Cap.{Cap}
-use Rattle.hop_base.specs.declared.capabilities.Private.{Private}
-use Rattle.hop_base.specs.declared.capabilities.Region.{Region}
-use Rattle.hop_base.specs.declared.instructions.Call.{Call}
-use Rattle.hop_base.specs.declared.instructions.Walk.{Walk}
-use Rattle.hop_model.specs.State.{AtlasState, ContainerState, LocusState}
-use Rattle.hop_model.specs.Soundness.{AreApart, AreOrdered, IsSoundCode, is_born, is_born_container}
+use Rattle.model_kernel.specs.base_types.Instructions.{IsPlace}
+use Rattle.model_kernel.specs.base_types.declared.capabilities.Cap.{Cap}
+use Rattle.model_kernel.specs.base_types.declared.capabilities.Private.{Private}
+use Rattle.model_kernel.specs.base_types.declared.capabilities.Region.{Region}
+use Rattle.model_kernel.specs.base_types.declared.instructions.Call.{Call}
+use Rattle.model_kernel.specs.base_types.declared.instructions.Walk.{Walk}
+use Rattle.model_kernel.specs.State.{AtlasState, ContainerState, LocusState}
+use Rattle.model_kernel.specs.Soundness.{AreApart, AreOrdered, IsSoundCode, is_born, is_born_container}
 
 -- 32 slots, of which each used one names one of these
 pub record AreCapsOver (Named : ℕ → Type 0) (caps : List (Option Cap)) : Type 0 where

@@ -5,10 +5,10 @@
 
 ghost use Rattle.std.specs.Prelude.{◌≡◌, ◌<◌, ◌≤◌, ◌↔◌, ℕ, List, length, IsTrue};
 ghost use Rattle.std.specs.Option.{ForSome};
-ghost use Rattle.hop_base.specs.declared.entities.Kind.{Kind};
-ghost use Rattle.hop_model.specs.Refusals.{instr_at};
-ghost use Rattle.hop_model.specs.Soundness.{AreSound, IsSoundAtlas, IsSoundContainer, IsSoundLocus, is_born, looks};
-ghost use Rattle.hop_model.specs.State.{AtlasState, Cell, ContainerState, LocusState};
+ghost use Rattle.model_kernel.specs.base_types.declared.entities.Kind.{Kind};
+ghost use Rattle.model_kernel.specs.Refusals.{instr_at};
+ghost use Rattle.model_kernel.specs.Soundness.{AreSound, IsSoundAtlas, IsSoundContainer, IsSoundLocus, is_born, looks};
+ghost use Rattle.model_kernel.specs.State.{AtlasState, Cell, ContainerState, LocusState};
 ghost use Rattle.blob_grammar.specs.Examples.{WorkedPlaces, WorkedSpellings};
 ghost use Rattle.blob_grammar.specs.Forms.{IsAtlasForm, IsNumber, IsSpelling, SpellsAtlas, SpellsContainer, SpellsLocus};
 ghost use Rattle.blob_grammar.specs.Laws.{IsPrefixFree, bytes_of_blocks, most_bytes};

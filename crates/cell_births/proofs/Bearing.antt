@@ -3,25 +3,25 @@ use Rattle.std.proofs.Common.{◌≡◌, ℕ, ◌+◌, ◌<◌, Bool, true, fals
 use Rattle.std.specs.List.{list_any}
 use Rattle.std.proofs.lemmas.Bool.{lt-ltb, or_parts}
 use Rattle.std.proofs.lemmas.Bool.Decides.{nat_tests}
-use Rattle.hop_base.specs.declared.histories.Answer.TheVariants.{Quiet}
-use Rattle.hop_base.specs.declared.histories.Entry.{Entry}
-use Rattle.hop_base.specs.declared.histories.Event.TheVariants.{Birth}
-use Rattle.wish_laws.specs.hop_model.Births.{birth, birth_change, birth_from, birth_named, code_in, container_birth, container_born, container_from, edges_from, locus_birth, locus_born, locus_from, locus_in_host, with_container_name, with_locus_name}
-use Rattle.wish_laws.specs.hop_model.Changes.{Access, Change, access_at, accessed, carried, carried_by, changed, entry_of, joined, ordered, touches_of}
-use Rattle.wish_laws.specs.hop_model.Histories.{writes}
-use Rattle.wish_laws.specs.hop_model.Outcomes.{free_container, free_locus}
-use Rattle.wish_laws.specs.hop_model.Scripts.{ContainerTable, LocusTable, Script, container_table, locus_table, number_in}
-use Rattle.wish_laws.specs.hop_model.State.{Cell as ModelCell, NotBorn, AtlasCell, ContainerCell, LocusCell, KernelState, Supply}
-use Rattle.wish_laws.specs.hop_model.Steps.{atlas_in}
-use Rattle.vector_stamps.specs.Stamps.{component}
-use Rattle.wish_laws.specs.event_clocks.declared.Clock.{Clock}
-use Rattle.wish_laws.specs.event_clocks.Clocks.{HasClock, writing, CarriesThree, CarriesTwo}
-use Rattle.wish_laws.proofs.event_clocks_lemmas.Changing.{access_first, access_second, access_third}
-use Rattle.wish_laws.specs.kernel_cells.declared.cells.Cell.{Cell}
-use Rattle.wish_laws.specs.kernel_cells.Cells.{HasCell, part_of}
-use Rattle.wish_laws.proofs.kernel_cells_lemmas.Stepping.{written_cell}
-use Rattle.atlas_dir.specs.directory_form.Directory.{Directory}
-use Rattle.wish_laws.specs.kernel_calls.Calls.{atlas_state}
+use Rattle.base_types.specs.declared.histories.Answer.TheVariants.{Quiet}
+use Rattle.base_types.specs.declared.histories.Entry.{Entry}
+use Rattle.base_types.specs.declared.histories.Event.TheVariants.{Birth}
+use Rattle.script_types.specs.model_kernel.Births.{birth, birth_change, birth_from, birth_named, code_in, container_birth, container_born, container_from, edges_from, locus_birth, locus_born, locus_from, locus_in_host, with_container_name, with_locus_name}
+use Rattle.script_types.specs.model_kernel.Changes.{Access, Change, access_at, accessed, carried, carried_by, changed, entry_of, joined, ordered, touches_of}
+use Rattle.script_types.specs.model_kernel.Histories.{writes}
+use Rattle.script_types.specs.model_kernel.Outcomes.{free_container, free_locus}
+use Rattle.script_types.specs.model_kernel.Scripts.{ContainerTable, LocusTable, Script, container_table, locus_table, number_in}
+use Rattle.script_types.specs.model_kernel.State.{Cell as ModelCell, NotBorn, AtlasCell, ContainerCell, LocusCell, KernelState, Supply}
+use Rattle.script_types.specs.model_kernel.Steps.{atlas_in}
+use Rattle.data_stamps.specs.Stamps.{component}
+use Rattle.cell_clocks.specs.declared.Clock.{Clock}
+use Rattle.cell_clocks.specs.Clocks.{HasClock, writing, CarriesThree, CarriesTwo}
+use Rattle.cell_clocks.proofs.Changing.{access_first, access_second, access_third}
+use Rattle.cell_wish_laws.specs.cell_states.declared.cells.Cell.{Cell}
+use Rattle.cell_wish_laws.specs.cell_states.Cells.{HasCell, part_of}
+use Rattle.cell_wish_laws.proofs.cell_states_lemmas.Stepping.{written_cell}
+use Rattle.data_atlas.specs.data_atlas_facts.Directory.{Directory}
+use Rattle.script_fits.specs.act_calls.Calls.{atlas_state}
 use Rattle.cell_births.specs.Bearing.{Bears, IsBirthEntry, MayBearContainer, MayBearLocus}
 use Rattle.std.proofs.Math.Bool.{or-true}
 

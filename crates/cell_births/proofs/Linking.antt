@@ -5,18 +5,18 @@ use Rattle.std.proofs.lemmas.Bool.Decides.{nat_tests}
 use Rattle.std.proofs.lemmas.List.Sums.{count_by_more_no, count_by_more_yes, count_by-le-length}
 use Rattle.std.proofs.lemmas.List.Elements.{All-weaker}
 use Rattle.std.proofs.lemmas.List.{length-take}
-use Rattle.hop_base.specs.Edges.{Edges}
-use Rattle.hop_base.specs.declared.capabilities.Region.{Region}
-use Rattle.wish_laws.specs.hop_model.Births.{edges_from, number_or_0, regions_from, with_container_name}
-use Rattle.wish_laws.specs.hop_model.Scripts.{RegionTable}
-use Rattle.wish_laws.specs.hop_model.Soundness.{is_born_container}
-use Rattle.wish_laws.specs.hop_model.State.{Text}
-use Rattle.script_against.proofs.sound_steps_lemmas.RegionLists.{shown}
-use Rattle.script_against.proofs.sound_runs_lemmas.Tables.{all_regions}
-use Rattle.script_against.proofs.sound_runs_lemmas.TableEdges.{model_containers, model_edges, model_loci}
-use Rattle.atlas_dir.specs.directory_form.Directory.{Directory, edges_of}
-use Rattle.atlas_dir.specs.directory_form.Reached.{with_edge}
-use Rattle.wish_laws.specs.kernel_calls.Calls.{atlas_state}
+use Rattle.base_types.specs.Edges.{Edges}
+use Rattle.base_types.specs.declared.capabilities.Region.{Region}
+use Rattle.script_types.specs.model_kernel.Births.{edges_from, number_or_0, regions_from, with_container_name}
+use Rattle.script_types.specs.model_kernel.Scripts.{RegionTable}
+use Rattle.script_types.specs.model_kernel.Soundness.{is_born_container}
+use Rattle.script_types.specs.model_kernel.State.{Text}
+use Rattle.act_alone.proofs.model_sound_steps_lemmas.RegionLists.{shown}
+use Rattle.script_fits.proofs.model_sound_runs_lemmas.Tables.{all_regions}
+use Rattle.script_fits.proofs.model_sound_runs_lemmas.TableEdges.{model_containers, model_edges, model_loci}
+use Rattle.data_atlas.specs.data_atlas_facts.Directory.{Directory, edges_of}
+use Rattle.data_atlas.specs.data_atlas_facts.Reached.{with_edge}
+use Rattle.script_fits.specs.act_calls.Calls.{atlas_state}
 
 shown_next : (rs : List Region) (i : ℕ) (r : Region) (y : ℕ) → i < length rs → r ≡ get_or rs i r → shown (take (i + 1) rs) y ≡ shown (take i rs) y + (if r.target == y then 1 else 0)
 shown_next rs i r y lt is = by (r.target == y) refl

@@ -1,24 +1,24 @@
 -- What a birth asks, by the laws of sound states and of scripts that fit.
 use Rattle.std.proofs.Common.{◌≡◌, ℕ, ◌+◌, ◌<◌, ◌≤◌, if◌then◌else◌, IsTrue, [], length, Some, None, is_none, option_map, option_and_then, refl, sym, ap, subst, ◌∙◌, arith}
 use Rattle.std.proofs.lemmas.Bool.Decides.{nat_tests}
-use Rattle.hop_base.specs.declared.histories.Event.TheVariants.{Birth}
-use Rattle.wish_laws.specs.hop_model.Births.{birth, birth_change, birth_from, birth_named, knows_caps, knows_regions, locus_birth, next_birth, next_birth_change}
-use Rattle.wish_laws.specs.hop_model.Changes.{Change, carried}
-use Rattle.wish_laws.specs.hop_model.Scripts.{ContainerTable, LocusTable, Script, container_named, container_table, locus_table, next_name, number_in, number_of}
-use Rattle.wish_laws.specs.hop_model.Soundness.{AreSound, is_born_container, regions_onto}
-use Rattle.wish_laws.specs.hop_model.State.{AtlasState, Cell, NotBorn, KernelState, Supply, Text}
-use Rattle.wish_laws.specs.hop_model.Steps.{atlas_in}
-use Rattle.script_against.specs.script_form.Rules.{IsScript, container_names}
-use Rattle.script_against.proofs.sound_runs_lemmas.Tables.{container_named_born}
-use Rattle.script_against.proofs.sound_runs_lemmas.Found.{and_both, find_locus, found_container}
-use Rattle.script_against.proofs.sound_runs_lemmas.Grown.{not_yet_container}
-use Rattle.script_against.specs.fitting_births.Fitting.{Fits}
-use Rattle.script_against.proofs.fitting_births_lemmas.KnownNames.{KnowsContainer, KnowsLocus, NextName, OfContainer, OfLocus, next_name_is}
-use Rattle.script_against.proofs.fitting_births_lemmas.Growing.{locus_change, named_defined}
-use Rattle.script_against.proofs.fitting_births_lemmas.Ends.{some_is}
-use Rattle.atlas_dir.specs.directory_form.Directory.{Directory}
-use Rattle.wish_laws.specs.kernel_calls.Calls.{atlas_state}
-use Rattle.script_against.specs.NextTables.{IsNextContainer, IsNextLocus}
+use Rattle.base_types.specs.declared.histories.Event.TheVariants.{Birth}
+use Rattle.script_types.specs.model_kernel.Births.{birth, birth_change, birth_from, birth_named, knows_caps, knows_regions, locus_birth, next_birth, next_birth_change}
+use Rattle.script_types.specs.model_kernel.Changes.{Change, carried}
+use Rattle.script_types.specs.model_kernel.Scripts.{ContainerTable, LocusTable, Script, container_named, container_table, locus_table, next_name, number_in, number_of}
+use Rattle.script_types.specs.model_kernel.Soundness.{AreSound, is_born_container, regions_onto}
+use Rattle.script_types.specs.model_kernel.State.{AtlasState, Cell, NotBorn, KernelState, Supply, Text}
+use Rattle.script_types.specs.model_kernel.Steps.{atlas_in}
+use Rattle.script_types.specs.Rules.{IsScript, container_names}
+use Rattle.script_fits.proofs.model_sound_runs_lemmas.Tables.{container_named_born}
+use Rattle.script_fits.proofs.model_sound_runs_lemmas.Found.{and_both, find_locus, found_container}
+use Rattle.script_fits.proofs.model_sound_runs_lemmas.Grown.{not_yet_container}
+use Rattle.script_fits.specs.model_births.Fitting.{Fits}
+use Rattle.script_fits.proofs.model_births_lemmas.KnownNames.{KnowsContainer, KnowsLocus, NextName, OfContainer, OfLocus, next_name_is}
+use Rattle.script_fits.proofs.model_births_lemmas.Growing.{locus_change, named_defined}
+use Rattle.script_fits.proofs.model_births_lemmas.Ends.{some_is}
+use Rattle.data_atlas.specs.data_atlas_facts.Directory.{Directory}
+use Rattle.script_fits.specs.act_calls.Calls.{atlas_state}
+use Rattle.script_fits.specs.NextTables.{IsNextContainer, IsNextLocus}
 use Rattle.cell_births.specs.Bearing.{MayBearContainer, MayBearLocus}
 
 no_table : {A B : Type 0} {x : A} → None ≡ Some x → B

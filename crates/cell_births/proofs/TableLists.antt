@@ -4,17 +4,17 @@ use Rattle.std.specs.List.{All, list_any}
 use Rattle.std.proofs.lemmas.List.{at_drop_more, get_or-map, length-map, length-drop}
 use Rattle.std.proofs.lemmas.List.Elements.{All-weaker}
 use Rattle.std.proofs.lemmas.List.Folds.{list_any_none}
-use Rattle.hop_base.specs.declared.capabilities.Region.{Region}
-use Rattle.hop_base.specs.declared.instructions.Reply.{Reply}
-use Rattle.wish_laws.specs.hop_model.Births.{caps_from, number_or_0, region_from, regions_from}
-use Rattle.wish_laws.specs.hop_model.Refusals.{rights_with}
-use Rattle.wish_laws.specs.hop_model.Scripts.{CapTable, RegionTable}
-use Rattle.wish_laws.specs.hop_model.State.{Text}
-use Rattle.wish_laws.specs.hop_model.Words.{overlaps}
-use Rattle.script_against.specs.script_form.Rules.{AreAllApart, AreApart, IsRegionTable}
-use Rattle.script_against.proofs.sound_runs_lemmas.Tables.{all_regions, length_regions}
-use Rattle.region_map.specs.Regions.{IsRegion, add_answer, insert_region}
-use Rattle.wish_laws.proofs.kernel_calls_lemmas.MapLemmas.{added}
+use Rattle.base_types.specs.declared.capabilities.Region.{Region}
+use Rattle.base_types.specs.declared.instructions.Reply.{Reply}
+use Rattle.script_types.specs.model_kernel.Births.{caps_from, number_or_0, region_from, regions_from}
+use Rattle.script_types.specs.model_kernel.Refusals.{rights_with}
+use Rattle.script_types.specs.model_kernel.Scripts.{CapTable, RegionTable}
+use Rattle.script_types.specs.model_kernel.State.{Text}
+use Rattle.script_types.specs.model_kernel.Words.{overlaps}
+use Rattle.script_types.specs.Rules.{AreAllApart, AreApart, IsRegionTable}
+use Rattle.script_fits.proofs.model_sound_runs_lemmas.Tables.{all_regions, length_regions}
+use Rattle.data_regions.specs.Regions.{IsRegion, add_answer, insert_region}
+use Rattle.script_fits.proofs.act_calls_lemmas.MapLemmas.{added}
 
 -- a mapped list from a place on, one item more
 from_place : {X T : Type 0} (f : X → T) (xs : List X) (i j : ℕ) (x : X) → j + 1 ≡ i → i ≤ length xs → x ≡ get_or xs j x → drop j (map f xs) ≡ f x ∷ drop i (map f xs)

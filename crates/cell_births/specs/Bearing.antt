@@ -1,16 +1,16 @@
 -- Births of a script's tables over cells.
 use Rattle.std.specs.Prelude.{◌≡◌, ℕ, ◌+◌, ◌<◌, ◌==◌, ◌&&◌, false, IsTrue, List, length, Some, None, All}
 use Rattle.std.specs.List.{list_any}
-use Rattle.hop_base.specs.declared.histories.Entry.{Entry}
-use Rattle.hop_base.specs.declared.histories.Event.TheVariants.{Birth}
-use Rattle.wish_laws.specs.hop_model.Births.{birth, knows_caps, knows_regions, number_or_0}
-use Rattle.wish_laws.specs.hop_model.Histories.{writes}
-use Rattle.wish_laws.specs.hop_model.Scripts.{ContainerTable, LocusTable, RegionTable, Script, container_named, number_in, number_of}
-use Rattle.wish_laws.specs.hop_model.Soundness.{is_born_container}
-use Rattle.wish_laws.specs.hop_model.State.{KernelState, Supply, Text}
-use Rattle.script_against.specs.script_form.Rules.{IsContainerTable, IsLocusTable}
-use Rattle.atlas_dir.specs.directory_form.Directory.{Directory, edges_of}
-use Rattle.wish_laws.specs.kernel_calls.Calls.{atlas_state}
+use Rattle.base_types.specs.declared.histories.Entry.{Entry}
+use Rattle.base_types.specs.declared.histories.Event.TheVariants.{Birth}
+use Rattle.script_types.specs.model_kernel.Births.{birth, knows_caps, knows_regions, number_or_0}
+use Rattle.script_types.specs.model_kernel.Histories.{writes}
+use Rattle.script_types.specs.model_kernel.Scripts.{ContainerTable, LocusTable, RegionTable, Script, container_named, number_in, number_of}
+use Rattle.script_types.specs.model_kernel.Soundness.{is_born_container}
+use Rattle.script_types.specs.model_kernel.State.{KernelState, Supply, Text}
+use Rattle.script_types.specs.Rules.{IsContainerTable, IsLocusTable}
+use Rattle.data_atlas.specs.data_atlas_facts.Directory.{Directory, edges_of}
+use Rattle.script_fits.specs.act_calls.Calls.{atlas_state}
 
 -- THE BIRTH OF THE NAME in the state: this entry, and a state that differs at most where the entry writes, of which P holds
 abbrev pub Bears : Supply → Script → Text → KernelState → Entry → (KernelState → Type 0) → Type 0

@@ -1,20 +1,20 @@
 // The births of a container and of a locus over cells.
 ghost use Rattle.std.specs.Prelude.{◌≡◌, ◌<◌, ◌^◌, ◌∷◌, [], ℕ, List, None, Some, false, string_bytes};
-ghost use Rattle.wish_laws.specs.hop_model.Histories.{writes};
-ghost use Rattle.wish_laws.specs.hop_model.Scripts.{Script, container_table, locus_table};
-ghost use Rattle.wish_laws.specs.hop_model.State.{KernelState, Supply};
-ghost use Rattle.script_against.specs.script_form.Scripts.{container_of, locus_of};
-ghost use Rattle.atlas_dir.specs.directory_form.Directory.{Directory};
-ghost use Rattle.wish_laws.specs.kernel_cells.Cells.{HasCell};
-ghost use Rattle.wish_laws.specs.Founded.{TakesBirth};
-ghost use Rattle.birth_steps.specs.Bearing.{IsNewContainer, IsUnbornContainer};
+ghost use Rattle.script_types.specs.model_kernel.Histories.{writes};
+ghost use Rattle.script_types.specs.model_kernel.Scripts.{Script, container_table, locus_table};
+ghost use Rattle.script_types.specs.model_kernel.State.{KernelState, Supply};
+ghost use Rattle.script_types.specs.Scripts.{container_of, locus_of};
+ghost use Rattle.data_atlas.specs.data_atlas_facts.Directory.{Directory};
+ghost use Rattle.cell_wish_laws.specs.cell_states.Cells.{HasCell};
+ghost use Rattle.cell_wish_laws.specs.Founded.{TakesBirth};
+ghost use Rattle.cell_newborns.specs.Bearing.{IsNewContainer, IsUnbornContainer};
 ghost use Rattle.cell_births.specs.Bearing.{Bears, IsBirthEntry, MayBearContainer, MayBearLocus};
 
 use crate::{containers, loci};
-use event_clocks::{write_three, write_two};
-use hop_base::{Answer, Entry, Event};
-use script_form::{ScriptContainer, ScriptLocus};
-use wish_laws::{Cell, Part, Wish};
+use base_types::{Answer, Entry, Event};
+use cell_clocks::{write_three, write_two};
+use cell_wish_laws::{Cell, Part, Wish};
+use script_types::{ScriptContainer, ScriptLocus};
 
 /// The wish of a written cell: a birth is its last writer.
 fn born(wish: &Wish) -> Wish

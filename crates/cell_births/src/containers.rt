@@ -1,27 +1,27 @@
 // The birth of a container from its table, on the parts of two cells.
 ghost use Rattle.std.specs.Prelude.{◌≡◌, ◌≤◌, ◌<◌, ◌+◌, ◌++◌, ◌∷◌, [], ℕ, List, All, IsTrue, count_by, length, if◌then◌else◌, ◌==◌, None, Some, string_bytes};
-ghost use Rattle.hop_base.specs.declared.capabilities.Region.{Region as ARegion};
-ghost use Rattle.wish_laws.specs.hop_model.Births.{container_from as container_by, edges_from as edges_by, with_container_name};
-ghost use Rattle.wish_laws.specs.hop_model.Outcomes.{supplied};
-ghost use Rattle.wish_laws.specs.hop_model.Scripts.{number_in, number_of};
-ghost use Rattle.wish_laws.specs.hop_model.Soundness.{is_born_container, is_given_name};
-ghost use Rattle.wish_laws.specs.hop_model.State.{AtlasState, AtlasCell, ContainerCell, Supply, Text};
-ghost use Rattle.script_against.specs.script_form.Rules.{IsContainerTable};
-ghost use Rattle.script_against.specs.script_form.Scripts.{container_of as table_of};
-ghost use Rattle.atlas_dir.specs.directory_form.Directory.{Directory, edges_of};
-ghost use Rattle.wish_laws.specs.locus_machine.Loci.{container_with};
-ghost use Rattle.wish_laws.specs.kernel_calls.Calls.{atlas_state};
-ghost use Rattle.wish_laws.specs.kernel_cells.Cells.{part_of};
-ghost use Rattle.birth_steps.specs.Bearing.{IsNewContainer, IsUnbornContainer};
+ghost use Rattle.base_types.specs.declared.capabilities.Region.{Region as ARegion};
+ghost use Rattle.script_types.specs.model_kernel.Births.{container_from as container_by, edges_from as edges_by, with_container_name};
+ghost use Rattle.script_types.specs.model_kernel.Outcomes.{supplied};
+ghost use Rattle.script_types.specs.model_kernel.Scripts.{number_in, number_of};
+ghost use Rattle.script_types.specs.model_kernel.Soundness.{is_born_container, is_given_name};
+ghost use Rattle.script_types.specs.model_kernel.State.{AtlasState, AtlasCell, ContainerCell, Supply, Text};
+ghost use Rattle.script_types.specs.Rules.{IsContainerTable};
+ghost use Rattle.script_types.specs.Scripts.{container_of as table_of};
+ghost use Rattle.data_atlas.specs.data_atlas_facts.Directory.{Directory, edges_of};
+ghost use Rattle.act_alone.specs.Loci.{container_with};
+ghost use Rattle.script_fits.specs.act_calls.Calls.{atlas_state};
+ghost use Rattle.cell_wish_laws.specs.cell_states.Cells.{part_of};
+ghost use Rattle.cell_newborns.specs.Bearing.{IsNewContainer, IsUnbornContainer};
 ghost use Rattle.cell_births.specs.Bearing.{MayBearContainer};
 
 use crate::tables::{caps_from, regions_from};
-use atlas_dir::Atlas;
-use hop_base::{Entity, Kind, Region};
-use locus_machine::Head;
-use page_shadow::ShadowTable;
-use script_form::ScriptContainer;
-use wish_laws::{Part, Storage};
+use act_alone::Head;
+use base_types::{Entity, Kind, Region};
+use cell_wish_laws::{Part, Storage};
+use data_atlas::Atlas;
+use data_blocks::ShadowTable;
+use script_types::ScriptContainer;
 
 /// The container of a table.
 fn head_from(atlas: &Atlas, newborn: Entity, table: &ScriptContainer) -> Head

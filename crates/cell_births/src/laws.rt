@@ -1,16 +1,16 @@
 // What a script's next birth asks is met: laws, without code.
 ghost use Rattle.std.specs.Prelude.{◌≡◌, ◌+◌, ℕ, List, Some, length};
-ghost use Rattle.hop_base.specs.declared.histories.Entry.{Entry as AnEntry};
-ghost use Rattle.wish_laws.specs.hop_model.Births.{birth, next_birth};
-ghost use Rattle.wish_laws.specs.hop_model.Scripts.{ContainerTable, LocusTable, Script, next_name};
-ghost use Rattle.wish_laws.specs.hop_model.Soundness.{AreSound};
-ghost use Rattle.wish_laws.specs.hop_model.State.{Cell as ModelCell, KernelState, Supply, Text};
-ghost use Rattle.wish_laws.specs.hop_model.Steps.{atlas_in};
-ghost use Rattle.script_against.specs.script_form.Rules.{IsScript};
-ghost use Rattle.script_against.specs.fitting_births.Fitting.{Fits};
-ghost use Rattle.atlas_dir.specs.directory_form.Directory.{Directory};
-ghost use Rattle.wish_laws.specs.kernel_calls.Calls.{atlas_state};
-ghost use Rattle.script_against.specs.NextTables.{IsNextContainer, IsNextLocus};
+ghost use Rattle.base_types.specs.declared.histories.Entry.{Entry as AnEntry};
+ghost use Rattle.script_types.specs.model_kernel.Births.{birth, next_birth};
+ghost use Rattle.script_types.specs.model_kernel.Scripts.{ContainerTable, LocusTable, Script, next_name};
+ghost use Rattle.script_types.specs.model_kernel.Soundness.{AreSound};
+ghost use Rattle.script_types.specs.model_kernel.State.{Cell as ModelCell, KernelState, Supply, Text};
+ghost use Rattle.script_types.specs.model_kernel.Steps.{atlas_in};
+ghost use Rattle.script_types.specs.Rules.{IsScript};
+ghost use Rattle.script_fits.specs.model_births.Fitting.{Fits};
+ghost use Rattle.data_atlas.specs.data_atlas_facts.Directory.{Directory};
+ghost use Rattle.script_fits.specs.act_calls.Calls.{atlas_state};
+ghost use Rattle.script_fits.specs.NextTables.{IsNextContainer, IsNextLocus};
 ghost use Rattle.cell_births.specs.Bearing.{MayBearContainer, MayBearLocus};
 
 /// The next table of an allowed script that fits may be born under the lowest free number of its kind, and the host of a locus is born.

@@ -1,22 +1,22 @@
 // The birth of a locus from its table, on the parts of three cells.
 ghost use Rattle.std.specs.Prelude.{◌≡◌, ◌≤◌, ◌<◌, ◌++◌, ◌∷◌, [], ℕ, List, IsTrue, length, None, string_bytes};
-ghost use Rattle.wish_laws.specs.hop_model.Births.{code_in, locus_from as locus_by, with_locus_name};
-ghost use Rattle.wish_laws.specs.hop_model.Scripts.{number_in, number_of};
-ghost use Rattle.wish_laws.specs.hop_model.Soundness.{is_given_name};
-ghost use Rattle.wish_laws.specs.hop_model.State.{AtlasState, AtlasCell, LocusCell, Supply};
-ghost use Rattle.script_against.specs.script_form.Scripts.{locus_of as table_of};
-ghost use Rattle.atlas_dir.specs.directory_form.Directory.{Directory};
-ghost use Rattle.wish_laws.specs.locus_machine.Loci.{locus_of};
-ghost use Rattle.wish_laws.specs.kernel_calls.Calls.{atlas_state};
-ghost use Rattle.wish_laws.specs.kernel_cells.Cells.{part_of};
+ghost use Rattle.script_types.specs.model_kernel.Births.{code_in, locus_from as locus_by, with_locus_name};
+ghost use Rattle.script_types.specs.model_kernel.Scripts.{number_in, number_of};
+ghost use Rattle.script_types.specs.model_kernel.Soundness.{is_given_name};
+ghost use Rattle.script_types.specs.model_kernel.State.{AtlasState, AtlasCell, LocusCell, Supply};
+ghost use Rattle.script_types.specs.Scripts.{locus_of as table_of};
+ghost use Rattle.data_atlas.specs.data_atlas_facts.Directory.{Directory};
+ghost use Rattle.act_alone.specs.Loci.{locus_of};
+ghost use Rattle.script_fits.specs.act_calls.Calls.{atlas_state};
+ghost use Rattle.cell_wish_laws.specs.cell_states.Cells.{part_of};
 ghost use Rattle.cell_births.specs.Bearing.{MayBearLocus};
 
 use crate::tables::caps_from;
-use atlas_dir::Atlas;
-use hop_base::{Entity, Instr, Kind};
-use locus_machine::Locus;
-use script_form::ScriptLocus;
-use wish_laws::{Part, Storage};
+use act_alone::Locus;
+use base_types::{Entity, Instr, Kind};
+use cell_wish_laws::{Part, Storage};
+use data_atlas::Atlas;
+use script_types::ScriptLocus;
 
 /// The code of a container that is born, and else none.
 fn code_of(part: &Part) -> &[Instr]

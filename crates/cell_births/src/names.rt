@@ -1,11 +1,11 @@
 // Numbers of names to which a table refers.
 ghost use Rattle.std.specs.Prelude.{◌≡◌};
-ghost use Rattle.wish_laws.specs.hop_model.Births.{number_or_0};
-ghost use Rattle.wish_laws.specs.hop_model.Scripts.{text_eq, number_in};
-ghost use Rattle.wish_laws.specs.kernel_calls.Calls.{atlas_state};
+ghost use Rattle.script_types.specs.model_kernel.Births.{number_or_0};
+ghost use Rattle.script_types.specs.model_kernel.Scripts.{text_eq, number_in};
+ghost use Rattle.script_fits.specs.act_calls.Calls.{atlas_state};
 
-use atlas_dir::Atlas;
-use hop_base::Entity;
+use base_types::Entity;
+use data_atlas::Atlas;
 
 fn is_same(a: &str, b: &str) -> bool
     ensures { result ≡ text_eq a.now b.now }

@@ -1,18 +1,18 @@
 // Capabilities and regions of a table.
 ghost use Rattle.std.specs.Prelude.{◌≡◌, ◌≤◌, ℕ, List, All, length, map};
-ghost use Rattle.wish_laws.specs.hop_model.Births.{caps_from as caps_by, regions_from as regions_by};
-ghost use Rattle.wish_laws.specs.hop_model.Scripts.{number_in};
-ghost use Rattle.wish_laws.specs.hop_model.State.{Text};
-ghost use Rattle.script_against.specs.script_form.Rules.{AreAllApart, IsRegionTable};
-ghost use Rattle.script_against.specs.script_form.Scripts.{cap_of, region_of};
-ghost use Rattle.wish_laws.specs.kernel_calls.Calls.{atlas_state};
+ghost use Rattle.script_types.specs.model_kernel.Births.{caps_from as caps_by, regions_from as regions_by};
+ghost use Rattle.script_types.specs.model_kernel.Scripts.{number_in};
+ghost use Rattle.script_types.specs.model_kernel.State.{Text};
+ghost use Rattle.script_types.specs.Rules.{AreAllApart, IsRegionTable};
+ghost use Rattle.script_types.specs.Scripts.{cap_of, region_of};
+ghost use Rattle.script_fits.specs.act_calls.Calls.{atlas_state};
 
 use crate::names::known_number;
-use atlas_dir::Atlas;
-use cap_list::CapList;
-use hop_base::{Cap, Entity, Region};
-use region_map::RegionMap;
-use script_form::{ScriptCap, ScriptRegion};
+use base_types::{Cap, Entity, Region};
+use data_atlas::Atlas;
+use data_capabilities::CapList;
+use data_regions::RegionMap;
+use script_types::{ScriptCap, ScriptRegion};
 
 /// The capabilities of a table, in the slots from 0 on.
 pub(crate) fn caps_from(atlas: &Atlas, own: &str, newborn: Entity, tables: &[ScriptCap]) -> CapList

@@ -3,22 +3,22 @@ use Rattle.std.proofs.Common.{◌≡◌, ◌≤◌, ℕ, Bool, true, false, if�
 use Rattle.std.specs.List.{flat_map}
 use Rattle.std.proofs.lemmas.List.{length-take}
 use Rattle.byteorder.specs.Endian.{little_bytes}
-use Rattle.hop_base.specs.declared.entities.Kind.TheVariants.{Atlas as AtlasKind}
-use Rattle.hop_base.specs.declared.instructions.Walk.{Walk}
-use Rattle.address_resolve.specs.hop_model.State.{AtlasState, ContainerState, LocusState}
+use Rattle.base_types.specs.declared.entities.Kind.TheVariants.{Atlas as AtlasKind}
+use Rattle.base_types.specs.declared.instructions.Walk.{Walk}
+use Rattle.cell_states.specs.model_kernel.State.{AtlasState, ContainerState, LocusState}
 use Rattle.image_meaning.specs.blob_grammar.Forms.{IsAtlasForm, IsNumber}
 use Rattle.image_meaning.specs.blob_grammar.Shapes.{IsContainerOver, IsLocusOver}
 use Rattle.image_meaning.specs.blob_grammar.Spelling.{atlas_blob, call_bytes, caps_bytes, container_blob, instr_bytes, is_short, listed, locus_blob, locus_front, locus_rest, private_bytes, region_bytes, walk_bytes}
 use Rattle.image_meaning.proofs.blob_grammar_lemmas.KindSizes.{most}
 use Rattle.image_meaning.proofs.blob_grammar_lemmas.Sizes.{caps_len, code_len, numbers_len, same_items}
-use Rattle.image_meaning.specs.image_form.Bodies.{blocks_for}
-use Rattle.address_resolve.specs.locus_machine.declared.loci.Head.{Head}
-use Rattle.address_resolve.specs.locus_machine.declared.loci.Locus.{Locus}
-use Rattle.address_resolve.specs.locus_machine.Loci.{container_with, locus_of}
-use Rattle.kernel_cells.specs.kernel_calls.Calls.{atlas_state}
-use Rattle.address_resolve.specs.fault_paging.declared.paged.PagedMemory.{PagedMemory}
-use Rattle.kernel_cells.specs.declared.cells.Part.{Part}
-use Rattle.kernel_cells.specs.declared.cells.Part.TheVariants as part
+use Rattle.image_meaning.specs.image_facts.Bodies.{blocks_for}
+use Rattle.act_look.specs.act_alone.declared.loci.Head.{Head}
+use Rattle.act_look.specs.act_alone.declared.loci.Locus.{Locus}
+use Rattle.act_look.specs.act_alone.Loci.{container_with, locus_of}
+use Rattle.cell_states.specs.act_calls.Calls.{atlas_state}
+use Rattle.act_look.specs.page_memory.declared.paged.PagedMemory.{PagedMemory}
+use Rattle.cell_states.specs.declared.cells.Part.{Part}
+use Rattle.cell_states.specs.declared.cells.Part.TheVariants as part
 use Rattle.cell_blobs.specs.Blobs.{HasFormedHead, IsFormed, IsFormedLocus, blob_need, bytes_of, spelt_locus, spelt_storage}
 
 atlas_few : (a : AtlasState) → IsAtlasForm a → length (atlas_blob a) ≤ 8192

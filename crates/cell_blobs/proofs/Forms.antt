@@ -5,13 +5,13 @@ use Rattle.std.specs.Option.{ForSome}
 use Rattle.std.proofs.lemmas.List.Elements.{All-take}
 use Rattle.std.proofs.lemmas.List.{length-take-le}
 use Rattle.std.proofs.lemmas.Option.{same_Some, slice_get-get_or, slice_get_within}
-use Rattle.hop_base.specs.declared.capabilities.Cap.{Cap}
-use Rattle.hop_base.specs.declared.instructions.Walk.{Walk}
-use Rattle.address_resolve.specs.locus_machine.declared.loci.Head.{Head}
-use Rattle.address_resolve.specs.locus_machine.declared.loci.Locus.{Locus}
-use Rattle.address_resolve.specs.locus_machine.Loci.{container_with, locus_of}
-use Rattle.snapshot_form.specs.blob_grammar.Forms.{HaveByteRights, IsContainerForm, IsLocusForm, IsNumber}
-use Rattle.snapshot_form.specs.blob_grammar.Shapes.{IsContainerOver, IsLocusOver}
+use Rattle.base_types.specs.declared.capabilities.Cap.{Cap}
+use Rattle.base_types.specs.declared.instructions.Walk.{Walk}
+use Rattle.act_look.specs.act_alone.declared.loci.Head.{Head}
+use Rattle.act_look.specs.act_alone.declared.loci.Locus.{Locus}
+use Rattle.act_look.specs.act_alone.Loci.{container_with, locus_of}
+use Rattle.image_meaning.specs.blob_grammar.Forms.{HaveByteRights, IsContainerForm, IsLocusForm, IsNumber}
+use Rattle.image_meaning.specs.blob_grammar.Shapes.{IsContainerOver, IsLocusOver}
 use Rattle.cell_blobs.specs.Ranges.{HasByteRights}
 
 byte_rights : (caps : List (Option Cap)) → All HasByteRights caps → HaveByteRights caps

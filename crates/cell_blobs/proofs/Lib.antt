@@ -1,6 +1,7 @@
 pub mod Forms
 pub mod Shortage
 pub mod BlobSizes
-pub use Rattle.snapshot_form.proofs.blob_grammar_lemmas
-pub use Rattle.kernel_cells.proofs.fault_paging_lemmas
-pub use Rattle.image_meaning.proofs.image_blocks_lemmas
+pub use Rattle.blob_writing.proofs.blob_facts_lemmas
+pub use Rattle.image_meaning.proofs.blob_grammar_lemmas
+pub use Rattle.cell_states.proofs.model_kernel_lemmas
+pub use Rattle.act_look.proofs.model_sound_steps_lemmas

@@ -1,7 +1,7 @@
 -- How many blocks there are at most to need.
 use Rattle.std.proofs.Common.{ℕ, zero, suc, ◌≤◌, Bool, true, false, if◌then◌else◌, arith}
-use Rattle.kernel_cells.specs.fault_paging.declared.paged.PagedMemory.{PagedMemory}
-use Rattle.kernel_cells.specs.fault_paging.Words.{need_below, need_of, needs_block}
+use Rattle.act_look.specs.page_memory.declared.paged.PagedMemory.{PagedMemory}
+use Rattle.act_look.specs.page_memory.Words.{need_below, need_of, needs_block}
 
 one_at_most : (b : Bool) → (if b then 1 else 0) ≤ 1
 one_at_most true = omega arith

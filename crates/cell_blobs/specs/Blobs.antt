@@ -1,20 +1,20 @@
 -- What the blob of a part spells, and which parts have a spelling.
 use Rattle.std.specs.Prelude.{◌≡◌, ℕ, ◌+◌, ◌==◌, if◌then◌else◌, Bool, List, [], length, take, Option, Some, None}
-use Rattle.address_resolve.specs.locus_machine.declared.loci.Head.{Head}
-use Rattle.address_resolve.specs.locus_machine.declared.loci.Locus.{Locus}
-use Rattle.address_resolve.specs.locus_machine.Loci.{container_with, locus_of}
-use Rattle.kernel_cells.specs.kernel_calls.Calls.{atlas_state}
-use Rattle.kernel_cells.specs.fault_paging.declared.paged.PagedMemory.{PagedMemory}
-use Rattle.kernel_cells.specs.fault_paging.Words.{need_of}
-use Rattle.address_resolve.specs.Looks.{IsMemoryOf}
-use Rattle.snapshot_form.specs.blob_grammar.Forms.{IsAtlasForm, IsNumber}
-use Rattle.snapshot_form.specs.blob_grammar.Shapes.{IsContainerOver, IsLocusOver}
-use Rattle.snapshot_form.specs.blob_grammar.Spelling.{atlas_blob, container_blob, locus_blob}
-use Rattle.image_meaning.specs.image_form.Bodies.{blocks_for}
+use Rattle.act_look.specs.act_alone.declared.loci.Head.{Head}
+use Rattle.act_look.specs.act_alone.declared.loci.Locus.{Locus}
+use Rattle.act_look.specs.act_alone.Loci.{container_with, locus_of}
+use Rattle.cell_states.specs.act_calls.Calls.{atlas_state}
+use Rattle.act_look.specs.page_memory.declared.paged.PagedMemory.{PagedMemory}
+use Rattle.act_look.specs.page_memory.Words.{need_of}
+use Rattle.act_look.specs.Looks.{IsMemoryOf}
+use Rattle.image_meaning.specs.blob_grammar.Forms.{IsAtlasForm, IsNumber}
+use Rattle.image_meaning.specs.blob_grammar.Shapes.{IsContainerOver, IsLocusOver}
+use Rattle.image_meaning.specs.blob_grammar.Spelling.{atlas_blob, container_blob, locus_blob}
+use Rattle.image_meaning.specs.image_facts.Bodies.{blocks_for}
 use Rattle.image_meaning.specs.Parts.{Part as Spelt, AtlasPart, ContainerPart, LocusPart}
-use Rattle.kernel_cells.specs.declared.cells.Cell.{Cell}
-use Rattle.kernel_cells.specs.declared.cells.Part.{Part}
-use Rattle.kernel_cells.specs.declared.cells.Part.TheVariants as part
+use Rattle.cell_states.specs.declared.cells.Cell.{Cell}
+use Rattle.cell_states.specs.declared.cells.Part.{Part}
+use Rattle.cell_states.specs.declared.cells.Part.TheVariants as part
 
 -- WHAT A PART'S BLOB SPELLS: of a container its head and the blocks of its pages. What isn't born has none.
 abbrev pub spelt_storage : PagedMemory → Option Head → Option Spelt

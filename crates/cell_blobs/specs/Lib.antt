@@ -1,11 +1,9 @@
 pub mod Blobs
 pub mod Ranges
-pub use Rattle.address_resolve.specs as address_resolve
-pub use Rattle.snapshot_form.specs.blob_grammar
-pub use Rattle.kernel_cells.specs.event_clocks
-pub use Rattle.kernel_cells.specs.fault_paging
-pub use Rattle.kernel_cells.specs.hop_model
+pub use Rattle.act_look.specs.act_alone
+pub use Rattle.act_look.specs as act_look
+pub use Rattle.image_meaning.specs.blob_grammar
+pub use Rattle.cell_states.specs as cell_states
 pub use Rattle.image_meaning.specs as image_meaning
-pub use Rattle.kernel_cells.specs.kernel_calls
-pub use Rattle.kernel_cells.specs as kernel_cells
-pub use Rattle.address_resolve.specs.locus_machine
+pub use Rattle.cell_states.specs.model_kernel
+pub use Rattle.act_look.specs.page_memory

@@ -1,16 +1,16 @@
 // Blobs of parts.
 ghost use Rattle.std.specs.Prelude.{◌≡◌, length, take, IfSome};
-ghost use Rattle.snapshot_form.specs.blob_grammar.Forms.{IsNumber, SpellsContainer, SpellsLocus};
-ghost use Rattle.snapshot_form.specs.blob_grammar.Shapes.{IsContainerOver, IsLocusOver};
+ghost use Rattle.image_meaning.specs.blob_grammar.Forms.{IsNumber, SpellsContainer, SpellsLocus};
+ghost use Rattle.image_meaning.specs.blob_grammar.Shapes.{IsContainerOver, IsLocusOver};
 ghost use Rattle.image_meaning.specs.Parts.{Spells};
-ghost use Rattle.address_resolve.specs.locus_machine.Loci.{container_with, locus_of};
+ghost use Rattle.act_look.specs.act_alone.Loci.{container_with, locus_of};
 ghost use Rattle.cell_blobs.specs.Blobs.{bytes_of, spelt_in, spelt_locus, spelt_storage, HasFormedHead, IsFormed, IsFormedLocus};
 
 use crate::ranges::{fits_number, fits_word, read_blocks, read_rights, read_walk, read_words};
-use address_resolve::{Head, Locus};
-use block_code::Blob;
-use kernel_cells::{Part, Storage};
-use snapshot_form::{write_atlas, write_container, write_locus};
+use act_look::{Head, Locus};
+use base_bytes::Blob;
+use blob_writing::{write_atlas, write_container, write_locus};
+use cell_states::{Part, Storage};
 
 /// Writes a container with the blocks of its pages.
 fn write_head(head: &Head, table: &[u32; 256], blob: &mut Blob)

@@ -6,5 +6,5 @@ mod needs;
 mod ranges;
 
 pub use blobs::write_part;
-pub use kernel_cells::{Cell, Part, Storage, Wish};
+pub use cell_states::{Cell, Part, Storage, Wish};
 pub use needs::{is_recorded, need_cell};

@@ -3,8 +3,8 @@ ghost use Rattle.std.specs.Prelude.{◌≡◌, ◌≤◌, false};
 ghost use Rattle.cell_blobs.specs.Blobs.{blob_need, is_recorded, need_in, page_need, IsFormed};
 
 use crate::blobs::write_part;
-use block_code::Blob;
-use kernel_cells::{Cell, PageStore, Part};
+use base_bytes::Blob;
+use cell_states::{Cell, PageStore, Part};
 
 /// The blocks for pages: those that changed and have no block of their own.
 #[tactic(auto, using(crate::proofs::Shortage::few_pages))]

@@ -1,10 +1,10 @@
 // That numbers are those of their types, as the form of a spelling asks: each is read once.
 ghost use Rattle.std.specs.Prelude.{◌<◌, ◌^◌, ℕ, All};
 ghost use Rattle.std.specs.Option.{ForSome};
-ghost use Rattle.hop_base.specs.declared.instructions.Walk.{Walk as AWalk};
+ghost use Rattle.base_types.specs.declared.instructions.Walk.{Walk as AWalk};
 ghost use Rattle.cell_blobs.specs.Ranges.{HasByteRights};
 
-use hop_base::{Cap, Walk};
+use base_types::{Cap, Walk};
 
 /// A number of 64 bits.
 pub(crate) fn fits_word(value: u64)

@@ -3,17 +3,17 @@
 //! error gets a sentence for people where the status isn't 0. The program ends with the status's number.
 #![tactic(auto)]
 
-use command_parts::{Fault, Status, put_fault, status_of};
-use fault_sentences::{put_sentence, put_unopened};
+use command_outcomes::{Fault, Status, put_fault, status_of};
+use edge_managers::{CountedWords, EveryVersions, Policy, Supplier};
+use edge_streams::{FileDisk, ReadSource, Sink, WriteSink};
 use hopper_top::hopper;
-use manager_gate::{CountedWords, EveryVersions, Policy, Supplier};
+use line_sentences::{put_sentence, put_unopened};
 use std::alloc::Global;
 use std::fs::{Files, OpenOptions};
 use std::io::ErrorKind;
 use std::process::ExitCode;
 use std::rt::Env;
 use std::{env, io};
-use stream_edge::{FileDisk, ReadSource, Sink, WriteSink};
 
 /// The words of the command line, the program's own name first. Words that are no text are of no known form.
 fn words(rt: &(impl Env + Alloc<A = Global>)) -> Result<Vec<String>, Fault> {

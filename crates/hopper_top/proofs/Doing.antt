@@ -3,13 +3,13 @@ use Rattle.std.proofs.Common.{◌≡◌, ℕ, Bool, List, subst}
 use Rattle.command_words.specs.Commands.{IsCommand}
 use Rattle.command_words.specs.declared.Command.{Command}
 use Rattle.command_words.specs.declared.Command.TheVariants.{CheckTrace, Drill, Report, Run, Show}
-use Rattle.reading_commands.specs.command_parts.Seen.{Call}
-use Rattle.run_command.specs.hop_model.State.{Text}
-use Rattle.format_command.specs.image_meaning.Meaning.{Accepted}
-use Rattle.run_command.specs.command_laws.Drilling.{CanDrill}
-use Rattle.run_command.specs.command_laws.Leaving.{CanRun}
-use Rattle.run_command.specs.Openings.{Managers}
-use Rattle.trace_command.specs.command_laws.TraceLeaving.{CanCheck}
+use Rattle.command_outcomes.specs.Seen.{Call}
+use Rattle.command_run.specs.model_kernel.State.{Text}
+use Rattle.command_format.specs.image_meaning.Meaning.{Accepted}
+use Rattle.command_check_trace.specs.command_promises.Drilling.{CanDrill}
+use Rattle.command_check_trace.specs.command_promises.Leaving.{CanRun}
+use Rattle.command_check_trace.specs.command_promises.Openings.{Managers}
+use Rattle.command_check_trace.specs.command_promises.TraceLeaving.{CanCheck}
 use Rattle.command_words.proofs.Worded.{one_command}
 use Rattle.hopper_top.specs.Leaving.{CanDo, answers_of}
 

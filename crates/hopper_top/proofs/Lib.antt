@@ -1,4 +1,3 @@
 mod Doing
-pub use Rattle.format_command.proofs.image_meaning_lemmas
-pub use Rattle.trace_command.proofs as trace_command_lemmas
-pub use Rattle.trace_command.proofs.command_laws_lemmas
+pub use Rattle.command_check_trace.proofs.command_promises_lemmas
+pub use Rattle.command_format.proofs.image_meaning_lemmas

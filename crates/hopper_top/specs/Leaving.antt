@@ -3,27 +3,27 @@ use Rattle.std.specs.Prelude.{◌≡◌, ◌⊎◌, ◌≤◌, Bool, false, true
 use Rattle.command_words.specs.Commands.{IsCommand}
 use Rattle.command_words.specs.declared.Command.{Command}
 use Rattle.command_words.specs.declared.Command.TheVariants.{CheckTrace, Drill, Format, Report, Run, Show}
-use Rattle.run_command.specs.hop_model.State.{Text}
-use Rattle.format_command.specs.image_meaning.Meaning.{Accepted}
-use Rattle.reading_commands.specs.command_parts.Ends.{IsUnrun}
-use Rattle.reading_commands.specs.command_parts.Seen.{Call, Gave}
-use Rattle.reading_commands.specs.command_parts.Statuses.{ending, status_by}
-use Rattle.reading_commands.specs.command_parts.declared.faults.Fault.{Fault}
-use Rattle.reading_commands.specs.command_parts.declared.faults.Fault.TheVariants.{Memory as NoMemory, Usage as BadWords}
-use Rattle.reading_commands.specs.command_parts.declared.statuses.Status.{Status}
-use Rattle.reading_commands.specs.command_parts.declared.statuses.Status.TheVariants.{DiskFault, SinkFault, SourceFault}
-use Rattle.format_command.specs.Formats.{FormatLeaves}
-use Rattle.reading_commands.specs.Reports.{ReportLeaves}
-use Rattle.reading_commands.specs.Shows.{ShowLeaves}
-use Rattle.run_command.specs.command_laws.Drilling.{CanDrill, DrillLeaves}
-use Rattle.run_command.specs.command_laws.Leaving.{CanRun, RunLeaves}
-use Rattle.run_command.specs.Openings.{Managers}
-use Rattle.run_command.specs.Tellings.{lines_of}
-use Rattle.run_command.specs.declared.putting.Lines.{Lines}
-use Rattle.run_command.specs.declared.putting.Lines.TheVariants.{Entries, Printed}
-use Rattle.trace_command.specs.command_laws.TraceLeaving.{CanCheck, TraceLeaves}
-use Rattle.trace_command.specs.command_laws.Sources.{from_source}
-use Rattle.trace_command.specs.trace_rules.Standing.{Managers as Answers}
+use Rattle.command_run.specs.model_kernel.State.{Text}
+use Rattle.command_format.specs.image_meaning.Meaning.{Accepted}
+use Rattle.command_outcomes.specs.Ends.{IsUnrun}
+use Rattle.command_outcomes.specs.Seen.{Call, Gave}
+use Rattle.command_outcomes.specs.Statuses.{ending, status_by}
+use Rattle.command_outcomes.specs.declared.faults.Fault.{Fault}
+use Rattle.command_outcomes.specs.declared.faults.Fault.TheVariants.{Memory as NoMemory, Usage as BadWords}
+use Rattle.command_outcomes.specs.declared.statuses.Status.{Status}
+use Rattle.command_outcomes.specs.declared.statuses.Status.TheVariants.{DiskFault, SinkFault, SourceFault}
+use Rattle.command_format.specs.Formats.{FormatLeaves}
+use Rattle.command_show.specs.Reports.{ReportLeaves}
+use Rattle.command_show.specs.Shows.{ShowLeaves}
+use Rattle.command_check_trace.specs.command_promises.Drilling.{CanDrill, DrillLeaves}
+use Rattle.command_check_trace.specs.command_promises.Leaving.{CanRun, RunLeaves}
+use Rattle.command_check_trace.specs.command_promises.Openings.{Managers}
+use Rattle.command_run.specs.Tellings.{lines_of}
+use Rattle.command_run.specs.declared.putting.Lines.{Lines}
+use Rattle.command_run.specs.declared.putting.Lines.TheVariants.{Entries, Printed}
+use Rattle.command_check_trace.specs.command_promises.TraceLeaving.{CanCheck, TraceLeaves}
+use Rattle.command_check_trace.specs.command_promises.Sources.{from_source}
+use Rattle.command_check_trace.specs.trace_step_facts.Standing.{Managers as Answers}
 
 -- STOPPED BEFORE ANY COMMAND by this fault: nothing was run, and neither source nor disk was touched
 pub record IsUntouched (call : Call) (gave : Gave) (fault : Fault) : Type 0 where

@@ -1,24 +1,24 @@
 //! The call that does it all.
 ghost use Rattle.std.specs.Prelude.{◌≡◌, ◌≤◌, ◌<◌, ◌^◌, ℕ, Bool, map, string_bytes};
-ghost use Rattle.disk_trait.specs.Counts.{Rose};
-ghost use Rattle.disk_trait.specs.declared.disk.NoBlocks.{NoBlocks};
-ghost use Rattle.reading_commands.specs.image_form.Layout.{least_blocks, most_blocks};
+ghost use Rattle.edge_disk.specs.Counts.{Rose};
+ghost use Rattle.edge_disk.specs.declared.disk.NoBlocks.{NoBlocks};
+ghost use Rattle.command_check_trace.specs.image_facts.Layout.{least_blocks, most_blocks};
 ghost use Rattle.command_words.specs.Commands.{IsCommand};
 ghost use Rattle.command_words.specs.declared.Command.TheVariants.{Format as FormatCommand};
-ghost use Rattle.reading_commands.specs.command_parts.Seen.{gave, seen_disk, seen_sink, seen_source};
-ghost use Rattle.reading_commands.specs.command_parts.Statuses.{IsComplete};
-ghost use Rattle.run_command.specs.Openings.{Managers};
+ghost use Rattle.command_outcomes.specs.Seen.{gave, seen_disk, seen_sink, seen_source};
+ghost use Rattle.command_outcomes.specs.Statuses.{IsComplete};
+ghost use Rattle.command_check_trace.specs.command_promises.Openings.{Managers};
 ghost use Rattle.hopper_top.specs.Leaving.{CanDo, CommandLeaves, HasCause, IsNoCommand, Leaves, UsageLeaves, asked_lines as told_lines};
 
-use command_parts::{Fault, Outcome, Status, end_with};
+use command_check_trace::check_trace;
+use command_format::format_image;
+use command_outcomes::{Fault, Outcome, Status, end_with};
+use command_run::{Lines, run_drill, run_script};
+use command_show::{report_image, show_image};
 use command_words::{Command, read_command};
-use disk_trait::Disk;
-use format_command::format_image;
-use reading_commands::{report_image, show_image};
-use run_command::{Lines, run_drill, run_script};
+use edge_disk::Disk;
+use edge_streams::{Sink, Source};
 use std::alloc::Global;
-use stream_edge::{Sink, Source};
-use trace_command::check_trace;
 
 // Which lines a run is asked for.
 fn asked_lines(trace: bool) -> Lines
@@ -51,13 +51,13 @@ fn do_command<R: Source, W: Sink, D: Disk, S: Fn(u64, u32, u16) -> u64, P: Fn(u3
     ensures leaves { CommandLeaves m command (record {
       source = seen_source R.left R.faults source.old source.new;
       sink = seen_sink W.held W.faults sink.old sink.new;
-      disk = seen_disk D.tells D.block_count D.reading D.may_leave D.left_since D.clock D.faults disk result.disk;
+      disk = seen_disk D.Disk disk result.disk;
     }) (gave result) }
     ensures blocks { D.block_count result.disk ≡ D.block_count disk }
     ensures complete { CanDo m command (record {
       source = seen_source R.left R.faults source.old source.new;
       sink = seen_sink W.held W.faults sink.old sink.new;
-      disk = seen_disk D.tells D.block_count D.reading D.may_leave D.left_since D.clock D.faults disk result.disk;
+      disk = seen_disk D.Disk disk result.disk;
     }) → (Rose (R.faults source.old) (R.faults source.new) → ⊥) → (Rose (D.faults disk) (D.faults result.disk) → ⊥)
         → (Rose (W.faults sink.old) (W.faults sink.new) → ⊥) → ((n : NoBlocks) → result.status ≡ Status.BlocksFull n → ⊥) → IsComplete result.status }
 {
@@ -103,14 +103,14 @@ pub fn hopper<R: Source, W: Sink, D: Disk, S: Fn(u64, u32, u16) -> u64, P: Fn(u3
     ensures leaves { (c : Command) → IsCommand (map string_bytes words.now) c → Leaves m c (record {
       source = seen_source R.left R.faults source.old source.new;
       sink = seen_sink W.held W.faults sink.old sink.new;
-      disk = seen_disk D.tells D.block_count D.reading D.may_leave D.left_since D.clock D.faults disk result.disk;
+      disk = seen_disk D.Disk disk result.disk;
     }) (gave result) }
 
     // Words of no known form.
     ensures no_command { IsNoCommand (map string_bytes words.now) → UsageLeaves (record {
       source = seen_source R.left R.faults source.old source.new;
       sink = seen_sink W.held W.faults sink.old sink.new;
-      disk = seen_disk D.tells D.block_count D.reading D.may_leave D.left_since D.clock D.faults disk result.disk;
+      disk = seen_disk D.Disk disk result.disk;
     }) (gave result) }
     ensures usage { result.status ≡ Status.Usage → IsNoCommand (map string_bytes words.now) }
 
@@ -118,7 +118,7 @@ pub fn hopper<R: Source, W: Sink, D: Disk, S: Fn(u64, u32, u16) -> u64, P: Fn(u3
     ensures causes { HasCause (record {
       source = seen_source R.left R.faults source.old source.new;
       sink = seen_sink W.held W.faults sink.old sink.new;
-      disk = seen_disk D.tells D.block_count D.reading D.may_leave D.left_since D.clock D.faults disk result.disk;
+      disk = seen_disk D.Disk disk result.disk;
     }) result.status }
     ensures blocks { D.block_count result.disk ≡ D.block_count disk }
 
@@ -126,7 +126,7 @@ pub fn hopper<R: Source, W: Sink, D: Disk, S: Fn(u64, u32, u16) -> u64, P: Fn(u3
     ensures complete { (c : Command) → IsCommand (map string_bytes words.now) c → CanDo m c (record {
       source = seen_source R.left R.faults source.old source.new;
       sink = seen_sink W.held W.faults sink.old sink.new;
-      disk = seen_disk D.tells D.block_count D.reading D.may_leave D.left_since D.clock D.faults disk result.disk;
+      disk = seen_disk D.Disk disk result.disk;
     }) → (Rose (R.faults source.old) (R.faults source.new) → ⊥) → (Rose (D.faults disk) (D.faults result.disk) → ⊥)
         → (Rose (W.faults sink.old) (W.faults sink.new) → ⊥) → ((n : NoBlocks) → result.status ≡ Status.BlocksFull n → ⊥) → IsComplete result.status }
 {

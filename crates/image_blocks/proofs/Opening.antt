@@ -5,22 +5,22 @@ use Rattle.std.proofs.lemmas.Bool.{and_parts, cases_eq, cases_lt, false≢true, 
 use Rattle.std.proofs.lemmas.Bool.Decides.{nat_tests}
 use Rattle.std.proofs.lemmas.List.{get_or-map, length-map}
 use Rattle.std.proofs.lemmas.Option.{get_or_from_slice_get, slice_get_within}
-use Rattle.disk_trait.specs.Image.{Image, IsImage, block_at}
-use Rattle.hop_base.specs.Edges.{upto}
-use Rattle.hop_base.specs.declared.records.Rec.{Rec}
-use Rattle.image_form.specs.Bodies.{blocks_for, body_block, number_at, record_in}
+use Rattle.edge_disk.specs.Image.{Image, IsImage, block_at}
+use Rattle.base_types.specs.Edges.{upto}
+use Rattle.base_types.specs.declared.records.Rec.{Rec}
+use Rattle.image_facts.specs.Bodies.{blocks_for, body_block, number_at, record_in}
 use Rattle.image_blocks.specs.Checks.{Bad, active_area, active_by, area_fault, body_in, check_1, check_2, check_3, in_block, log_fault, log_in, records_fault, slot_fault, used_from, used_in}
-use Rattle.image_form.specs.Checks.{blocks_fault, body_fault, count_in, header_fault, is_count, is_epoch, last_version, stamps_fault, superblock_fault, unless_at, zeros_from}
+use Rattle.image_facts.specs.Checks.{blocks_fault, body_fault, count_in, header_fault, is_count, is_epoch, last_version, stamps_fault, superblock_fault, unless_at, zeros_from}
 use Rattle.image_blocks.specs.Layout.{body_at, epoch_in, header_at, slot_gate_at}
-use Rattle.image_form.specs.Layout.{is_open, least_blocks, most_blocks, most_length, pool_at, slot_count}
-use Rattle.image_form.specs.Logs.{AreFitting}
+use Rattle.image_facts.specs.Layout.{is_open, least_blocks, most_blocks, most_length, pool_at, slot_count}
+use Rattle.image_facts.specs.Logs.{AreFitting}
 use Rattle.image_blocks.specs.Logs.{HasLog, HasRecords, IsActive, LogBackLaw}
 use Rattle.image_blocks.specs.declared.areas.Area.{Area}
 use Rattle.image_blocks.specs.declared.areas.Area.TheVariants.{A, B}
-use Rattle.image_form.proofs.Firsts.{first_each, first_head, unless_none}
-use Rattle.hop_model.proofs.Lists.{upto_get, upto_len}
+use Rattle.image_facts.proofs.Firsts.{first_each, first_head, unless_none}
+use Rattle.image_facts.proofs.model_kernel_lemmas.Lists.{upto_get, upto_len}
 use Rattle.image_blocks.proofs.Rest.{used_most}
-use Rattle.image_form.proofs.Spelling.{body_is}
+use Rattle.image_facts.proofs.Spelling.{body_is}
 
 -- PARTS of the checks
 

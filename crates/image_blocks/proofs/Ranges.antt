@@ -7,19 +7,19 @@ use Rattle.std.proofs.lemmas.Bool.Decides.{nat_tests}
 use Rattle.std.proofs.lemmas.List.{get_or-append_right, get_or-map, get_or-take, get_or_append_left, get_or_past, length-append, length-map, length-take}
 use Rattle.std.proofs.lemmas.List.Folds.{list_any_at}
 use Rattle.std.proofs.lemmas.Option.{get_or_from_slice_get, slice_get-get_or, slice_get_within}
-use Rattle.hop_base.specs.Edges.{upto}
-use Rattle.hop_base.specs.declared.records.Rec.{Rec}
-use Rattle.hop_model.specs.Words.{first}
-use Rattle.image_form.specs.Bodies.{blocks_for, number_at, record_in}
-use Rattle.image_form.specs.Checks.{block_fault, blocks_fault, count_in, is_block_number, is_epoch, last_version, stamp_fault, stamps_fault}
+use Rattle.base_types.specs.Edges.{upto}
+use Rattle.base_types.specs.declared.records.Rec.{Rec}
+use Rattle.image_facts.specs.model_kernel.Words.{first}
+use Rattle.image_facts.specs.Bodies.{blocks_for, number_at, record_in}
+use Rattle.image_facts.specs.Checks.{block_fault, blocks_fault, count_in, is_block_number, is_epoch, last_version, stamp_fault, stamps_fault}
 use Rattle.image_blocks.specs.Checks.{body_in}
-use Rattle.image_form.specs.Layout.{last_number, most_length, pool_at}
+use Rattle.image_facts.specs.Layout.{last_number, most_length, pool_at}
 use Rattle.image_blocks.specs.Logs.{AscendingLaw, InRangeLaw}
-use Rattle.image_form.specs.Logs.{IsInRange}
-use Rattle.image_form.proofs.LastVersions.{last_version-more}
-use Rattle.image_form.proofs.Firsts.{first_each, ne_test, unless_none}
+use Rattle.image_facts.specs.Logs.{IsInRange}
+use Rattle.image_facts.proofs.LastVersions.{last_version-more}
+use Rattle.image_facts.proofs.Firsts.{first_each, ne_test, unless_none}
 use Rattle.image_blocks.proofs.Opening.{Tests, read, slot_none, tests, used_before}
-use Rattle.hop_model.proofs.Lists.{upto_get, upto_len}
+use Rattle.image_facts.proofs.model_kernel_lemmas.Lists.{upto_get, upto_len}
 
 -- the numbers of a list made by a function
 row_at : (f : ℕ → ℕ) (n i : ℕ) → i < n → slice_index (map f (upto n)) i ≡ f i

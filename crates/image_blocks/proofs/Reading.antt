@@ -4,21 +4,21 @@ use Rattle.std.specs.Prelude.{slice_get}
 use Rattle.std.proofs.lemmas.Bool.{cases_lt, false≢true}
 use Rattle.std.proofs.lemmas.List.{ext_get_or, get_or-map, length-map}
 use Rattle.std.proofs.lemmas.Option.{slice_get-get_or}
-use Rattle.disk_trait.specs.Image.{Image}
-use Rattle.hop_base.specs.Edges.{upto}
-use Rattle.hop_base.specs.declared.records.Rec.{Rec}
-use Rattle.hop_model.specs.Words.{first}
-use Rattle.image_form.specs.Bodies.{record_in}
+use Rattle.edge_disk.specs.Image.{Image}
+use Rattle.base_types.specs.Edges.{upto}
+use Rattle.base_types.specs.declared.records.Rec.{Rec}
+use Rattle.image_facts.specs.model_kernel.Words.{first}
+use Rattle.image_facts.specs.Bodies.{record_in}
 use Rattle.image_blocks.specs.Checks.{active_area, active_by, area_fault, body_in, check_2, check_3, in_block, log_fault, log_in, records_fault, slot_fault, used_from, used_in}
-use Rattle.image_form.specs.Checks.{body_fault, count_in}
+use Rattle.image_facts.specs.Checks.{body_fault, count_in}
 use Rattle.image_blocks.specs.Layout.{body_at, epoch_in, gate_at, header_at, other, slot_gate_at}
-use Rattle.image_form.specs.Layout.{is_open, slot_count}
-use Rattle.image_form.specs.Logs.{AreFitting}
+use Rattle.image_facts.specs.Layout.{is_open, slot_count}
+use Rattle.image_facts.specs.Logs.{AreFitting}
 use Rattle.image_blocks.specs.Logs.{HasFront, HasLog, HasSlots, LogLaw, Place}
 use Rattle.image_blocks.specs.declared.areas.Area.{Area}
 use Rattle.image_blocks.specs.declared.areas.Area.TheVariants.{A, B}
-use Rattle.image_form.proofs.Firsts.{first_all}
-use Rattle.hop_model.proofs.Lists.{upto_get, upto_len}
+use Rattle.image_facts.proofs.Firsts.{first_all}
+use Rattle.model_kernel.proofs.Lists.{upto_get, upto_len}
 
 -- THE ACTIVE AREA
 

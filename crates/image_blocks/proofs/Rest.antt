@@ -1,16 +1,16 @@
 -- The records of an image rest on a few blocks.
 use Rattle.std.proofs.Common.{◌≡◌, ℕ, zero, suc, ◌+◌, ◌-◌, ◌≤◌, ◌<◌, Bool, true, false, ◌==◌, if◌then◌else◌, inl, inr, List, [], ◌∷◌, ◌++◌, length, map, take, Option, Some, refl, sym, ap, subst, ◌∙◌, arith}
 use Rattle.std.proofs.lemmas.List.{length-map, map-append}
-use Rattle.disk_trait.specs.Image.{Image, block_at}
-use Rattle.hop_base.specs.Edges.{upto}
-use Rattle.hop_base.specs.declared.records.Rec.{Rec}
-use Rattle.hop_model.specs.Words.{first}
-use Rattle.hop_model.proofs.Lists.{upto_len}
-use Rattle.image_form.specs.Bodies.{number_at, record_in}
+use Rattle.edge_disk.specs.Image.{Image, block_at}
+use Rattle.base_types.specs.Edges.{upto}
+use Rattle.base_types.specs.declared.records.Rec.{Rec}
+use Rattle.image_facts.specs.model_kernel.Words.{first}
+use Rattle.image_facts.proofs.model_kernel_lemmas.Lists.{upto_len}
+use Rattle.image_facts.specs.Bodies.{number_at, record_in}
 use Rattle.image_blocks.specs.Checks.{Bad, active_area, active_by, area_fault, body_in, check_1, check_2, check_3, in_block, log_fault, log_in, records_fault, slot_fault, used_from, used_in}
-use Rattle.image_form.specs.Checks.{body_fault, count_in, header_fault, superblock_fault}
+use Rattle.image_facts.specs.Checks.{body_fault, count_in, header_fault, superblock_fault}
 use Rattle.image_blocks.specs.Layout.{body_at, epoch_in, gate_at, header_at, other, slot_gate_at}
-use Rattle.image_form.specs.Layout.{first_number, is_open, slot_count}
+use Rattle.image_facts.specs.Layout.{first_number, is_open, slot_count}
 use Rattle.image_blocks.specs.Logs.{HasRecords, RecordsRestLaw, RecordsRestOn}
 use Rattle.image_blocks.specs.declared.areas.Area.{Area}
 use Rattle.image_blocks.specs.declared.areas.Area.TheVariants.{A, B}

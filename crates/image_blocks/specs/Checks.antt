@@ -1,16 +1,16 @@
 -- The first bad place of an image's areas and of the records of its log.
 use Rattle.std.specs.Prelude.{ℕ, zero, suc, ◌+◌, Bool, true, false, ◌==◌, nat_lt, if◌then◌else◌, List, [], ◌∷◌, length, map, take, Option, Some, None, option_map}
-use Rattle.disk_trait.specs.Image.{Image, block_at}
-use Rattle.hop_base.specs.Edges.{upto}
-use Rattle.hop_base.specs.declared.records.Rec.{Rec}
-use Rattle.hop_model.specs.Words.{first}
+use Rattle.edge_disk.specs.Image.{Image, block_at}
+use Rattle.base_types.specs.Edges.{upto}
+use Rattle.base_types.specs.declared.records.Rec.{Rec}
+use Rattle.image_facts.specs.model_kernel.Words.{first}
 use Rattle.image_blocks.specs.Layout.{header_at, body_at, slot_gate_at, epoch_in}
-use Rattle.image_form.specs.Layout.{slot_count, is_open}
-use Rattle.image_form.specs.Bodies.{record_in}
+use Rattle.image_facts.specs.Layout.{slot_count, is_open}
+use Rattle.image_facts.specs.Bodies.{record_in}
 use Rattle.image_blocks.specs.declared.areas.Area.{Area}
 use Rattle.image_blocks.specs.declared.faults.Bad.{Bad as BadPlace}
 use Rattle.image_blocks.specs.declared.areas.Area.TheVariants.{A, B}
-use Rattle.image_form.specs.Checks.{count_in, superblock_fault, header_fault, body_fault}
+use Rattle.image_facts.specs.Checks.{count_in, superblock_fault, header_fault, body_fault}
 
 -- a bad place: a block, and a byte in it
 abbrev pub Bad : Type 0

@@ -1,9 +1,9 @@
 -- Where the blocks of an area stand on a disk.
 use Rattle.std.specs.Prelude.{◌≡◌, ◌⊎◌, ℕ, ◌+◌, ◌*◌}
-use Rattle.disk_trait.specs.Image.{Image, IsInRun, block_at}
+use Rattle.edge_disk.specs.Image.{Image, IsInRun, block_at}
 use Rattle.image_blocks.specs.declared.areas.Area.{Area}
 use Rattle.image_blocks.specs.declared.areas.Area.TheVariants.{A, B}
-use Rattle.image_form.specs.Layout.{slot_blocks, first_number}
+use Rattle.image_facts.specs.Layout.{slot_blocks, first_number}
 
 -- the other area
 abbrev pub other : Area → Area

@@ -1,14 +1,15 @@
 -- Images that have a log, and the stages of an image while a record is appended or the log is turned.
 use Rattle.std.specs.Prelude.{◌≡◌, ◌⊎◌, ℕ, ◌+◌, ◌<◌, ◌≤◌, true, false, List, [], ◌∷◌, ◌++◌, length, take, slice_get, Some, None}
-use Rattle.disk_trait.specs.Image.{Image, IsImage, SameOutside, block_at}
-use Rattle.hop_base.specs.declared.records.Rec.{Rec}
+use Rattle.edge_disk.specs.declared.disk.Disk.{Ghosts}
+use Rattle.edge_disk.specs.Image.{Image, IsImage, SameOutside, block_at}
+use Rattle.base_types.specs.declared.records.Rec.{Rec}
 use Rattle.image_blocks.specs.Layout.{other, header_at, gate_at, body_at, slot_gate_at, epoch_in, IsOfArea}
-use Rattle.image_form.specs.Layout.{header_block, slot_count, is_open}
-use Rattle.image_form.specs.Bodies.{body_block}
+use Rattle.image_facts.specs.Layout.{header_block, slot_count, is_open}
+use Rattle.image_facts.specs.Bodies.{body_block}
 use Rattle.image_blocks.specs.Checks.{active_area, check_1, log_in, records_fault}
-use Rattle.image_form.specs.Checks.{count_in, header_fault}
+use Rattle.image_facts.specs.Checks.{count_in, header_fault}
 use Rattle.image_blocks.specs.declared.areas.Area.{Area}
-use Rattle.image_form.specs.Logs.{IsInRange, AreFitting}
+use Rattle.image_facts.specs.Logs.{IsInRange, AreFitting}
 
 -- ONE AREA
 
@@ -63,8 +64,8 @@ pub record IsAdded (area : Area) (recs : List Rec) (rec : Rec) (reading : Image)
   pub slots : HasSlots area (recs ++ rec ∷ []) c
 
 -- THE STAGES OF AN APPEND
-abbrev pub IsAppending : {D : Type 0} → (D → Image → Type 0) → (D → Image) → Area → List Rec → Rec → D → Image → Type 0
-IsAppending may_leave reading area recs rec old c = IsNotYet may_leave area recs old c ⊎ IsAdded area recs rec (reading old) c
+abbrev pub IsAppending : {D : Type 0} → Ghosts D → Area → List Rec → Rec → D → Image → Type 0
+IsAppending disks area recs rec old c = IsNotYet disks.may_leave area recs old c ⊎ IsAdded area recs rec (disks.reading old) c
 
 -- WHAT A STOP LEAVES OF A TURN
 

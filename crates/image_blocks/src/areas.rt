@@ -1,7 +1,7 @@
 // The two areas of an image, and where their blocks are.
 ghost use Rattle.std.specs.Prelude.{◌≡◌, ◌<◌, ◌+◌};
 ghost use Rattle.image_blocks.specs.Layout.{other, header_at, gate_at, body_at};
-ghost use Rattle.image_form.specs.Layout.{pool_at, slot_count};
+ghost use Rattle.image_facts.specs.Layout.{pool_at, slot_count};
 
 // The first block of the slots of area A, and of those of area B.
 const SLOTS_OF_A: u32 = 5;

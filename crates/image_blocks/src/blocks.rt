@@ -1,13 +1,13 @@
 // Gates and headers, and the numbers in blocks.
 ghost use Rattle.std.specs.Prelude.{◌≡◌, ◌+◌, ◌≤◌, ◌==◌, None, Some, IfOk, IfErr};
-ghost use Rattle.image_form.specs.Bodies.{number_at};
-ghost use Rattle.image_form.specs.Checks.{header_fault};
-ghost use Rattle.image_form.specs.Layout.{first_number, closed_gate as closed_block, header_block as header_with, last_number, open_gate as open_block};
+ghost use Rattle.image_facts.specs.Bodies.{number_at};
+ghost use Rattle.image_facts.specs.Checks.{header_fault};
+ghost use Rattle.image_facts.specs.Layout.{first_number, closed_gate as closed_block, header_block as header_with, last_number, open_gate as open_block};
 
 use crate::LAST_NUMBER;
 use crate::faults::{first_place, nonzero_from, unless_at};
-use block_code::{get_u32, get_u64, put_u64};
-use disk_trait::BLOCK_BYTES;
+use base_bytes::{get_u32, get_u64, put_u64};
+use edge_disk::BLOCK_BYTES;
 
 // The number of 32 bits at a place.
 pub(crate) fn u32_at(block: &[u8; 1024], at: usize) -> u32

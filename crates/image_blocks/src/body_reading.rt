@@ -1,13 +1,13 @@
 // The bodies of slots, read.
 ghost use Rattle.std.specs.Prelude.{◌≡◌, ◌<◌, ◌==◌, nat_le, if◌then◌else◌, None, Some, OnOk, IfOk, IfErr};
-ghost use Rattle.image_form.specs.Bodies.{blocks_for, number_at, record_in};
-ghost use Rattle.image_form.specs.Layout.{last_number};
-ghost use Rattle.image_form.specs.Checks.{blocks_fault as bad_block, body_fault as fault_of, is_block_number as may_be, last_version as last_in, stamps_fault as bad_component};
+ghost use Rattle.image_facts.specs.Bodies.{blocks_for, number_at, record_in};
+ghost use Rattle.image_facts.specs.Layout.{last_number};
+ghost use Rattle.image_facts.specs.Checks.{blocks_fault as bad_block, body_fault as fault_of, is_block_number as may_be, last_version as last_in, stamps_fault as bad_component};
 
 use crate::blocks::{u32_at, u64_at};
 use crate::faults::{first_place, nonzero_from, unless_at};
 use crate::{LAST_NUMBER, MOST_LENGTH, POOL_AT};
-use hop_base::{Entity, Rec};
+use base_types::{Entity, Rec};
 
 // The version of the entity's last record once this one stands behind the others.
 fn last_with(rec: &Rec, entity: u32, last: u64) -> u64

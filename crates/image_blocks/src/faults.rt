@@ -1,9 +1,9 @@
 // Bad places, and the first of several.
 ghost use Rattle.std.specs.Prelude.{◌≡◌, ◌≤◌};
-ghost use Rattle.hop_model.specs.Words.{first};
-ghost use Rattle.image_form.specs.Checks.{unless_at as place_unless, zeros_from};
+ghost use Rattle.image_facts.specs.model_kernel.Words.{first};
+ghost use Rattle.image_facts.specs.Checks.{unless_at as place_unless, zeros_from};
 
-use disk_trait::BLOCK_BYTES;
+use edge_disk::BLOCK_BYTES;
 
 /// A bad place of an image: a block, and a byte of it from 0 to 1,023.
 #[derive(Clone, Copy, Debug, PartialEq, Eq)]

@@ -1,7 +1,7 @@
 // Laws of logs in images. The functions do nothing: their contracts are the laws.
-ghost use Rattle.image_form.specs.Examples.{WorkedBlocks};
+ghost use Rattle.image_facts.specs.Examples.{WorkedBlocks};
 ghost use Rattle.image_blocks.specs.Logs.{AscendingLaw, InRangeLaw, LogBackLaw, LogLaw, RecordsRestLaw};
-ghost use Rattle.image_form.specs.Logs.{FittingLaw};
+ghost use Rattle.image_facts.specs.Logs.{FittingLaw};
 
 /// The records of an image rest on a few of its blocks: an image of as many blocks that agrees there has the same.
 pub fn records_rest_law()

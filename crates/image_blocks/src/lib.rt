@@ -18,7 +18,7 @@ pub use areas::{Area, body_of, gate_of, header_of, other_area};
 pub use blocks::{closed_gate, epoch_of, header_block, is_open, open_gate, read_header};
 pub use bodies::body_block;
 pub use body_reading::read_body;
-pub use disk_trait::BLOCK_BYTES;
+pub use edge_disk::BLOCK_BYTES;
 pub use faults::Bad;
 pub use laws::{examples_hold, fitting_law, log_back_law, log_law, records_rest_law};
 pub use superblocks::{read_superblock, superblock};

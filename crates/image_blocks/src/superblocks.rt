@@ -1,8 +1,8 @@
 // The superblock, written and read.
 ghost use Rattle.std.specs.Prelude.{◌≡◌, ◌≤◌, None, Some, IfOk, IfErr};
-ghost use Rattle.image_form.specs.Bodies.{number_at};
-ghost use Rattle.image_form.specs.Checks.{superblock_fault};
-ghost use Rattle.image_form.specs.Layout.{least_blocks, superblock as superblock_with};
+ghost use Rattle.image_facts.specs.Bodies.{number_at};
+ghost use Rattle.image_facts.specs.Checks.{superblock_fault};
+ghost use Rattle.image_facts.specs.Layout.{least_blocks, superblock as superblock_with};
 
 use crate::blocks::u32_at;
 use crate::faults::{first_place, nonzero_from, unless_at};

@@ -2,18 +2,18 @@
 use Rattle.std.proofs.Common.{◌≡◌, ℕ, zero, suc, ◌+◌, ◌-◌, ◌<◌, ◌≤◌, false, true, Bool, List, [], ◌∷◌, ◌++◌, length, take, replicate, Option, Some, None, refl, arith, inl, inr, sym, ap, subst, ◌∙◌, lit<, lit≤, ◌==◌, if◌then◌else◌, ◌&&◌}
 use Rattle.std.proofs.lemmas.List.{get_or-append_right}
 use Rattle.std.specs.Prelude.{slice_index}
-use Rattle.hop_base.specs.declared.entities.Kind.TheVariants.{Container}
-use Rattle.hop_base.specs.declared.records.Rec.{Rec}
-use Rattle.image_meaning.specs.hop_model.Choices.{covered, greatest}
-use Rattle.image_meaning.specs.hop_model.State.{ContainerState}
+use Rattle.base_types.specs.declared.entities.Kind.TheVariants.{Container}
+use Rattle.base_types.specs.declared.records.Rec.{Rec}
+use Rattle.image_meaning.specs.model_kernel.Choices.{covered, greatest}
+use Rattle.image_meaning.specs.model_kernel.State.{ContainerState}
 use Rattle.image_meaning.proofs.blob_grammar_lemmas.Smallest.{clash, empty_container, small_container}
 use Rattle.image_meaning.specs.blob_grammar.Forms.{IsSpelling, SpellsContainer}
 use Rattle.image_meaning.specs.blob_grammar.Places.{Begins, GoesPast, IsBadPlace}
 use Rattle.image_meaning.specs.blob_grammar.Spelling.{container_blob}
-use Rattle.image_meaning.specs.image_form.Bodies.{blob_in, blob_room, body_block, record_in}
+use Rattle.image_meaning.specs.image_facts.Bodies.{blob_in, blob_room, body_block, record_in}
 use Rattle.image_meaning.specs.image_blocks.Checks.{active_area, log_in, records_fault}
-use Rattle.image_meaning.specs.image_form.Checks.{blocks_fault, stamps_fault}
-use Rattle.image_meaning.specs.image_form.Layout.{header_block, open_gate, superblock}
+use Rattle.image_meaning.specs.image_facts.Checks.{blocks_fault, stamps_fault}
+use Rattle.image_meaning.specs.image_facts.Layout.{header_block, open_gate, superblock}
 use Rattle.image_meaning.specs.image_blocks.Logs.{HasRecords}
 use Rattle.image_meaning.specs.image_blocks.declared.areas.Area.TheVariants.{A}
 use Rattle.image_meaning.specs.Foreign.{IsBadBlob, IsBadRest, IsBadSpelling, IsBodyBlock, IsFirstRest, IsForeign}

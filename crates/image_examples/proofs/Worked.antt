@@ -3,12 +3,12 @@ use Rattle.std.proofs.Common.{◌≡◌, ℕ, zero, suc, ◌-◌, ◌<◌, Bool,
 use Rattle.std.proofs.lemmas.Bool.{false≢true}
 use Rattle.std.proofs.lemmas.Bool.Decides.{nat_tests}
 use Rattle.std.specs.Prelude.{IsTrue, slice_get, slice_index, codes}
-use Rattle.disk_trait.specs.Image.{Image}
-use Rattle.hop_base.specs.declared.entities.Kind.TheVariants.{Atlas, Container}
-use Rattle.hop_base.specs.declared.instructions.Walk.{Walk}
-use Rattle.hop_base.specs.declared.records.Rec.{Rec}
-use Rattle.image_meaning.specs.hop_model.Soundness.{HasNoCircle, is_born, is_born_container}
-use Rattle.image_meaning.specs.hop_model.State.{AtlasState, ContainerState, Text, no_atlas}
+use Rattle.edge_disk.specs.Image.{Image}
+use Rattle.base_types.specs.declared.entities.Kind.TheVariants.{Atlas, Container}
+use Rattle.base_types.specs.declared.instructions.Walk.{Walk}
+use Rattle.base_types.specs.declared.records.Rec.{Rec}
+use Rattle.image_meaning.specs.model_kernel.Soundness.{HasNoCircle, is_born, is_born_container}
+use Rattle.image_meaning.specs.model_kernel.State.{AtlasState, ContainerState, Text, no_atlas}
 use Rattle.image_meaning.specs.blob_grammar.Examples.{small_atlas}
 use Rattle.image_meaning.specs.blob_grammar.Forms.{IsAtlasForm, IsContainerForm, IsSpelling}
 use Rattle.image_meaning.specs.blob_grammar.Places.{GoesPast, IsBadPlace}
@@ -16,11 +16,11 @@ use Rattle.image_meaning.specs.blob_grammar.Spelling.{atlas_blob, container_blob
 use Rattle.image_meaning.proofs.blob_grammar_lemmas.Placing.{past_bad}
 use Rattle.image_meaning.proofs.blob_grammar_lemmas.Smallest.{clash, empty_container, no_cap, none_all, small_container, zeros_small}
 use Rattle.image_meaning.proofs.blob_grammar_lemmas.Values.{prefix_free}
-use Rattle.image_meaning.specs.image_form.Bodies.{blob_in, blob_room}
+use Rattle.image_meaning.specs.image_facts.Bodies.{blob_in, blob_room}
 use Rattle.image_meaning.specs.Fits.{IsFit, shown_by}
 use Rattle.image_meaning.specs.Foreign.{IsBadRest, IsBadSpelling, IsFirstRest}
 use Rattle.image_meaning.specs.Parts.{AtlasPart, ContainerPart, LocusPart, Part, chosen}
-use Rattle.image_meaning.specs.hop_model.Choices.{covered, greatest}
+use Rattle.image_meaning.specs.model_kernel.Choices.{covered, greatest}
 use Rattle.image_examples.specs.Examples.{two_names, showing, WorkedBlobs, WorkedBlocks, WorkedFits, atlas_alone, atlas_record, bad_at, both, box, box_alone, box_record, dirty_block, long_front, one_name, region_onto, plain_box}
 
 -- WHAT FITS

@@ -3,15 +3,15 @@ use Rattle.std.proofs.Common.{◌≡◌, ℕ, zero, suc, ◌<◌, false, true, B
 use Rattle.std.proofs.lemmas.Bool.{false≢true}
 use Rattle.std.proofs.lemmas.Bool.Decides.{nat_tests}
 use Rattle.std.specs.Prelude.{All, MatchOption, drop, slice_set}
-use Rattle.hop_base.specs.declared.records.Rec.{Rec}
-use Rattle.image_meaning.specs.hop_model.Choices.{covered, greatest}
+use Rattle.base_types.specs.declared.records.Rec.{Rec}
+use Rattle.image_meaning.specs.model_kernel.Choices.{covered, greatest}
 use Rattle.image_meaning.proofs.blob_grammar_lemmas.Smallest.{clash, empty_container, small_container}
 use Rattle.image_meaning.specs.blob_grammar.Forms.{SpellsContainer}
 use Rattle.image_meaning.specs.blob_grammar.Spelling.{container_blob}
-use Rattle.image_meaning.specs.image_form.Bodies.{body_block, record_in, blob_room}
+use Rattle.image_meaning.specs.image_facts.Bodies.{body_block, record_in, blob_room}
 use Rattle.image_meaning.specs.image_blocks.Checks.{active_area, log_in, records_fault}
-use Rattle.image_meaning.specs.image_form.Checks.{blocks_fault, count_in, stamps_fault}
-use Rattle.image_meaning.specs.image_form.Layout.{header_block, open_gate, superblock}
+use Rattle.image_meaning.specs.image_facts.Checks.{blocks_fault, count_in, stamps_fault}
+use Rattle.image_meaning.specs.image_facts.Layout.{header_block, open_gate, superblock}
 use Rattle.image_meaning.specs.image_blocks.Logs.{HasRecords}
 use Rattle.image_meaning.specs.image_blocks.declared.areas.Area.TheVariants.{A}
 use Rattle.image_meaning.specs.Fits.{IsFit}

@@ -1,13 +1,13 @@
 -- What fits, and first bad places of blobs, worked out by hand.
 use Rattle.std.specs.Prelude.{◌≡◌, ◌==◌, ◌&&◌, ◌||◌, if◌then◌else◌, ℕ, List, [], ◌∷◌, ◌++◌, replicate, Option, Some, None, codes}
-use Rattle.disk_trait.specs.Image.{Image}
-use Rattle.hop_base.specs.declared.capabilities.Region.{Region}
-use Rattle.hop_base.specs.declared.instructions.Condition.TheVariants.{Running}
-use Rattle.hop_base.specs.declared.instructions.Instr.{Instr}
-use Rattle.hop_base.specs.declared.instructions.Instr.TheVariants.{Load, Set}
-use Rattle.hop_base.specs.declared.records.Rec.{Rec}
-use Rattle.image_meaning.specs.hop_model.State.{AtlasState, ContainerState, LocusState, no_atlas}
-use Rattle.image_meaning.specs.image_form.Bodies.{blob_room}
+use Rattle.edge_disk.specs.Image.{Image}
+use Rattle.base_types.specs.declared.capabilities.Region.{Region}
+use Rattle.base_types.specs.declared.instructions.Condition.TheVariants.{Running}
+use Rattle.base_types.specs.declared.instructions.Instr.{Instr}
+use Rattle.base_types.specs.declared.instructions.Instr.TheVariants.{Load, Set}
+use Rattle.base_types.specs.declared.records.Rec.{Rec}
+use Rattle.image_meaning.specs.model_kernel.State.{AtlasState, ContainerState, LocusState, no_atlas}
+use Rattle.image_meaning.specs.image_facts.Bodies.{blob_room}
 use Rattle.image_meaning.specs.image_blocks.Checks.{Bad}
 use Rattle.image_meaning.specs.Fits.{AreNamedOnce, IsFit, IsTied}
 use Rattle.image_meaning.specs.Foreign.{IsBadRest, IsBadSpelling, blob_bad}

@@ -1,10 +1,10 @@
 -- Whole images, worked out by hand: what their records are refused for, and one whose chosen record doesn't fit.
 use Rattle.std.specs.Prelude.{◌≡◌, ◌-◌, ℕ, List, [], ◌∷◌, ◌++◌, length, replicate, slice_set, Some, None}
-use Rattle.disk_trait.specs.Image.{Image}
-use Rattle.hop_base.specs.declared.records.Rec.{Rec}
-use Rattle.image_meaning.specs.image_form.Bodies.{body_block}
+use Rattle.edge_disk.specs.Image.{Image}
+use Rattle.base_types.specs.declared.records.Rec.{Rec}
+use Rattle.image_meaning.specs.image_facts.Bodies.{body_block}
 use Rattle.image_meaning.specs.image_blocks.Checks.{records_fault}
-use Rattle.image_meaning.specs.image_form.Layout.{header_block, open_gate, superblock}
+use Rattle.image_meaning.specs.image_facts.Layout.{header_block, open_gate, superblock}
 use Rattle.image_meaning.specs.Foreign.{IsForeign}
 use Rattle.image_examples.specs.Examples.{bad_at}
 

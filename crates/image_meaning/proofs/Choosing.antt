@@ -3,13 +3,13 @@ use Rattle.std.proofs.Common.{◌≡◌, ℕ, Bool, true, false, ◌&&◌, ◌==
 use Rattle.std.specs.List.{AllByRecursion}
 use Rattle.std.proofs.lemmas.Bool.Decides.{nat_tests}
 use Rattle.std.proofs.lemmas.List.{get_or_past}
-use Rattle.hop_base.specs.declared.records.Rec.{Rec}
-use Rattle.image_blocks.specs.hop_model.Choices.{IsNarrow}
-use Rattle.cut_laws.specs.Agreeing.{from_cut}
-use Rattle.cut_laws.specs.Records.{commit_of, commits_of, is_rec_from, recs_from}
+use Rattle.image_blocks.specs.base_types.declared.records.Rec.{Rec}
+use Rattle.blob_grammar.specs.model_kernel.Choices.{IsNarrow}
+use Rattle.model_cut_laws.specs.Agreeing.{from_cut}
+use Rattle.model_cut_laws.specs.Records.{commit_of, commits_of, is_rec_from, recs_from}
 use Rattle.image_meaning.specs.Parts.{chosen_by}
 use Rattle.image_meaning.specs.Stores.{IsHeld, Kept, kept_by, recs_of}
-use Rattle.disk_trait.specs.Image.{Image}
+use Rattle.image_blocks.specs.edge_disk.Image.{Image}
 use Rattle.image_meaning.proofs.Finding.{test}
 
 -- FROM A CUT ON

@@ -1,16 +1,16 @@
 -- The image in which nothing is stored yet.
 use Rattle.std.proofs.Common.{◌≡◌, ℕ, ◌≤◌, ◌<◌, ◌^◌, ◌==◌, ◌&&◌, Bool, true, false, if◌then◌else◌, List, [], ◌∷◌, length, replicate, Option, Some, None, nat_le, refl, sym, ap, ◌∙◌, arith, eqb-true}
 use Rattle.std.proofs.lemmas.Bool.{false≢true, leb-true}
-use Rattle.disk_trait.specs.Image.{Image, block_at}
-use Rattle.hop_base.specs.declared.records.Rec.{Rec}
-use Rattle.image_blocks.proofs.hop_model_lemmas.Basics.{and_left, and_right}
-use Rattle.image_blocks.specs.hop_model.State.{Supply, empty_state}
-use Rattle.image_blocks.specs.hop_model.Words.{first}
+use Rattle.image_blocks.specs.edge_disk.Image.{Image, block_at}
+use Rattle.image_blocks.specs.base_types.declared.records.Rec.{Rec}
+use Rattle.blob_grammar.proofs.model_kernel_lemmas.Basics.{and_left, and_right}
+use Rattle.blob_grammar.specs.model_kernel.State.{Supply, empty_state}
+use Rattle.blob_grammar.specs.model_kernel.Words.{first}
 use Rattle.byteorder.specs.Numbers.{little_number-reads_back}
-use Rattle.image_blocks.specs.image_form.Bodies.{number_at}
-use Rattle.image_blocks.specs.image_form.Checks.{count_in, header_fault, is_count, superblock_fault, unless_at}
+use Rattle.image_blocks.specs.image_facts.Bodies.{number_at}
+use Rattle.image_blocks.specs.image_facts.Checks.{count_in, header_fault, is_count, superblock_fault, unless_at}
 use Rattle.image_blocks.specs.Checks.{in_block}
-use Rattle.image_blocks.specs.image_form.Layout.{first_number, header_block, superblock}
+use Rattle.image_blocks.specs.image_facts.Layout.{first_number, header_block, superblock}
 use Rattle.image_blocks.specs.Logs.{HasFront, HasLog, HasRecords, Place}
 use Rattle.image_blocks.specs.declared.areas.Area.TheVariants.{A}
 use Rattle.image_blocks.proofs.Reading.{log_law}

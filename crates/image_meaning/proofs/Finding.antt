@@ -3,21 +3,21 @@ use Rattle.std.proofs.Common.{◌≡◌, ℕ, zero, suc, ◌+◌, ◌/◌, ◌%�
 use Rattle.std.proofs.lemmas.Bool.{cases_lt, false≢true, ltb-false, ltb-true}
 use Rattle.std.proofs.lemmas.List.{get_or-drop, get_or_default, length-drop}
 use Rattle.std.specs.Prelude.{All, slice_get, slice_index}
-use Rattle.disk_trait.specs.Image.{Image}
-use Rattle.hop_base.specs.Kinds.{kind_of}
-use Rattle.hop_base.specs.declared.entities.Kind.{Kind}
-use Rattle.hop_base.specs.declared.entities.Kind.TheVariants.{Atlas, Container, Locus}
-use Rattle.hop_base.specs.declared.records.Rec.{Rec}
-use Rattle.image_blocks.specs.hop_model.Words.{first}
+use Rattle.image_blocks.specs.edge_disk.Image.{Image}
+use Rattle.image_blocks.specs.base_types.Kinds.{kind_of}
+use Rattle.image_blocks.specs.base_types.declared.entities.Kind.{Kind}
+use Rattle.image_blocks.specs.base_types.declared.entities.Kind.TheVariants.{Atlas, Container, Locus}
+use Rattle.image_blocks.specs.base_types.declared.records.Rec.{Rec}
+use Rattle.blob_grammar.specs.model_kernel.Words.{first}
 use Rattle.blob_grammar.specs.Forms.{IsSpelling}
 use Rattle.blob_grammar.specs.Places.{GoesPast, IsBadPlace}
 use Rattle.blob_grammar.proofs.Placing.{some_place}
 use Rattle.blob_grammar.proofs.Smallest.{has_spelling}
-use Rattle.image_blocks.specs.image_form.Bodies.{blob_in, blob_room}
+use Rattle.image_blocks.specs.image_facts.Bodies.{blob_in, blob_room}
 use Rattle.image_blocks.specs.Checks.{Bad, active_area, area_fault, check_1, check_2, check_3, log_in, no_area, records_fault}
-use Rattle.image_blocks.specs.image_form.Checks.{count_in}
+use Rattle.image_blocks.specs.image_facts.Checks.{count_in}
 use Rattle.image_blocks.specs.Layout.{body_at}
-use Rattle.image_blocks.specs.image_form.Layout.{is_open}
+use Rattle.image_blocks.specs.image_facts.Layout.{is_open}
 use Rattle.image_blocks.specs.Logs.{HasRecords}
 use Rattle.image_blocks.specs.declared.areas.Area.{Area}
 use Rattle.image_meaning.specs.Fits.{IsFit}

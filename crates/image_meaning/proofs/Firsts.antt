@@ -3,16 +3,16 @@ use Rattle.std.proofs.Common.{◌≡◌, ℕ, ◌+◌, ◌-◌, ◌/◌, ◌%◌
 use Rattle.std.proofs.lemmas.Bool.{cases_lt, false≢true}
 use Rattle.std.proofs.lemmas.List.{get_or-drop, length-drop}
 use Rattle.std.specs.Prelude.{All, slice_get, slice_index}
-use Rattle.disk_trait.specs.Image.{Image}
-use Rattle.hop_base.specs.Kinds.{kind_of}
-use Rattle.hop_base.specs.declared.entities.Kind.{Kind}
-use Rattle.hop_base.specs.declared.records.Rec.{Rec}
+use Rattle.image_blocks.specs.edge_disk.Image.{Image}
+use Rattle.image_blocks.specs.base_types.Kinds.{kind_of}
+use Rattle.image_blocks.specs.base_types.declared.entities.Kind.{Kind}
+use Rattle.image_blocks.specs.base_types.declared.records.Rec.{Rec}
 use Rattle.blob_grammar.specs.Forms.{IsSpelling}
 use Rattle.blob_grammar.specs.Places.{GoesPast}
 use Rattle.blob_grammar.proofs.Placing.{none_good, one_place}
-use Rattle.image_blocks.specs.image_form.Bodies.{blob_in, blob_room}
+use Rattle.image_blocks.specs.image_facts.Bodies.{blob_in, blob_room}
 use Rattle.image_blocks.specs.Checks.{Bad, records_fault}
-use Rattle.image_blocks.specs.image_form.Checks.{count_in}
+use Rattle.image_blocks.specs.image_facts.Checks.{count_in}
 use Rattle.image_blocks.specs.Layout.{body_at}
 use Rattle.image_blocks.specs.declared.areas.Area.{Area}
 use Rattle.image_meaning.specs.Foreign.{IsBadBlob, IsBadRest, IsBadSpelling, IsBodyBlock, IsFirstRest, IsForeign, IsUnfit, blob_bad}

@@ -4,15 +4,15 @@ use Rattle.std.specs.Prelude.{MatchOption, IsTrue, Contains}
 use Rattle.std.specs.Option.{ForSome}
 use Rattle.std.proofs.lemmas.Bool.{false≢true}
 use Rattle.std.proofs.lemmas.Bool.Decides.{nat_tests}
-use Rattle.hop_base.specs.Kinds.{kind_of}
-use Rattle.hop_base.specs.declared.entities.Kind.{Kind}
-use Rattle.hop_base.specs.declared.entities.Kind.TheVariants as kinds
-use Rattle.hop_base.specs.declared.records.Rec.{Rec}
-use Rattle.image_blocks.specs.hop_model.Soundness.{AreSound, IsSound, IsSoundContainer, IsSoundLocus, IsSoundWalk, looks, is_born, is_born_container, is_born_locus, regions_onto}
-use Rattle.hop_base.specs.declared.instructions.Walk.{Walk}
-use Rattle.image_blocks.specs.hop_model.Refusals.{instr_at}
-use Rattle.image_blocks.specs.image_form.Bodies.{blob_blocks}
-use Rattle.image_blocks.specs.hop_model.State.{Supply, AtlasState, ContainerState, LocusState, KernelState, Cell, NotBorn, AtlasCell, ContainerCell, LocusCell, empty_state, no_atlas}
+use Rattle.image_blocks.specs.base_types.Kinds.{kind_of}
+use Rattle.image_blocks.specs.base_types.declared.entities.Kind.{Kind}
+use Rattle.image_blocks.specs.base_types.declared.entities.Kind.TheVariants as kinds
+use Rattle.image_blocks.specs.base_types.declared.records.Rec.{Rec}
+use Rattle.blob_grammar.specs.model_kernel.Soundness.{AreSound, IsSound, IsSoundContainer, IsSoundLocus, IsSoundWalk, looks, is_born, is_born_container, is_born_locus, regions_onto}
+use Rattle.image_blocks.specs.base_types.declared.instructions.Walk.{Walk}
+use Rattle.blob_grammar.specs.model_kernel.Refusals.{instr_at}
+use Rattle.image_blocks.specs.image_facts.Bodies.{blob_blocks}
+use Rattle.blob_grammar.specs.model_kernel.State.{Supply, AtlasState, ContainerState, LocusState, KernelState, Cell, NotBorn, AtlasCell, ContainerCell, LocusCell, empty_state, no_atlas}
 use Rattle.image_meaning.specs.Describing.{Describes, DescribesEntity, bytes_of}
 use Rattle.image_meaning.specs.Fits.{AreNamedOnce, IsFit, IsTied, IsTiedAtlas, shown_by}
 use Rattle.image_meaning.specs.Parts.{AtlasPart, ContainerPart, IsOf, LocusPart, Part, cell_of, chosen, table_in}

@@ -4,15 +4,15 @@ use Rattle.std.specs.Prelude.{MatchOption, slice_index}
 use Rattle.std.specs.List.{AllByRecursion}
 use Rattle.std.proofs.lemmas.Bool.{false≢true}
 use Rattle.std.proofs.lemmas.List.{get_or_past}
-use Rattle.disk_trait.specs.Image.{Image, block_at}
-use Rattle.hop_base.specs.declared.records.Rec.{Rec}
-use Rattle.cut_laws.proofs.Joins.{same_greatest}
-use Rattle.image_blocks.proofs.hop_model_lemmas.Lowering.{greatest_is, greatest_one}
-use Rattle.image_blocks.specs.hop_model.Choices.{IsGreatest, IsNarrow}
-use Rattle.image_blocks.specs.hop_model.State.{Supply, KernelState, ContainerCell, empty_state}
-use Rattle.cut_laws.specs.Agreeing.{from_cut, nothing}
-use Rattle.cut_laws.specs.Records.{commits_of}
-use Rattle.image_blocks.specs.image_form.Bodies.{number_at, record_in}
+use Rattle.image_blocks.specs.edge_disk.Image.{Image, block_at}
+use Rattle.image_blocks.specs.base_types.declared.records.Rec.{Rec}
+use Rattle.model_cut_laws.proofs.Joins.{same_greatest}
+use Rattle.blob_grammar.proofs.model_kernel_lemmas.Lowering.{greatest_is, greatest_one}
+use Rattle.blob_grammar.specs.model_kernel.Choices.{IsGreatest, IsNarrow}
+use Rattle.blob_grammar.specs.model_kernel.State.{Supply, KernelState, ContainerCell, empty_state}
+use Rattle.model_cut_laws.specs.Agreeing.{from_cut, nothing}
+use Rattle.model_cut_laws.specs.Records.{commits_of}
+use Rattle.image_blocks.specs.image_facts.Bodies.{number_at, record_in}
 use Rattle.image_blocks.specs.Checks.{body_in}
 use Rattle.image_blocks.specs.Logs.{HasRecords}
 use Rattle.image_blocks.specs.declared.areas.Area.{Area}

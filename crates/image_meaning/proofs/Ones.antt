@@ -1,11 +1,11 @@
 -- An image has one meaning.
 use Rattle.std.proofs.Common.{◌≡◌, ℕ, List, Option, Some, None, refl, sym, ap, subst, ◌∙◌}
 use Rattle.std.specs.Prelude.{MatchOption, slice_index}
-use Rattle.disk_trait.specs.Image.{Image, block_at}
-use Rattle.hop_base.specs.declared.records.Rec.{Rec}
-use Rattle.image_blocks.specs.hop_model.State.{Supply, KernelState}
+use Rattle.image_blocks.specs.edge_disk.Image.{Image, block_at}
+use Rattle.image_blocks.specs.base_types.declared.records.Rec.{Rec}
+use Rattle.blob_grammar.specs.model_kernel.State.{Supply, KernelState}
 use Rattle.blob_grammar.proofs.Values.{one_atlas, one_container, one_locus}
-use Rattle.image_blocks.specs.image_form.Bodies.{blob_in}
+use Rattle.image_blocks.specs.image_facts.Bodies.{blob_in}
 use Rattle.image_blocks.specs.Checks.{log_in}
 use Rattle.image_blocks.specs.Logs.{HasRecords}
 use Rattle.image_blocks.specs.declared.areas.Area.{Area}

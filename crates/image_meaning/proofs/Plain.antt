@@ -2,9 +2,9 @@
 use Rattle.std.proofs.Common.{◌≡◌, ℕ, List, Option, Some, None, option_map, refl, sym, ap, subst, ◌∙◌}
 use Rattle.std.specs.Prelude.{Contains}
 use Rattle.std.specs.Option.{ForSome}
-use Rattle.disk_trait.specs.Image.{Image}
-use Rattle.hop_base.specs.declared.records.Rec.{Rec}
-use Rattle.image_blocks.specs.hop_model.State.{AtlasState}
+use Rattle.image_blocks.specs.edge_disk.Image.{Image}
+use Rattle.image_blocks.specs.base_types.declared.records.Rec.{Rec}
+use Rattle.blob_grammar.specs.model_kernel.State.{AtlasState}
 use Rattle.image_meaning.specs.Fits.{AreNamedOnce, IsFit, IsTied, shown_by}
 use Rattle.image_meaning.specs.Parts.{AreSpelt, AtlasPart, ContainerPart, LocusPart, Part, chosen, table_in}
 use Rattle.image_meaning.proofs.Fitting.{none_some}

@@ -5,11 +5,11 @@ use Rattle.std.specs.List.{concat}
 use Rattle.std.proofs.lemmas.Bool.{cases_lt}
 use Rattle.std.proofs.lemmas.List.{get_or_past}
 use Rattle.std.proofs.lemmas.List.Elements.{Contains-get_or}
-use Rattle.disk_trait.specs.Image.{Image, block_at}
-use Rattle.hop_base.specs.declared.records.Rec.{Rec}
-use Rattle.image_blocks.specs.hop_model.State.{Supply}
-use Rattle.image_blocks.specs.image_form.Bodies.{blob_blocks, blob_room, number_at}
-use Rattle.image_blocks.specs.image_form.Checks.{count_in}
+use Rattle.image_blocks.specs.edge_disk.Image.{Image, block_at}
+use Rattle.image_blocks.specs.base_types.declared.records.Rec.{Rec}
+use Rattle.blob_grammar.specs.model_kernel.State.{Supply}
+use Rattle.image_blocks.specs.image_facts.Bodies.{blob_blocks, blob_room, number_at}
+use Rattle.image_blocks.specs.image_facts.Checks.{count_in}
 use Rattle.image_blocks.proofs.Rest.{records_rest_law}
 use Rattle.image_meaning.specs.Fits.{IsFit}
 use Rattle.image_meaning.specs.Meaning.{Accepted, entity_of}

@@ -2,17 +2,17 @@
 use Rattle.std.proofs.Common.{◌≡◌, ◌≢◌, ℕ, ◌+◌, ◌≤◌, ◌<◌, ◌||◌, ◌==◌, if◌then◌else◌, Bool, true, false, List, length, nat_le, nat_lt, Option, Some, None, refl, sym, ap, subst, ◌∙◌, arith, eqb-true, eq-eqb}
 use Rattle.std.specs.Prelude.{MatchOption}
 use Rattle.std.proofs.lemmas.Bool.{false≢true, leb-true, ltb-false, ltb-true}
-use Rattle.disk_trait.specs.Image.{Image, block_at}
-use Rattle.hop_base.specs.Kinds.{kind_of}
-use Rattle.hop_base.specs.declared.entities.Kind.TheVariants as kinds
-use Rattle.hop_base.specs.declared.records.Rec.{Rec}
-use Rattle.image_blocks.proofs.hop_model_lemmas.Basics.{and_left, and_right}
-use Rattle.image_blocks.specs.hop_model.Soundness.{AreSound, IsSound, IsSoundAtlas, IsSoundContainer, IsSoundLocus, is_born, is_born_container, is_born_locus, regions_onto}
-use Rattle.image_blocks.specs.hop_model.State.{Supply, AtlasState, ContainerState, LocusState, EntityState, KernelState, Cell, NotBorn, AtlasCell, ContainerCell, LocusCell, empty_state, no_atlas}
+use Rattle.image_blocks.specs.edge_disk.Image.{Image, block_at}
+use Rattle.image_blocks.specs.base_types.Kinds.{kind_of}
+use Rattle.image_blocks.specs.base_types.declared.entities.Kind.TheVariants as kinds
+use Rattle.image_blocks.specs.base_types.declared.records.Rec.{Rec}
+use Rattle.blob_grammar.proofs.model_kernel_lemmas.Basics.{and_left, and_right}
+use Rattle.blob_grammar.specs.model_kernel.Soundness.{AreSound, IsSound, IsSoundAtlas, IsSoundContainer, IsSoundLocus, is_born, is_born_container, is_born_locus, regions_onto}
+use Rattle.blob_grammar.specs.model_kernel.State.{Supply, AtlasState, ContainerState, LocusState, EntityState, KernelState, Cell, NotBorn, AtlasCell, ContainerCell, LocusCell, empty_state, no_atlas}
 use Rattle.blob_grammar.proofs.Joins.{container_number}
 use Rattle.blob_grammar.specs.Forms.{IsContainerForm, IsLocusForm}
-use Rattle.image_blocks.specs.image_form.Bodies.{blob_in}
-use Rattle.image_blocks.specs.image_form.Checks.{count_in}
+use Rattle.image_blocks.specs.image_facts.Bodies.{blob_in}
+use Rattle.image_blocks.specs.image_facts.Checks.{count_in}
 use Rattle.image_meaning.specs.Fits.{IsFit, IsTied, IsTiedAtlas, IsTiedContainer, IsTiedLocus, shown_by}
 use Rattle.image_meaning.specs.Meaning.{Accepted, Means, entity_of, state_of}
 use Rattle.image_meaning.specs.Parts.{AreFormed, AreSpelt, AreTaken, AtlasPart, ContainerPart, IsFormed, LocusPart, Part, cell_of, chosen, kind_in, words_in}

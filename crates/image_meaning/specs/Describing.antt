@@ -1,8 +1,8 @@
 -- Which state stored records describe, and the law that leads from what an image stores to what it means.
 use Rattle.std.specs.Prelude.{◌≡◌, ◌≢◌, ◌⊎◌, ◌==◌, if◌then◌else◌, ℕ, List, [], ◌∷◌, Option, Some, None, MatchOption, slice_index}
-use Rattle.disk_trait.specs.Image.{Image}
-use Rattle.image_blocks.specs.hop_model.Soundness.{IsSound}
-use Rattle.image_blocks.specs.hop_model.State.{Supply, KernelState, empty_state}
+use Rattle.image_blocks.specs.edge_disk.Image.{Image}
+use Rattle.blob_grammar.specs.model_kernel.Soundness.{IsSound}
+use Rattle.blob_grammar.specs.model_kernel.State.{Supply, KernelState, empty_state}
 use Rattle.image_meaning.specs.Fits.{AreNamedOnce}
 use Rattle.image_meaning.specs.Meaning.{Means}
 use Rattle.image_meaning.specs.Parts.{IsOf, Part, Spells, cell_of, table_in}

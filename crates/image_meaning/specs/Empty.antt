@@ -1,9 +1,9 @@
 -- The image in which nothing is stored yet.
 use Rattle.std.specs.Prelude.{◌≡◌, ℕ, true, false, length}
-use Rattle.disk_trait.specs.Image.{Image, block_at}
-use Rattle.image_blocks.specs.image_form.Checks.{is_count}
+use Rattle.image_blocks.specs.edge_disk.Image.{Image, block_at}
+use Rattle.image_blocks.specs.image_facts.Checks.{is_count}
 use Rattle.image_blocks.specs.Layout.{gate_at, header_at, slot_gate_at}
-use Rattle.image_blocks.specs.image_form.Layout.{header_block, is_open, superblock}
+use Rattle.image_blocks.specs.image_facts.Layout.{header_block, is_open, superblock}
 use Rattle.image_blocks.specs.declared.areas.Area.TheVariants.{A, B}
 
 -- AN IMAGE AS IT IS FORMATTED: a superblock of so many blocks, area A active with epoch 1, area B closed, and no record

@@ -1,17 +1,17 @@
 -- What the chosen records have to keep among each other.
 use Rattle.std.specs.Prelude.{◌≡◌, ◌≢◌, ℕ, ◌<◌, ◌≤◌, ◌==◌, IsTrue, List, count_by, All, Contains, Option, Some, None, slice_get}
 use Rattle.std.specs.Option.{ForSome}
-use Rattle.hop_base.specs.declared.capabilities.Cap.{Cap}
-use Rattle.hop_base.specs.declared.capabilities.Private.{Private}
-use Rattle.hop_base.specs.declared.capabilities.Region.{Region}
-use Rattle.hop_base.specs.declared.instructions.Call.{Call}
-use Rattle.hop_base.specs.declared.instructions.Walk.{Walk}
-use Rattle.hop_base.specs.declared.records.Rec.{Rec}
-use Rattle.image_blocks.specs.hop_model.State.{AtlasState, ContainerState, LocusState}
-use Rattle.image_blocks.specs.hop_model.Refusals.{instr_at}
-use Rattle.image_blocks.specs.hop_model.Soundness.{HasNoCircle, is_born, is_born_container, looks}
-use Rattle.image_blocks.specs.image_form.Bodies.{blob_blocks}
-use Rattle.image_blocks.specs.image_form.Layout.{pool_at}
+use Rattle.image_blocks.specs.base_types.declared.capabilities.Cap.{Cap}
+use Rattle.image_blocks.specs.base_types.declared.capabilities.Private.{Private}
+use Rattle.image_blocks.specs.base_types.declared.capabilities.Region.{Region}
+use Rattle.image_blocks.specs.base_types.declared.instructions.Call.{Call}
+use Rattle.image_blocks.specs.base_types.declared.instructions.Walk.{Walk}
+use Rattle.image_blocks.specs.base_types.declared.records.Rec.{Rec}
+use Rattle.blob_grammar.specs.model_kernel.State.{AtlasState, ContainerState, LocusState}
+use Rattle.blob_grammar.specs.model_kernel.Refusals.{instr_at}
+use Rattle.blob_grammar.specs.model_kernel.Soundness.{HasNoCircle, is_born, is_born_container, looks}
+use Rattle.image_blocks.specs.image_facts.Bodies.{blob_blocks}
+use Rattle.image_blocks.specs.image_facts.Layout.{pool_at}
 use Rattle.image_meaning.specs.Parts.{Part, AtlasPart, ContainerPart, LocusPart, chosen, table_in}
 
 -- WHO IS NAMED

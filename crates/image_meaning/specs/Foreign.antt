@@ -1,13 +1,13 @@
 -- The first bad place of an image that isn't accepted.
 use Rattle.std.specs.Prelude.{◌≡◌, ◌≢◌, ◌⊎◌, ℕ, ◌-◌, ◌*◌, ◌/◌, ◌%◌, ◌<◌, ◌≤◌, ◌==◌, ◌&&◌, if◌then◌else◌, List, length, slice_get, slice_index, Option, Some}
-use Rattle.disk_trait.specs.Image.{Image}
-use Rattle.hop_base.specs.Kinds.{kind_of}
-use Rattle.hop_base.specs.declared.records.Rec.{Rec}
+use Rattle.image_blocks.specs.edge_disk.Image.{Image}
+use Rattle.image_blocks.specs.base_types.Kinds.{kind_of}
+use Rattle.image_blocks.specs.base_types.declared.records.Rec.{Rec}
 use Rattle.blob_grammar.specs.Forms.{IsSpelling}
 use Rattle.blob_grammar.specs.Places.{GoesPast, IsBadPlace}
-use Rattle.image_blocks.specs.image_form.Bodies.{blob_in, blob_room}
+use Rattle.image_blocks.specs.image_facts.Bodies.{blob_in, blob_room}
 use Rattle.image_blocks.specs.Checks.{Bad, records_fault}
-use Rattle.image_blocks.specs.image_form.Checks.{count_in}
+use Rattle.image_blocks.specs.image_facts.Checks.{count_in}
 use Rattle.image_blocks.specs.Layout.{body_at}
 use Rattle.image_blocks.specs.Logs.{HasRecords}
 use Rattle.image_blocks.specs.declared.areas.Area.{Area}

@@ -1,9 +1,9 @@
 -- THE MEANING OF AN IMAGE.
 use Rattle.std.specs.Prelude.{◌≡◌, ℕ, List, Option, Some, None, slice_index}
-use Rattle.disk_trait.specs.Image.{Image, block_at}
-use Rattle.hop_base.specs.declared.records.Rec.{Rec}
-use Rattle.image_blocks.specs.hop_model.State.{Supply, EntityState, KernelState, empty_state}
-use Rattle.image_blocks.specs.image_form.Checks.{count_in}
+use Rattle.image_blocks.specs.edge_disk.Image.{Image, block_at}
+use Rattle.image_blocks.specs.base_types.declared.records.Rec.{Rec}
+use Rattle.blob_grammar.specs.model_kernel.State.{Supply, EntityState, KernelState, empty_state}
+use Rattle.image_blocks.specs.image_facts.Checks.{count_in}
 use Rattle.image_blocks.specs.Logs.{HasRecords}
 use Rattle.image_meaning.specs.Parts.{AreSpelt, Part, cell_of, chosen}
 use Rattle.image_meaning.specs.Fits.{IsFit}

@@ -1,16 +1,16 @@
 -- What the chosen records of an image spell.
 use Rattle.std.specs.Prelude.{◌≡◌, ℕ, ◌*◌, ◌/◌, ◌%◌, ◌&&◌, ◌==◌, if◌then◌else◌, List, [], ◌∷◌, drop, All, Option, Some, None, MatchOption, slice_index}
-use Rattle.disk_trait.specs.Image.{Image}
-use Rattle.hop_base.specs.Kinds.{kind_of}
-use Rattle.hop_base.specs.declared.entities.Kind.{Kind}
-use Rattle.hop_base.specs.declared.entities.Kind.TheVariants.{Atlas, Container, Locus}
-use Rattle.hop_base.specs.declared.records.Rec.{Rec}
-use Rattle.image_blocks.specs.hop_model.State.{Supply, AtlasState, ContainerState, LocusState, Cell, AtlasCell, ContainerCell, LocusCell}
-use Rattle.image_blocks.specs.hop_model.Choices.{greatest}
-use Rattle.cut_laws.specs.Agreeing.{nothing}
-use Rattle.cut_laws.specs.Records.{commits_of}
+use Rattle.image_blocks.specs.edge_disk.Image.{Image}
+use Rattle.image_blocks.specs.base_types.Kinds.{kind_of}
+use Rattle.image_blocks.specs.base_types.declared.entities.Kind.{Kind}
+use Rattle.image_blocks.specs.base_types.declared.entities.Kind.TheVariants.{Atlas, Container, Locus}
+use Rattle.image_blocks.specs.base_types.declared.records.Rec.{Rec}
+use Rattle.blob_grammar.specs.model_kernel.State.{Supply, AtlasState, ContainerState, LocusState, Cell, AtlasCell, ContainerCell, LocusCell}
+use Rattle.blob_grammar.specs.model_kernel.Choices.{greatest}
+use Rattle.model_cut_laws.specs.Agreeing.{nothing}
+use Rattle.model_cut_laws.specs.Records.{commits_of}
 use Rattle.blob_grammar.specs.Forms.{SpellsAtlas, SpellsContainer, SpellsLocus}
-use Rattle.image_blocks.specs.image_form.Bodies.{number_at, blob_in, blob_room}
+use Rattle.image_blocks.specs.image_facts.Bodies.{number_at, blob_in, blob_room}
 
 -- what a blob spells: of a container its head and the blocks of its pages, where `state.words` means nothing
 pub data Part : Type 0 where

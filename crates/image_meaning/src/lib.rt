@@ -4,10 +4,10 @@
 #![tactic(auto)]
 
 ghost use Rattle.std.specs.Prelude.{◌≡◌, ℕ, List, []};
-ghost use Rattle.disk_trait.specs.Image.{Image};
-ghost use Rattle.hop_base.specs.declared.records.Rec.{Rec};
-ghost use Rattle.image_blocks.specs.hop_model.Soundness.{IsSound};
-ghost use Rattle.image_blocks.specs.hop_model.State.{KernelState, Supply, empty_state};
+ghost use Rattle.image_blocks.specs.edge_disk.Image.{Image};
+ghost use Rattle.image_blocks.specs.base_types.declared.records.Rec.{Rec};
+ghost use Rattle.blob_grammar.specs.model_kernel.Soundness.{IsSound};
+ghost use Rattle.blob_grammar.specs.model_kernel.State.{KernelState, Supply, empty_state};
 ghost use Rattle.image_blocks.specs.Checks.{Bad};
 ghost use Rattle.image_blocks.specs.Logs.{HasRecords};
 ghost use Rattle.image_meaning.specs.Describing.{MeaningLaw};

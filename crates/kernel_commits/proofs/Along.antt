@@ -3,41 +3,41 @@ use Rattle.std.proofs.Common.{◌≡◌, inl, ℕ, zero, suc, ◌+◌, ◌<◌, 
 use Rattle.std.specs.Prelude.{⊤}
 use Rattle.std.proofs.Math.Seq.{drop-cons}
 use Rattle.std.proofs.lemmas.List.{append-nil}
-use Rattle.disk_trait.specs.Image.{Image}
-use Rattle.hop_base.specs.declared.histories.Entry.{Entry}
-use Rattle.hop_base.specs.declared.histories.Touch.{Touch}
-use Rattle.hop_base.specs.Touches.{AllTouches, IsRising}
-use Rattle.hop_base.specs.declared.histories.Event.TheVariants.{Snap}
-use Rattle.commit_laws.specs.table_steps.hop_model.Histories.{Policy, Run, has_wish, is_full, mark, run_after, start_run, version_of}
-use Rattle.commit_laws.proofs.table_steps_lemmas.hop_model_lemmas.StableCuts.{run_append}
-use Rattle.commit_laws.specs.serial_turns.serial_runs.Serial.{IsBehind, wished_snap, wished_snaps, written_in}
-use Rattle.commit_laws.proofs.serial_turns_lemmas.serial_runs_lemmas.Calm.{snap_next, without}
-use Rattle.commit_laws.specs.serial_turns.Turns.{IsStoppedIn}
-use Rattle.commit_laws.proofs.serial_turns_lemmas.Stops.{stopped_behind, stopped_longer}
-use Rattle.commit_laws.specs.cell_books.kernel_model.Beginnings.{Beginning, run_of}
-use Rattle.commit_laws.specs.Lacking.{LacksIn}
-use Rattle.commit_laws.specs.Parts.{Parts}
-use Rattle.commit_laws.specs.Pieces.{StopsIn}
-use Rattle.commit_laws.specs.Snapping.{RunsFree, wants_in}
+use Rattle.edge_disk.specs.declared.disk.Disk.{Ghosts}
+use Rattle.base_types.specs.declared.histories.Entry.{Entry}
+use Rattle.base_types.specs.declared.histories.Touch.{Touch}
+use Rattle.base_types.specs.Touches.{AllTouches, IsRising}
+use Rattle.base_types.specs.declared.histories.Event.TheVariants.{Snap}
+use Rattle.kernel_commit_facts.specs.model_kernel.Histories.{Policy, Run, has_wish, is_full, mark, run_after, start_run, version_of}
+use Rattle.kernel_commit_facts.proofs.model_kernel_lemmas.StableCuts.{run_append}
+use Rattle.kernel_commit_facts.specs.model_serial.Serial.{IsBehind, wished_snap, wished_snaps, written_in}
+use Rattle.kernel_commit_facts.proofs.model_serial_lemmas.Calm.{snap_next, without}
+use Rattle.kernel_commit_facts.specs.model_serial_turns.Turns.{IsStoppedIn}
+use Rattle.kernel_commit_facts.proofs.model_serial_turns_lemmas.Stops.{stopped_behind, stopped_longer}
+use Rattle.kernel_commit_facts.specs.kernel_invariant.Beginnings.{Beginning, run_of}
+use Rattle.kernel_commit_facts.specs.Lacking.{LacksIn}
+use Rattle.kernel_commit_facts.specs.Parts.{Parts}
+use Rattle.kernel_commit_facts.specs.Pieces.{StopsIn}
+use Rattle.kernel_commit_facts.specs.Snapping.{RunsFree, wants_in}
 use Rattle.kernel_commits.specs.Snapping.{SnapsAll, SnapsOne}
-use Rattle.commit_laws.proofs.Dues.{lacks_behind}
+use Rattle.kernel_commit_facts.proofs.Dues.{lacks_behind}
 
-module _ {D : Type 0} (tells : Type 0) (clock faults : D → ℕ) (reading : D → Image) (may_leave : D → Image → Type 0) (left_since : D → ℕ → Image → Type 0) (b : Beginning) (policy : Policy) where
+module _ {D : Type 0} (disks : Ghosts D) (b : Beginning) (policy : Policy) where
   abbrev later_snaps : Run → List Touch → List Entry
   later_snaps r ts = wished_snaps b.supply policy b.script r (written_in ts)
 
   -- some of the Snaps were made, and these touches are left
   pub record SnapsAlong (ts rest : List Touch) (old now : Parts D) : Type 0 where
-    pub runs : RunsFree tells clock faults reading may_leave left_since b policy now
+    pub runs : RunsFree disks b policy now
     pub made : List Entry
     pub entries : now.noted.entries ≡ old.noted.entries ++ made
     pub all : made ++ later_snaps (run_of b now.noted.entries) rest ≡ later_snaps (run_of b old.noted.entries) ts
     pub calm : IsBehind policy (run_of b old.noted.entries) (written_in ts) → IsBehind policy (run_of b now.noted.entries) (written_in rest)
 
-  pub begins_along : (ts : List Touch) (old : Parts D) → RunsFree tells clock faults reading may_leave left_since b policy old → SnapsAlong ts ts old old
+  pub begins_along : (ts : List Touch) (old : Parts D) → RunsFree disks b policy old → SnapsAlong ts ts old old
   begins_along ts old free = record { runs = free; made = []; entries = sym (append-nil old.noted.entries); all = refl; calm = λ behind. behind }
 
-  pub ends_along : (ts : List Touch) (old now : Parts D) → SnapsAlong ts [] old now → SnapsAll tells clock faults reading may_leave left_since b policy (written_in ts) {T = ⊤} (Ok tt) old now
+  pub ends_along : (ts : List Touch) (old now : Parts D) → SnapsAlong ts [] old now → SnapsAll disks b policy (written_in ts) {T = ⊤} (Ok tt) old now
   ends_along ts old now a = record {
     runs = a.runs;
     entries = a.entries ∙ ap (λ es. old.noted.entries ++ es) (sym (append-nil a.made) ∙ a.all);
@@ -85,7 +85,7 @@ module _ {D : Type 0} (tells : Type 0) (clock faults : D → ℕ) (reading : D �
     pub lacks_along : t.wrote ≡ true → (next : Parts D) → LacksIn b snaps now.noted.entries next → LacksIn b (later_snaps (run_of b old.noted.entries) ts) old.noted.entries next
     lacks_along wrote next l = lacks_behind b (later_snaps (run_of b old.noted.entries) ts) a.made snaps later old.noted.entries now.noted.entries next (with_snaps wrote) a.entries l
 
-    module _ (wrote : t.wrote ≡ true) (v : Bool) (next : Parts D) (s : SnapsOne tells clock faults reading may_leave left_since b policy t.entity {T = Bool} (Ok v) now next) where
+    module _ (wrote : t.wrote ≡ true) (v : Bool) (next : Parts D) (s : SnapsOne disks b policy t.entity {T = Bool} (Ok v) now next) where
       run_is : run_of b next.noted.entries ≡ run_after b.supply b.script rn snaps
       run_is = ap (run_of b) s.entries ∙ run_append b.supply policy b.script (start_run b.state) now.noted.entries snaps
 

@@ -3,31 +3,32 @@ use Rattle.std.proofs.Common.{◌≡◌, ◌↔◌, inl, inr, ℕ, zero, suc, �
 use Rattle.std.specs.Prelude.{Result, ⊤}
 use Rattle.std.proofs.Math.Seq.{take-append_seam}
 use Rattle.std.proofs.lemmas.Bool.{cases_eq}
-use Rattle.disk_trait.specs.Image.{Image}
-use Rattle.disk_trait.specs.Counts.{Rose}
-use Rattle.disk_trait.specs.declared.disk.NoBlocks.{NoBlocks as TooFewBlocks}
-use Rattle.hop_base.specs.declared.histories.Entry.{Entry}
-use Rattle.hop_base.specs.declared.histories.Event.TheVariants.{Snap, Tried}
-use Rattle.commit_laws.specs.table_steps.hop_model.Histories.{mark}
-use Rattle.commit_laws.specs.table_steps.kernel_cells.declared.cells.Cell.{Cell}
-use Rattle.commit_laws.specs.table_steps.cell_blobs.Blobs.{is_recorded}
-use Rattle.commit_laws.specs.table_steps.cell_table.Lending.{Lends}
-use Rattle.commit_laws.specs.cell_books.store_laws.State.{State, books}
-use Rattle.commit_laws.specs.cell_books.snapshot_store.declared.faults.StoreFault.{StoreFault}
-use Rattle.commit_laws.specs.cell_books.snapshot_store.declared.faults.StoreFault.TheVariants.{NoBlocks, ReadFault, Shut, WriteFault}
-use Rattle.commit_laws.specs.cell_books.kernel_records.Committing.{CellFaults, CommitCounts, IsTooFew}
-use Rattle.commit_laws.specs.cell_books.kernel_model.Beginnings.{Beginning}
-use Rattle.commit_laws.specs.cell_books.kernel_model.Live.{TooFew as TooFewStop}
-use Rattle.commit_laws.specs.cell_books.Matching.{version_of}
-use Rattle.commit_laws.specs.Parts.{LivesAs, Noted, Parts, parts_of}
-use Rattle.commit_laws.specs.Recording.{CanRecord, CommitsAmong, HasMade, HasNotMade, HasRecorded, HasTried, IsShort, MayRecord, with_fault}
+use Rattle.edge_disk.specs.Image.{Image}
+use Rattle.edge_disk.specs.Counts.{Rose}
+use Rattle.edge_disk.specs.declared.disk.NoBlocks.{NoBlocks as TooFewBlocks}
+use Rattle.base_types.specs.declared.histories.Entry.{Entry}
+use Rattle.base_types.specs.declared.histories.Event.TheVariants.{Snap, Tried}
+use Rattle.kernel_commit_facts.specs.model_kernel.Histories.{mark}
+use Rattle.kernel_commit_facts.specs.cell_states.declared.cells.Cell.{Cell}
+use Rattle.kernel_commit_facts.specs.cell_blobs.Blobs.{is_recorded}
+use Rattle.kernel_commit_facts.specs.table_laws.Lending.{Lends}
+use Rattle.kernel_commit_facts.specs.store_facts.State.{State, books}
+use Rattle.kernel_commit_facts.specs.store_snapshots.declared.faults.StoreFault.{StoreFault}
+use Rattle.kernel_commit_facts.specs.store_snapshots.declared.faults.StoreFault.TheVariants.{NoBlocks, ReadFault, Shut, WriteFault}
+use Rattle.kernel_commit_facts.specs.kernel_records.Committing.{CellFaults, CommitCounts, IsTooFew}
+use Rattle.kernel_commit_facts.specs.kernel_invariant.Beginnings.{Beginning}
+use Rattle.kernel_commit_facts.specs.kernel_invariant.Live.{TooFew as TooFewStop}
+use Rattle.kernel_commit_facts.specs.kernel_book_laws.Matching.{version_of}
+use Rattle.kernel_commit_facts.specs.Parts.{LivesAs, Noted, Parts, parts_of}
+use Rattle.kernel_commit_facts.specs.Recording.{CanRecord, CommitsAmong, HasMade, HasNotMade, HasRecorded, HasTried, IsShort, MayRecord, with_fault}
 use Rattle.kernel_commits.specs.Recording.{GoesOnBy, why_of}
 use Rattle.kernel_commits.specs.declared.stopping.Stopped.{Stopped}
 use Rattle.kernel_commits.specs.declared.stopping.Stopped.TheVariants.{Failed, TooFew}
-use Rattle.commit_laws.proofs.Committing.{not_recorded, recorded}
-use Rattle.commit_laws.proofs.Running.{snap_stands, still_lives}
-use Rattle.commit_laws.proofs.Trying.{tried_stops}
+use Rattle.kernel_commit_facts.proofs.Committing.{not_recorded, recorded}
+use Rattle.kernel_commit_facts.proofs.Running.{snap_stands, still_lives}
+use Rattle.kernel_commit_facts.proofs.Trying.{tried_stops}
 use Rattle.std.proofs.lemmas.Option.{same_Some}
+use Rattle.edge_disk.specs.declared.disk.Disk.{Ghosts}
 
 abbrev stop_result : Stopped → Result ⊤ Stopped
 stop_result why = Err why
@@ -56,39 +57,39 @@ lent_same cs cs' c d lends same = lists_same cs' cs (λ y. elim (cases_eq y c.cl
   | inr apart ↦ lends.others y (apart, tt)
 ])
 
-module _ {D : Type 0} (tells : Type 0) (clock faults : D → ℕ) (reading : D → Image) (may_leave : D → Image → Type 0) (left_since : D → ℕ → Image → Type 0)
+module _ {D : Type 0} (disks : Ghosts D)
     (x : ℕ) (old : Parts D) (st0 : State D) (cs0 cs1 : List Cell) (n0 : Noted) (view : parts_of st0 cs0 n0 ≡ old) (deref : cs1 ≡ cs0)
-    (st' : State D) (cs' : List Cell) (v : ℕ) (version0 : v ≡ version_of cs0 x) (can : CanRecord tells clock faults reading may_leave left_since x old.cells old.store) where
+    (st' : State D) (cs' : List Cell) (v : ℕ) (version0 : v ≡ version_of cs0 x) (can : CanRecord disks x old.cells old.store) where
   abbrev inside : Parts D
   inside = parts_of st0 cs0 n0
 
-  can0 : CanRecord tells clock faults reading may_leave left_since x cs0 st0
-  can0 = subst (λ (p : Parts D). CanRecord tells clock faults reading may_leave left_since x p.cells p.store) (sym view) can
+  can0 : CanRecord disks x cs0 st0
+  can0 = subst (λ (p : Parts D). CanRecord disks x p.cells p.store) (sym view) can
 
   -- THE RECORD WAS MADE
   module _ (e : Entry) (entry : e ≡ mark Snap x v) (n1 : Noted) (pushed : n1 ≡ record n0 { entries = n0.entries ++ e ∷ [] }) (m : ℕ) (begun : m ≡ (books st').begun)
-      (n2 : Noted) (marked : n2 ≡ record n1 { marks = n1.marks ++ m ∷ [] }) (made : HasMade tells clock faults reading may_leave left_since x cs1 cs' st0 st') where
-    pub ok_recorded : HasRecorded tells clock faults reading may_leave left_since x old (parts_of st' cs' n2)
+      (n2 : Noted) (marked : n2 ≡ record n1 { marks = n1.marks ++ m ∷ [] }) (made : HasMade disks x cs1 cs' st0 st') where
+    pub ok_recorded : HasRecorded disks x old (parts_of st' cs' n2)
     ok_recorded =
-        subst (λ (p : Parts D). HasRecorded tells clock faults reading may_leave left_since x p (parts_of st' cs' n2)) view
-        (recorded tells clock faults reading may_leave left_since x inside (parts_of st' cs' n2) can0
-        (subst (λ cs. HasMade tells clock faults reading may_leave left_since x cs cs' st0 st') deref made)
+        subst (λ (p : Parts D). HasRecorded disks x p (parts_of st' cs' n2)) view
+        (recorded disks x inside (parts_of st' cs' n2) can0
+        (subst (λ cs. HasMade disks x cs cs' st0 st') deref made)
         (ap (λ (n : Noted). n.entries) marked ∙ (ap (λ (n : Noted). n.entries) pushed ∙ (ap (λ k. n0.entries ++ k ∷ []) entry ∙ ap (λ w. n0.entries ++ mark Snap x w ∷ []) version0)))
         (ap (λ (n : Noted). n.marks) marked ∙ (ap (λ (n : Noted). n.marks ++ m ∷ []) pushed ∙ ap (λ k. n0.marks ++ k ∷ []) begun))
         (ap (λ (n : Noted). n.room) marked ∙ ap (λ (n : Noted). n.room) pushed))
 
-    module _ (counts_later : (disk : D) (s t : ℕ) (c : Image) → tells → s ≤ t → left_since disk t c → left_since disk s c)
-        (only_now : (disk : D) (c : Image) → tells → left_since disk (clock disk) c → may_leave disk c) (counts : CommitCounts clock faults st0 st') where
-      pub ok_run : tells → (b : Beginning) → MayRecord tells clock faults reading may_leave left_since b x old → GoesOnBy tells clock faults reading may_leave left_since b (Ok tt) (parts_of st' cs' n2)
+    module _ (counts_later : (disk : D) (s t : ℕ) (c : Image) → disks.tells → s ≤ t → disks.left_since disk t c → disks.left_since disk s c)
+        (only_now : (disk : D) (c : Image) → disks.tells → disks.left_since disk (disks.clock disk) c → disks.may_leave disk c) (counts : CommitCounts disks st0 st') where
+      pub ok_run : disks.tells → (b : Beginning) → MayRecord disks b x old → GoesOnBy disks b (Ok tt) (parts_of st' cs' n2)
       ok_run told b may = record {
-        stands = snap_stands tells clock faults reading may_leave left_since counts_later only_now b x old (parts_of st' cs' n2) told may can ok_recorded
-            (subst (λ (p : Parts D). CommitCounts clock faults p.store st') view counts);
+        stands = snap_stands disks counts_later only_now b x old (parts_of st' cs' n2) told may can ok_recorded
+            (subst (λ (p : Parts D). CommitCounts disks p.store st') view counts);
         lives = tt;
       }
 
   -- WHICH FAULT
-  module _ (r : Result Bool StoreFault) (faults_at : (c d : Cell) → slice_get cs1 x ≡ Some c → slice_get cs' x ≡ Some d → CellFaults faults (is_recorded c ≡ false) r c d st0 st')
-      (c d : Cell) (q : CommitsAmong tells clock faults reading may_leave left_since x c d cs1 cs' st0 st') where
+  module _ (r : Result Bool StoreFault) (faults_at : (c d : Cell) → slice_get cs1 x ≡ Some c → slice_get cs' x ≡ Some d → CellFaults disks.faults (is_recorded c ≡ false) r c d st0 st')
+      (c d : Cell) (q : CommitsAmong disks x c d cs1 cs' st0 st') where
     at_c : slice_get cs1 x ≡ Some c
     at_c = ap (slice_get cs1) (sym q.number) ∙ q.lends.stood.0
 
@@ -98,18 +99,18 @@ module _ {D : Type 0} (tells : Type 0) (clock faults : D → ℕ) (reading : D �
     at_d : slice_get cs' x ≡ Some d
     at_d = ap (slice_get cs') (sym (q.lends.numbers.0 ∙ q.number)) ∙ q.lends.stand.0
 
-    fault_is : CellFaults faults (is_recorded c ≡ false) r c d st0 st'
+    fault_is : CellFaults disks.faults (is_recorded c ≡ false) r c d st0 st'
     fault_is = faults_at c d at_c at_d
 
     unrecorded : is_recorded c ≡ false
-    unrecorded = not_recorded tells clock faults reading may_leave left_since x cs0 st0 can0 c at_c0
+    unrecorded = not_recorded disks x cs0 st0 can0 c at_c0
 
-    pub short_from : (n : TooFewBlocks) → r ≡ Err (NoBlocks n) → IsShort tells clock faults reading may_leave left_since x old n
-    short_from n is = subst (λ (p : Parts D). IsShort tells clock faults reading may_leave left_since x p n) view (record { cell = c; at = at_c0; short = ((fault_is.no_blocks n).0 is).1 })
+    pub short_from : (n : TooFewBlocks) → r ≡ Err (NoBlocks n) → IsShort disks x old n
+    short_from n is = subst (λ (p : Parts D). IsShort disks x p n) view (record { cell = c; at = at_c0; short = ((fault_is.no_blocks n).0 is).1 })
 
-    pub short_to : (n : TooFewBlocks) → IsShort tells clock faults reading may_leave left_since x old n → r ≡ Err (NoBlocks n)
+    pub short_to : (n : TooFewBlocks) → IsShort disks x old n → r ≡ Err (NoBlocks n)
     short_to n short =
-        let s : IsShort tells clock faults reading may_leave left_since x inside n = subst (λ (p : Parts D). IsShort tells clock faults reading may_leave left_since x p n) (sym view) short in
+        let s : IsShort disks x inside n = subst (λ (p : Parts D). IsShort disks x p n) (sym view) short in
         let same : s.cell ≡ c = same_Some s.cell c (sym s.at ∙ at_c0) in
         (fault_is.no_blocks n).1 (unrecorded, subst (λ k. IsTooFew k (books st0) n) same s.short)
 
@@ -119,28 +120,28 @@ module _ {D : Type 0} (tells : Type 0) (clock faults : D → ℕ) (reading : D �
         ap (λ st. parts_of st cs' n0) both.1 ∙ (ap (λ cs. parts_of st0 cs n0) (lent_same cs1 cs' c d q.lends both.0 ∙ deref) ∙ view)
 
   -- where a record was made it isn't short of blocks
-  pub ok_short : (r : Result Bool StoreFault) → ((c d : Cell) → slice_get cs1 x ≡ Some c → slice_get cs' x ≡ Some d → CellFaults faults (is_recorded c ≡ false) r c d st0 st')
-      → (b : Bool) → r ≡ Ok b → HasMade tells clock faults reading may_leave left_since x cs1 cs' st0 st' → (n : TooFewBlocks) → (made_result ≡ Err (TooFew n)) ↔ IsShort tells clock faults reading may_leave left_since x old n
+  pub ok_short : (r : Result Bool StoreFault) → ((c d : Cell) → slice_get cs1 x ≡ Some c → slice_get cs' x ≡ Some d → CellFaults disks.faults (is_recorded c ≡ false) r c d st0 st')
+      → (b : Bool) → r ≡ Ok b → HasMade disks x cs1 cs' st0 st' → (n : TooFewBlocks) → (made_result ≡ Err (TooFew n)) ↔ IsShort disks x old n
   ok_short r faults_at b is made n = (λ same. absurd (cc same), λ short. absurd (let h = short_to r faults_at made.before made.after made.commits n short in cc (is, h)))
 
   -- IT FAILED
 
   module _ (e : Entry) (entry : e ≡ mark Tried x v) where
-    tried_by : (n1 : Noted) → n1 ≡ record n0 { entries = n0.entries ++ e ∷ [] } → HasNotMade tells clock faults reading may_leave left_since x cs1 cs' st0 st' → Rose (faults st0.disk) (faults st'.disk)
-        → HasTried tells clock faults reading may_leave left_since x old (parts_of st' cs' n1)
+    tried_by : (n1 : Noted) → n1 ≡ record n0 { entries = n0.entries ++ e ∷ [] } → HasNotMade disks x cs1 cs' st0 st' → Rose (disks.faults st0.disk) (disks.faults st'.disk)
+        → HasTried disks x old (parts_of st' cs' n1)
     tried_by n1 pushed failed rose =
-        subst (λ (p : Parts D). HasTried tells clock faults reading may_leave left_since x p (parts_of st' cs' n1)) view
+        subst (λ (p : Parts D). HasTried disks x p (parts_of st' cs' n1)) view
         (record {
           entries = ap (λ (n : Noted). n.entries) pushed ∙ (ap (λ k. n0.entries ++ k ∷ []) entry ∙ ap (λ w. n0.entries ++ mark Tried x w ∷ []) version0);
           marks = ap (λ (n : Noted). n.marks) pushed;
           room = ap (λ (n : Noted). n.room) pushed;
-          failed = subst (λ cs. HasNotMade tells clock faults reading may_leave left_since x cs cs' st0 st') deref failed;
+          failed = subst (λ cs. HasNotMade disks x cs cs' st0 st') deref failed;
           rose = rose;
         })
 
-    module _ (r : Result Bool StoreFault) (faults_at : (c d : Cell) → slice_get cs1 x ≡ Some c → slice_get cs' x ≡ Some d → CellFaults faults (is_recorded c ≡ false) r c d st0 st')
-        (failed : HasNotMade tells clock faults reading may_leave left_since x cs1 cs' st0 st') where
-      pub err_tried : (f : StoreFault) → r ≡ Err f → (n1 : Noted) → n1 ≡ with_fault f e n0 → stop_result (why_of f) ≡ Err Failed → HasTried tells clock faults reading may_leave left_since x old (parts_of st' cs' n1)
+    module _ (r : Result Bool StoreFault) (faults_at : (c d : Cell) → slice_get cs1 x ≡ Some c → slice_get cs' x ≡ Some d → CellFaults disks.faults (is_recorded c ≡ false) r c d st0 st')
+        (failed : HasNotMade disks x cs1 cs' st0 st') where
+      pub err_tried : (f : StoreFault) → r ≡ Err f → (n1 : Noted) → n1 ≡ with_fault f e n0 → stop_result (why_of f) ≡ Err Failed → HasTried disks x old (parts_of st' cs' n1)
       err_tried (NoBlocks n) is n1 pushed failed_is = absurd (cc failed_is)
       err_tried WriteFault is n1 pushed failed_is = tried_by n1 pushed failed ((fault_is r faults_at failed.before failed.after failed.commits).write_fault is).1
       err_tried ReadFault is n1 pushed failed_is = absurd ((fault_is r faults_at failed.before failed.after failed.commits).no_read is)
@@ -148,10 +149,10 @@ module _ {D : Type 0} (tells : Type 0) (clock faults : D → ℕ) (reading : D �
           let shut = ((fault_is r faults_at failed.before failed.after failed.commits).shut.0 is).1 in
           absurd (let works = can0.working in cc (shut, works))
 
-      pub err_short : (f : StoreFault) → r ≡ Err f → (n : TooFewBlocks) → (stop_result (why_of f) ≡ Err (TooFew n)) ↔ IsShort tells clock faults reading may_leave left_since x old n
+      pub err_short : (f : StoreFault) → r ≡ Err f → (n : TooFewBlocks) → (stop_result (why_of f) ≡ Err (TooFew n)) ↔ IsShort disks x old n
       err_short f is n = (to f is, λ short. back f (sym is ∙ short_to r faults_at failed.before failed.after failed.commits n short))
         where
-          to : (f : StoreFault) → r ≡ Err f → stop_result (why_of f) ≡ Err (TooFew n) → IsShort tells clock faults reading may_leave left_since x old n
+          to : (f : StoreFault) → r ≡ Err f → stop_result (why_of f) ≡ Err (TooFew n) → IsShort disks x old n
           to (NoBlocks k) is same = short_from r faults_at failed.before failed.after failed.commits n (is ∙ (let e : k ≡ n = cc same in ap (λ z. Err (NoBlocks z)) e))
           to WriteFault is same = absurd (cc same)
           to ReadFault is same = absurd (cc same)
@@ -166,18 +167,18 @@ module _ {D : Type 0} (tells : Type 0) (clock faults : D → ℕ) (reading : D �
       err_still ReadFault is n1 pushed n same = absurd (cc same)
       err_still Shut is n1 pushed n same = absurd (cc same)
 
-      module _ (counts_later : (disk : D) (s t : ℕ) (c : Image) → tells → s ≤ t → left_since disk t c → left_since disk s c)
-          (only_now : (disk : D) (c : Image) → tells → left_since disk (clock disk) c → may_leave disk c) (counts : CommitCounts clock faults st0 st') where
-        counts0 : CommitCounts clock faults old.store st'
-        counts0 = subst (λ (p : Parts D). CommitCounts clock faults p.store st') view counts
+      module _ (counts_later : (disk : D) (s t : ℕ) (c : Image) → disks.tells → s ≤ t → disks.left_since disk t c → disks.left_since disk s c)
+          (only_now : (disk : D) (c : Image) → disks.tells → disks.left_since disk (disks.clock disk) c → disks.may_leave disk c) (counts : CommitCounts disks st0 st') where
+        counts0 : CommitCounts disks old.store st'
+        counts0 = subst (λ (p : Parts D). CommitCounts disks p.store st') view counts
 
-        pub err_run : (f : StoreFault) → r ≡ Err f → (n1 : Noted) → n1 ≡ with_fault f e n0 → tells → (b : Beginning) → MayRecord tells clock faults reading may_leave left_since b x old
-            → GoesOnBy tells clock faults reading may_leave left_since b (Err (why_of f)) (parts_of st' cs' n1)
+        pub err_run : (f : StoreFault) → r ≡ Err f → (n1 : Noted) → n1 ≡ with_fault f e n0 → disks.tells → (b : Beginning) → MayRecord disks b x old
+            → GoesOnBy disks b (Err (why_of f)) (parts_of st' cs' n1)
         err_run (NoBlocks k) is n1 pushed told b may = record {
           stands = tt;
-          lives = subst (λ p. LivesAs tells clock faults reading may_leave left_since b p (Some (TooFewStop k.need k.free))) (sym (ap (λ z. parts_of st' cs' z) pushed ∙ still r faults_at failed.before failed.after failed.commits k is))
-              (still_lives tells clock faults reading may_leave left_since counts_later only_now b old (TooFewStop k.need k.free) may.stands);
+          lives = subst (λ p. LivesAs disks b p (Some (TooFewStop k.need k.free))) (sym (ap (λ z. parts_of st' cs' z) pushed ∙ still r faults_at failed.before failed.after failed.commits k is))
+              (still_lives disks counts_later only_now b old (TooFewStop k.need k.free) may.stands);
         }
-        err_run WriteFault is n1 pushed told b may = record { stands = tt; lives = tried_stops tells clock faults reading may_leave left_since counts_later only_now b x old (parts_of st' cs' n1) told may can (err_tried WriteFault is n1 pushed refl) counts0 }
-        err_run ReadFault is n1 pushed told b may = record { stands = tt; lives = tried_stops tells clock faults reading may_leave left_since counts_later only_now b x old (parts_of st' cs' n1) told may can (err_tried ReadFault is n1 pushed refl) counts0 }
-        err_run Shut is n1 pushed told b may = record { stands = tt; lives = tried_stops tells clock faults reading may_leave left_since counts_later only_now b x old (parts_of st' cs' n1) told may can (err_tried Shut is n1 pushed refl) counts0 }
+        err_run WriteFault is n1 pushed told b may = record { stands = tt; lives = tried_stops disks counts_later only_now b x old (parts_of st' cs' n1) told may can (err_tried WriteFault is n1 pushed refl) counts0 }
+        err_run ReadFault is n1 pushed told b may = record { stands = tt; lives = tried_stops disks counts_later only_now b x old (parts_of st' cs' n1) told may can (err_tried ReadFault is n1 pushed refl) counts0 }
+        err_run Shut is n1 pushed told b may = record { stands = tt; lives = tried_stops disks counts_later only_now b x old (parts_of st' cs' n1) told may can (err_tried Shut is n1 pushed refl) counts0 }

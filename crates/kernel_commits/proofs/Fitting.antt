@@ -1,32 +1,32 @@
 -- A stop for want of blocks, where all needs fitted.
 use Rattle.std.proofs.Common.{◌≡◌, ℕ, ◌≤◌, length, Option, Some, Err, ◌↔◌, refl, sym, ap, subst, ◌∙◌, arith}
 use Rattle.std.specs.Prelude.{Result, ⊤}
-use Rattle.disk_trait.specs.Image.{Image}
-use Rattle.disk_trait.specs.declared.disk.NoBlocks.{NoBlocks as TooFewBlocks}
-use Rattle.commit_laws.specs.table_steps.kernel_cells.declared.cells.Part.TheVariants as part
-use Rattle.commit_laws.specs.table_steps.cell_table.Tables.{IsOrderly}
-use Rattle.commit_laws.specs.cell_books.store_laws.State.{books}
-use Rattle.commit_laws.specs.Parts.{Parts}
-use Rattle.commit_laws.specs.Recording.{IsShort}
-use Rattle.commit_laws.specs.Stabilising.{AreTooFew, NeedsFit}
-use Rattle.commit_laws.specs.Steady.{IsSteady}
+use Rattle.edge_disk.specs.declared.disk.NoBlocks.{NoBlocks as TooFewBlocks}
+use Rattle.kernel_commit_facts.specs.cell_states.declared.cells.Part.TheVariants as part
+use Rattle.kernel_commit_facts.specs.table_laws.Tables.{IsOrderly}
+use Rattle.kernel_commit_facts.specs.store_facts.State.{books}
+use Rattle.kernel_commit_facts.specs.Parts.{Parts}
+use Rattle.kernel_commit_facts.specs.Recording.{IsShort}
+use Rattle.kernel_commit_facts.specs.Stabilising.{AreTooFew, NeedsFit}
+use Rattle.kernel_commit_facts.specs.Steady.{IsSteady}
 use Rattle.kernel_commits.specs.Stops.{LeavesStopped}
 use Rattle.kernel_commits.specs.declared.stopping.Stopped.{Stopped}
 use Rattle.kernel_commits.specs.declared.stopping.Stopped.TheVariants.{Failed, TooFew}
 use Rattle.std.proofs.lemmas.Option.{same_Some}
-use Rattle.commit_laws.proofs.Fitting.{not_short}
+use Rattle.edge_disk.specs.declared.disk.Disk.{Ghosts}
+use Rattle.kernel_commit_facts.proofs.Fitting.{not_short}
 
 abbrev pub stop_by : Stopped → Result ⊤ Stopped
 stop_by why = Err why
 
-module _ {D : Type 0} (tells : Type 0) (clock faults : D → ℕ) (reading : D → Image) (may_leave : D → Image → Type 0) (left_since : D → ℕ → Image → Type 0) where
+module _ {D : Type 0} (disks : Ghosts D) where
   -- and no record comes short
-  pub only_failed : {T : Type 0} (x : ℕ) (p : Parts D) (r : Result T Stopped) → NeedsFit p → ((n : TooFewBlocks) → r ≡ Err (TooFew n) → IsShort tells clock faults reading may_leave left_since x p n)
+  pub only_failed : {T : Type 0} (x : ℕ) (p : Parts D) (r : Result T Stopped) → NeedsFit p → ((n : TooFewBlocks) → r ≡ Err (TooFew n) → IsShort disks x p n)
       → (why : Stopped) → r ≡ Err why → why ≡ Failed
-  only_failed x p r fits short (TooFew n) is = absurd (not_short tells clock faults reading may_leave left_since x p n fits (short n is))
+  only_failed x p r fits short (TooFew n) is = absurd (not_short disks x p n fits (short n is))
   only_failed x p r fits short Failed is = refl
 
-  pub short_stop : (old new : Parts D) (n : TooFewBlocks) → IsSteady tells reading may_leave old → new ≡ old → AreTooFew old n → LeavesStopped faults old new (TooFew n)
+  pub short_stop : (old new : Parts D) (n : TooFewBlocks) → IsSteady disks old → new ≡ old → AreTooFew old n → LeavesStopped disks.faults old new (TooFew n)
   short_stop old new n steady same few = record {
     orderly = subst (λ (p : Parts D). IsOrderly (books p.store).held p.cells) (sym same) steady.sound.matches.orderly;
     marks = subst (λ (p : Parts D). length p.noted.marks ≤ length p.noted.entries) (sym same) steady.few.marks;

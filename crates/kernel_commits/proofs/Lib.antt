@@ -4,9 +4,10 @@ pub mod Stops
 pub mod Along
 pub mod Parting
 pub mod Fitting
-pub use Rattle.commit_laws.proofs.cell_books_lemmas
-pub use Rattle.commit_laws.proofs.table_steps_lemmas.directory_laws_lemmas
-pub use Rattle.commit_laws.proofs.table_steps_lemmas.hop_model_lemmas
-pub use Rattle.commit_laws.proofs.serial_turns_lemmas
-pub use Rattle.commit_laws.proofs.table_steps_lemmas
-pub use Rattle.commit_laws.proofs as commit_laws_lemmas
+pub use Rattle.kernel_commit_facts.proofs.kernel_block_laws_lemmas
+pub use Rattle.kernel_commit_facts.proofs.kernel_book_laws_lemmas
+pub use Rattle.kernel_commit_facts.proofs as kernel_commit_facts_lemmas
+pub use Rattle.kernel_commit_facts.proofs.kernel_laws_lemmas
+pub use Rattle.kernel_commit_facts.proofs.kernel_views_lemmas
+pub use Rattle.kernel_commit_facts.proofs.model_serial_lemmas
+pub use Rattle.kernel_commit_facts.proofs.model_serial_turns_lemmas

@@ -2,28 +2,28 @@
 use Rattle.std.proofs.Common.{◌≡◌, ℕ, List, [], ◌∷◌, ◌++◌, Some, Err, refl, sym, ap, subst, ◌∙◌, append_assoc}
 use Rattle.std.proofs.lemmas.List.{append-nil}
 use Rattle.std.specs.Prelude.{Result}
-use Rattle.disk_trait.specs.Image.{Image}
-use Rattle.disk_trait.specs.declared.disk.NoBlocks.{NoBlocks as TooFewBlocks}
-use Rattle.hop_base.specs.declared.histories.Entry.{Entry}
-use Rattle.hop_base.specs.declared.histories.Event.TheVariants.{Stable, Tried}
-use Rattle.commit_laws.specs.table_steps.hop_model.Histories.{Run, mark, next_changed, run_after, version_of as run_version}
-use Rattle.commit_laws.specs.serial_turns.Turns.{IsStoppedIn}
-use Rattle.commit_laws.proofs.serial_turns_lemmas.Stops.{cut_made, cut_stable, cut_stable_tried}
-use Rattle.commit_laws.specs.cell_books.kernel_model.Beginnings.{Beginning, run_of}
-use Rattle.commit_laws.specs.cell_books.Matching.{version_of}
-use Rattle.commit_laws.specs.Parts.{Parts}
-use Rattle.commit_laws.specs.Pieces.{StopsIn}
-use Rattle.commit_laws.specs.Recording.{HasTried}
-use Rattle.commit_laws.specs.Through.{IsUnderway}
+use Rattle.edge_disk.specs.declared.disk.Disk.{Ghosts}
+use Rattle.edge_disk.specs.declared.disk.NoBlocks.{NoBlocks as TooFewBlocks}
+use Rattle.base_types.specs.declared.histories.Entry.{Entry}
+use Rattle.base_types.specs.declared.histories.Event.TheVariants.{Stable, Tried}
+use Rattle.kernel_commit_facts.specs.model_kernel.Histories.{Run, mark, next_changed, run_after, version_of as run_version}
+use Rattle.kernel_commit_facts.specs.model_serial_turns.Turns.{IsStoppedIn}
+use Rattle.kernel_commit_facts.proofs.model_serial_turns_lemmas.Stops.{cut_made, cut_stable, cut_stable_tried}
+use Rattle.kernel_commit_facts.specs.kernel_invariant.Beginnings.{Beginning, run_of}
+use Rattle.kernel_commit_facts.specs.kernel_book_laws.Matching.{version_of}
+use Rattle.kernel_commit_facts.specs.Parts.{Parts}
+use Rattle.kernel_commit_facts.specs.Pieces.{StopsIn}
+use Rattle.kernel_commit_facts.specs.Recording.{HasTried}
+use Rattle.kernel_commit_facts.specs.Through.{IsUnderway}
 use Rattle.kernel_commits.specs.declared.stopping.Stopped.{Stopped}
 use Rattle.kernel_commits.specs.declared.stopping.Stopped.TheVariants.{Failed, TooFew}
-use Rattle.commit_laws.proofs.Stabling.{behind_snaps}
+use Rattle.kernel_commit_facts.proofs.Stabling.{behind_snaps}
 
 -- nothing came
 pub none_came : (b : Beginning) (all old new : List Entry) → new ≡ old → StopsIn b all old new
 none_came b all old new same = record { part = []; entries = same ∙ sym (append-nil old); is = cut_made b.supply b.script (run_of b old) all [] all refl }
 
-module _ {D : Type 0} (tells : Type 0) (clock faults : D → ℕ) (reading : D → Image) (may_leave : D → Image → Type 0) (left_since : D → ℕ → Image → Type 0)
+module _ {D : Type 0} (disks : Ghosts D)
     (b : Beginning) (actor i : ℕ) (old now new : Parts D) (u : IsUnderway b actor i old.noted.entries now.noted.entries)
     (next : next_changed (run_of b now.noted.entries) ≡ Some i) (version : run_version (run_of b now.noted.entries) i ≡ version_of now.cells i) where
   abbrev r : Run
@@ -48,7 +48,7 @@ module _ {D : Type 0} (tells : Type 0) (clock faults : D → ℕ) (reading : D �
   version_behind : last_tried (run_after b.supply b.script r u.snaps) ≡ mark Tried i (version_of now.cells i)
   version_behind = ap last_tried behind ∙ ap (mark Tried i) version
 
-  tried_part : HasTried tells clock faults reading may_leave left_since i now new → StopsIn b owed old.noted.entries new.noted.entries
+  tried_part : HasTried disks i now new → StopsIn b owed old.noted.entries new.noted.entries
   tried_part t = record {
     part = u.snaps ++ mark Tried i (version_of now.cells i) ∷ [];
     entries = t.entries ∙ (ap (λ es. es ++ mark Tried i (version_of now.cells i) ∷ []) u.entries ∙ append_assoc old.noted.entries u.snaps (mark Tried i (version_of now.cells i) ∷ []));
@@ -57,7 +57,7 @@ module _ {D : Type 0} (tells : Type 0) (clock faults : D → ℕ) (reading : D �
   }
 
   -- THE SNAPS of the records that were made, and a Tried where the disk failed
-  pub stable_part : {T : Type 0} (res : Result T Stopped) → (res ≡ Err Failed → HasTried tells clock faults reading may_leave left_since i now new) → ((n : TooFewBlocks) → res ≡ Err (TooFew n) → new ≡ now)
+  pub stable_part : {T : Type 0} (res : Result T Stopped) → (res ≡ Err Failed → HasTried disks i now new) → ((n : TooFewBlocks) → res ≡ Err (TooFew n) → new ≡ now)
       → (why : Stopped) → res ≡ Err why → StopsIn b owed old.noted.entries new.noted.entries
   stable_part res tried same (TooFew n) err = made_part (sym (same n err))
   stable_part res tried same Failed err = tried_part (tried err)

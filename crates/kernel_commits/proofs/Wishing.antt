@@ -3,40 +3,40 @@ use Rattle.std.proofs.Common.{◌≡◌, inl, ℕ, ◌<◌, Bool, true, false, n
 use Rattle.std.specs.Prelude.{Result}
 use Rattle.std.proofs.lemmas.Bool.Decides.{nat_tests}
 use Rattle.std.proofs.lemmas.List.{append-nil}
-use Rattle.disk_trait.specs.Image.{Image}
-use Rattle.disk_trait.specs.declared.disk.NoBlocks.{NoBlocks as TooFewBlocks}
-use Rattle.hop_base.specs.declared.histories.Entry.{Entry}
-use Rattle.hop_base.specs.declared.histories.Event.TheVariants.{Snap, Tried}
-use Rattle.commit_laws.specs.table_steps.hop_model.Histories.{MayCommit, Policy, Run, goes_on, has_wish, is_full, mark, version_of}
-use Rattle.commit_laws.specs.table_steps.kernel_cells.declared.cells.Cell.{Cell}
-use Rattle.commit_laws.specs.table_steps.hop_model.State.{Supply}
-use Rattle.commit_laws.specs.table_steps.kernel_cells.Cells.{HasCell, part_of}
-use Rattle.commit_laws.specs.table_steps.kernel_cells.Wishes.{HasWish, is_open}
-use Rattle.commit_laws.specs.table_steps.cell_table.Tables.{state_in}
-use Rattle.commit_laws.proofs.table_steps_lemmas.cell_table_lemmas.Having.{no_supply, no_words, state_has}
-use Rattle.commit_laws.specs.cell_books.record_laws.Cells.{words_on}
-use Rattle.commit_laws.specs.cell_books.store_laws.State.{books}
-use Rattle.commit_laws.specs.cell_books.store_laws.Shelves.{records_of}
-use Rattle.commit_laws.specs.cell_books.store_model.Books.{kept_in}
-use Rattle.commit_laws.specs.cell_books.kernel_records.Snapping.{has_room, is_snapped}
-use Rattle.commit_laws.specs.serial_turns.serial_runs.Serial.{wished_snap}
-use Rattle.commit_laws.specs.serial_turns.Turns.{IsStoppedIn}
-use Rattle.commit_laws.proofs.serial_turns_lemmas.Stops.{cut_tried}
-use Rattle.commit_laws.specs.cell_books.kernel_model.Beginnings.{Beginning, run_of}
-use Rattle.commit_laws.specs.cell_books.kernel_views.Views.{FollowsRun}
-use Rattle.commit_laws.proofs.cell_books_lemmas.kernel_views_lemmas.Following.{cells_follow}
-use Rattle.commit_laws.proofs.cell_books_lemmas.kernel_views_lemmas.Fullness.{full_same}
-use Rattle.commit_laws.proofs.cell_books_lemmas.kernel_views_lemmas.Legal.{run_next}
-use Rattle.commit_laws.specs.cell_books.Matching.{version_at}
-use Rattle.commit_laws.specs.Parts.{LivesAs, Parts, StandsAs}
+use Rattle.edge_disk.specs.declared.disk.Disk.{Ghosts}
+use Rattle.edge_disk.specs.declared.disk.NoBlocks.{NoBlocks as TooFewBlocks}
+use Rattle.base_types.specs.declared.histories.Entry.{Entry}
+use Rattle.base_types.specs.declared.histories.Event.TheVariants.{Snap, Tried}
+use Rattle.kernel_commit_facts.specs.model_kernel.Histories.{MayCommit, Policy, Run, goes_on, has_wish, is_full, mark, version_of}
+use Rattle.kernel_commit_facts.specs.cell_states.declared.cells.Cell.{Cell}
+use Rattle.kernel_commit_facts.specs.model_kernel.State.{Supply}
+use Rattle.kernel_commit_facts.specs.cell_states.Cells.{HasCell, part_of}
+use Rattle.kernel_commit_facts.specs.cell_states.Wishes.{HasWish, is_open}
+use Rattle.kernel_commit_facts.specs.table_laws.Tables.{state_in}
+use Rattle.kernel_commit_facts.proofs.table_laws_lemmas.Having.{no_supply, no_words, state_has}
+use Rattle.kernel_commit_facts.specs.kernel_record_facts.Cells.{words_on}
+use Rattle.kernel_commit_facts.specs.store_facts.State.{books}
+use Rattle.kernel_commit_facts.specs.store_facts.Shelves.{records_of}
+use Rattle.kernel_commit_facts.specs.store_books.Books.{kept_in}
+use Rattle.kernel_commit_facts.specs.kernel_records.Snapping.{has_room, is_snapped}
+use Rattle.kernel_commit_facts.specs.model_serial.Serial.{wished_snap}
+use Rattle.kernel_commit_facts.specs.model_serial_turns.Turns.{IsStoppedIn}
+use Rattle.kernel_commit_facts.proofs.model_serial_turns_lemmas.Stops.{cut_tried}
+use Rattle.kernel_commit_facts.specs.kernel_invariant.Beginnings.{Beginning, run_of}
+use Rattle.kernel_commit_facts.specs.kernel_views.Views.{FollowsRun}
+use Rattle.kernel_commit_facts.proofs.kernel_views_lemmas.Following.{cells_follow}
+use Rattle.kernel_commit_facts.proofs.kernel_views_lemmas.Fullness.{full_same}
+use Rattle.kernel_commit_facts.proofs.kernel_views_lemmas.Legal.{run_next}
+use Rattle.kernel_commit_facts.specs.kernel_book_laws.Matching.{version_at}
+use Rattle.kernel_commit_facts.specs.Parts.{LivesAs, Parts, StandsAs}
 use Rattle.kernel_commits.specs.Parts.{stop_of}
-use Rattle.commit_laws.specs.Pieces.{StopsIn}
-use Rattle.commit_laws.specs.Recording.{HasRecorded, HasTried, MayRecord}
-use Rattle.commit_laws.specs.Snapping.{RunsFree, Snaps}
+use Rattle.kernel_commit_facts.specs.Pieces.{StopsIn}
+use Rattle.kernel_commit_facts.specs.Recording.{HasRecorded, HasTried, MayRecord}
+use Rattle.kernel_commit_facts.specs.Snapping.{RunsFree, Snaps}
 use Rattle.kernel_commits.specs.Snapping.{SnapsOne}
 use Rattle.kernel_commits.specs.declared.stopping.Stopped.{Stopped}
-use Rattle.commit_laws.specs.Lacking.{LacksBlocks, LacksIn}
-use Rattle.commit_laws.proofs.Dues.{lacks_first}
+use Rattle.kernel_commit_facts.specs.Lacking.{LacksBlocks, LacksIn}
+use Rattle.kernel_commit_facts.proofs.Dues.{lacks_first}
 use Rattle.kernel_commits.proofs.Parting.{none_came}
 use Rattle.kernel_commits.specs.declared.stopping.Stopped.TheVariants.{Failed, TooFew}
 
@@ -66,17 +66,17 @@ err_over T U a b same = let e : a ≡ b = cc same in ap (fault_in U) e
 pub few_is : (n m : ℕ) → nat_lt n 4 ≡ true → n ≡ m → m < 4
 few_is n m lt same = grind (arith, nat_tests)
 
-module _ {D : Type 0} (tells : Type 0) (clock faults : D → ℕ) (reading : D → Image) (may_leave : D → Image → Type 0) (left_since : D → ℕ → Image → Type 0)
-    (b : Beginning) (policy : Policy) (x : ℕ) (old : Parts D) (told : tells)
-    (free : RunsFree tells clock faults reading may_leave left_since b policy old) (c : Cell) (at : slice_get old.cells x ≡ Some c) where
+module _ {D : Type 0} (disks : Ghosts D)
+    (b : Beginning) (policy : Policy) (x : ℕ) (old : Parts D) (told : disks.tells)
+    (free : RunsFree disks b policy old) (c : Cell) (at : slice_get old.cells x ≡ Some c) where
   abbrev r : Run
   r = run_of b old.noted.entries
 
   abbrev words : ℕ → List ℕ
-  words = words_on (reading old.store.disk)
+  words = words_on (disks.reading old.store.disk)
 
   follow : FollowsRun b words old.cells old.noted.entries
-  follow = cells_follow b old.noted.entries (reading old.store.disk) old.cells free.stands.orderly.numbers (books old.store) old.noted.marks None free.stands.runs.follows
+  follow = cells_follow b old.noted.entries (disks.reading old.store.disk) old.cells free.stands.orderly.numbers (books old.store) old.noted.marks None free.stands.runs.follows
 
   number : c.clock.entity ≡ x
   number = free.stands.orderly.numbers.each x c at
@@ -88,10 +88,10 @@ module _ {D : Type 0} (tells : Type 0) (clock faults : D → ℕ) (reading : D �
   wish = follow.wishes x c at
 
   full : has_room (books old.store) x ≡ not (is_full r x)
-  full = full_same tells clock faults reading may_leave left_since b old.cells old.store old.noted.entries old.noted.marks x told free.stands
+  full = full_same disks b old.cells old.store old.noted.entries old.noted.marks x told free.stands
 
   version_is : version_of r x ≡ version_at (slice_get old.cells x)
-  version_is = ap (λ w. (w x).version) (sym follow.state) ∙ (ap (λ o. (Rattle.commit_laws.specs.table_steps.cell_table.Tables.entity_in b.supply words x o).version) at ∙ sym (ap version_at at))
+  version_is = ap (λ w. (w x).version) (sym follow.state) ∙ (ap (λ o. (Rattle.kernel_commit_facts.specs.table_laws.Tables.entity_in b.supply words x o).version) at ∙ sym (ap version_at at))
 
   abbrev test : Bool
   test = has_wish policy r x && not (is_full r x)
@@ -106,8 +106,8 @@ module _ {D : Type 0} (tells : Type 0) (clock faults : D → ℕ) (reading : D �
   snap_by t = if t then mark Snap x (version_of r x) ∷ [] else []
 
   -- nothing is to be made
-  pub none_made : test ≡ false → {T : Type 0} → (res : Result T Stopped) → (y : T) → res ≡ Ok y → SnapsOne tells clock faults reading may_leave left_since b policy x res old old
-  none_made is res y ok = subst (λ q. SnapsOne tells clock faults reading may_leave left_since b policy x q old old) (sym ok) (record {
+  pub none_made : test ≡ false → {T : Type 0} → (res : Result T Stopped) → (y : T) → res ≡ Ok y → SnapsOne disks b policy x res old old
+  none_made is res y ok = subst (λ q. SnapsOne disks b policy x q old old) (sym ok) (record {
     runs = free;
     entries = sym (ap (λ es. old.noted.entries ++ es) (ap snap_by is) ∙ append-nil old.noted.entries);
     lives = tt;
@@ -124,27 +124,27 @@ module _ {D : Type 0} (tells : Type 0) (clock faults : D → ℕ) (reading : D �
       second true b is = is
       second false b is = absurd (cc is)
 
-  pub may_record : test ≡ true → MayRecord tells clock faults reading may_leave left_since b x old
+  pub may_record : test ≡ true → MayRecord disks b x old
   may_record is = record { stands = free.stands; untried = free.untried; may = may_commit is }
 
   -- the Snap was made
-  module _ (new : Parts D) (is : test ≡ true) (rec : HasRecorded tells clock faults reading may_leave left_since x old new) where
+  module _ (new : Parts D) (is : test ≡ true) (rec : HasRecorded disks x old new) where
     entries_are : new.noted.entries ≡ old.noted.entries ++ mark Snap x (version_of r x) ∷ []
     entries_are = rec.entries ∙ ap (λ v. old.noted.entries ++ mark Snap x v ∷ []) (sym version_is)
 
     run_is : run_of b new.noted.entries ≡ goes_on b.supply b.script r (mark Snap x (version_of r x))
     run_is = ap (run_of b) entries_are ∙ run_next b old.noted.entries (mark Snap x (version_of r x))
 
-    pub one_made : StandsAs tells clock faults reading may_leave left_since b new → {T : Type 0} → (res : Result T Stopped) → (y : T) → res ≡ Ok y
-        → SnapsOne tells clock faults reading may_leave left_since b policy x res old new
-    one_made st res y ok = subst (λ q. SnapsOne tells clock faults reading may_leave left_since b policy x q old new) (sym ok) (record {
+    pub one_made : StandsAs disks b new → {T : Type 0} → (res : Result T Stopped) → (y : T) → res ≡ Ok y
+        → SnapsOne disks b policy x res old new
+    one_made st res y ok = subst (λ q. SnapsOne disks b policy x q old new) (sym ok) (record {
       runs = record { same_policy = free.same_policy; stands = st; owes_nothing = ap (λ q. q.owed) run_is ∙ free.owes_nothing; untried = ap (λ q. q.tried) run_is ∙ free.untried };
       entries = entries_are ∙ ap (λ es. old.noted.entries ++ es) (sym (ap snap_by is));
       lives = tt;
     })
 
   -- or it failed: a part of it came
-  pub one_part : test ≡ true → (new : Parts D) → {T : Type 0} → (res : Result T Stopped) → (res ≡ Err Failed → HasTried tells clock faults reading may_leave left_since x old new) → ((n : TooFewBlocks) → res ≡ Err (TooFew n) → new ≡ old)
+  pub one_part : test ≡ true → (new : Parts D) → {T : Type 0} → (res : Result T Stopped) → (res ≡ Err Failed → HasTried disks x old new) → ((n : TooFewBlocks) → res ≡ Err (TooFew n) → new ≡ old)
       → (why : Stopped) → res ≡ Err why → StopsIn b (wished_snap policy r x) old.noted.entries new.noted.entries
   one_part is new res tried same (TooFew n) err = none_came b (wished_snap policy r x) old.noted.entries new.noted.entries (ap (λ (p : Parts D). p.noted.entries) (same n err))
   one_part is new res tried same Failed err = record {
@@ -157,6 +157,6 @@ module _ {D : Type 0} (tells : Type 0) (clock faults : D → ℕ) (reading : D �
   pub one_lacks : test ≡ true → (new : Parts D) → new ≡ old → LacksBlocks b old → LacksIn b (wished_snap policy r x) old.noted.entries new
   one_lacks is new same lacks = lacks_first b (mark Snap x (version_of r x)) [] (wished_snap policy r x) old new (sym (ap snap_by is)) tt same lacks
 
-  pub one_failed : (new : Parts D) → {T : Type 0} → (res : Result T Stopped) → (why : Stopped) → res ≡ Err why → LivesAs tells clock faults reading may_leave left_since b new (Some (stop_of why))
-      → SnapsOne tells clock faults reading may_leave left_since b policy x res old new
-  one_failed new res why err lives = subst (λ q. SnapsOne tells clock faults reading may_leave left_since b policy x q old new) (sym err) (record { runs = tt; entries = tt; lives = lives })
+  pub one_failed : (new : Parts D) → {T : Type 0} → (res : Result T Stopped) → (why : Stopped) → res ≡ Err why → LivesAs disks b new (Some (stop_of why))
+      → SnapsOne disks b policy x res old new
+  one_failed new res why err lives = subst (λ q. SnapsOne disks b policy x q old new) (sym err) (record { runs = tt; entries = tt; lives = lives })

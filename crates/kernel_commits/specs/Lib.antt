@@ -3,12 +3,16 @@ pub mod Recording
 pub mod Snapping
 pub mod Stabilising
 pub mod Stops
-pub use Rattle.commit_laws.specs.cell_books
-pub use Rattle.commit_laws.specs.table_steps.hop_model
-pub use Rattle.commit_laws.specs.table_steps.kernel_calls
-pub use Rattle.commit_laws.specs.table_steps.locus_machine
-pub use Rattle.commit_laws.specs.serial_turns
-pub use Rattle.commit_laws.specs.table_steps.step_plans
-pub use Rattle.commit_laws.specs.table_steps
-pub use Rattle.commit_laws.specs.table_steps.wanted_act
-pub use Rattle.commit_laws.specs as commit_laws
+pub use Rattle.kernel_commit_facts.specs.kernel_block_laws
+pub use Rattle.kernel_commit_facts.specs.kernel_book_laws
+pub use Rattle.kernel_commit_facts.specs as kernel_commit_facts
+pub use Rattle.kernel_commit_facts.specs.kernel_invariant
+pub use Rattle.kernel_commit_facts.specs.kernel_laws
+pub use Rattle.kernel_commit_facts.specs.kernel_record_facts
+pub use Rattle.kernel_commit_facts.specs.kernel_records
+pub use Rattle.kernel_commit_facts.specs.kernel_views
+pub use Rattle.kernel_commit_facts.specs.model_serial
+pub use Rattle.kernel_commit_facts.specs.model_serial_turns
+pub use Rattle.kernel_commit_facts.specs.store_books
+pub use Rattle.kernel_commit_facts.specs.store_facts
+pub use Rattle.kernel_commit_facts.specs.store_snapshots

@@ -1,5 +1,5 @@
 -- Why a kernel stopped, in the words of its record.
-use Rattle.commit_laws.specs.cell_books.kernel_model.Live.{Stopped as Stop, TooFew as TooFewBlocks, Failed as DiskFailed}
+use Rattle.kernel_commit_facts.specs.kernel_invariant.Live.{Stopped as Stop, TooFew as TooFewBlocks, Failed as DiskFailed}
 use Rattle.kernel_commits.specs.declared.stopping.Stopped.{Stopped}
 use Rattle.kernel_commits.specs.declared.stopping.Stopped.TheVariants.{Failed, TooFew}
 

@@ -1,9 +1,9 @@
 -- What a kernel is left with where it stops, whatever the disk tells.
 use Rattle.std.specs.Prelude.{ℕ, ◌<◌, ◌≤◌, length}
-use Rattle.disk_trait.specs.Counts.{Rose}
-use Rattle.commit_laws.specs.table_steps.cell_table.Tables.{IsOrderly}
-use Rattle.commit_laws.specs.cell_books.store_laws.State.{books}
-use Rattle.commit_laws.specs.Parts.{Parts}
+use Rattle.edge_disk.specs.Counts.{Rose}
+use Rattle.kernel_commit_facts.specs.table_laws.Tables.{IsOrderly}
+use Rattle.kernel_commit_facts.specs.store_facts.State.{books}
+use Rattle.kernel_commit_facts.specs.Parts.{Parts}
 use Rattle.kernel_commits.specs.declared.stopping.Stopped.{Stopped}
 use Rattle.kernel_commits.specs.declared.stopping.Stopped.TheVariants.{Failed, TooFew}
 

@@ -1,8 +1,8 @@
 // What a kernel is made of.
 use crate::notes::Notes;
-use block_code::Blob;
-use commit_laws::{Cell, Store};
-use disk_trait::Disk;
+use base_bytes::Blob;
+use edge_disk::Disk;
+use kernel_commit_facts::{Cell, Store};
 use std::marker::Model;
 
 /// A kernel's store, its cells, room for one blob, and what was noted.
@@ -15,7 +15,7 @@ pub struct Core<D: Disk> {
 }
 
 impl<D: Disk> Model for Core<D> {
-    ghost use Rattle.commit_laws.specs.Parts.{Parts, parts_of};
+    ghost use Rattle.kernel_commit_facts.specs.Parts.{Parts, parts_of};
 
     ghost Value = { Parts D };
 

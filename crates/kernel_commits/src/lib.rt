@@ -10,6 +10,7 @@ mod stabilising;
 mod stopping;
 
 pub use cores::Core;
+pub use kernel_commit_facts::{Idle, OpenFault, OpenWhy, Store};
 pub use notes::Notes;
 pub use snapping::{snap_one, snap_written};
 pub use stabilising::settle;

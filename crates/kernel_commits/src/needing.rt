@@ -1,15 +1,15 @@
 // Whether enough blocks are free for the records of all changed cells.
 ghost use Rattle.std.specs.Prelude.{◌≡◌, ◌↔◌, None, Some};
-ghost use Rattle.commit_laws.specs.table_steps.cell_table.Tables.{IsOrderly};
-ghost use Rattle.disk_trait.specs.declared.disk.NoBlocks.{NoBlocks as TooFewBlocks};
-ghost use Rattle.commit_laws.specs.Stabilising.{AreTooFew, NeedsFit, needs_in};
-ghost use Rattle.commit_laws.specs.cell_books.store_laws.State.{books};
-ghost use Rattle.commit_laws.specs.cell_books.store_model.Books.{kept_names};
+ghost use Rattle.kernel_commit_facts.specs.table_laws.Tables.{IsOrderly};
+ghost use Rattle.edge_disk.specs.declared.disk.NoBlocks.{NoBlocks as TooFewBlocks};
+ghost use Rattle.kernel_commit_facts.specs.Stabilising.{AreTooFew, NeedsFit, needs_in};
+ghost use Rattle.kernel_commit_facts.specs.store_facts.State.{books};
+ghost use Rattle.kernel_commit_facts.specs.store_books.Books.{kept_names};
 
 use crate::cores::Core;
-use block_code::Blob;
-use commit_laws::{Cell, Store, need_cell};
-use disk_trait::{Disk, NoBlocks};
+use base_bytes::Blob;
+use edge_disk::{Disk, NoBlocks};
+use kernel_commit_facts::{Cell, Store, need_cell};
 
 /// The blocks that a record of each changed cell needs, together. What was in `blob` is lost.
 fn all_needs<D: Disk>(cells: &[Cell], store: &Store<D>, blob: &mut Blob) -> u32

@@ -1,7 +1,7 @@
 // The history of a run with its marks, in room that is taken once.
 ghost use Rattle.std.specs.Prelude.{◌≡◌, ◌+◌, ◌<◌, ◌≤◌, ◌++◌, ◌∷◌, [], IfOk, length, take};
 
-use hop_base::Entry;
+use base_types::Entry;
 use std::alloc::{AllocError, Global};
 use std::marker::Model;
 
@@ -15,7 +15,7 @@ pub struct Notes {
 
 impl Model for Notes {
     ghost use Rattle.std.specs.Prelude.{◌≤◌, vec_capacity};
-    ghost use Rattle.commit_laws.specs.Parts.{Noted};
+    ghost use Rattle.kernel_commit_facts.specs.Parts.{Noted};
 
     ghost Value = { Noted };
 

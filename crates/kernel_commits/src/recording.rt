@@ -1,26 +1,26 @@
 // One record of a cell of the kernel.
 ghost use Rattle.std.specs.Prelude.{◌≡◌, ◌↔◌, ◌<◌, ℕ, Bool, true, false, Some, IfErr, IsErrOf, OnErr, OnOk, length, slice_get};
-ghost use Rattle.disk_trait.specs.declared.disk.NoBlocks.{NoBlocks as TooFewBlocks};
-ghost use Rattle.commit_laws.specs.cell_books.Matching.{version_of};
-ghost use Rattle.hop_base.specs.declared.histories.Event.TheVariants as AnEvent;
-ghost use Rattle.commit_laws.specs.table_steps.hop_model.Histories.{mark};
-ghost use Rattle.commit_laws.specs.table_steps.cell_blobs.Blobs.{is_recorded};
-ghost use Rattle.commit_laws.specs.table_steps.kernel_cells.declared.cells.Cell.{Cell as ACell};
-ghost use Rattle.commit_laws.specs.Lacking.{LacksBlocks};
-ghost use Rattle.commit_laws.specs.Parts.{Parts};
-ghost use Rattle.commit_laws.specs.Recording.{CanRecord, HasMade, HasNotMade, HasRecorded, HasTried, IsShort, MayRecord, with_fault};
+ghost use Rattle.edge_disk.specs.declared.disk.NoBlocks.{NoBlocks as TooFewBlocks};
+ghost use Rattle.kernel_commit_facts.specs.kernel_book_laws.Matching.{version_of};
+ghost use Rattle.base_types.specs.declared.histories.Event.TheVariants as AnEvent;
+ghost use Rattle.kernel_commit_facts.specs.model_kernel.Histories.{mark};
+ghost use Rattle.kernel_commit_facts.specs.cell_blobs.Blobs.{is_recorded};
+ghost use Rattle.kernel_commit_facts.specs.cell_states.declared.cells.Cell.{Cell as ACell};
+ghost use Rattle.kernel_commit_facts.specs.Lacking.{LacksBlocks};
+ghost use Rattle.kernel_commit_facts.specs.Parts.{Parts};
+ghost use Rattle.kernel_commit_facts.specs.Recording.{CanRecord, HasMade, HasNotMade, HasRecorded, HasTried, IsShort, MayRecord, with_fault};
 ghost use Rattle.kernel_commits.specs.Recording.{GoesOnBy, why_of};
 ghost use Rattle.kernel_commits.specs.declared.stopping.Stopped.{Stopped as AStop};
-ghost use Rattle.commit_laws.specs.cell_books.kernel_model.Beginnings.{Beginning, run_of};
-ghost use Rattle.commit_laws.specs.cell_books.kernel_records.Committing.{CellFaults, CommitCounts};
+ghost use Rattle.kernel_commit_facts.specs.kernel_invariant.Beginnings.{Beginning, run_of};
+ghost use Rattle.kernel_commit_facts.specs.kernel_records.Committing.{CellFaults, CommitCounts};
 
 use crate::cores::Core;
 use crate::notes::Notes;
 use crate::stopping::Stopped;
-use block_code::Blob;
-use commit_laws::{Cell, Store, StoreFault, commit_cell, mark_entry};
-use disk_trait::Disk;
-use hop_base::{Entity, Event};
+use base_bytes::Blob;
+use base_types::{Entity, Event};
+use edge_disk::Disk;
+use kernel_commit_facts::{Cell, Store, StoreFault, commit_cell, mark_entry};
 
 /// Commits a record of one of the cells, which has changed since its newest one.
 fn commit_among<D: Disk>(
@@ -29,12 +29,12 @@ fn commit_among<D: Disk>(
     blob: &mut Blob,
     entity: Entity,
 ) -> Result<bool, StoreFault>
-    requires can { CanRecord D.tells D.clock D.faults D.reading D.may_leave D.left_since entity cells.old store.old }
-    ensures made { OnOk result (HasMade D.tells D.clock D.faults D.reading D.may_leave D.left_since entity cells.old cells.new store.old store.new) }
-    ensures unmade { OnErr result (HasNotMade D.tells D.clock D.faults D.reading D.may_leave D.left_since entity cells.old cells.new store.old store.new) }
+    requires can { CanRecord D.Disk entity cells.old store.old }
+    ensures made { OnOk result (HasMade D.Disk entity cells.old cells.new store.old store.new) }
+    ensures unmade { OnErr result (HasNotMade D.Disk entity cells.old cells.new store.old store.new) }
     ensures faults { (c d : ACell) → slice_get cells.old entity ≡ Some c → slice_get cells.new entity ≡ Some d
         → CellFaults D.faults (is_recorded c ≡ false) result c d store.old store.new }
-    ensures counts { CommitCounts D.clock D.faults store.old store.new }
+    ensures counts { CommitCounts D.Disk store.old store.new }
 {
     commit_cell(&mut cells[entity.number() as usize], store, blob)
 }
@@ -64,18 +64,18 @@ fn note_fault(notes: &mut Notes, entity: Entity, version: u64, fault: StoreFault
 
 /// Makes a record of an entity that has changed since its newest one, with its Snap and its mark. Where it fails the kernel is to stop.
 pub(crate) fn record_one<D: Disk>(core: &mut Core<D>, entity: Entity) -> Result<(), Stopped>
-    requires can { CanRecord D.tells D.clock D.faults D.reading D.may_leave D.left_since entity core.old.cells core.old.store }
+    requires can { CanRecord D.Disk entity core.old.cells core.old.store }
     requires entry_room { length core.old.noted.entries < core.old.noted.room }
     requires mark_room { length core.old.noted.marks < core.old.noted.room }
-    ensures recorded { OnOk result (HasRecorded D.tells D.clock D.faults D.reading D.may_leave D.left_since entity core.old core.new) }
-    ensures tried { IsErrOf result AStop.Failed → HasTried D.tells D.clock D.faults D.reading D.may_leave D.left_since entity core.old core.new }
-    ensures too_few { (n : TooFewBlocks) → IsErrOf result (AStop.TooFew n) ↔ IsShort D.tells D.clock D.faults D.reading D.may_leave D.left_since entity core.old n }
+    ensures recorded { OnOk result (HasRecorded D.Disk entity core.old core.new) }
+    ensures tried { IsErrOf result AStop.Failed → HasTried D.Disk entity core.old core.new }
+    ensures too_few { (n : TooFewBlocks) → IsErrOf result (AStop.TooFew n) ↔ IsShort D.Disk entity core.old n }
     ensures untouched { (n : TooFewBlocks) → IsErrOf result (AStop.TooFew n) → core.new ≡ core.old }
-    ensures run { D.tells → (b : Beginning) → MayRecord D.tells D.clock D.faults D.reading D.may_leave D.left_since b entity core.old
-        → GoesOnBy D.tells D.clock D.faults D.reading D.may_leave D.left_since b result core.new }
-    ensures enough { D.tells → (b : Beginning) → MayRecord D.tells D.clock D.faults D.reading D.may_leave D.left_since b entity core.old
+    ensures run { D.tells → (b : Beginning) → MayRecord D.Disk b entity core.old
+        → GoesOnBy D.Disk b result core.new }
+    ensures enough { D.tells → (b : Beginning) → MayRecord D.Disk b entity core.old
         → (run_of b core.old.noted.entries).short ≡ false → (n : TooFewBlocks) → IsErrOf result (AStop.TooFew n) → LacksBlocks b core.old }
-    ensures counts { CommitCounts D.clock D.faults core.old.store core.new.store }
+    ensures counts { CommitCounts D.Disk core.old.store core.new.store }
 {
     let version = version_among(&core.cells, entity);
     match commit_among(&mut core.cells, &mut core.store, &mut core.blob, entity) {

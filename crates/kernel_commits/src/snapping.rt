@@ -1,35 +1,35 @@
 // Snaps of entities whose wishes are open.
 ghost use Rattle.std.specs.Prelude.{◌≡◌, ◌↔◌, ◌*◌, ℕ, List, Bool, true, false, IfErr, IsErrOf, Ok, OnErr, OnOk, Some, length, slice_get};
-ghost use Rattle.hop_base.specs.Touches.{IsRising};
-ghost use Rattle.commit_laws.specs.table_steps.hop_model.Histories.{Run, has_wish};
-ghost use Rattle.commit_laws.specs.table_steps.hop_model.State.{Supply};
-ghost use Rattle.commit_laws.specs.table_steps.kernel_cells.Cells.{HasCell, part_of};
-ghost use Rattle.commit_laws.specs.table_steps.kernel_cells.Wishes.{HasWish, is_open};
-ghost use Rattle.commit_laws.specs.table_steps.kernel_cells.declared.cells.Cell.{Cell as ACell};
-ghost use Rattle.commit_laws.specs.cell_books.kernel_model.Beginnings.{run_of};
-ghost use Rattle.commit_laws.specs.cell_books.wish_laws.Founded.{IsFoundedCell};
-ghost use Rattle.disk_trait.specs.declared.disk.NoBlocks.{NoBlocks as TooFewBlocks};
-ghost use Rattle.commit_laws.specs.Lacking.{LacksIn};
-ghost use Rattle.commit_laws.specs.Recording.{HasRecorded, HasTried, IsShort};
-ghost use Rattle.commit_laws.specs.Snapping.{CanSnap, RunsFree, Snaps, wants_in};
+ghost use Rattle.base_types.specs.Touches.{IsRising};
+ghost use Rattle.kernel_commit_facts.specs.model_kernel.Histories.{Run, has_wish};
+ghost use Rattle.kernel_commit_facts.specs.model_kernel.State.{Supply};
+ghost use Rattle.kernel_commit_facts.specs.cell_states.Cells.{HasCell, part_of};
+ghost use Rattle.kernel_commit_facts.specs.cell_states.Wishes.{HasWish, is_open};
+ghost use Rattle.kernel_commit_facts.specs.cell_states.declared.cells.Cell.{Cell as ACell};
+ghost use Rattle.kernel_commit_facts.specs.kernel_invariant.Beginnings.{run_of};
+ghost use Rattle.kernel_commit_facts.specs.cell_wish_laws.Founded.{IsFoundedCell};
+ghost use Rattle.edge_disk.specs.declared.disk.NoBlocks.{NoBlocks as TooFewBlocks};
+ghost use Rattle.kernel_commit_facts.specs.Lacking.{LacksIn};
+ghost use Rattle.kernel_commit_facts.specs.Recording.{HasRecorded, HasTried, IsShort};
+ghost use Rattle.kernel_commit_facts.specs.Snapping.{CanSnap, RunsFree, Snaps, wants_in};
 ghost use Rattle.kernel_commits.specs.Snapping.{SnapsAll, SnapsOne};
-ghost use Rattle.commit_laws.specs.Steady.{IsSteady};
+ghost use Rattle.kernel_commit_facts.specs.Steady.{IsSteady};
 ghost use Rattle.kernel_commits.specs.Stops.{LeavesStopped};
 ghost use Rattle.kernel_commits.specs.declared.stopping.Stopped.{Stopped as AStop};
-ghost use Rattle.commit_laws.specs.cell_books.kernel_model.Beginnings.{Beginning};
-ghost use Rattle.commit_laws.specs.cell_books.kernel_records.Committing.{CommitCounts};
-ghost use Rattle.commit_laws.specs.serial_turns.serial_runs.Serial.{wished_snap, wished_snaps, written_in};
-ghost use Rattle.commit_laws.specs.table_steps.cell_table.Tables.{AreClean};
-ghost use Rattle.commit_laws.specs.cell_books.record_laws.Cells.{words_on};
-ghost use Rattle.commit_laws.specs.Pieces.{CountsWithin, StopsIn};
+ghost use Rattle.kernel_commit_facts.specs.kernel_invariant.Beginnings.{Beginning};
+ghost use Rattle.kernel_commit_facts.specs.kernel_records.Committing.{CommitCounts};
+ghost use Rattle.kernel_commit_facts.specs.model_serial.Serial.{wished_snap, wished_snaps, written_in};
+ghost use Rattle.kernel_commit_facts.specs.table_laws.Tables.{AreClean};
+ghost use Rattle.kernel_commit_facts.specs.kernel_record_facts.Cells.{words_on};
+ghost use Rattle.kernel_commit_facts.specs.Pieces.{CountsWithin, StopsIn};
 
 use crate::cores::Core;
 use crate::recording::record_one;
 use crate::stopping::Stopped;
-use commit_laws::{Cell, FULL};
-use disk_trait::Disk;
-use hop_base::{Entity, Entry, Touch};
-use manager_gate::{Gate, Policy, Supplier};
+use base_types::{Entity, Entry, Touch};
+use edge_disk::Disk;
+use edge_managers::{Gate, Policy, Supplier};
+use kernel_commit_facts::{Cell, FULL};
 
 /// Whether a record of one of the cells is wished.
 fn wishes_among<S: Supplier, P: Policy>(cells: &[Cell], entity: Entity, gate: &Gate<S, P>) -> bool
@@ -52,11 +52,11 @@ fn wants_snap<D: Disk, S: Supplier, P: Policy>(
     gate: &Gate<S, P>,
 ) -> bool
     requires keeps { P.keeps gate.now.policy }
-    requires steady { IsSteady D.tells D.reading D.may_leave core.now }
+    requires steady { IsSteady D.Disk core.now }
     ensures there { (c : ACell) × (slice_get core.now.cells entity ≡ Some c) }
     ensures snaps { Snaps (P.wish gate.now.policy) entity core.now result }
-    ensures can { result ≡ true → CanSnap D.tells D.clock D.faults D.reading D.may_leave D.left_since entity core.now }
-    ensures run { D.tells → (b : Beginning) → RunsFree D.tells D.clock D.faults D.reading D.may_leave D.left_since b (P.wish gate.now.policy) core.now
+    ensures can { result ≡ true → CanSnap D.Disk entity core.now }
+    ensures run { D.tells → (b : Beginning) → RunsFree D.Disk b (P.wish gate.now.policy) core.now
         → wants_in (P.wish gate.now.policy) (run_of b core.now.noted.entries) entity ≡ result }
 {
     if !wishes_among(&core.cells, entity, gate) {
@@ -72,23 +72,23 @@ pub fn snap_one<D: Disk, S: Supplier, P: Policy>(
     gate: &Gate<S, P>,
 ) -> Result<bool, Stopped>
     requires keeps { P.keeps gate.now.policy }
-    requires steady { IsSteady D.tells D.reading D.may_leave core.old }
-    ensures steady { OnOk result (IsSteady D.tells D.reading D.may_leave core.new) }
+    requires steady { IsSteady D.Disk core.old }
+    ensures steady { OnOk result (IsSteady D.Disk core.new) }
     ensures made { Snaps (P.wish gate.now.policy) entity core.old true
-        → OnOk result ((result ≡ Ok true) × HasRecorded D.tells D.clock D.faults D.reading D.may_leave D.left_since entity core.old core.new) }
+        → OnOk result ((result ≡ Ok true) × HasRecorded D.Disk entity core.old core.new) }
     ensures none { Snaps (P.wish gate.now.policy) entity core.old false → (result ≡ Ok false) × (core.new ≡ core.old) }
-    ensures tried { IsErrOf result AStop.Failed → HasTried D.tells D.clock D.faults D.reading D.may_leave D.left_since entity core.old core.new }
-    ensures too_few { (n : TooFewBlocks) → IsErrOf result (AStop.TooFew n) ↔ (Snaps (P.wish gate.now.policy) entity core.old true × IsShort D.tells D.clock D.faults D.reading D.may_leave D.left_since entity core.old n) }
+    ensures tried { IsErrOf result AStop.Failed → HasTried D.Disk entity core.old core.new }
+    ensures too_few { (n : TooFewBlocks) → IsErrOf result (AStop.TooFew n) ↔ (Snaps (P.wish gate.now.policy) entity core.old true × IsShort D.Disk entity core.old n) }
     ensures untouched { (n : TooFewBlocks) → IsErrOf result (AStop.TooFew n) → core.new ≡ core.old }
-    ensures run { D.tells → (b : Beginning) → RunsFree D.tells D.clock D.faults D.reading D.may_leave D.left_since b (P.wish gate.now.policy) core.old
-        → SnapsOne D.tells D.clock D.faults D.reading D.may_leave D.left_since b (P.wish gate.now.policy) entity result core.old core.new }
-    ensures part { D.tells → (b : Beginning) → RunsFree D.tells D.clock D.faults D.reading D.may_leave D.left_since b (P.wish gate.now.policy) core.old
+    ensures run { D.tells → (b : Beginning) → RunsFree D.Disk b (P.wish gate.now.policy) core.old
+        → SnapsOne D.Disk b (P.wish gate.now.policy) entity result core.old core.new }
+    ensures part { D.tells → (b : Beginning) → RunsFree D.Disk b (P.wish gate.now.policy) core.old
         → OnErr result (StopsIn b (wished_snap (P.wish gate.now.policy) (run_of b core.old.noted.entries) entity) core.old.noted.entries core.new.noted.entries) }
     ensures clean { D.tells → (s : Supply) → AreClean s (words_on (D.reading core.old.store.disk)) core.old.cells
         → OnOk result (AreClean s (words_on (D.reading core.new.store.disk)) core.new.cells) }
-    ensures enough { D.tells → (b : Beginning) → RunsFree D.tells D.clock D.faults D.reading D.may_leave D.left_since b (P.wish gate.now.policy) core.old
+    ensures enough { D.tells → (b : Beginning) → RunsFree D.Disk b (P.wish gate.now.policy) core.old
         → (n : TooFewBlocks) → IsErrOf result (AStop.TooFew n) → LacksIn b (wished_snap (P.wish gate.now.policy) (run_of b core.old.noted.entries) entity) core.old.noted.entries core.new }
-    ensures counts { CommitCounts D.clock D.faults core.old.store core.new.store }
+    ensures counts { CommitCounts D.Disk core.old.store core.new.store }
 {
     if !wants_snap(core, entity, gate) {
         return Ok(false);
@@ -106,21 +106,21 @@ fn snap_touched<D: Disk, S: Supplier, P: Policy>(
     gate: &Gate<S, P>,
 ) -> Result<(), Stopped>
     requires keeps { P.keeps gate.now.policy }
-    requires steady { IsSteady D.tells D.reading D.may_leave core.old }
+    requires steady { IsSteady D.Disk core.old }
     requires rising { IsRising touches.now }
-    ensures steady { OnOk result (IsSteady D.tells D.reading D.may_leave core.new) }
-    ensures run { D.tells → (b : Beginning) → RunsFree D.tells D.clock D.faults D.reading D.may_leave D.left_since b (P.wish gate.now.policy) core.old
-        → SnapsAll D.tells D.clock D.faults D.reading D.may_leave D.left_since b (P.wish gate.now.policy) (written_in touches.now) result core.old core.new }
-    ensures part { D.tells → (b : Beginning) → RunsFree D.tells D.clock D.faults D.reading D.may_leave D.left_since b (P.wish gate.now.policy) core.old
+    ensures steady { OnOk result (IsSteady D.Disk core.new) }
+    ensures run { D.tells → (b : Beginning) → RunsFree D.Disk b (P.wish gate.now.policy) core.old
+        → SnapsAll D.Disk b (P.wish gate.now.policy) (written_in touches.now) result core.old core.new }
+    ensures part { D.tells → (b : Beginning) → RunsFree D.Disk b (P.wish gate.now.policy) core.old
         → OnErr result (StopsIn b (wished_snaps b.supply (P.wish gate.now.policy) b.script (run_of b core.old.noted.entries) (written_in touches.now)) core.old.noted.entries core.new.noted.entries) }
-    ensures enough { D.tells → (b : Beginning) → RunsFree D.tells D.clock D.faults D.reading D.may_leave D.left_since b (P.wish gate.now.policy) core.old
+    ensures enough { D.tells → (b : Beginning) → RunsFree D.Disk b (P.wish gate.now.policy) core.old
         → (n : TooFewBlocks) → IsErrOf result (AStop.TooFew n)
         → LacksIn b (wished_snaps b.supply (P.wish gate.now.policy) b.script (run_of b core.old.noted.entries) (written_in touches.now)) core.old.noted.entries core.new }
     ensures stopped { IfErr result (LeavesStopped D.faults core.old core.new) }
     ensures clean { D.tells → (s : Supply) → AreClean s (words_on (D.reading core.old.store.disk)) core.old.cells
         → OnOk result (AreClean s (words_on (D.reading core.new.store.disk)) core.new.cells) }
     // one record at most of each of the 64 entities
-    ensures counts { CountsWithin D.clock D.faults (64 * 1556) core.old.store core.new.store }
+    ensures counts { CountsWithin D.Disk (64 * 1556) core.old.store core.new.store }
 {
     for i in 0..touches.len() {
         let touch = touches[i];
@@ -140,19 +140,19 @@ pub fn snap_written<D: Disk, S: Supplier, P: Policy>(
     gate: &Gate<S, P>,
 ) -> Result<(), Stopped>
     requires keeps { P.keeps gate.now.policy }
-    requires steady { IsSteady D.tells D.reading D.may_leave core.old }
-    ensures steady { OnOk result (IsSteady D.tells D.reading D.may_leave core.new) }
-    ensures run { D.tells → (b : Beginning) → RunsFree D.tells D.clock D.faults D.reading D.may_leave D.left_since b (P.wish gate.now.policy) core.old
-        → SnapsAll D.tells D.clock D.faults D.reading D.may_leave D.left_since b (P.wish gate.now.policy) (written_in entry.now.touched) result core.old core.new }
-    ensures part { D.tells → (b : Beginning) → RunsFree D.tells D.clock D.faults D.reading D.may_leave D.left_since b (P.wish gate.now.policy) core.old
+    requires steady { IsSteady D.Disk core.old }
+    ensures steady { OnOk result (IsSteady D.Disk core.new) }
+    ensures run { D.tells → (b : Beginning) → RunsFree D.Disk b (P.wish gate.now.policy) core.old
+        → SnapsAll D.Disk b (P.wish gate.now.policy) (written_in entry.now.touched) result core.old core.new }
+    ensures part { D.tells → (b : Beginning) → RunsFree D.Disk b (P.wish gate.now.policy) core.old
         → OnErr result (StopsIn b (wished_snaps b.supply (P.wish gate.now.policy) b.script (run_of b core.old.noted.entries) (written_in entry.now.touched)) core.old.noted.entries core.new.noted.entries) }
-    ensures enough { D.tells → (b : Beginning) → RunsFree D.tells D.clock D.faults D.reading D.may_leave D.left_since b (P.wish gate.now.policy) core.old
+    ensures enough { D.tells → (b : Beginning) → RunsFree D.Disk b (P.wish gate.now.policy) core.old
         → (n : TooFewBlocks) → IsErrOf result (AStop.TooFew n)
         → LacksIn b (wished_snaps b.supply (P.wish gate.now.policy) b.script (run_of b core.old.noted.entries) (written_in entry.now.touched)) core.old.noted.entries core.new }
     ensures stopped { IfErr result (LeavesStopped D.faults core.old core.new) }
     ensures clean { D.tells → (s : Supply) → AreClean s (words_on (D.reading core.old.store.disk)) core.old.cells
         → OnOk result (AreClean s (words_on (D.reading core.new.store.disk)) core.new.cells) }
-    ensures counts { CountsWithin D.clock D.faults (64 * 1556) core.old.store core.new.store }
+    ensures counts { CountsWithin D.Disk (64 * 1556) core.old.store core.new.store }
 {
     snap_touched(core, entry.touched.as_slice(), gate)
 }

@@ -1,32 +1,32 @@
 // The records of a Stable.
 ghost use Rattle.std.specs.Prelude.{◌≡◌, ◌↔◌, ◌==◌, ◌*◌, ◌+◌, ◌<◌, ◌≤◌, ◌++◌, ◌∷◌, [], ℕ, None, Some, IfErr, IsErrOf, OnErr, OnOk, length, take};
-ghost use Rattle.commit_laws.specs.cell_books.Matching.{newest_of, version_of};
-ghost use Rattle.commit_laws.specs.Lacking.{LacksIn};
-ghost use Rattle.commit_laws.specs.Parts.{LivesAs};
+ghost use Rattle.kernel_commit_facts.specs.kernel_book_laws.Matching.{newest_of, version_of};
+ghost use Rattle.kernel_commit_facts.specs.Lacking.{LacksIn};
+ghost use Rattle.kernel_commit_facts.specs.Parts.{LivesAs};
 ghost use Rattle.kernel_commits.specs.Parts.{stop_of};
-ghost use Rattle.hop_base.specs.declared.histories.Event.TheVariants as AnEvent;
-ghost use Rattle.commit_laws.specs.table_steps.hop_model.Histories.{mark};
-ghost use Rattle.disk_trait.specs.declared.disk.NoBlocks.{NoBlocks as TooFewBlocks};
-ghost use Rattle.commit_laws.specs.Pieces.{CountsWithin, StopsIn};
-ghost use Rattle.commit_laws.specs.Stabilising.{AreTooFew, HasStabilised, NeedsFit, OwesStable};
+ghost use Rattle.base_types.specs.declared.histories.Event.TheVariants as AnEvent;
+ghost use Rattle.kernel_commit_facts.specs.model_kernel.Histories.{mark};
+ghost use Rattle.edge_disk.specs.declared.disk.NoBlocks.{NoBlocks as TooFewBlocks};
+ghost use Rattle.kernel_commit_facts.specs.Pieces.{CountsWithin, StopsIn};
+ghost use Rattle.kernel_commit_facts.specs.Stabilising.{AreTooFew, HasStabilised, NeedsFit, OwesStable};
 ghost use Rattle.kernel_commits.specs.Stabilising.{Stabilises};
-ghost use Rattle.commit_laws.specs.cell_books.store_laws.State.{books};
-ghost use Rattle.commit_laws.specs.Steady.{IsSteady, entries_taken, steps_to_come};
+ghost use Rattle.kernel_commit_facts.specs.store_facts.State.{books};
+ghost use Rattle.kernel_commit_facts.specs.Steady.{IsSteady, entries_taken, steps_to_come};
 ghost use Rattle.kernel_commits.specs.Stops.{LeavesStopped};
-ghost use Rattle.commit_laws.specs.Through.{GoesThrough, RunsThrough};
+ghost use Rattle.kernel_commit_facts.specs.Through.{GoesThrough, RunsThrough};
 ghost use Rattle.kernel_commits.specs.declared.stopping.Stopped.{Stopped as AStop};
-ghost use Rattle.commit_laws.specs.cell_books.kernel_model.Beginnings.{Beginning};
-ghost use Rattle.commit_laws.specs.table_steps.hop_model.State.{Supply};
-ghost use Rattle.commit_laws.specs.table_steps.cell_table.Tables.{AreClean};
-ghost use Rattle.commit_laws.specs.cell_books.record_laws.Cells.{words_on};
+ghost use Rattle.kernel_commit_facts.specs.kernel_invariant.Beginnings.{Beginning};
+ghost use Rattle.kernel_commit_facts.specs.model_kernel.State.{Supply};
+ghost use Rattle.kernel_commit_facts.specs.table_laws.Tables.{AreClean};
+ghost use Rattle.kernel_commit_facts.specs.kernel_record_facts.Cells.{words_on};
 
 use crate::cores::Core;
 use crate::needing::shortage;
 use crate::recording::record_one;
 use crate::stopping::Stopped;
-use commit_laws::{Cell, is_recorded, mark_entry};
-use disk_trait::Disk;
-use hop_base::{Entity, Event};
+use base_types::{Entity, Event};
+use edge_disk::Disk;
+use kernel_commit_facts::{Cell, is_recorded, mark_entry};
 
 /// Whether one of the cells hasn't changed since its newest record.
 fn recorded_among(cells: &[Cell], entity: Entity) -> bool
@@ -38,17 +38,17 @@ fn recorded_among(cells: &[Cell], entity: Entity) -> bool
 
 /// A record of each changed cell, in ascending number, each with its Snap, for all of which enough blocks are free.
 pub(crate) fn record_all<D: Disk>(core: &mut Core<D>) -> Result<(), Stopped>
-    requires steady { IsSteady D.tells D.reading D.may_leave core.old }
+    requires steady { IsSteady D.Disk core.old }
     requires fits { NeedsFit core.old }
-    ensures through { OnOk result (GoesThrough D.tells D.clock D.faults D.reading D.may_leave D.left_since 64 core.old core.new) }
-    ensures run { D.tells → (b : Beginning) (actor : ℕ) → OwesStable D.tells D.clock D.faults D.reading D.may_leave D.left_since b actor core.old
-        → OnOk result (RunsThrough D.tells D.clock D.faults D.reading D.may_leave D.left_since b actor 64 core.old core.new) }
-    ensures lives { D.tells → (b : Beginning) (actor : ℕ) → OwesStable D.tells D.clock D.faults D.reading D.may_leave D.left_since b actor core.old
-        → IfErr result (λ why. LivesAs D.tells D.clock D.faults D.reading D.may_leave D.left_since b core.new (Some (stop_of why))) }
-    ensures part { D.tells → (b : Beginning) (actor : ℕ) → OwesStable D.tells D.clock D.faults D.reading D.may_leave D.left_since b actor core.old
+    ensures through { OnOk result (GoesThrough D.Disk 64 core.old core.new) }
+    ensures run { D.tells → (b : Beginning) (actor : ℕ) → OwesStable D.Disk b actor core.old
+        → OnOk result (RunsThrough D.Disk b actor 64 core.old core.new) }
+    ensures lives { D.tells → (b : Beginning) (actor : ℕ) → OwesStable D.Disk b actor core.old
+        → IfErr result (λ why. LivesAs D.Disk b core.new (Some (stop_of why))) }
+    ensures part { D.tells → (b : Beginning) (actor : ℕ) → OwesStable D.Disk b actor core.old
         → OnErr result (StopsIn b (mark AnEvent.Stable actor 0 ∷ []) core.old.noted.entries core.new.noted.entries) }
     ensures stopped { IfErr result (LeavesStopped D.faults core.old core.new) }
-    ensures counts { CountsWithin D.clock D.faults (64 * 1556) core.old.store core.new.store }
+    ensures counts { CountsWithin D.Disk (64 * 1556) core.old.store core.new.store }
     ensures only_failed { IfErr result (λ why. why ≡ AStop.Failed) }
 {
     for x in 0..64 {
@@ -66,18 +66,18 @@ pub(crate) fn record_all<D: Disk>(core: &mut Core<D>) -> Result<(), Stopped>
 ///
 /// `TooFew` comes exactly where fewer blocks are free than all of them need together, with both numbers, before the first write.
 fn record_changed<D: Disk>(core: &mut Core<D>) -> Result<(), Stopped>
-    requires steady { IsSteady D.tells D.reading D.may_leave core.old }
-    ensures through { OnOk result (GoesThrough D.tells D.clock D.faults D.reading D.may_leave D.left_since 64 core.old core.new) }
-    ensures run { D.tells → (b : Beginning) (actor : ℕ) → OwesStable D.tells D.clock D.faults D.reading D.may_leave D.left_since b actor core.old
-        → OnOk result (RunsThrough D.tells D.clock D.faults D.reading D.may_leave D.left_since b actor 64 core.old core.new) }
-    ensures lives { D.tells → (b : Beginning) (actor : ℕ) → OwesStable D.tells D.clock D.faults D.reading D.may_leave D.left_since b actor core.old
-        → IfErr result (λ why. LivesAs D.tells D.clock D.faults D.reading D.may_leave D.left_since b core.new (Some (stop_of why))) }
-    ensures part { D.tells → (b : Beginning) (actor : ℕ) → OwesStable D.tells D.clock D.faults D.reading D.may_leave D.left_since b actor core.old
+    requires steady { IsSteady D.Disk core.old }
+    ensures through { OnOk result (GoesThrough D.Disk 64 core.old core.new) }
+    ensures run { D.tells → (b : Beginning) (actor : ℕ) → OwesStable D.Disk b actor core.old
+        → OnOk result (RunsThrough D.Disk b actor 64 core.old core.new) }
+    ensures lives { D.tells → (b : Beginning) (actor : ℕ) → OwesStable D.Disk b actor core.old
+        → IfErr result (λ why. LivesAs D.Disk b core.new (Some (stop_of why))) }
+    ensures part { D.tells → (b : Beginning) (actor : ℕ) → OwesStable D.Disk b actor core.old
         → OnErr result (StopsIn b (mark AnEvent.Stable actor 0 ∷ []) core.old.noted.entries core.new.noted.entries) }
     ensures too_few { (n : TooFewBlocks) → IsErrOf result (AStop.TooFew n) ↔ AreTooFew core.old n }
     ensures untouched { (n : TooFewBlocks) → IsErrOf result (AStop.TooFew n) → core.new ≡ core.old }
     ensures stopped { IfErr result (LeavesStopped D.faults core.old core.new) }
-    ensures counts { CountsWithin D.clock D.faults (64 * 1556) core.old.store core.new.store }
+    ensures counts { CountsWithin D.Disk (64 * 1556) core.old.store core.new.store }
 {
     if let Some(blocks) = shortage(core) {
         return Err(Stopped::TooFew(blocks));
@@ -114,23 +114,23 @@ fn note_stable<D: Disk>(core: &mut Core<D>, entries: usize, marks: usize, actor:
 /// a run only where the image has fewer than are enough for the state. Where the disk fails the Snaps of the records that were made are
 /// left, with a Tried.
 pub fn settle<D: Disk>(core: &mut Core<D>, actor: Entity) -> Result<(), Stopped>
-    requires steady { IsSteady D.tells D.reading D.may_leave core.old }
+    requires steady { IsSteady D.Disk core.old }
     // room for one entry more beside those of the steps to come: behind a Stable no wish is open
     requires spare { steps_to_come core.old.cells + entries_taken core.old.noted.entries < core.old.noted.room }
     ensures stabilised { OnOk result (HasStabilised actor core.old core.new) }
-    ensures steady { OnOk result (IsSteady D.tells D.reading D.may_leave core.new) }
-    ensures run { D.tells → (b : Beginning) → OwesStable D.tells D.clock D.faults D.reading D.may_leave D.left_since b actor core.old
-        → Stabilises D.tells D.clock D.faults D.reading D.may_leave D.left_since b result core.new }
-    ensures part { D.tells → (b : Beginning) → OwesStable D.tells D.clock D.faults D.reading D.may_leave D.left_since b actor core.old
+    ensures steady { OnOk result (IsSteady D.Disk core.new) }
+    ensures run { D.tells → (b : Beginning) → OwesStable D.Disk b actor core.old
+        → Stabilises D.Disk b result core.new }
+    ensures part { D.tells → (b : Beginning) → OwesStable D.Disk b actor core.old
         → OnErr result (StopsIn b (mark AnEvent.Stable actor 0 ∷ []) core.old.noted.entries core.new.noted.entries) }
     ensures too_few { (n : TooFewBlocks) → IsErrOf result (AStop.TooFew n) ↔ AreTooFew core.old n }
     ensures untouched { (n : TooFewBlocks) → IsErrOf result (AStop.TooFew n) → core.new ≡ core.old }
-    ensures enough { D.tells → (b : Beginning) → OwesStable D.tells D.clock D.faults D.reading D.may_leave D.left_since b actor core.old
+    ensures enough { D.tells → (b : Beginning) → OwesStable D.Disk b actor core.old
         → (n : TooFewBlocks) → IsErrOf result (AStop.TooFew n) → LacksIn b (mark AnEvent.Stable actor 0 ∷ []) core.old.noted.entries core.new }
     ensures stopped { IfErr result (LeavesStopped D.faults core.old core.new) }
     ensures clean { D.tells → (s : Supply) → AreClean s (words_on (D.reading core.old.store.disk)) core.old.cells
         → OnOk result (AreClean s (words_on (D.reading core.new.store.disk)) core.new.cells) }
-    ensures counts { CountsWithin D.clock D.faults (64 * 1556) core.old.store core.new.store }
+    ensures counts { CountsWithin D.Disk (64 * 1556) core.old.store core.new.store }
 {
     let (entries, marks) = noted_so_far(core);
     if let Err(why) = record_changed(core) {

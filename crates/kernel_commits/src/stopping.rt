@@ -1,5 +1,5 @@
 // Why a kernel goes on no more.
-use disk_trait::NoBlocks;
+use edge_disk::NoBlocks;
 
 /// Why a kernel has stopped.
 #[derive(Clone, Copy, Debug, PartialEq, Eq)]

@@ -1,20 +1,20 @@
 -- What a look came to, told by what its step came to.
 use Rattle.std.proofs.Common.{◌≡◌, ℕ, Ok, Err, ap, subst}
 use Rattle.std.specs.Prelude.{◌↔◌, Result, ⊤}
-use Rattle.disk_trait.specs.Image.{Image}
-use Rattle.hop_base.specs.declared.histories.Entry.{Entry}
-use Rattle.core_laws.specs.kernel_commits.hop_model.Histories.{Policy}
-use Rattle.core_laws.specs.birth_views.kernel_model.Beginnings.{Beginning}
-use Rattle.core_laws.specs.birth_views.kernel_model.Live.{IsCalm}
-use Rattle.core_laws.specs.birth_views.serial_runs.Serial.{look}
-use Rattle.core_laws.specs.kernel_commits.commit_laws.Parts.{Parts, StandsAs}
-use Rattle.core_laws.specs.Looking.{LooksInRun}
+use Rattle.edge_disk.specs.declared.disk.Disk.{Ghosts}
+use Rattle.base_types.specs.declared.histories.Entry.{Entry}
+use Rattle.script_types.specs.model_kernel.Histories.{Policy}
+use Rattle.kernel_core_facts.specs.kernel_invariant.Beginnings.{Beginning}
+use Rattle.kernel_core_facts.specs.kernel_invariant.Live.{IsCalm}
+use Rattle.kernel_core_facts.specs.model_serial.Serial.{look}
+use Rattle.kernel_core_facts.specs.kernel_commit_facts.Parts.{Parts, StandsAs}
+use Rattle.kernel_core_facts.specs.Looking.{LooksInRun}
 use Rattle.kernel_core.specs.declared.looking.Looked.{Looked as Look}
 use Rattle.kernel_core.specs.declared.looking.Looked.TheVariants.{Idle as IdleLook, Stepped}
 use Rattle.kernel_core.specs.declared.stepping.Stepping.{Stepping}
 use Rattle.kernel_core.specs.declared.stepping.Stepping.TheVariants.{Idle as IdleStep, Made}
-use Rattle.core_laws.specs.kernel_commits.step_plans.declared.idle.Idle.{Idle as AnIdle}
-use Rattle.core_laws.specs.kernel_commits.declared.stopping.Stopped.{Stopped}
+use Rattle.kernel_core_facts.specs.cell_plans.declared.idle.Idle.{Idle as AnIdle}
+use Rattle.kernel_core_facts.specs.kernel_commits.declared.stopping.Stopped.{Stopped}
 
 abbrev pub ok_look : Look → Result Look Stopped
 ok_look look = Ok look
@@ -48,16 +48,16 @@ idle_told why w P h = ((λ p. look_same (h.0 p)), (λ is. h.1 (step_same is)))
     step_same : ok_look (IdleLook why) ≡ ok_look (IdleLook w) → ok_step (IdleStep why) ≡ ok_step (IdleStep w)
     step_same is = let same : why ≡ w = cc is in ap (λ (v : AnIdle). ok_step (IdleStep v)) same
 
-module _ {D : Type 0} (tells : Type 0) (clock faults : D → ℕ) (reading : D → Image) (may_leave : D → Image → Type 0) (left_since : D → ℕ → Image → Type 0)
+module _ {D : Type 0} (disks : Ghosts D)
     (b : Beginning) (policy : Policy) (same : b.policy ≡ policy) (me : ℕ) (old : Parts D)
-    (stands : StandsAs tells clock faults reading may_leave left_since b old) (calm : IsCalm b old.noted.entries) where
+    (stands : StandsAs disks b old) (calm : IsCalm b old.noted.entries) where
   -- told by what the look came to
-  pub ok_stepped : (r : Result ⊤ Stopped) (y : ⊤) (new : Parts D) → r ≡ Ok y → LooksInRun tells clock faults reading may_leave left_since b policy me r old new → LooksInRun tells clock faults reading may_leave left_since b policy me (ok_look Stepped) old new
+  pub ok_stepped : (r : Result ⊤ Stopped) (y : ⊤) (new : Parts D) → r ≡ Ok y → LooksInRun disks b policy me r old new → LooksInRun disks b policy me (ok_look Stepped) old new
   ok_stepped r y new is looks =
-      let l = subst (λ q. LooksInRun tells clock faults reading may_leave left_since b policy me q old new) is looks in
+      let l = subst (λ q. LooksInRun disks b policy me q old new) is looks in
       record { stands = l.stands; calm = l.calm; entries = l.entries; lives = tt }
 
-  pub err_stepped : (r : Result ⊤ Stopped) (why : Stopped) (new : Parts D) → r ≡ Err why → LooksInRun tells clock faults reading may_leave left_since b policy me r old new → LooksInRun tells clock faults reading may_leave left_since b policy me (err_result why) old new
+  pub err_stepped : (r : Result ⊤ Stopped) (why : Stopped) (new : Parts D) → r ≡ Err why → LooksInRun disks b policy me r old new → LooksInRun disks b policy me (err_result why) old new
   err_stepped r why new is looks =
-      let l = subst (λ q. LooksInRun tells clock faults reading may_leave left_since b policy me q old new) is looks in
+      let l = subst (λ q. LooksInRun disks b policy me q old new) is looks in
       record { stands = tt; calm = tt; entries = tt; lives = l.lives }

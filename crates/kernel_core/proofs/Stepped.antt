@@ -3,65 +3,66 @@ use Rattle.std.proofs.Common.{◌≡◌, ◌⊎◌, ◌↔◌, inl, inr, ℕ, �
 use Rattle.std.specs.Prelude.{IsErrOf, Result}
 use Rattle.std.proofs.lemmas.Bool.{and_parts}
 use Rattle.std.proofs.lemmas.Option.{slice_get_within}
-use Rattle.disk_trait.specs.Image.{Image}
-use Rattle.disk_trait.specs.declared.disk.NoBlocks.{NoBlocks as TooFewBlocks}
-use Rattle.hop_base.specs.declared.histories.Entry.{Entry}
-use Rattle.hop_base.specs.declared.histories.Event.{Event}
-use Rattle.core_laws.specs.kernel_commits.hop_model.Histories.{May, Run, goes_on}
-use Rattle.core_laws.specs.kernel_commits.hop_model.Serial.{can_step}
-use Rattle.core_laws.specs.kernel_commits.hop_model.State.{KernelState, Supply, empty_state}
-use Rattle.core_laws.specs.kernel_commits.hop_model.Steps.{running, step}
-use Rattle.core_laws.specs.birth_views.fault_paging.Calls.{IsCausedBy}
-use Rattle.core_laws.specs.birth_views.page_store.declared.faults.PageFault.{PageFault}
-use Rattle.core_laws.specs.birth_views.page_store.declared.faults.PageFault.TheVariants as page
-use Rattle.core_laws.specs.birth_views.store_model.Books.{free_in}
-use Rattle.core_laws.specs.birth_views.store_laws.State.{State, books}
-use Rattle.core_laws.specs.birth_views.kernel_cells.declared.cells.Cell.{Cell}
-use Rattle.core_laws.specs.kernel_commits.step_plans.Plans.{idle_of}
-use Rattle.core_laws.specs.kernel_commits.step_plans.declared.idle.Idle.{Idle as AnIdle}
-use Rattle.core_laws.specs.kernel_commits.step_plans.declared.idle.Idle.TheVariants.{Absent}
-use Rattle.core_laws.specs.birth_views.cell_table.Steps.{EntersStep}
-use Rattle.core_laws.specs.birth_views.cell_table.Tables.{AreClean, IsOrderly, entity_in, left_of, state_in}
-use Rattle.core_laws.specs.birth_views.record_laws.Cells.{words_on}
-use Rattle.core_laws.specs.kernel_commits.table_steps.Wanting.{WantsWord}
-use Rattle.core_laws.specs.kernel_commits.table_steps.declared.stepping.StepFault.{StepFault}
-use Rattle.core_laws.specs.kernel_commits.table_steps.declared.stepping.StepFault.TheVariants.{Idle, Paging}
-use Rattle.core_laws.specs.birth_views.kernel_model.Beginnings.{Beginning, run_of, state_after}
-use Rattle.core_laws.specs.birth_views.kernel_model.Live.{IsCalm}
-use Rattle.core_laws.proofs.birth_views_lemmas.kernel_laws_lemmas.Going.{event_runs, stop_lives}
-use Rattle.core_laws.specs.birth_views.kernel_room.Room.{enough_blocks}
-use Rattle.core_laws.proofs.birth_views_lemmas.kernel_room_lemmas.Enough.{calm_whole}
-use Rattle.core_laws.specs.birth_views.kernel_views.Events.{StepsOver, StopsOver}
-use Rattle.core_laws.specs.birth_views.kernel_views.Views.{FollowsRun, newest_at, view_of}
-use Rattle.core_laws.proofs.birth_views_lemmas.kernel_views_lemmas.Following.{cells_follow}
-use Rattle.core_laws.proofs.birth_views_lemmas.kernel_views_lemmas.Legal.{run_next}
-use Rattle.core_laws.proofs.birth_views_lemmas.kernel_views_lemmas.Stepping.{clean_on, made_event}
-use Rattle.core_laws.proofs.birth_views_lemmas.kernel_views_lemmas.Stopping.{stops}
-use Rattle.core_laws.specs.birth_views.look_steps.Looking.{IsWordStep}
-use Rattle.core_laws.specs.birth_views.serial_runs.Serial.{IsBehind, IsCalm as IsQuiet, kept_behind, look, written_in}
-use Rattle.core_laws.proofs.birth_views_lemmas.serial_runs_lemmas.Calm.{step_behind, step_entry, step_may}
-use Rattle.core_laws.proofs.birth_views_lemmas.serial_runs_lemmas.Rounds.{step_some}
-use Rattle.core_laws.proofs.kernel_commits_lemmas.serial_turns_lemmas.Looks.{look_made}
-use Rattle.store_steps.specs.Leaving.{LeavesInOrder}
-use Rattle.core_laws.specs.kernel_commits.cell_books.Matching.{Rises, newest_of, version_at, version_of}
-use Rattle.core_laws.proofs.kernel_commits_lemmas.cell_books_lemmas.Keeping.{rises}
-use Rattle.core_laws.specs.kernel_commits.commit_laws.Parts.{Noted, Parts, StandsAs, parts_of}
-use Rattle.core_laws.specs.kernel_commits.Parts.{stop_of}
-use Rattle.core_laws.specs.kernel_commits.commit_laws.Lacking.{IsDueIn, LacksBlocks, MayWant}
-use Rattle.core_laws.specs.kernel_commits.commit_laws.Pieces.{CountsWithin}
-use Rattle.core_laws.specs.kernel_commits.commit_laws.Steady.{IsSteady, entries_taken, steps_to_come}
-use Rattle.core_laws.specs.Stepping.{HasCause, StepsInRun, idle_at, stop_by}
+use Rattle.edge_disk.specs.declared.disk.Disk.{Ghosts}
+use Rattle.edge_disk.specs.Image.{Image}
+use Rattle.edge_disk.specs.declared.disk.NoBlocks.{NoBlocks as TooFewBlocks}
+use Rattle.base_types.specs.declared.histories.Entry.{Entry}
+use Rattle.base_types.specs.declared.histories.Event.{Event}
+use Rattle.script_types.specs.model_kernel.Histories.{May, Run, goes_on}
+use Rattle.script_types.specs.model_kernel.Serial.{can_step}
+use Rattle.script_types.specs.model_kernel.State.{KernelState, Supply, empty_state}
+use Rattle.script_types.specs.model_kernel.Steps.{running, step}
+use Rattle.kernel_core_facts.specs.page_memory.Calls.{IsCausedBy}
+use Rattle.page_store.specs.declared.faults.PageFault.{PageFault}
+use Rattle.page_store.specs.declared.faults.PageFault.TheVariants as page
+use Rattle.kernel_core_facts.specs.store_books.Books.{free_in}
+use Rattle.kernel_core_facts.specs.store_facts.State.{State, books}
+use Rattle.kernel_core_facts.specs.cell_states.declared.cells.Cell.{Cell}
+use Rattle.kernel_core_facts.specs.cell_plans.Plans.{idle_of}
+use Rattle.kernel_core_facts.specs.cell_plans.declared.idle.Idle.{Idle as AnIdle}
+use Rattle.kernel_core_facts.specs.cell_plans.declared.idle.Idle.TheVariants.{Absent}
+use Rattle.kernel_core_facts.specs.table_laws.Steps.{EntersStep}
+use Rattle.kernel_core_facts.specs.table_laws.Tables.{AreClean, IsOrderly, entity_in, left_of, state_in}
+use Rattle.kernel_core_facts.specs.kernel_record_facts.Cells.{words_on}
+use Rattle.kernel_core_facts.specs.table_steps.Wanting.{WantsWord}
+use Rattle.kernel_core_facts.specs.table_steps.declared.stepping.StepFault.{StepFault}
+use Rattle.kernel_core_facts.specs.table_steps.declared.stepping.StepFault.TheVariants.{Idle, Paging}
+use Rattle.kernel_core_facts.specs.kernel_invariant.Beginnings.{Beginning, run_of, state_after}
+use Rattle.kernel_core_facts.specs.kernel_invariant.Live.{IsCalm}
+use Rattle.kernel_core_facts.proofs.kernel_laws_lemmas.Going.{event_runs, stop_lives}
+use Rattle.kernel_core_facts.specs.kernel_block_laws.Room.{enough_blocks}
+use Rattle.kernel_core_facts.proofs.kernel_block_laws_lemmas.Enough.{calm_whole}
+use Rattle.kernel_core_facts.specs.kernel_views.Events.{StepsOver, StopsOver}
+use Rattle.kernel_core_facts.specs.kernel_views.Views.{FollowsRun, newest_at, view_of}
+use Rattle.kernel_core_facts.proofs.kernel_views_lemmas.Following.{cells_follow}
+use Rattle.kernel_core_facts.proofs.kernel_views_lemmas.Legal.{run_next}
+use Rattle.kernel_core_facts.proofs.kernel_views_lemmas.Stepping.{clean_on, made_event}
+use Rattle.kernel_core_facts.proofs.kernel_views_lemmas.Stopping.{stops}
+use Rattle.kernel_core_facts.specs.cell_looks.Looking.{IsWordStep}
+use Rattle.kernel_core_facts.specs.model_serial.Serial.{IsBehind, IsCalm as IsQuiet, kept_behind, look, written_in}
+use Rattle.kernel_core_facts.proofs.model_serial_lemmas.Calm.{step_behind, step_entry, step_may}
+use Rattle.kernel_core_facts.proofs.model_serial_lemmas.Rounds.{step_some}
+use Rattle.kernel_core_facts.proofs.model_serial_turns_lemmas.Looks.{look_made}
+use Rattle.kernel_core_facts.specs.Leaving.{LeavesInOrder}
+use Rattle.kernel_core_facts.specs.kernel_book_laws.Matching.{Rises, newest_of, version_at, version_of}
+use Rattle.kernel_core_facts.proofs.kernel_book_laws_lemmas.Keeping.{rises}
+use Rattle.kernel_core_facts.specs.kernel_commit_facts.Parts.{Noted, Parts, StandsAs, parts_of}
+use Rattle.kernel_core_facts.specs.kernel_commits.Parts.{stop_of}
+use Rattle.kernel_core_facts.specs.kernel_commit_facts.Lacking.{IsDueIn, LacksBlocks, MayWant}
+use Rattle.kernel_core_facts.specs.kernel_commit_facts.Pieces.{CountsWithin}
+use Rattle.kernel_core_facts.specs.kernel_commit_facts.Steady.{IsSteady, entries_taken, steps_to_come}
+use Rattle.kernel_core_facts.specs.Stepping.{HasCause, StepsInRun, idle_at, stop_by}
 use Rattle.kernel_core.specs.Stepping.{StepsOnce}
 use Rattle.kernel_core.specs.declared.stepping.Stepping.{Stepping}
 use Rattle.kernel_core.specs.declared.stepping.Stepping.TheVariants.{Idle as IdleFor, Made}
-use Rattle.core_laws.specs.kernel_commits.declared.stopping.Stopped.{Stopped}
-use Rattle.core_laws.specs.kernel_commits.declared.stopping.Stopped.TheVariants.{TooFew}
-use Rattle.core_laws.proofs.kernel_commits_lemmas.commit_laws_lemmas.Dues.{due_first}
-use Rattle.core_laws.proofs.kernel_commits_lemmas.commit_laws_lemmas.Enough.{none_lacks}
-use Rattle.core_laws.proofs.kernel_commits_lemmas.commit_laws_lemmas.Room.{steps_within, taken_next}
-use Rattle.store_steps.proofs.cell_table_lemmas.Idling.{can_by, empty_idle, empty_stays, high_by}
-use Rattle.core_laws.proofs.kernel_commits_lemmas.commit_laws_lemmas.StepRoom.{step_room, step_spare}
-use Rattle.core_laws.proofs.Paired.{both_or}
+use Rattle.kernel_core_facts.specs.kernel_commits.declared.stopping.Stopped.{Stopped}
+use Rattle.kernel_core_facts.specs.kernel_commits.declared.stopping.Stopped.TheVariants.{TooFew}
+use Rattle.kernel_core_facts.proofs.kernel_commit_facts_lemmas.Dues.{due_first}
+use Rattle.kernel_core_facts.proofs.kernel_commit_facts_lemmas.Enough.{none_lacks}
+use Rattle.kernel_core_facts.proofs.kernel_commit_facts_lemmas.Room.{steps_within, taken_next}
+use Rattle.kernel_core_facts.proofs.table_laws_lemmas.Idling.{can_by, empty_idle, empty_stays, high_by}
+use Rattle.kernel_core_facts.proofs.kernel_commit_facts_lemmas.StepRoom.{step_room, step_spare}
+use Rattle.kernel_core_facts.proofs.Paired.{both_or}
 
 cell_or : (cs : List Cell) (x : ℕ) → ((c : Cell) × (slice_get cs x ≡ Some c)) ⊎ (slice_get cs x ≡ None)
 cell_or cs x = by (slice_get cs x) refl
@@ -120,32 +121,32 @@ idle_for why w is = let e : why ≡ w = cc in ap ok_idle e
 idle_by : (why w : AnIdle) → ok_idle why ≡ ok_idle w → IsErrOf {T = Entry} {E = StepFault} (Err (Idle why)) (Idle w)
 idle_by why w is = let e : why ≡ w = cc in ap (λ (v : AnIdle). err_of (Idle v)) e
 
-module _ {D : Type 0} (tells : Type 0) (clock faults : D → ℕ) (reading : D → Image) (may_leave : D → Image → Type 0) (left_since : D → ℕ → Image → Type 0)
-    (counts_later : (disk : D) (s t : ℕ) (c : Image) → tells → s ≤ t → left_since disk t c → left_since disk s c)
-    (only_now : (disk : D) (c : Image) → tells → left_since disk (clock disk) c → may_leave disk c)
+module _ {D : Type 0} (disks : Ghosts D)
+    (counts_later : (disk : D) (s t : ℕ) (c : Image) → disks.tells → s ≤ t → disks.left_since disk t c → disks.left_since disk s c)
+    (only_now : (disk : D) (c : Image) → disks.tells → disks.left_since disk (disks.clock disk) c → disks.may_leave disk c)
     (s : Supply) (me : ℕ) (cs cs' : List Cell) (st st' : State D) (noted : Noted)
-    (k : IsSteady tells reading may_leave (parts_of st cs noted))
-    (leaves : LeavesInOrder tells clock faults reading may_leave left_since cs cs' st st')
-    (clean' : tells → AreClean s (words_on (reading st'.disk)) cs') where
+    (k : IsSteady disks (parts_of st cs noted))
+    (leaves : LeavesInOrder disks cs cs' st st')
+    (clean' : disks.tells → AreClean s (words_on (disks.reading st'.disk)) cs') where
   abbrev old : Parts D
   old = parts_of st cs noted
 
   before : IsOrderly (books st).held cs
   before = k.sound.matches.orderly
 
-  counts_on : CountsWithin clock faults 1 st st'
+  counts_on : CountsWithin disks 1 st st'
   counts_on = record { few = leaves.one_write; counts = leaves.pages.only.counts; later = leaves.pages.later; same_count = leaves.pages.only.same_count }
 
   -- idle in a run
-  module _ (b : Beginning) (stands : StandsAs tells clock faults reading may_leave left_since b old) where
+  module _ (b : Beginning) (stands : StandsAs disks b old) where
     abbrev words : ℕ → List ℕ
-    words = words_on (reading st.disk)
+    words = words_on (disks.reading st.disk)
 
     abbrev r : Run
     r = run_of b noted.entries
 
     follow : FollowsRun b words cs noted.entries
-    follow = cells_follow b noted.entries (reading st.disk) cs stands.orderly.numbers (books st) noted.marks None stands.runs.follows
+    follow = cells_follow b noted.entries (disks.reading st.disk) cs stands.orderly.numbers (books st) noted.marks None stands.runs.follows
 
     left_is : (c : Cell) → slice_get cs me ≡ Some c → r.steps me + c.left ≡ b.script.steps
     left_is c at =
@@ -169,7 +170,7 @@ module _ {D : Type 0} (tells : Type 0) (clock faults : D → ℕ) (reading : D �
   -- A STEP THAT WAS MADE
   module _ (e : Entry) (idle : (z : Supply) (ws : ℕ → List ℕ) (why : AnIdle) → IsErrOf {T = Entry} {E = StepFault} (Ok e) (Idle why) ↔ (idle_at z ws me cs ≡ Some why))
       (enters : EntersStep me cs cs' e) (same_shut : (books st').shut ≡ (books st).shut)
-      (over : (b : Beginning) → tells → b.supply ≡ s → (books st).shut ≡ false → StepsOver tells clock faults reading may_leave left_since b me cs cs' st st' e) where
+      (over : (b : Beginning) → disks.tells → b.supply ≡ s → (books st).shut ≡ false → StepsOver disks b me cs cs' st st' e) where
     abbrev new : Parts D
     new = parts_of st' cs' (record noted { entries = noted.entries ++ e ∷ [] })
 
@@ -179,15 +180,15 @@ module _ {D : Type 0} (tells : Type 0) (clock faults : D → ℕ) (reading : D �
     at_me : (c : Cell) × (slice_get cs me ≡ Some c)
     at_me = elim (cell_or cs me) as (λ _. (c : Cell) × (slice_get cs me ≡ Some c)) [
       | inl h ↦ h
-      | inr none ↦ absurd (absent_none (sym (ap (λ o. idle_of (left_of o) (entity_in s (words_on (reading st.disk)) me o).cell) none ∙ empty_idle me) ∙ not_idle s (words_on (reading st.disk))))
+      | inr none ↦ absurd (absent_none (sym (ap (λ o. idle_of (left_of o) (entity_in s (words_on (disks.reading st.disk)) me o).cell) none ∙ empty_idle me) ∙ not_idle s (words_on (disks.reading st.disk))))
     ]
 
     low : me < 64
     low = let within = slice_get_within cs me at_me.0 at_me.1 in let count = before.numbers.len in omega (arith, within, count)
 
     high : 40 < me
-    high = high_by s (words_on (reading st.disk)) me at_me.0.left at_me.0.part (before.kinds me at_me.0 at_me.1)
-        (sym (ap (λ o. idle_of (left_of o) (entity_in s (words_on (reading st.disk)) me o).cell) at_me.1) ∙ not_idle s (words_on (reading st.disk)))
+    high = high_by s (words_on (disks.reading st.disk)) me at_me.0.left at_me.0.part (before.kinds me at_me.0 at_me.1)
+        (sym (ap (λ o. idle_of (left_of o) (entity_in s (words_on (disks.reading st.disk)) me o).cell) at_me.1) ∙ not_idle s (words_on (disks.reading st.disk)))
 
     same_len : length cs' ≡ length cs
     same_len = let a = before.numbers.len in let b = leaves.orderly.numbers.len in omega (arith, a, b)
@@ -224,7 +225,7 @@ module _ {D : Type 0} (tells : Type 0) (clock faults : D → ℕ) (reading : D �
     same_epoch : (books st').place.epoch ≡ (books st).place.epoch
     same_epoch = ap (λ p. p.epoch) leaves.pages.only.same_place
 
-    steady_on : IsSteady tells reading may_leave new
+    steady_on : IsSteady disks new
     steady_on = record {
       sound = record {
         matches = rises (λ _. 4) (books st) (books st') cs cs' k.sound.matches (record { same_logged = leaves.pages.only.same_logged; same_found = leaves.pages.only.same_found }) leaves.orderly rising;
@@ -253,11 +254,11 @@ module _ {D : Type 0} (tells : Type 0) (clock faults : D → ℕ) (reading : D �
         let more = taken_next noted.entries e in
         omega (arith, was, within, less, more)
 
-    module _ (told : tells) (b : Beginning) (same : b.supply ≡ s) (stands : StandsAs tells clock faults reading may_leave left_since b old) (calm : IsCalm b noted.entries) where
-      step_is : StepsOver tells clock faults reading may_leave left_since b me cs cs' st st' e
+    module _ (told : disks.tells) (b : Beginning) (same : b.supply ≡ s) (stands : StandsAs disks b old) (calm : IsCalm b noted.entries) where
+      step_is : StepsOver disks b me cs cs' st st' e
       step_is = over b told same k.sound.working
 
-      made : step b.supply me (r b stands).state ≡ Some (e, state_in b.supply (words_on (reading st'.disk)) cs')
+      made : step b.supply me (r b stands).state ≡ Some (e, state_in b.supply (words_on (disks.reading st'.disk)) cs')
       made = ap (step b.supply me) (sym (follow b stands).state) ∙ step_is.goes.step
 
       can : can_step b.script (r b stands) me ≡ true
@@ -274,24 +275,24 @@ module _ {D : Type 0} (tells : Type 0) (clock faults : D → ℕ) (reading : D �
           omega (arith, sum, some, same_cell)
 
       may : May b.supply b.policy b.script (r b stands) e
-      may = step_may b.supply b.policy b.script (r b stands) me (e, state_in b.supply (words_on (reading st'.disk)) cs') quiet calm.births_made few_steps made
+      may = step_may b.supply b.policy b.script (r b stands) me (e, state_in b.supply (words_on (disks.reading st'.disk)) cs') quiet calm.births_made few_steps made
 
-      runs_on : StepsInRun tells clock faults reading may_leave left_since b me e old new
+      runs_on : StepsInRun disks b me e old new
       runs_on = record {
         stands = record {
-          runs = event_runs b tells clock reading may_leave left_since counts_later only_now (view_of reading b cs st noted.entries noted.marks None) _ st.disk st'.disk stands.runs e
-              (made_event tells clock faults reading may_leave left_since b me cs cs' st st' noted.entries noted.marks e told stands calm step_is);
+          runs = event_runs b disks counts_later only_now (view_of disks.reading b cs st noted.entries noted.marks None) _ st.disk st'.disk stands.runs e
+              (made_event disks b me cs cs' st st' noted.entries noted.marks e told stands calm step_is);
           orderly = step_is.orderly;
-          clean = clean_on tells clock faults reading may_leave left_since b me cs cs' st st' noted.entries noted.marks e told stands calm step_is;
+          clean = clean_on disks b me cs cs' st st' noted.entries noted.marks e told stands calm step_is;
         };
-        state = state_in b.supply (words_on (reading st'.disk)) cs';
+        state = state_in b.supply (words_on (disks.reading st'.disk)) cs';
         is = made;
         can = can;
         behind = subst (λ (q : Run). IsBehind b.policy q (written_in e.touched)) (sym (run_next b noted.entries e))
-            (step_behind b.supply b.policy b.script (r b stands) e quiet (step_entry b.supply b.policy b.script (r b stands) me (e, state_in b.supply (words_on (reading st'.disk)) cs') made).0 may);
+            (step_behind b.supply b.policy b.script (r b stands) e quiet (step_entry b.supply b.policy b.script (r b stands) me (e, state_in b.supply (words_on (disks.reading st'.disk)) cs') made).0 may);
       }
 
-    pub once_made : StepsOnce tells clock faults reading may_leave left_since s me old new (Ok (Made e))
+    pub once_made : StepsOnce disks s me old new (Ok (Made e))
     once_made = record {
       idle = λ z ws why. ((λ is. absurd (no_fault e (Idle why) ((idle z ws why).1 is))), (λ is. absurd (made_not e why is)));
       still = λ why is. absurd (made_not e why is);
@@ -306,13 +307,13 @@ module _ {D : Type 0} (tells : Type 0) (clock faults : D → ℕ) (reading : D �
 
   -- NONE, where the locus is idle
   idle_once : (why : AnIdle) → ((z : Supply) (ws : ℕ → List ℕ) (w : AnIdle) → IsErrOf {T = Entry} {E = StepFault} (Err (Idle why)) (Idle w) ↔ (idle_at z ws me cs ≡ Some w)) → cs' ≡ cs → st' ≡ st
-      → StepsOnce tells clock faults reading may_leave left_since s me old (parts_of st' cs' noted) (Ok (IdleFor why))
+      → StepsOnce disks s me old (parts_of st' cs' noted) (Ok (IdleFor why))
   idle_once why idle same_cells same_store = record {
     idle = λ z ws w. ((λ is. idle_for why w ((idle z ws w).1 is)), (λ is. (idle z ws w).0 (idle_by why w is)));
     still = λ w is. same_parts;
     made = tt;
     failed = tt;
-    steady = subst (IsSteady tells reading may_leave) (sym same_parts) k;
+    steady = subst (IsSteady disks) (sym same_parts) k;
     clean = clean';
     counts = counts_on;
     run = λ told b same stands calm. not_true (can_step b.script (r b stands) me) (sym (ap is_some ((idle b.supply (words b stands) why).0 refl)) ∙ can_is b stands);
@@ -324,33 +325,33 @@ module _ {D : Type 0} (tells : Type 0) (clock faults : D → ℕ) (reading : D �
 
   pub once_idle : (f : StepFault) (why : AnIdle) → f ≡ Idle why → ((z : Supply) (ws : ℕ → List ℕ) (w : AnIdle) → IsErrOf {T = Entry} {E = StepFault} (Err f) (Idle w) ↔ (idle_at z ws me cs ≡ Some w))
       → ((w : AnIdle) → IsErrOf {T = Entry} {E = StepFault} (Err f) (Idle w) → (cs' ≡ cs) × (st' ≡ st))
-      → StepsOnce tells clock faults reading may_leave left_since s me old (parts_of st' cs' noted) (Ok (IdleFor why))
+      → StepsOnce disks s me old (parts_of st' cs' noted) (Ok (IdleFor why))
   once_idle f why is idle still =
       idle_once why (subst (λ f. (z : Supply) (ws : ℕ → List ℕ) (w : AnIdle) → IsErrOf {T = Entry} {E = StepFault} (Err f) (Idle w) ↔ (idle_at z ws me cs ≡ Some w)) is idle)
       (still why (fault_is f (Idle why) is)).0 (still why (fault_is f (Idle why) is)).1
 
   -- A FAULT
-  cause_by : (f : PageFault) → IsCausedBy (free_in (books st)) (faults st.disk) (faults st'.disk) (books st).shut (books st').shut f
-      → HasCause tells clock faults reading may_leave left_since old (parts_of st' cs' noted) (stop_by f)
+  cause_by : (f : PageFault) → IsCausedBy (free_in (books st)) (disks.faults st.disk) (disks.faults st'.disk) (books st).shut (books st').shut f
+      → HasCause disks old (parts_of st' cs' noted) (stop_by f)
   cause_by (page.NoBlocks n) c = c
   cause_by page.ReadFault c = c.0
   cause_by page.WriteFault c = c.0
   cause_by page.Shut c = absurd (let w = k.sound.working in cc (w, c))
 
   -- a page is short of a block only where the image lacks them
-  short_by : (f : PageFault) → IsCausedBy (free_in (books st)) (faults st.disk) (faults st'.disk) (books st).shut (books st').shut f
-      → tells → (b : Beginning) → StandsAs tells clock faults reading may_leave left_since b old → IsCalm b noted.entries
+  short_by : (f : PageFault) → IsCausedBy (free_in (books st)) (disks.faults st.disk) (disks.faults st'.disk) (books st).shut (books st').shut f
+      → disks.tells → (b : Beginning) → StandsAs disks b old → IsCalm b noted.entries
       → (n : TooFewBlocks) → err_why (stop_by f) ≡ err_why (TooFew n) → LacksBlocks b (parts_of st' cs' noted)
   short_by (page.NoBlocks m) c told b stands calm n is =
       subst (λ count. count < enough_blocks (state_after b noted.entries)) (sym leaves.pages.only.same_count)
-      (none_lacks tells clock faults reading may_leave left_since b old told stands (calm_whole b noted.entries stands.runs.begins stands.runs.legal calm.nothing_owed) c.0)
+      (none_lacks disks b old told stands (calm_whole b noted.entries stands.runs.begins stands.runs.legal calm.nothing_owed) c.0)
   short_by page.ReadFault c told b stands calm n is = absurd (cc is)
   short_by page.WriteFault c told b stands calm n is = absurd (cc is)
   short_by page.Shut c told b stands calm n is = absurd (cc is)
 
   -- the step is defined, and reads or writes a word
   module _ (none : (z : Supply) (ws : ℕ → List ℕ) → idle_at z ws me cs ≡ None) (at_word : WantsWord me cs)
-      (b : Beginning) (stands : StandsAs tells clock faults reading may_leave left_since b old) where
+      (b : Beginning) (stands : StandsAs disks b old) where
     abbrev all : List Entry
     all = look b.supply b.policy b.script (r b stands) me
 
@@ -373,9 +374,9 @@ module _ {D : Type 0} (tells : Type 0) (clock faults : D → ℕ) (reading : D �
         (subst (λ (v : Event). MayWant b noted.entries made.0 v) (sym (step_entry b.supply b.policy b.script (r b stands) me made steps_here.1).0) word_step) refl
 
   failed_once : (f : PageFault) → ((z : Supply) (ws : ℕ → List ℕ) (w : AnIdle) → IsErrOf {T = Entry} {E = StepFault} (Err (Paging f)) (Idle w) ↔ (idle_at z ws me cs ≡ Some w))
-      → IsCausedBy (free_in (books st)) (faults st.disk) (faults st'.disk) (books st).shut (books st').shut f
-      → ((b : Beginning) → tells → b.supply ≡ s → StopsOver tells clock faults reading may_leave left_since b cs cs' st st') → WantsWord me cs
-      → StepsOnce tells clock faults reading may_leave left_since s me old (parts_of st' cs' noted) (Err (stop_by f))
+      → IsCausedBy (free_in (books st)) (disks.faults st.disk) (disks.faults st'.disk) (books st).shut (books st').shut f
+      → ((b : Beginning) → disks.tells → b.supply ≡ s → StopsOver disks b cs cs' st st') → WantsWord me cs
+      → StepsOnce disks s me old (parts_of st' cs' noted) (Err (stop_by f))
   failed_once f idle cause over at_word = record {
     idle = λ z ws w. ((λ is. absurd (no_idle f w ((idle z ws w).1 is))), (λ is. absurd (err_not (stop_by f) w is)));
     still = λ w is. absurd (err_not (stop_by f) w is);
@@ -385,18 +386,18 @@ module _ {D : Type 0} (tells : Type 0) (clock faults : D → ℕ) (reading : D �
     clean = clean';
     counts = counts_on;
     run = λ told b same stands calm.
-        stop_lives b tells clock reading may_leave left_since counts_later only_now (view_of reading b cs st noted.entries noted.marks None) _ st.disk st'.disk stands.runs
-        (stops tells clock faults reading may_leave left_since b cs cs' st st' noted.entries noted.marks (stop_of (stop_by f)) stands (over b told same));
+        stop_lives b disks counts_later only_now (view_of disks.reading b cs st noted.entries noted.marks None) _ st.disk st'.disk stands.runs
+        (stops disks b cs cs' st st' noted.entries noted.marks (stop_of (stop_by f)) stands (over b told same));
     enough = λ told b same stands calm n is.
         let none : (z : Supply) (ws : ℕ → List ℕ) → idle_at z ws me cs ≡ None = λ z ws. none_by (idle_at z ws me cs) (λ why here. no_idle f why ((idle z ws why).1 here)) in
         record { lacks = short_by f cause told b stands calm n is; due = step_due none at_word b stands };
   }
 
   pub once_failed : (g : StepFault) (f : PageFault) → g ≡ Paging f → ((z : Supply) (ws : ℕ → List ℕ) (w : AnIdle) → IsErrOf {T = Entry} {E = StepFault} (Err g) (Idle w) ↔ (idle_at z ws me cs ≡ Some w))
-      → ((q : PageFault) → IsErrOf {T = Entry} {E = StepFault} (Err g) (Paging q) → IsCausedBy (free_in (books st)) (faults st.disk) (faults st'.disk) (books st).shut (books st').shut q)
-      → ((b : Beginning) (q : PageFault) → tells → b.supply ≡ s → IsErrOf {T = Entry} {E = StepFault} (Err g) (Paging q) → StopsOver tells clock faults reading may_leave left_since b cs cs' st st')
+      → ((q : PageFault) → IsErrOf {T = Entry} {E = StepFault} (Err g) (Paging q) → IsCausedBy (free_in (books st)) (disks.faults st.disk) (disks.faults st'.disk) (books st).shut (books st').shut q)
+      → ((b : Beginning) (q : PageFault) → disks.tells → b.supply ≡ s → IsErrOf {T = Entry} {E = StepFault} (Err g) (Paging q) → StopsOver disks b cs cs' st st')
       → ((q : PageFault) → IsErrOf {T = Entry} {E = StepFault} (Err g) (Paging q) → WantsWord me cs)
-      → StepsOnce tells clock faults reading may_leave left_since s me old (parts_of st' cs' noted) (Err (stop_by f))
+      → StepsOnce disks s me old (parts_of st' cs' noted) (Err (stop_by f))
   once_failed g f is idle cause over at_word =
       failed_once f (subst (λ f. (z : Supply) (ws : ℕ → List ℕ) (w : AnIdle) → IsErrOf {T = Entry} {E = StepFault} (Err f) (Idle w) ↔ (idle_at z ws me cs ≡ Some w)) is idle)
       (cause f (fault_is g (Paging f) is)) (λ b told same. over b f told same (fault_is g (Paging f) is)) (at_word f (fault_is g (Paging f) is))

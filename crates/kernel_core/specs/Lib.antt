@@ -1,18 +1,17 @@
 pub mod Stepping
-pub use Rattle.core_laws.specs.kernel_commits.cell_books
-pub use Rattle.core_laws.specs.birth_views.cell_table
-pub use Rattle.core_laws.specs.birth_views.fitting_births
-pub use Rattle.core_laws.specs.kernel_commits.hop_model
-pub use Rattle.core_laws.specs.kernel_commits.kernel_calls
-pub use Rattle.core_laws.specs.birth_views.kernel_cells
-pub use Rattle.core_laws.specs.kernel_commits
-pub use Rattle.core_laws.specs.birth_views.kernel_laws
-pub use Rattle.core_laws.specs.birth_views.kernel_model
-pub use Rattle.core_laws.specs.birth_views.record_laws
-pub use Rattle.core_laws.specs.birth_views.script_against
-pub use Rattle.core_laws.specs.birth_views.script_form
-pub use Rattle.core_laws.specs.birth_views.serial_runs
-pub use Rattle.core_laws.specs.kernel_commits.serial_turns
-pub use Rattle.core_laws.specs.birth_views.table_births
-pub use Rattle.core_laws.specs.kernel_commits.commit_laws
-pub use Rattle.core_laws.specs as core_laws
+pub use Rattle.kernel_core_facts.specs.act_calls
+pub use Rattle.kernel_core_facts.specs.cell_states
+pub use Rattle.kernel_core_facts.specs.kernel_book_laws
+pub use Rattle.kernel_core_facts.specs.kernel_commit_facts
+pub use Rattle.kernel_core_facts.specs.kernel_commits
+pub use Rattle.kernel_core_facts.specs as kernel_core_facts
+pub use Rattle.kernel_core_facts.specs.kernel_invariant
+pub use Rattle.kernel_core_facts.specs.kernel_laws
+pub use Rattle.kernel_core_facts.specs.kernel_record_facts
+pub use Rattle.kernel_core_facts.specs.model_births
+pub use Rattle.script_types.specs.model_kernel
+pub use Rattle.kernel_core_facts.specs.model_serial
+pub use Rattle.kernel_core_facts.specs.model_serial_turns
+pub use Rattle.script_types.specs as script_types
+pub use Rattle.kernel_core_facts.specs.table_births
+pub use Rattle.kernel_core_facts.specs.table_laws

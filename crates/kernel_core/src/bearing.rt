@@ -1,23 +1,23 @@
 // The births of a script, and the Stable behind them.
 ghost use Rattle.std.specs.Prelude.{◌≡◌, ◌==◌, ◌*◌, ◌<◌, ◌≤◌, true, false, IfErr, OnOk, length};
-ghost use Rattle.core_laws.specs.kernel_commits.hop_model.State.{Supply};
-ghost use Rattle.core_laws.specs.birth_views.fitting_births.Fitting.{Fits};
-ghost use Rattle.core_laws.specs.birth_views.script_form.Rules.{IsScript};
-ghost use Rattle.core_laws.specs.birth_views.script_form.Scripts.{tables_of};
-ghost use Rattle.core_laws.specs.birth_views.cell_table.Steps.{IsInOrder};
-ghost use Rattle.core_laws.specs.birth_views.cell_table.Tables.{AreClean, AreFewWrites};
-ghost use Rattle.core_laws.specs.birth_views.record_laws.Cells.{words_on};
-ghost use Rattle.core_laws.specs.birth_views.table_births.Births.{AreUnderWay, NoBirthLeft, atlas_state_in};
-ghost use Rattle.core_laws.specs.kernel_commits.commit_laws.Pieces.{CountsWithin};
-ghost use Rattle.core_laws.specs.kernel_commits.commit_laws.Steady.{IsSteady};
-ghost use Rattle.core_laws.specs.kernel_commits.Stops.{LeavesStopped};
-ghost use Rattle.core_laws.specs.Bearing.{HasBorne, HasBorneAll, HasOpened, IsInBirths, IsShortBehind, OpensRun, RunsInBirths};
-ghost use Rattle.core_laws.specs.birth_views.kernel_model.Beginnings.{Beginning};
+ghost use Rattle.script_types.specs.model_kernel.State.{Supply};
+ghost use Rattle.kernel_core_facts.specs.model_births.Fitting.{Fits};
+ghost use Rattle.script_types.specs.Rules.{IsScript};
+ghost use Rattle.script_types.specs.Scripts.{tables_of};
+ghost use Rattle.kernel_core_facts.specs.table_laws.Steps.{IsInOrder};
+ghost use Rattle.kernel_core_facts.specs.table_laws.Tables.{AreClean, AreFewWrites};
+ghost use Rattle.kernel_core_facts.specs.kernel_record_facts.Cells.{words_on};
+ghost use Rattle.kernel_core_facts.specs.table_births.Births.{AreUnderWay, NoBirthLeft, atlas_state_in};
+ghost use Rattle.kernel_core_facts.specs.kernel_commit_facts.Pieces.{CountsWithin};
+ghost use Rattle.kernel_core_facts.specs.kernel_commit_facts.Steady.{IsSteady};
+ghost use Rattle.kernel_core_facts.specs.kernel_commits.Stops.{LeavesStopped};
+ghost use Rattle.kernel_core_facts.specs.Bearing.{HasBorne, HasBorneAll, HasOpened, IsInBirths, IsShortBehind, OpensRun, RunsInBirths};
+ghost use Rattle.kernel_core_facts.specs.kernel_invariant.Beginnings.{Beginning};
 
-use core_laws::{Cell, Core, Notes, Progress, Stopped, bear_next, settle};
-use disk_trait::Disk;
-use hop_base::Entity;
-use script_form::Script;
+use base_types::Entity;
+use edge_disk::Disk;
+use kernel_core_facts::{Cell, Core, Notes, Progress, Stopped, bear_next, settle};
+use script_types::Script;
 
 // At most 63 entities are born, so one of so many searches finds none left.
 const MOST_SEARCHES: usize = 64;
@@ -67,14 +67,14 @@ fn bear_one<D: Disk>(core: &mut Core<D>, script: &Script, progress: &mut Progres
 
 /// All births of a script that are left, one after another.
 fn bear_all<D: Disk>(core: &mut Core<D>, script: &Script)
-    requires in_births { IsInBirths D.tells D.reading D.may_leave core.old }
+    requires in_births { IsInBirths D.Disk core.old }
     requires allowed { IsScript (tables_of script.now) }
     requires fits { Fits (atlas_state_in core.old.cells) (tables_of script.now) }
-    ensures in_births { IsInBirths D.tells D.reading D.may_leave core.new }
+    ensures in_births { IsInBirths D.Disk core.new }
     ensures all { HasBorneAll (tables_of script.now) core.old core.new }
     ensures few { length core.new.noted.entries ≤ 63 }
-    ensures run { D.tells → (b : Beginning) → b.script ≡ tables_of script.now → RunsInBirths D.tells D.clock D.faults D.reading D.may_leave D.left_since b core.old
-        → RunsInBirths D.tells D.clock D.faults D.reading D.may_leave D.left_since b core.new }
+    ensures run { D.tells → (b : Beginning) → b.script ≡ tables_of script.now → RunsInBirths D.Disk b core.old
+        → RunsInBirths D.Disk b core.new }
 {
     let mut progress = Progress::new();
     for _ in 0..MOST_SEARCHES {
@@ -93,18 +93,18 @@ fn is_new<D: Disk>(core: &Core<D>) -> bool
 
 /// The births of a script that are left, and behind the last the Stable of the atlas, if anything is noted.
 pub(crate) fn open_core<D: Disk>(core: &mut Core<D>, script: &Script) -> Result<(), Stopped>
-    requires in_births { IsInBirths D.tells D.reading D.may_leave core.old }
+    requires in_births { IsInBirths D.Disk core.old }
     requires allowed { IsScript (tables_of script.now) }
     requires fits { Fits (atlas_state_in core.old.cells) (tables_of script.now) }
-    ensures steady { OnOk result (IsSteady D.tells D.reading D.may_leave core.new) }
+    ensures steady { OnOk result (IsSteady D.Disk core.new) }
     ensures made { OnOk result (HasOpened (tables_of script.now) core.old core.new) }
     ensures too_few { IsShortBehind (tables_of script.now) result core.old core.new }
     ensures stopped { IfErr result (LeavesStopped D.faults core.old core.new) }
-    ensures run { D.tells → (b : Beginning) → b.script ≡ tables_of script.now → RunsInBirths D.tells D.clock D.faults D.reading D.may_leave D.left_since b core.old
-        → OpensRun D.tells D.clock D.faults D.reading D.may_leave D.left_since b result core.new }
+    ensures run { D.tells → (b : Beginning) → b.script ≡ tables_of script.now → RunsInBirths D.Disk b core.old
+        → OpensRun D.Disk b result core.new }
     ensures clean { D.tells → (s : Supply) → AreClean s (words_on (D.reading core.old.store.disk)) core.old.cells
         → OnOk result (AreClean s (words_on (D.reading core.new.store.disk)) core.new.cells) }
-    ensures counts { CountsWithin D.clock D.faults (64 * 1556) core.old.store core.new.store }
+    ensures counts { CountsWithin D.Disk (64 * 1556) core.old.store core.new.store }
 {
     bear_all(core, script);
     if is_new(core) {

@@ -1,39 +1,39 @@
 // A running kernel.
 ghost use Rattle.std.specs.Prelude.{◌≡◌, ◌↔◌, ◌⊎◌, ◌+◌, ◌*◌, ◌^◌, ◌≤◌, ◌++◌, ℕ, List, [], true, false, None, Some, Ok, Err, IfErr, IfOk, IfSome, IsErrOf, OnErr, OnOk, length, slice_get};
-ghost use Rattle.core_laws.specs.kernel_commits.hop_model.State.{Supply};
-ghost use Rattle.disk_trait.specs.declared.disk.NoBlocks.{NoBlocks as TooFewBlocks};
-ghost use Rattle.core_laws.specs.birth_views.kernel_cells.declared.cells.Cell.{Cell as ACell};
-ghost use Rattle.core_laws.specs.birth_views.kernel_cells.declared.cells.Part.{Part as APart};
-ghost use Rattle.core_laws.specs.birth_views.fitting_births.Fitting.{Fits};
-ghost use Rattle.core_laws.specs.birth_views.script_form.Rules.{IsScript};
-ghost use Rattle.core_laws.specs.birth_views.script_form.Scripts.{tables_of};
-ghost use Rattle.core_laws.specs.birth_views.table_births.Births.{atlas_state_in};
-ghost use Rattle.core_laws.specs.birth_views.kernel_laws.Opening.{empty_script, with_script};
-ghost use Rattle.core_laws.specs.Bearing.{HasOpened, IsShortBehind};
-ghost use Rattle.core_laws.specs.Kernels.{Lives, MayBegin, StaysClean};
-ghost use Rattle.core_laws.specs.kernel_commits.commit_laws.Lacking.{LacksIn};
-ghost use Rattle.core_laws.specs.kernel_commits.commit_laws.Pieces.{CountsWithin, StopsIn};
-ghost use Rattle.disk_trait.specs.Counts.{Rose};
-ghost use Rattle.core_laws.specs.Looking.{StopsLook};
-ghost use Rattle.core_laws.specs.kernel_commits.commit_laws.Recording.{HasRecorded, HasTried, IsShort};
-ghost use Rattle.core_laws.specs.kernel_commits.commit_laws.Snapping.{Snaps};
-ghost use Rattle.core_laws.specs.Stepping.{idle_at};
+ghost use Rattle.script_types.specs.model_kernel.State.{Supply};
+ghost use Rattle.edge_disk.specs.declared.disk.NoBlocks.{NoBlocks as TooFewBlocks};
+ghost use Rattle.kernel_core_facts.specs.cell_states.declared.cells.Cell.{Cell as ACell};
+ghost use Rattle.kernel_core_facts.specs.cell_states.declared.cells.Part.{Part as APart};
+ghost use Rattle.kernel_core_facts.specs.model_births.Fitting.{Fits};
+ghost use Rattle.script_types.specs.Rules.{IsScript};
+ghost use Rattle.script_types.specs.Scripts.{tables_of};
+ghost use Rattle.kernel_core_facts.specs.table_births.Births.{atlas_state_in};
+ghost use Rattle.kernel_core_facts.specs.kernel_laws.Opening.{empty_script, with_script};
+ghost use Rattle.kernel_core_facts.specs.Bearing.{HasOpened, IsShortBehind};
+ghost use Rattle.kernel_core_facts.specs.Kernels.{Lives, MayBegin, StaysClean};
+ghost use Rattle.kernel_core_facts.specs.kernel_commit_facts.Lacking.{LacksIn};
+ghost use Rattle.kernel_core_facts.specs.kernel_commit_facts.Pieces.{CountsWithin, StopsIn};
+ghost use Rattle.edge_disk.specs.Counts.{Rose};
+ghost use Rattle.kernel_core_facts.specs.Looking.{StopsLook};
+ghost use Rattle.kernel_core_facts.specs.kernel_commit_facts.Recording.{HasRecorded, HasTried, IsShort};
+ghost use Rattle.kernel_core_facts.specs.kernel_commit_facts.Snapping.{Snaps};
+ghost use Rattle.kernel_core_facts.specs.Stepping.{idle_at};
 ghost use Rattle.kernel_core.specs.declared.looking.Looked.TheVariants as ALook;
-ghost use Rattle.core_laws.specs.kernel_commits.step_plans.declared.idle.Idle.{Idle as AnIdle};
-ghost use Rattle.core_laws.specs.kernel_commits.declared.stopping.Stopped.{Stopped as AStop};
-ghost use Rattle.core_laws.specs.birth_views.kernel_model.Beginnings.{Beginning, run_of};
-ghost use Rattle.core_laws.specs.birth_views.kernel_records.Committing.{CommitCounts};
-ghost use Rattle.core_laws.specs.birth_views.serial_runs.Serial.{look, opening, wished_snap};
+ghost use Rattle.kernel_core_facts.specs.cell_plans.declared.idle.Idle.{Idle as AnIdle};
+ghost use Rattle.kernel_core_facts.specs.kernel_commits.declared.stopping.Stopped.{Stopped as AStop};
+ghost use Rattle.kernel_core_facts.specs.kernel_invariant.Beginnings.{Beginning, run_of};
+ghost use Rattle.kernel_core_facts.specs.kernel_records.Committing.{CommitCounts};
+ghost use Rattle.kernel_core_facts.specs.model_serial.Serial.{look, opening, wished_snap};
 
 use crate::bearing::open_core;
 use crate::looking::{Looked, look_core};
-use atlas_dir::Atlas;
-use block_code::Blob;
-use core_laws::{Cell, Core, Notes, OpenFault, OpenWhy, Part, Stopped, Store, snap_one};
-use disk_trait::Disk;
-use hop_base::{Entity, Entry};
-use manager_gate::{Gate, Policy, Supplier};
-use script_form::Script;
+use base_bytes::Blob;
+use base_types::{Entity, Entry};
+use data_atlas::Atlas;
+use edge_disk::Disk;
+use edge_managers::{Gate, Policy, Supplier};
+use kernel_core_facts::{Cell, Core, Notes, OpenFault, OpenWhy, Part, Stopped, Store, snap_one};
+use script_types::Script;
 use std::alloc::{AllocError, Global};
 use std::marker::Model;
 
@@ -72,13 +72,13 @@ pub struct Ended<D> {
 }
 
 impl<D: Disk> Model for Kernel<D> {
-    ghost use Rattle.core_laws.specs.Kernels.{Held, IsKept};
+    ghost use Rattle.kernel_core_facts.specs.Kernels.{Held, IsKept};
 
     ghost Value = { Held D };
 
     ghost view = { λ k. record { parts = k.core; stop = k.stopped } };
 
-    ghost invariant = { λ k. IsKept D.tells D.reading D.may_leave (record { parts = k.core; stop = k.stopped }) };
+    ghost invariant = { λ k. IsKept D.Disk (record { parts = k.core; stop = k.stopped }) };
 }
 
 impl<D: Disk> Kernel<D> {
@@ -90,7 +90,7 @@ impl<D: Disk> Kernel<D> {
         cells: Vec<Cell>,
         steps: u32,
     ) -> Result<Kernel<D>, OpenFault<D>>
-        requires may { MayBegin D.tells D.reading D.may_leave steps store cells.items }
+        requires may { MayBegin D.Disk steps store cells.items }
         ensures parts { IfOk result (λ k. (k.parts.store ≡ store) × (k.parts.cells ≡ cells.items)) }
         ensures nothing { IfOk result (λ k. (k.parts.noted.entries ≡ []) × (k.parts.noted.marks ≡ []) × (k.stop ≡ None)) }
         ensures room { IfOk result (λ k. k.parts.noted.room ≡ 92 * steps + 200) }
@@ -192,20 +192,20 @@ impl<D: Disk> Kernel<D> {
         ensures stops { IfErr result (λ why. self.new.stop ≡ Some why) }
         ensures goes { OnOk result (self.new.stop ≡ None) }
         ensures made { self.old.stop ≡ None → Snaps (P.wish gate.now.policy) entity self.old.parts true
-            → OnOk result ((result ≡ Ok true) × HasRecorded D.tells D.clock D.faults D.reading D.may_leave D.left_since entity self.old.parts self.new.parts) }
+            → OnOk result ((result ≡ Ok true) × HasRecorded D.Disk entity self.old.parts self.new.parts) }
         ensures none { self.old.stop ≡ None → Snaps (P.wish gate.now.policy) entity self.old.parts false → (result ≡ Ok false) × (self.new ≡ self.old) }
-        ensures failed { self.old.stop ≡ None → IsErrOf result AStop.Failed → HasTried D.tells D.clock D.faults D.reading D.may_leave D.left_since entity self.old.parts self.new.parts }
+        ensures failed { self.old.stop ≡ None → IsErrOf result AStop.Failed → HasTried D.Disk entity self.old.parts self.new.parts }
         ensures too_few { (n : TooFewBlocks) → self.old.stop ≡ None
-            → IsErrOf result (AStop.TooFew n) ↔ (Snaps (P.wish gate.now.policy) entity self.old.parts true × IsShort D.tells D.clock D.faults D.reading D.may_leave D.left_since entity self.old.parts n) }
+            → IsErrOf result (AStop.TooFew n) ↔ (Snaps (P.wish gate.now.policy) entity self.old.parts true × IsShort D.Disk entity self.old.parts n) }
         ensures untouched { (n : TooFewBlocks) → self.old.stop ≡ None → IsErrOf result (AStop.TooFew n) → self.new.parts ≡ self.old.parts }
-        ensures run { D.tells → (b : Beginning) → b.policy ≡ P.wish gate.now.policy → Lives D.tells D.clock D.faults D.reading D.may_leave D.left_since b self.old
-            → Lives D.tells D.clock D.faults D.reading D.may_leave D.left_since b self.new }
-        ensures part { D.tells → (b : Beginning) → b.policy ≡ P.wish gate.now.policy → Lives D.tells D.clock D.faults D.reading D.may_leave D.left_since b self.old → self.old.stop ≡ None
+        ensures run { D.tells → (b : Beginning) → b.policy ≡ P.wish gate.now.policy → Lives D.Disk b self.old
+            → Lives D.Disk b self.new }
+        ensures part { D.tells → (b : Beginning) → b.policy ≡ P.wish gate.now.policy → Lives D.Disk b self.old → self.old.stop ≡ None
             → OnErr result (StopsIn b (wished_snap b.policy (run_of b self.old.parts.noted.entries) entity) self.old.parts.noted.entries self.new.parts.noted.entries) }
-        ensures enough { D.tells → (b : Beginning) → b.policy ≡ P.wish gate.now.policy → Lives D.tells D.clock D.faults D.reading D.may_leave D.left_since b self.old → self.old.stop ≡ None
+        ensures enough { D.tells → (b : Beginning) → b.policy ≡ P.wish gate.now.policy → Lives D.Disk b self.old → self.old.stop ≡ None
             → (n : TooFewBlocks) → IsErrOf result (AStop.TooFew n) → LacksIn b (wished_snap b.policy (run_of b self.old.parts.noted.entries) entity) self.old.parts.noted.entries self.new.parts }
-        ensures clean { (s : Supply) → StaysClean D.tells D.reading s self.old → StaysClean D.tells D.reading s self.new }
-        ensures counts { CommitCounts D.clock D.faults self.old.parts.store self.new.parts.store }
+        ensures clean { (s : Supply) → StaysClean D.Disk s self.old → StaysClean D.Disk s self.new }
+        ensures counts { CommitCounts D.Disk self.old.parts.store self.new.parts.store }
     {
         if let Some(why) = self.stopped {
             return Err(why);
@@ -236,19 +236,19 @@ impl<D: Disk> Kernel<D> {
         ensures too_few { self.old.stop ≡ None → IsShortBehind (tables_of script.now) result self.old.parts self.new.parts }
         ensures failed { self.old.stop ≡ None → IsErrOf result AStop.Failed → Rose (D.faults self.old.parts.store.disk) (D.faults self.new.parts.store.disk) }
         ensures run { D.tells → (b : Beginning) → b.script ≡ tables_of script.now
-            → Lives D.tells D.clock D.faults D.reading D.may_leave D.left_since (with_script b (empty_script b.script.steps)) self.old
-            → Lives D.tells D.clock D.faults D.reading D.may_leave D.left_since b self.new }
+            → Lives D.Disk (with_script b (empty_script b.script.steps)) self.old
+            → Lives D.Disk b self.new }
         ensures opening { D.tells → (b : Beginning) → b.script ≡ tables_of script.now
-            → Lives D.tells D.clock D.faults D.reading D.may_leave D.left_since (with_script b (empty_script b.script.steps)) self.old → self.old.stop ≡ None
+            → Lives D.Disk (with_script b (empty_script b.script.steps)) self.old → self.old.stop ≡ None
             → OnOk result (self.new.parts.noted.entries ≡ opening b.supply b.script b.state) }
         ensures part { D.tells → (b : Beginning) → b.script ≡ tables_of script.now
-            → Lives D.tells D.clock D.faults D.reading D.may_leave D.left_since (with_script b (empty_script b.script.steps)) self.old → self.old.stop ≡ None
+            → Lives D.Disk (with_script b (empty_script b.script.steps)) self.old → self.old.stop ≡ None
             → OnErr result (StopsIn b (opening b.supply b.script b.state) [] self.new.parts.noted.entries) }
         ensures enough { D.tells → (b : Beginning) → b.script ≡ tables_of script.now
-            → Lives D.tells D.clock D.faults D.reading D.may_leave D.left_since (with_script b (empty_script b.script.steps)) self.old → self.old.stop ≡ None
+            → Lives D.Disk (with_script b (empty_script b.script.steps)) self.old → self.old.stop ≡ None
             → (n : TooFewBlocks) → IsErrOf result (AStop.TooFew n) → LacksIn b (opening b.supply b.script b.state) [] self.new.parts }
-        ensures clean { (s : Supply) → StaysClean D.tells D.reading s self.old → StaysClean D.tells D.reading s self.new }
-        ensures counts { CountsWithin D.clock D.faults (64 * 1556) self.old.parts.store self.new.parts.store }
+        ensures clean { (s : Supply) → StaysClean D.Disk s self.old → StaysClean D.Disk s self.new }
+        ensures counts { CountsWithin D.Disk (64 * 1556) self.old.parts.store self.new.parts.store }
     {
         if let Some(cause) = self.stopped {
             return Err(cause);
@@ -275,27 +275,27 @@ impl<D: Disk> Kernel<D> {
     ) -> Result<Looked, Stopped>
         requires keeps { S.keeps gate.now.supply }
         requires wishes { P.keeps gate.now.policy }
-        requires clean { StaysClean D.tells D.reading (S.word gate.now.supply) self.old }
+        requires clean { StaysClean D.Disk (S.word gate.now.supply) self.old }
         ensures was_stopped { IfSome self.old.stop (λ why. (result ≡ Err why) × (self.new ≡ self.old)) }
         ensures stops { IfErr result (λ why. self.new.stop ≡ Some why) }
         ensures goes { OnOk result (self.new.stop ≡ None) }
         ensures idle { (s : Supply) (words : ℕ → List ℕ) (why : AnIdle) → self.old.stop ≡ None → (idle_at s words me self.old.parts.cells ≡ Some why) ↔ (result ≡ Ok (ALook.Idle why)) }
         ensures still { (why : AnIdle) → result ≡ Ok (ALook.Idle why) → self.new ≡ self.old }
-        ensures stopped { self.old.stop ≡ None → IfErr result (StopsLook D.tells D.clock D.faults D.reading D.may_leave D.left_since me self.old.parts self.new.parts) }
+        ensures stopped { self.old.stop ≡ None → IfErr result (StopsLook D.Disk me self.old.parts self.new.parts) }
         ensures looks { D.tells → (b : Beginning) → b.supply ≡ S.word gate.now.supply → b.policy ≡ P.wish gate.now.policy
-            → Lives D.tells D.clock D.faults D.reading D.may_leave D.left_since b self.old → self.old.stop ≡ None
+            → Lives D.Disk b self.old → self.old.stop ≡ None
             → OnOk result (self.new.parts.noted.entries ≡ self.old.parts.noted.entries ++ look b.supply b.policy b.script (run_of b self.old.parts.noted.entries) me) }
         ensures run { D.tells → (b : Beginning) → b.supply ≡ S.word gate.now.supply → b.policy ≡ P.wish gate.now.policy
-            → Lives D.tells D.clock D.faults D.reading D.may_leave D.left_since b self.old → Lives D.tells D.clock D.faults D.reading D.may_leave D.left_since b self.new }
+            → Lives D.Disk b self.old → Lives D.Disk b self.new }
         ensures part { D.tells → (b : Beginning) → b.supply ≡ S.word gate.now.supply → b.policy ≡ P.wish gate.now.policy
-            → Lives D.tells D.clock D.faults D.reading D.may_leave D.left_since b self.old → self.old.stop ≡ None
+            → Lives D.Disk b self.old → self.old.stop ≡ None
             → OnErr result (StopsIn b (look b.supply b.policy b.script (run_of b self.old.parts.noted.entries) me) self.old.parts.noted.entries self.new.parts.noted.entries) }
         ensures failed { self.old.stop ≡ None → IsErrOf result AStop.Failed → Rose (D.faults self.old.parts.store.disk) (D.faults self.new.parts.store.disk) }
         ensures enough { D.tells → (b : Beginning) → b.supply ≡ S.word gate.now.supply → b.policy ≡ P.wish gate.now.policy
-            → Lives D.tells D.clock D.faults D.reading D.may_leave D.left_since b self.old → self.old.stop ≡ None
+            → Lives D.Disk b self.old → self.old.stop ≡ None
             → (n : TooFewBlocks) → IsErrOf result (AStop.TooFew n) → LacksIn b (look b.supply b.policy b.script (run_of b self.old.parts.noted.entries) me) self.old.parts.noted.entries self.new.parts }
-        ensures clean { StaysClean D.tells D.reading (S.word gate.now.supply) self.new }
-        ensures counts { CountsWithin D.clock D.faults (1 + 64 * 1556) self.old.parts.store self.new.parts.store }
+        ensures clean { StaysClean D.Disk (S.word gate.now.supply) self.new }
+        ensures counts { CountsWithin D.Disk (1 + 64 * 1556) self.old.parts.store self.new.parts.store }
     {
         if let Some(stop) = self.stopped {
             return Err(stop);

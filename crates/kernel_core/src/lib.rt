@@ -4,9 +4,11 @@
 mod bearing;
 mod kernels;
 mod looking;
+mod over_store;
 mod owing;
 mod stepping;
 
-pub use core_laws::{Idle, Stopped};
+pub use kernel_core_facts::{Idle, Stopped};
 pub use kernels::{Ended, Kernel};
 pub use looking::Looked;
+pub use over_store::step_over;

@@ -1,36 +1,36 @@
 // One look at a locus.
 ghost use Rattle.std.specs.Prelude.{◌≡◌, ◌↔◌, ◌<◌, ◌*◌, ◌+◌, ◌∷◌, [], ℕ, List, true, false, if◌then◌else◌, None, Some, IfErr, IsErrOf, Ok, OnErr, OnOk};
-ghost use Rattle.disk_trait.specs.Counts.{Rose};
-ghost use Rattle.disk_trait.specs.declared.disk.NoBlocks.{NoBlocks as TooFewBlocks};
-ghost use Rattle.hop_base.specs.declared.histories.Event.TheVariants as AnEvent;
-ghost use Rattle.core_laws.specs.kernel_commits.hop_model.Histories.{mark};
-ghost use Rattle.core_laws.specs.kernel_commits.hop_model.State.{Supply};
-ghost use Rattle.core_laws.specs.birth_views.cell_table.Tables.{AreClean};
-ghost use Rattle.core_laws.specs.Looking.{LooksInRun, StopsLook};
-ghost use Rattle.core_laws.specs.kernel_commits.commit_laws.Lacking.{LacksIn};
-ghost use Rattle.core_laws.specs.kernel_commits.commit_laws.Parts.{StandsAs};
-ghost use Rattle.core_laws.specs.kernel_commits.commit_laws.Pieces.{CountsWithin, StopsIn};
-ghost use Rattle.core_laws.specs.kernel_commits.commit_laws.Snapping.{RunsFree};
-ghost use Rattle.core_laws.specs.kernel_commits.Snapping.{SnapsAll};
-ghost use Rattle.core_laws.specs.kernel_commits.commit_laws.Stabilising.{HasStabilised, OwesStable};
-ghost use Rattle.core_laws.specs.kernel_commits.Stabilising.{Stabilises};
-ghost use Rattle.core_laws.specs.kernel_commits.commit_laws.Steady.{IsSteady, entries_taken, steps_to_come};
-ghost use Rattle.core_laws.specs.kernel_commits.Stops.{LeavesStopped};
-ghost use Rattle.core_laws.specs.kernel_commits.declared.stopping.Stopped.{Stopped as AStop};
-ghost use Rattle.core_laws.specs.Stepping.{idle_at};
+ghost use Rattle.edge_disk.specs.Counts.{Rose};
+ghost use Rattle.edge_disk.specs.declared.disk.NoBlocks.{NoBlocks as TooFewBlocks};
+ghost use Rattle.base_types.specs.declared.histories.Event.TheVariants as AnEvent;
+ghost use Rattle.script_types.specs.model_kernel.Histories.{mark};
+ghost use Rattle.script_types.specs.model_kernel.State.{Supply};
+ghost use Rattle.kernel_core_facts.specs.table_laws.Tables.{AreClean};
+ghost use Rattle.kernel_core_facts.specs.Looking.{LooksInRun, StopsLook};
+ghost use Rattle.kernel_core_facts.specs.kernel_commit_facts.Lacking.{LacksIn};
+ghost use Rattle.kernel_core_facts.specs.kernel_commit_facts.Parts.{StandsAs};
+ghost use Rattle.kernel_core_facts.specs.kernel_commit_facts.Pieces.{CountsWithin, StopsIn};
+ghost use Rattle.kernel_core_facts.specs.kernel_commit_facts.Snapping.{RunsFree};
+ghost use Rattle.kernel_core_facts.specs.kernel_commits.Snapping.{SnapsAll};
+ghost use Rattle.kernel_core_facts.specs.kernel_commit_facts.Stabilising.{HasStabilised, OwesStable};
+ghost use Rattle.kernel_core_facts.specs.kernel_commits.Stabilising.{Stabilises};
+ghost use Rattle.kernel_core_facts.specs.kernel_commit_facts.Steady.{IsSteady, entries_taken, steps_to_come};
+ghost use Rattle.kernel_core_facts.specs.kernel_commits.Stops.{LeavesStopped};
+ghost use Rattle.kernel_core_facts.specs.kernel_commits.declared.stopping.Stopped.{Stopped as AStop};
+ghost use Rattle.kernel_core_facts.specs.Stepping.{idle_at};
 ghost use Rattle.kernel_core.specs.declared.looking.Looked.TheVariants as ALook;
-ghost use Rattle.core_laws.specs.kernel_commits.step_plans.declared.idle.Idle.{Idle as AnIdle};
-ghost use Rattle.core_laws.specs.birth_views.kernel_model.Beginnings.{Beginning, run_of};
-ghost use Rattle.core_laws.specs.birth_views.kernel_model.Live.{IsCalm};
-ghost use Rattle.core_laws.specs.birth_views.record_laws.Cells.{words_on};
-ghost use Rattle.core_laws.specs.birth_views.serial_runs.Serial.{kept_behind, look, wished_snaps, written_in};
+ghost use Rattle.kernel_core_facts.specs.cell_plans.declared.idle.Idle.{Idle as AnIdle};
+ghost use Rattle.kernel_core_facts.specs.kernel_invariant.Beginnings.{Beginning, run_of};
+ghost use Rattle.kernel_core_facts.specs.kernel_invariant.Live.{IsCalm};
+ghost use Rattle.kernel_core_facts.specs.kernel_record_facts.Cells.{words_on};
+ghost use Rattle.kernel_core_facts.specs.model_serial.Serial.{kept_behind, look, wished_snaps, written_in};
 
 use crate::owing::{owes_stable, stabilises_at};
 use crate::stepping::{Stepping, step_core};
-use core_laws::{Core, Idle, Stopped, settle, snap_written};
-use disk_trait::Disk;
-use hop_base::{Entity, Entry};
-use manager_gate::{Gate, Policy, Supplier};
+use base_types::{Entity, Entry};
+use edge_disk::Disk;
+use edge_managers::{Gate, Policy, Supplier};
+use kernel_core_facts::{Core, Idle, Stopped, settle, snap_written};
 
 /// What a look at a locus came to.
 #[derive(Clone, Copy, Debug, PartialEq, Eq)]
@@ -49,27 +49,27 @@ fn keep_behind<D: Disk, S: Supplier, P: Policy>(
     gate: &Gate<S, P>,
 ) -> Result<(), Stopped>
     requires keeps { P.keeps gate.now.policy }
-    requires steady { IsSteady D.tells D.reading D.may_leave core.old }
+    requires steady { IsSteady D.Disk core.old }
     requires spare { owes ≡ true → steps_to_come core.old.cells + entries_taken core.old.noted.entries < core.old.noted.room }
-    ensures steady { OnOk result (IsSteady D.tells D.reading D.may_leave core.new) }
+    ensures steady { OnOk result (IsSteady D.Disk core.new) }
     ensures stopped { IfErr result (LeavesStopped D.faults core.old core.new) }
     ensures stabilised { owes ≡ true → OnOk result (HasStabilised entry.now.actor core.old core.new) }
-    ensures stable { owes ≡ true → D.tells → (b : Beginning) → OwesStable D.tells D.clock D.faults D.reading D.may_leave D.left_since b entry.now.actor core.old
-        → Stabilises D.tells D.clock D.faults D.reading D.may_leave D.left_since b result core.new }
-    ensures snaps { owes ≡ false → D.tells → (b : Beginning) → RunsFree D.tells D.clock D.faults D.reading D.may_leave D.left_since b (P.wish gate.now.policy) core.old
-        → SnapsAll D.tells D.clock D.faults D.reading D.may_leave D.left_since b (P.wish gate.now.policy) (written_in entry.now.touched) result core.old core.new }
-    ensures stable_part { owes ≡ true → D.tells → (b : Beginning) → OwesStable D.tells D.clock D.faults D.reading D.may_leave D.left_since b entry.now.actor core.old
+    ensures stable { owes ≡ true → D.tells → (b : Beginning) → OwesStable D.Disk b entry.now.actor core.old
+        → Stabilises D.Disk b result core.new }
+    ensures snaps { owes ≡ false → D.tells → (b : Beginning) → RunsFree D.Disk b (P.wish gate.now.policy) core.old
+        → SnapsAll D.Disk b (P.wish gate.now.policy) (written_in entry.now.touched) result core.old core.new }
+    ensures stable_part { owes ≡ true → D.tells → (b : Beginning) → OwesStable D.Disk b entry.now.actor core.old
         → OnErr result (StopsIn b (mark AnEvent.Stable entry.now.actor 0 ∷ []) core.old.noted.entries core.new.noted.entries) }
-    ensures snaps_part { owes ≡ false → D.tells → (b : Beginning) → RunsFree D.tells D.clock D.faults D.reading D.may_leave D.left_since b (P.wish gate.now.policy) core.old
+    ensures snaps_part { owes ≡ false → D.tells → (b : Beginning) → RunsFree D.Disk b (P.wish gate.now.policy) core.old
         → OnErr result (StopsIn b (wished_snaps b.supply (P.wish gate.now.policy) b.script (run_of b core.old.noted.entries) (written_in entry.now.touched)) core.old.noted.entries core.new.noted.entries) }
     ensures enough { D.tells → (b : Beginning)
-        → (owes ≡ true → OwesStable D.tells D.clock D.faults D.reading D.may_leave D.left_since b entry.now.actor core.old)
-        → (owes ≡ false → RunsFree D.tells D.clock D.faults D.reading D.may_leave D.left_since b (P.wish gate.now.policy) core.old)
+        → (owes ≡ true → OwesStable D.Disk b entry.now.actor core.old)
+        → (owes ≡ false → RunsFree D.Disk b (P.wish gate.now.policy) core.old)
         → (n : TooFewBlocks) → IsErrOf result (AStop.TooFew n)
         → LacksIn b (kept_behind b.supply (P.wish gate.now.policy) b.script (run_of b core.old.noted.entries) (written_in entry.now.touched) (if owes then Some entry.now.actor else None)) core.old.noted.entries core.new }
     ensures clean { D.tells → (s : Supply) → AreClean s (words_on (D.reading core.old.store.disk)) core.old.cells
         → OnOk result (AreClean s (words_on (D.reading core.new.store.disk)) core.new.cells) }
-    ensures counts { CountsWithin D.clock D.faults (64 * 1556) core.old.store core.new.store }
+    ensures counts { CountsWithin D.Disk (64 * 1556) core.old.store core.new.store }
 {
     if owes {
         return settle(core, entry.actor);
@@ -85,24 +85,24 @@ pub(crate) fn look_core<D: Disk, S: Supplier, P: Policy>(
 ) -> Result<Looked, Stopped>
     requires keeps { S.keeps gate.now.supply }
     requires wishes { P.keeps gate.now.policy }
-    requires steady { IsSteady D.tells D.reading D.may_leave core.old }
+    requires steady { IsSteady D.Disk core.old }
     requires clean { D.tells → AreClean (S.word gate.now.supply) (words_on (D.reading core.old.store.disk)) core.old.cells }
     ensures idle { (s : Supply) (words : ℕ → List ℕ) (why : AnIdle) → (idle_at s words me core.old.cells ≡ Some why) ↔ (result ≡ Ok (ALook.Idle why)) }
     ensures still { (why : AnIdle) → result ≡ Ok (ALook.Idle why) → core.new ≡ core.old }
-    ensures steady { OnOk result (IsSteady D.tells D.reading D.may_leave core.new) }
-    ensures stopped { IfErr result (StopsLook D.tells D.clock D.faults D.reading D.may_leave D.left_since me core.old core.new) }
+    ensures steady { OnOk result (IsSteady D.Disk core.new) }
+    ensures stopped { IfErr result (StopsLook D.Disk me core.old core.new) }
     ensures run { D.tells → (b : Beginning) → b.supply ≡ S.word gate.now.supply → b.policy ≡ P.wish gate.now.policy
-        → StandsAs D.tells D.clock D.faults D.reading D.may_leave D.left_since b core.old → IsCalm b core.old.noted.entries
-        → LooksInRun D.tells D.clock D.faults D.reading D.may_leave D.left_since b (P.wish gate.now.policy) me result core.old core.new }
+        → StandsAs D.Disk b core.old → IsCalm b core.old.noted.entries
+        → LooksInRun D.Disk b (P.wish gate.now.policy) me result core.old core.new }
     ensures part { D.tells → (b : Beginning) → b.supply ≡ S.word gate.now.supply → b.policy ≡ P.wish gate.now.policy
-        → StandsAs D.tells D.clock D.faults D.reading D.may_leave D.left_since b core.old → IsCalm b core.old.noted.entries
+        → StandsAs D.Disk b core.old → IsCalm b core.old.noted.entries
         → OnErr result (StopsIn b (look b.supply b.policy b.script (run_of b core.old.noted.entries) me) core.old.noted.entries core.new.noted.entries) }
     ensures enough { D.tells → (b : Beginning) → b.supply ≡ S.word gate.now.supply → b.policy ≡ P.wish gate.now.policy
-        → StandsAs D.tells D.clock D.faults D.reading D.may_leave D.left_since b core.old → IsCalm b core.old.noted.entries
+        → StandsAs D.Disk b core.old → IsCalm b core.old.noted.entries
         → (n : TooFewBlocks) → IsErrOf result (AStop.TooFew n) → LacksIn b (look b.supply b.policy b.script (run_of b core.old.noted.entries) me) core.old.noted.entries core.new }
     ensures failed { IsErrOf result AStop.Failed → Rose (D.faults core.old.store.disk) (D.faults core.new.store.disk) }
     ensures clean { D.tells → OnOk result (AreClean (S.word gate.now.supply) (words_on (D.reading core.new.store.disk)) core.new.cells) }
-    ensures counts { CountsWithin D.clock D.faults (1 + 64 * 1556) core.old.store core.new.store }
+    ensures counts { CountsWithin D.Disk (1 + 64 * 1556) core.old.store core.new.store }
 {
     let stabilises = stabilises_at(&core.cells, me);
     match step_core(core, me, gate) {

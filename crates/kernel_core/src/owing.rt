@@ -1,23 +1,23 @@
 // Whether a step owes a Stable.
 ghost use Rattle.std.specs.Prelude.{◌≡◌, ◌&&◌, ℕ, List, Option, Some, None, if◌then◌else◌};
-ghost use Rattle.hop_base.specs.declared.histories.Answer.TheVariants.{Reply as Replied};
-ghost use Rattle.hop_base.specs.declared.instructions.Reply.TheVariants.{Ok as OkReply};
-ghost use Rattle.core_laws.specs.kernel_commits.hop_model.Histories.{locus_in, owed_by, stabilises};
-ghost use Rattle.core_laws.specs.kernel_commits.hop_model.Refusals.{instr_at};
-ghost use Rattle.core_laws.specs.kernel_commits.hop_model.State.{LocusState, Supply};
-ghost use Rattle.core_laws.specs.kernel_commits.wanted_act.Views.{IsReadyLocus};
-ghost use Rattle.core_laws.specs.kernel_commits.locus_machine.Loci.{locus_of};
-ghost use Rattle.core_laws.specs.kernel_commits.locus_machine.declared.loci.Locus.{Locus as ALocus};
-ghost use Rattle.core_laws.specs.birth_views.kernel_cells.Cells.{locus_cell, part_of};
-ghost use Rattle.core_laws.specs.birth_views.kernel_cells.declared.cells.Part.TheVariants as APart;
-ghost use Rattle.core_laws.specs.birth_views.cell_table.Steps.{IsInOrder};
-ghost use Rattle.core_laws.specs.birth_views.cell_table.Tables.{state_in};
-ghost use Rattle.core_laws.specs.Stepping.{is_ok};
+ghost use Rattle.base_types.specs.declared.histories.Answer.TheVariants.{Reply as Replied};
+ghost use Rattle.base_types.specs.declared.instructions.Reply.TheVariants.{Ok as OkReply};
+ghost use Rattle.script_types.specs.model_kernel.Histories.{locus_in, owed_by, stabilises};
+ghost use Rattle.script_types.specs.model_kernel.Refusals.{instr_at};
+ghost use Rattle.script_types.specs.model_kernel.State.{LocusState, Supply};
+ghost use Rattle.model_acts.specs.Views.{IsReadyLocus};
+ghost use Rattle.act_alone.specs.Loci.{locus_of};
+ghost use Rattle.act_alone.specs.declared.loci.Locus.{Locus as ALocus};
+ghost use Rattle.kernel_core_facts.specs.cell_states.Cells.{locus_cell, part_of};
+ghost use Rattle.kernel_core_facts.specs.cell_states.declared.cells.Part.TheVariants as APart;
+ghost use Rattle.kernel_core_facts.specs.table_laws.Steps.{IsInOrder};
+ghost use Rattle.kernel_core_facts.specs.table_laws.Tables.{state_in};
+ghost use Rattle.kernel_core_facts.specs.Stepping.{is_ok};
 
-use core_laws::{Cell, Part, Storage};
-use hop_base::{Answer, Entity, Instr, Reply};
-use locus_machine::Locus;
-use wanted_act::fetch;
+use act_alone::Locus;
+use base_types::{Answer, Entity, Instr, Reply};
+use kernel_core_facts::{Cell, Part, Storage};
+use model_acts::fetch;
 
 /// Whether the locus's next instruction is a stabilise.
 fn stabilises_next(locus: &Locus) -> bool

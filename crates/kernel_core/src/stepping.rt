@@ -1,18 +1,18 @@
 // One look at a locus: its step, and what comes behind it.
 ghost use Rattle.std.specs.Prelude.{◌≡◌, ◌<◌, ◌++◌, ◌∷◌, [], length};
-ghost use Rattle.core_laws.specs.birth_views.cell_table.Tables.{AreClean};
-ghost use Rattle.core_laws.specs.kernel_commits.commit_laws.Parts.{parts_of};
-ghost use Rattle.core_laws.specs.kernel_commits.commit_laws.Steady.{IsSteady};
+ghost use Rattle.kernel_core_facts.specs.table_laws.Tables.{AreClean};
+ghost use Rattle.kernel_core_facts.specs.kernel_commit_facts.Parts.{parts_of};
+ghost use Rattle.kernel_core_facts.specs.kernel_commit_facts.Steady.{IsSteady};
 ghost use Rattle.kernel_core.specs.Stepping.{StepsOnce};
-ghost use Rattle.core_laws.specs.Stepping.{stop_by};
-ghost use Rattle.core_laws.specs.birth_views.record_laws.Cells.{words_on};
+ghost use Rattle.kernel_core_facts.specs.Stepping.{stop_by};
+ghost use Rattle.kernel_core_facts.specs.kernel_record_facts.Cells.{words_on};
 
-use core_laws::{Cell, Core, Idle, Notes, StepFault, Stopped, Store};
-use disk_trait::Disk;
-use hop_base::{Entity, Entry};
-use manager_gate::{Gate, Policy, Supplier};
+use crate::step_over;
+use base_types::{Entity, Entry};
+use edge_disk::Disk;
+use edge_managers::{Gate, Policy, Supplier};
+use kernel_core_facts::{Cell, Core, Idle, Notes, StepFault, Stopped, Store};
 use page_store::PageFault;
-use store_steps::step_over;
 
 /// What came of a step.
 #[derive(Clone, Copy)]
@@ -50,9 +50,9 @@ fn step_among<D: Disk, S: Supplier, P: Policy>(
     gate: &Gate<S, P>,
 ) -> Result<Stepping, Stopped>
     requires keeps { S.keeps gate.now.supply }
-    requires steady { IsSteady D.tells D.reading D.may_leave (parts_of store.old cells.old notes.old) }
+    requires steady { IsSteady D.Disk (parts_of store.old cells.old notes.old) }
     requires clean { D.tells → AreClean (S.word gate.now.supply) (words_on (D.reading store.old.disk)) cells.old }
-    ensures { StepsOnce D.tells D.clock D.faults D.reading D.may_leave D.left_since (S.word gate.now.supply) me
+    ensures { StepsOnce D.Disk (S.word gate.now.supply) me
         (parts_of store.old cells.old notes.old) (parts_of store.new cells.new notes.new) result }
 {
     match step_over(cells, me, store, gate) {
@@ -72,9 +72,9 @@ pub(crate) fn step_core<D: Disk, S: Supplier, P: Policy>(
     gate: &Gate<S, P>,
 ) -> Result<Stepping, Stopped>
     requires keeps { S.keeps gate.now.supply }
-    requires steady { IsSteady D.tells D.reading D.may_leave core.old }
+    requires steady { IsSteady D.Disk core.old }
     requires clean { D.tells → AreClean (S.word gate.now.supply) (words_on (D.reading core.old.store.disk)) core.old.cells }
-    ensures { StepsOnce D.tells D.clock D.faults D.reading D.may_leave D.left_since (S.word gate.now.supply) me core.old core.new result }
+    ensures { StepsOnce D.Disk (S.word gate.now.supply) me core.old core.new result }
 {
     step_among(&mut core.cells, &mut core.store, &mut core.notes, me, gate)
 }

@@ -3,28 +3,29 @@ use Rattle.std.proofs.Common.{◌≡◌, ℕ, ◌+◌, ◌*◌, ◌-◌, ◌^◌
 use Rattle.std.proofs.lemmas.Bool.{false≢true}
 use Rattle.std.proofs.lemmas.List.{append-nil}
 use Rattle.std.proofs.lemmas.List.Sums.{sum_by-append}
-use Rattle.disk_trait.specs.Image.{Image}
-use Rattle.disk_trait.specs.Moments.{LeavesOnly}
-use Rattle.hop_base.specs.declared.histories.Entry.{Entry}
-use Rattle.hop_base.specs.declared.histories.Event.{Event}
-use Rattle.hop_base.specs.declared.histories.Event.TheVariants.{Birth, Step, Snap as SnapEvent, Stable, Tried}
-use Rattle.meant_states.specs.hop_model.Choices.{Commit}
-use Rattle.meant_states.specs.hop_model.Histories.{Run, goes_on, start_run, went_on}
-use Rattle.meant_states.proofs.hop_model_lemmas.StableCuts.{run_append}
-use Rattle.kernel_model.specs.run_cuts.Marks.{completes, is_completing, is_step}
-use Rattle.meant_states.specs.image_form.Layout.{last_number}
-use Rattle.meant_states.specs.image_blocks.Logs.{Place}
-use Rattle.meant_states.specs.image_meaning.Stores.{Kept, Stores}
-use Rattle.kernel_model.specs.store_model.Between.{OnlyPages, stores_left}
-use Rattle.kernel_model.specs.store_model.Books.{kept_of}
-use Rattle.kernel_model.specs.Beginnings.{Beginning, IsLegal, completed, run_of, with_tried}
-use Rattle.kernel_model.specs.Left.{LeavesCuts, marks_with}
-use Rattle.kernel_model.specs.Live.{HasMarks, HoldsCommits, IsLive, IsRunning, KernelView, Stopped}
-use Rattle.kernel_model.specs.Records.{AreKeptRecords, StoresCommits}
-use Rattle.kernel_model.proofs.Apart.{kept_apart}
-use Rattle.kernel_model.proofs.Leaving.{last_may}
-use Rattle.kernel_model.proofs.Staying.{records_stay}
-use Rattle.kernel_model.proofs.Stretches.{cuts_over_entry, cuts_over_event, cuts_over_pages, leaves_map}
+use Rattle.edge_disk.specs.declared.disk.Disk.{Ghosts}
+use Rattle.edge_disk.specs.Image.{Image}
+use Rattle.edge_disk.specs.Moments.{LeavesOnly}
+use Rattle.base_types.specs.declared.histories.Entry.{Entry}
+use Rattle.base_types.specs.declared.histories.Event.{Event}
+use Rattle.base_types.specs.declared.histories.Event.TheVariants.{Birth, Step, Snap as SnapEvent, Stable, Tried}
+use Rattle.image_state_laws.specs.model_kernel.Choices.{Commit}
+use Rattle.image_state_laws.specs.model_kernel.Histories.{Run, goes_on, start_run, went_on}
+use Rattle.image_state_laws.proofs.model_kernel_lemmas.StableCuts.{run_append}
+use Rattle.kernel_invariant.specs.Marks.{completes, is_completing, is_step}
+use Rattle.image_state_laws.specs.image_facts.Layout.{last_number}
+use Rattle.image_state_laws.specs.image_blocks.Logs.{Place}
+use Rattle.image_state_laws.specs.image_meaning.Stores.{Kept, Stores}
+use Rattle.kernel_invariant.specs.store_books.Between.{OnlyPages, stores_left}
+use Rattle.kernel_invariant.specs.store_books.Books.{kept_of}
+use Rattle.kernel_invariant.specs.Beginnings.{Beginning, IsLegal, completed, run_of, with_tried}
+use Rattle.kernel_invariant.specs.Left.{LeavesCuts, marks_with}
+use Rattle.kernel_invariant.specs.Live.{HasMarks, HoldsCommits, IsLive, IsRunning, KernelView, Stopped}
+use Rattle.kernel_invariant.specs.Records.{AreKeptRecords, StoresCommits}
+use Rattle.kernel_invariant.proofs.Apart.{kept_apart}
+use Rattle.kernel_invariant.proofs.Leaving.{last_may}
+use Rattle.kernel_invariant.proofs.Staying.{records_stay}
+use Rattle.kernel_invariant.proofs.Stretches.{cuts_over_entry, cuts_over_event, cuts_over_pages, leaves_map}
 use Rattle.kernel_laws.specs.Going.{MadeEvent, MadeSnap, StoppedAtCommit, StoppedBetween}
 use Rattle.kernel_laws.proofs.Marking.{Marked, get_more, marks_grow, marks_stay}
 
@@ -60,54 +61,54 @@ module _ (b : Beginning) (es : List Entry) (e : Entry) where
       let none : (run_of b (es ++ e ∷ [])).tried ≡ None = ap (λ (r : Run). r.tried) run_next ∙ (ap (λ ev. (went_on b.supply b.script (run_of b es) e ev).tried) is ∙ before) in
       ap (λ (o : Option Commit). completed b (es ++ e ∷ []) ++ option_to_list o) none ∙ append-nil (completed b (es ++ e ∷ []))
 
-module _ {D : Type 0} (b : Beginning) (tells : Type 0) (clock : D → ℕ) (reading : D → Image) (may_leave : D → Image → Type 0) (left_since : D → ℕ → Image → Type 0)
-    (counts_later : (disk : D) (s t : ℕ) (c : Image) → tells → s ≤ t → left_since disk t c → left_since disk s c)
-    (only_now : (disk : D) (c : Image) → tells → left_since disk (clock disk) c → may_leave disk c) where
+module _ {D : Type 0} (b : Beginning) (disks : Ghosts D)
+    (counts_later : (disk : D) (s t : ℕ) (c : Image) → disks.tells → s ≤ t → disks.left_since disk t c → disks.left_since disk s c)
+    (only_now : (disk : D) (c : Image) → disks.tells → disks.left_since disk (disks.clock disk) c → disks.may_leave disk c) where
   abbrev Holds : KernelView → D → Type 0
-  Holds k disk = HoldsCommits b reading may_leave k disk
+  Holds k disk = HoldsCommits b disks k disk
 
   abbrev Runs : KernelView → D → Type 0
-  Runs k disk = IsRunning b tells clock reading may_leave left_since k disk
+  Runs k disk = IsRunning b disks k disk
 
   -- each image that a stop may leave stores the commits
-  pub stores_now : (k : KernelView) (disk : D) → Holds k disk → (c : Image) → may_leave disk c → StoresCommits b k.history k.books.count (completed b k.history) c
+  pub stores_now : (k : KernelView) (disk : D) → Holds k disk → (c : Image) → disks.may_leave disk c → StoresCommits b k.history k.books.count (completed b k.history) c
   stores_now k disk h c may = record {
-    ks = kept_of (reading disk) k.books;
+    ks = kept_of (disks.reading disk) k.books;
     records = h.records;
-    apart = kept_apart k.books k.tables (reading disk) h.owned;
-    stores = stores_left tells clock reading may_leave left_since disk k.books h.books h.small h.working c may;
+    apart = kept_apart k.books k.tables (disks.reading disk) h.owned;
+    stores = stores_left disks disk k.books h.books h.small h.working c may;
   }
 
-  stored_as : (k : KernelView) (disk : D) → Holds k disk → (c : Image) → Stores k.books.count (kept_of (reading disk) k.books) c → StoresCommits b k.history k.books.count (completed b k.history) c
-  stored_as k disk h c st = record { ks = kept_of (reading disk) k.books; records = h.records; apart = kept_apart k.books k.tables (reading disk) h.owned; stores = st }
+  stored_as : (k : KernelView) (disk : D) → Holds k disk → (c : Image) → Stores k.books.count (kept_of (disks.reading disk) k.books) c → StoresCommits b k.history k.books.count (completed b k.history) c
+  stored_as k disk h c st = record { ks = kept_of (disks.reading disk) k.books; records = h.records; apart = kept_apart k.books k.tables (disks.reading disk) h.owned; stores = st }
 
   module _ (old new : KernelView) (disk after : D) (r : Runs old disk) where
     -- over pages a stop leaves only what the commits store
-    only_pages : tells → old.stop ≡ None → (m n : ℕ) → OnlyPages tells clock reading may_leave left_since disk after old.books new.books m n
-        → LeavesOnly clock left_since disk after (StoresCommits b old.history old.books.count (completed b old.history))
+    only_pages : disks.tells → old.stop ≡ None → (m n : ℕ) → OnlyPages disks disk after old.books new.books m n
+        → LeavesOnly disks disk after (StoresCommits b old.history old.books.count (completed b old.history))
     only_pages told going m n p =
         let h = r.stored told going in
-        leaves_map clock left_since disk after (Stores old.books.count (kept_of (reading disk) old.books)) (StoresCommits b old.history old.books.count (completed b old.history)) (stored_as old disk h)
+        leaves_map disks disk after (Stores old.books.count (kept_of (disks.reading disk) old.books)) (StoresCommits b old.history old.books.count (completed b old.history)) (stored_as old disk h)
         (p.moments told h.books h.small h.working)
 
-    pages_cuts : tells → old.stop ≡ None → (m n : ℕ) → OnlyPages tells clock reading may_leave left_since disk after old.books new.books m n → LeavesCuts b clock left_since old.history old.marks after
+    pages_cuts : disks.tells → old.stop ≡ None → (m n : ℕ) → OnlyPages disks disk after old.books new.books m n → LeavesCuts b disks old.history old.marks after
     pages_cuts told going m n p =
-        cuts_over_pages clock may_leave left_since (λ d s t c. counts_later d s t c told) (λ d c. only_now d c told) b r.begins old.history old.marks old.books.count disk after (r.moments told) r.legal
+        cuts_over_pages disks (λ d s t c. counts_later d s t c told) (λ d c. only_now d c told) b r.begins old.history old.marks old.books.count disk after (r.moments told) r.legal
         (only_pages told going m n p)
 
     -- EVENTS
 
-    module _ (e : Entry) (m : MadeEvent b tells clock reading may_leave left_since old new disk after e) where
+    module _ (e : Entry) (m : MadeEvent b disks old new disk after e) where
       legal_more : IsLegal b (old.history ++ e ∷ [])
       legal_more = subst (IsLegal b) m.history m.right.legal
 
-      event_holds : tells → Holds new after
+      event_holds : disks.tells → Holds new after
       event_holds told =
           let p = m.pages.2 in
           let h = r.stored told m.was_going in
-          let more : AreKeptRecords b (old.history ++ e ∷ []) (completed b old.history) (kept_of (reading disk) old.books) = records_stay b old.history (e ∷ []) legal_more _ _ h.records in
-          let at : AreKeptRecords b (old.history ++ e ∷ []) (completed b (old.history ++ e ∷ [])) (kept_of (reading disk) old.books) = subst (λ (cs : List Commit). AreKeptRecords b (old.history ++ e ∷ []) cs (kept_of (reading disk) old.books)) (sym (same_commits b old.history e m.event)) more in
-          let kept : AreKeptRecords b (old.history ++ e ∷ []) (completed b (old.history ++ e ∷ [])) (kept_of (reading after) new.books) = subst (λ (ks : List Kept). AreKeptRecords b (old.history ++ e ∷ []) (completed b (old.history ++ e ∷ [])) ks) (sym (p.same_kept told)) at in
+          let more : AreKeptRecords b (old.history ++ e ∷ []) (completed b old.history) (kept_of (disks.reading disk) old.books) = records_stay b old.history (e ∷ []) legal_more _ _ h.records in
+          let at : AreKeptRecords b (old.history ++ e ∷ []) (completed b (old.history ++ e ∷ [])) (kept_of (disks.reading disk) old.books) = subst (λ (cs : List Commit). AreKeptRecords b (old.history ++ e ∷ []) cs (kept_of (disks.reading disk) old.books)) (sym (same_commits b old.history e m.event)) more in
+          let kept : AreKeptRecords b (old.history ++ e ∷ []) (completed b (old.history ++ e ∷ [])) (kept_of (disks.reading after) new.books) = subst (λ (ks : List Kept). AreKeptRecords b (old.history ++ e ∷ []) (completed b (old.history ++ e ∷ [])) ks) (sym (p.same_kept told)) at in
           record {
             working = m.working;
             looked = p.same_found ∙ h.looked;
@@ -119,7 +120,7 @@ module _ {D : Type 0} (b : Beginning) (tells : Type 0) (clock : D → ℕ) (read
                 let commits : length (completed b new.history) ≡ length (completed b old.history) = ap (λ (es : List Entry). length (completed b es)) m.history ∙ ap length (same_commits b old.history e m.event) in
                 omega (arith, low, place, commits));
             owned = m.owned;
-            records = subst (λ (es : List Entry). AreKeptRecords b es (completed b es) (kept_of (reading after) new.books)) (sym m.history) kept;
+            records = subst (λ (es : List Entry). AreKeptRecords b es (completed b es) (kept_of (disks.reading after) new.books)) (sym m.history) kept;
           }
 
       event_marks : HasMarks b new
@@ -150,13 +151,13 @@ module _ {D : Type 0} (b : Beginning) (tells : Type 0) (clock : D → ℕ) (read
             time = λ short. p.counts.same b.since (r.time (let le = p.later in omega (arith, le, short))) short;
             later = (let low = r.later in let le = p.later in omega (arith, low, le));
             moments = λ told.
-                let cuts = cuts_over_event clock may_leave left_since (λ d s t c. counts_later d s t c told) (λ d c. only_now d c told) b old.history e old.marks after legal_more r.marks.each.each m.event (pages_cuts told m.was_going m.pages.0 m.pages.1 p) in
-                subst (λ (es : List Entry). LeavesCuts b clock left_since es new.marks after) (sym m.history) (subst (λ (ms : List ℕ). LeavesCuts b clock left_since (old.history ++ e ∷ []) ms after) (sym m.marks) cuts);
+                let cuts = cuts_over_event disks (λ d s t c. counts_later d s t c told) (λ d c. only_now d c told) b old.history e old.marks after legal_more r.marks.each.each m.event (pages_cuts told m.was_going m.pages.0 m.pages.1 p) in
+                subst (λ (es : List Entry). LeavesCuts b disks es new.marks after) (sym m.history) (subst (λ (ms : List ℕ). LeavesCuts b disks (old.history ++ e ∷ []) ms after) (sym m.marks) cuts);
           }
 
     -- COMMITS
 
-    module _ (e : Entry) (m : MadeSnap b tells clock reading may_leave left_since old new disk after e) where
+    module _ (e : Entry) (m : MadeSnap b disks old new disk after e) where
       snap_done : completes e ≡ true
       snap_done = ap is_completing m.event
 
@@ -194,14 +195,14 @@ module _ {D : Type 0} (b : Beginning) (tells : Type 0) (clock : D → ℕ) (read
           by_place i a (inl before) = snap_top i a before.1
           by_place i a (inr last) = (let is = last.1 in omega (arith, is))
 
-      snap_stored : tells → (c : Image) → may_leave after c → StoresCommits b (old.history ++ e ∷ []) old.books.count (with_tried b (old.history ++ e ∷ [])) c
+      snap_stored : disks.tells → (c : Image) → disks.may_leave after c → StoresCommits b (old.history ++ e ∷ []) old.books.count (with_tried b (old.history ++ e ∷ [])) c
       snap_stored told c may =
           let now = stores_now new after (m.stored told) c may in
           let here : StoresCommits b (old.history ++ e ∷ []) new.books.count (completed b (old.history ++ e ∷ [])) c = subst (λ (es : List Entry). StoresCommits b es new.books.count (completed b es) c) m.history now in
           let counted : StoresCommits b (old.history ++ e ∷ []) old.books.count (completed b (old.history ++ e ∷ [])) c = subst (λ n. StoresCommits b (old.history ++ e ∷ []) n (completed b (old.history ++ e ∷ [])) c) m.count here in
           subst (λ (cs : List Commit). StoresCommits b (old.history ++ e ∷ []) old.books.count cs c) (sym (snap_sure b old.history e legal_snap m.event)) counted
 
-      snap_time : clock after < 2 ^ 64 - 1 → clock after ≡ b.since + new.books.begun
+      snap_time : disks.clock after < 2 ^ 64 - 1 → disks.clock after ≡ b.since + new.books.begun
       snap_time short = m.counts.same b.since (r.time (let le = m.counts.clock_later in omega (arith, le, short))) short
 
       pub snap_runs : Runs new after
@@ -214,11 +215,11 @@ module _ {D : Type 0} (b : Beginning) (tells : Type 0) (clock : D → ℕ) (read
         time = snap_time;
         later = (let low = r.later in let le = m.counts.clock_later in omega (arith, low, le));
         moments = λ told.
-            let cuts : LeavesCuts b clock left_since (old.history ++ e ∷ []) (marks_with old.marks e new.books.begun) after =
-            cuts_over_entry clock may_leave left_since (λ d s t c. counts_later d s t c told) (λ d c. only_now d c told) b r.begins old.history old.marks old.books.count disk after (r.moments told) e new.books.begun legal_snap r.marks.each.each (m.left told)
+            let cuts : LeavesCuts b disks (old.history ++ e ∷ []) (marks_with old.marks e new.books.begun) after =
+            cuts_over_entry disks (λ d s t c. counts_later d s t c told) (λ d c. only_now d c told) b r.begins old.history old.marks old.books.count disk after (r.moments told) e new.books.begun legal_snap r.marks.each.each (m.left told)
             (λ _. (snap_time, snap_stored told)) in
             let same : marks_with old.marks e new.books.begun ≡ new.marks = ap (λ done. if done then old.marks ++ new.books.begun ∷ [] else old.marks) snap_done ∙ sym m.marks in
-            subst (λ (es : List Entry). LeavesCuts b clock left_since es new.marks after) (sym m.history) (subst (λ (ms : List ℕ). LeavesCuts b clock left_since (old.history ++ e ∷ []) ms after) same cuts);
+            subst (λ (es : List Entry). LeavesCuts b disks es new.marks after) (sym m.history) (subst (λ (ms : List ℕ). LeavesCuts b disks (old.history ++ e ∷ []) ms after) same cuts);
       }
 
     -- STOPS
@@ -229,7 +230,7 @@ module _ {D : Type 0} (b : Beginning) (tells : Type 0) (clock : D → ℕ) (read
         some_none : Some why ≡ None → ⊥
         some_none h = cc
 
-    pub stop_lives : StoppedBetween b tells clock reading may_leave left_since old new disk after → IsLive b tells clock reading may_leave left_since new after
+    pub stop_lives : StoppedBetween b disks old new disk after → IsLive b disks new after
     stop_lives m =
         let p = m.pages.2 in
         record {
@@ -245,17 +246,17 @@ module _ {D : Type 0} (b : Beginning) (tells : Type 0) (clock : D → ℕ) (read
             stored = λ _ none. stopped_not m.why m.stop none;
             time = λ short. p.counts.same b.since (r.time (let le = p.later in omega (arith, le, short))) short;
             later = (let low = r.later in let le = p.later in omega (arith, low, le));
-            moments = λ told. subst (λ (es : List Entry). LeavesCuts b clock left_since es new.marks after) (sym m.history)
-                (subst (λ (ms : List ℕ). LeavesCuts b clock left_since old.history ms after) (sym m.marks) (pages_cuts told m.was_going m.pages.0 m.pages.1 p));
+            moments = λ told. subst (λ (es : List Entry). LeavesCuts b disks es new.marks after) (sym m.history)
+                (subst (λ (ms : List ℕ). LeavesCuts b disks old.history ms after) (sym m.marks) (pages_cuts told m.was_going m.pages.0 m.pages.1 p));
           };
           calm = λ none. stopped_not m.why m.stop none;
         }
 
-    module _ (e : Entry) (m : StoppedAtCommit b tells clock reading may_leave left_since old new disk after e) where
+    module _ (e : Entry) (m : StoppedAtCommit b disks old new disk after e) where
       tried_out : completes e ≡ false
       tried_out = ap is_completing m.event
 
-      pub tried_lives : IsLive b tells clock reading may_leave left_since new after
+      pub tried_lives : IsLive b disks new after
       tried_lives =
           let legal_more : IsLegal b (old.history ++ e ∷ []) = subst (IsLegal b) m.history m.right.legal in
           record {
@@ -272,11 +273,11 @@ module _ {D : Type 0} (b : Beginning) (tells : Type 0) (clock : D → ℕ) (read
               time = λ short. m.counts.same b.since (r.time (let le = m.counts.clock_later in omega (arith, le, short))) short;
               later = (let low = r.later in let le = m.counts.clock_later in omega (arith, low, le));
               moments = λ told.
-                  let cuts : LeavesCuts b clock left_since (old.history ++ e ∷ []) (marks_with old.marks e 0) after =
-                  cuts_over_entry clock may_leave left_since (λ d s t c. counts_later d s t c told) (λ d c. only_now d c told) b r.begins old.history old.marks old.books.count disk after (r.moments told) e 0 legal_more r.marks.each.each (m.left told)
+                  let cuts : LeavesCuts b disks (old.history ++ e ∷ []) (marks_with old.marks e 0) after =
+                  cuts_over_entry disks (λ d s t c. counts_later d s t c told) (λ d c. only_now d c told) b r.begins old.history old.marks old.books.count disk after (r.moments told) e 0 legal_more r.marks.each.each (m.left told)
                   (λ done. absurd (false≢true (sym tried_out ∙ done))) in
                   let same : marks_with old.marks e 0 ≡ new.marks = ap (λ done. if done then old.marks ++ 0 ∷ [] else old.marks) tried_out ∙ sym m.marks in
-                  subst (λ (es : List Entry). LeavesCuts b clock left_since es new.marks after) (sym m.history) (subst (λ (ms : List ℕ). LeavesCuts b clock left_since (old.history ++ e ∷ []) ms after) same cuts);
+                  subst (λ (es : List Entry). LeavesCuts b disks es new.marks after) (sym m.history) (subst (λ (ms : List ℕ). LeavesCuts b disks (old.history ++ e ∷ []) ms after) same cuts);
             };
             calm = λ none. stopped_not m.why m.stop none;
           }

@@ -5,5 +5,5 @@ pub mod Opening
 pub mod Starting
 pub mod Numbers
 pub mod Somes
-pub use Rattle.meant_states.proofs.blob_grammar_lemmas
-pub use Rattle.kernel_model.proofs as kernel_model_lemmas
+pub use Rattle.kernel_invariant.proofs as kernel_invariant_lemmas
+pub use Rattle.kernel_invariant.proofs.store_books_lemmas

@@ -1,11 +1,11 @@
 -- Marks as entries are added to a history.
 use Rattle.std.proofs.Common.{◌≡◌, ℕ, zero, suc, ◌+◌, ◌*◌, ◌≤◌, ◌<◌, true, false, cond, List, [], ◌∷◌, ◌++◌, count_by, length, slice_get, Some, refl, sym, ap, subst, ◌∙◌, arith, ◌⊎◌, inl, inr, length-append, append_assoc}
 use Rattle.std.proofs.lemmas.Bool.{false≢true}
-use Rattle.hop_base.specs.declared.histories.Entry.{Entry}
-use Rattle.kernel_model.specs.run_cuts.Marks.{AreMarks, completes, is_step}
-use Rattle.kernel_model.specs.Beginnings.{Beginning, completed}
-use Rattle.kernel_model.proofs.Leaving.{get_front}
-use Rattle.kernel_model.proofs.run_cuts_lemmas.Leaving.{count_append, count_cons}
+use Rattle.base_types.specs.declared.histories.Entry.{Entry}
+use Rattle.kernel_invariant.specs.Marks.{AreMarks, completes, is_step}
+use Rattle.kernel_invariant.specs.Beginnings.{Beginning, completed}
+use Rattle.kernel_invariant.proofs.Leaving.{get_front}
+use Rattle.kernel_invariant.proofs.Marking.{count_append, count_cons}
 
 -- a mark of a longer list is one of the front, or the last
 pub get_more : (xs : List ℕ) (m i a : ℕ) → slice_get (xs ++ m ∷ []) i ≡ Some a → ((i < length xs) × (slice_get xs i ≡ Some a)) ⊎ ((i ≡ length xs) × (a ≡ m))

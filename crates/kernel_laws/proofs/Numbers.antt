@@ -2,16 +2,16 @@
 use Rattle.std.proofs.Common.{◌≡◌, ℕ, suc, ◌+◌, ◌*◌, ◌^◌, ◌≤◌, ◌<◌, List, [], ◌∷◌, filter, length, refl, ap, arith, length-append}
 use Rattle.std.specs.Prelude.{nat_lt, Bool}
 use Rattle.std.proofs.lemmas.List.Sums.{count_by-le-length, length-filter}
-use Rattle.hop_base.specs.Edges.{upto}
-use Rattle.hop_base.specs.declared.histories.Entry.{Entry}
-use Rattle.hop_base.specs.declared.histories.Event.TheVariants.{Birth, Step, Snap as SnapEvent, Stable, Tried}
-use Rattle.meant_states.specs.hop_model.Histories.{Run, chosen_commits, commits_of, goes_on, has_changed, run_after, start_run, went_on, writes}
-use Rattle.meant_states.specs.hop_model.State.{KernelState}
-use Rattle.meant_states.specs.image_form.Layout.{last_number}
-use Rattle.kernel_model.proofs.run_laws_lemmas.Tellings.{versions_told}
-use Rattle.kernel_model.proofs.sound_runs_lemmas.Lengths.{length_bound}
-use Rattle.kernel_model.proofs.sound_states_lemmas.States.{run_state}
-use Rattle.kernel_model.specs.Beginnings.{Beginning, BeginsRight, IsLegal, completed, state_after}
+use Rattle.base_types.specs.Edges.{upto}
+use Rattle.base_types.specs.declared.histories.Entry.{Entry}
+use Rattle.base_types.specs.declared.histories.Event.TheVariants.{Birth, Step, Snap as SnapEvent, Stable, Tried}
+use Rattle.image_state_laws.specs.model_kernel.Histories.{Run, chosen_commits, commits_of, goes_on, has_changed, run_after, start_run, went_on, writes}
+use Rattle.image_state_laws.specs.model_kernel.State.{KernelState}
+use Rattle.image_state_laws.specs.image_facts.Layout.{last_number}
+use Rattle.image_state_laws.proofs.model_run_laws_lemmas.Tellings.{versions_told}
+use Rattle.image_state_laws.proofs.model_sound_runs_lemmas.Lengths.{length_bound}
+use Rattle.image_state_laws.proofs.model_sound_states_lemmas.States.{run_state}
+use Rattle.kernel_invariant.specs.Beginnings.{Beginning, BeginsRight, IsLegal, completed, state_after}
 
 commits_long : (r : Run) (xs : List ℕ) → length (commits_of r xs) ≡ length xs
 commits_long r [] = refl

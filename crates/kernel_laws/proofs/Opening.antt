@@ -5,31 +5,31 @@ use Rattle.std.specs.List.{AllByRecursion, flat_map}
 use Rattle.std.proofs.lemmas.Bool.{cases_lt, lt-ltb}
 use Rattle.std.proofs.lemmas.List.{get_or_past}
 use Rattle.std.proofs.lemmas.Option.{slice_get-get_or}
-use Rattle.disk_trait.specs.Image.{Image, block_at}
-use Rattle.hop_base.specs.Edges.{upto}
-use Rattle.hop_base.specs.declared.records.Rec.{Rec}
-use Rattle.meant_states.specs.hop_model.Choices.{Commit, IsGreatest, greatest}
-use Rattle.meant_states.specs.hop_model.Histories.{chosen_commits}
-use Rattle.meant_states.specs.hop_model.State.{EntityState, KernelState, Supply, empty_state}
-use Rattle.meant_states.proofs.hop_model_lemmas.Lowering.{greatest_is}
-use Rattle.meant_states.specs.cut_laws.Agreeing.{from_cut, nothing}
-use Rattle.meant_states.specs.cut_laws.Records.{commit_of, commits_of}
-use Rattle.meant_states.specs.image_form.Checks.{count_in}
-use Rattle.meant_states.specs.image_form.Logs.{IsInRange}
-use Rattle.meant_states.proofs.image_blocks_lemmas.Ranges.{in_range_law}
-use Rattle.meant_states.specs.image_meaning.Meaning.{Means, entity_of}
-use Rattle.meant_states.specs.image_meaning.Parts.{IsSpelt, Part, chosen, cut_of, table_in}
-use Rattle.meant_states.specs.image_meaning.Stores.{recs_of}
-use Rattle.meant_states.proofs.image_meaning_lemmas.Finding.{passes, slot_of}
-use Rattle.meant_states.proofs.image_meaning_lemmas.Firsts.{spelt_at}
-use Rattle.meant_states.proofs.hop_model_lemmas.Basics.{and_left}
-use Rattle.kernel_model.specs.store_model.Books.{Books, Logged, kept_for, kept_in, kept_of, logged_recs}
-use Rattle.kernel_model.specs.Beginnings.{Beginning, completed}
-use Rattle.kernel_model.specs.Records.{AreKeptRecords, IsKeptRecord}
-use Rattle.kernel_model.specs.Telling.{TellsOf}
-use Rattle.kernel_model.proofs.Cutting.{narrow_kept}
-use Rattle.kernel_model.proofs.Naming.{behind, first_in}
-use Rattle.kernel_model.proofs.Telling.{told_record}
+use Rattle.edge_disk.specs.Image.{Image, block_at}
+use Rattle.base_types.specs.Edges.{upto}
+use Rattle.base_types.specs.declared.records.Rec.{Rec}
+use Rattle.image_state_laws.specs.model_kernel.Choices.{Commit, IsGreatest, greatest}
+use Rattle.image_state_laws.specs.model_kernel.Histories.{chosen_commits}
+use Rattle.image_state_laws.specs.model_kernel.State.{EntityState, KernelState, Supply, empty_state}
+use Rattle.image_state_laws.proofs.model_kernel_lemmas.Lowering.{greatest_is}
+use Rattle.image_state_laws.specs.model_cut_laws.Agreeing.{from_cut, nothing}
+use Rattle.image_state_laws.specs.model_cut_laws.Records.{commit_of, commits_of}
+use Rattle.image_state_laws.specs.image_facts.Checks.{count_in}
+use Rattle.image_state_laws.specs.image_facts.Logs.{IsInRange}
+use Rattle.image_state_laws.proofs.image_blocks_lemmas.Ranges.{in_range_law}
+use Rattle.image_state_laws.specs.image_meaning.Meaning.{Means, entity_of}
+use Rattle.image_state_laws.specs.image_meaning.Parts.{IsSpelt, Part, chosen, cut_of, table_in}
+use Rattle.image_state_laws.specs.image_meaning.Stores.{recs_of}
+use Rattle.image_state_laws.proofs.image_meaning_lemmas.Finding.{passes, slot_of}
+use Rattle.image_state_laws.proofs.image_meaning_lemmas.Firsts.{spelt_at}
+use Rattle.image_state_laws.proofs.model_kernel_lemmas.Basics.{and_left}
+use Rattle.kernel_invariant.specs.store_books.Books.{Books, Logged, kept_for, kept_in, kept_of, logged_recs}
+use Rattle.kernel_invariant.specs.Beginnings.{Beginning, completed}
+use Rattle.kernel_invariant.specs.Records.{AreKeptRecords, IsKeptRecord}
+use Rattle.kernel_invariant.specs.Telling.{TellsOf}
+use Rattle.kernel_invariant.proofs.Cutting.{narrow_kept}
+use Rattle.kernel_invariant.proofs.Naming.{behind, first_in}
+use Rattle.kernel_invariant.proofs.Telling.{told_record}
 use Rattle.kernel_laws.specs.Opening.{KeepsChosen, rec_list}
 
 -- AN OPENED STATE

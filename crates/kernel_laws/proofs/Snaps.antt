@@ -5,30 +5,31 @@ use Rattle.std.proofs.lemmas.Bool.{cases_lt}
 use Rattle.std.proofs.lemmas.List.{append-nil}
 use Rattle.std.proofs.lemmas.List.Elements.{filter-append}
 use Rattle.std.proofs.lemmas.List.Sums.{sum_by-cons}
-use Rattle.disk_trait.specs.Image.{Image}
-use Rattle.hop_base.specs.declared.histories.Entry.{Entry}
-use Rattle.hop_base.specs.declared.histories.Event.TheVariants.{Stable}
-use Rattle.meant_states.specs.hop_model.Choices.{Commit, IsGreatest}
-use Rattle.meant_states.specs.hop_model.Histories.{Run, event_of, goes_on, run_after, start_run, went_on}
-use Rattle.meant_states.specs.hop_model.Parts.{after, after_entry, is_event, next_of, part_of, within, writes_within}
-use Rattle.meant_states.specs.hop_model.State.{EntityState, KernelState}
-use Rattle.meant_states.proofs.hop_model_lemmas.StableCuts.{run_append}
-use Rattle.kernel_model.specs.run_cuts.Marks.{completes, is_completing, is_step}
-use Rattle.kernel_model.proofs.run_cuts_lemmas.Leaving.{comparable, count_append}
-use Rattle.kernel_model.proofs.run_laws_lemmas.Places.{after_append, things_stay}
-use Rattle.meant_states.specs.image_meaning.Stores.{Kept}
-use Rattle.kernel_model.specs.store_model.Books.{AreSmall, AreTrue, Books, kept_of}
-use Rattle.kernel_model.specs.store_model.Owning.{AreOwned}
-use Rattle.kernel_model.specs.Beginnings.{Beginning, IsLegal, completed, entity_at, first_commits, run_of, state_after, with_tried}
-use Rattle.kernel_model.specs.Left.{HoldAcknowledged, IsCutImage}
-use Rattle.kernel_model.specs.Live.{HasMarks, HoldsCommits, IsRunning, KernelView}
-use Rattle.kernel_model.specs.Records.{AreKeptRecords, IsKeptRecord}
-use Rattle.kernel_model.proofs.Leaving.{get_front, get_last, last_may, none_complete}
-use Rattle.kernel_model.proofs.Staying.{longer, records_stay}
+use Rattle.edge_disk.specs.declared.disk.Disk.{Ghosts}
+use Rattle.edge_disk.specs.Image.{Image}
+use Rattle.base_types.specs.declared.histories.Entry.{Entry}
+use Rattle.base_types.specs.declared.histories.Event.TheVariants.{Stable}
+use Rattle.image_state_laws.specs.model_kernel.Choices.{Commit, IsGreatest}
+use Rattle.image_state_laws.specs.model_kernel.Histories.{Run, event_of, goes_on, run_after, start_run, went_on}
+use Rattle.image_state_laws.specs.model_kernel.Parts.{after, after_entry, is_event, next_of, part_of, within, writes_within}
+use Rattle.image_state_laws.specs.model_kernel.State.{EntityState, KernelState}
+use Rattle.image_state_laws.proofs.model_kernel_lemmas.StableCuts.{run_append}
+use Rattle.kernel_invariant.specs.Marks.{completes, is_completing, is_step}
+use Rattle.kernel_invariant.proofs.Marking.{comparable, count_append}
+use Rattle.image_state_laws.proofs.model_run_laws_lemmas.Places.{after_append, things_stay}
+use Rattle.image_state_laws.specs.image_meaning.Stores.{Kept}
+use Rattle.kernel_invariant.specs.store_books.Books.{AreSmall, AreTrue, Books, kept_of}
+use Rattle.kernel_invariant.specs.store_books.Owning.{AreOwned}
+use Rattle.kernel_invariant.specs.Beginnings.{Beginning, IsLegal, completed, entity_at, first_commits, run_of, state_after, with_tried}
+use Rattle.kernel_invariant.specs.Left.{HoldAcknowledged, IsCutImage}
+use Rattle.kernel_invariant.specs.Live.{HasMarks, HoldsCommits, IsRunning, KernelView}
+use Rattle.kernel_invariant.specs.Records.{AreKeptRecords, IsKeptRecord}
+use Rattle.kernel_invariant.proofs.Leaving.{get_front, get_last, last_may, none_complete}
+use Rattle.kernel_invariant.proofs.Staying.{longer, records_stay}
 use Rattle.kernel_laws.specs.Going.{AreSnaps, MadeStable}
 use Rattle.kernel_laws.proofs.Going.{count_steps}
 use Rattle.kernel_laws.proofs.Marking.{Marked, get_more, marks_front, marks_grow}
-use Rattle.kernel_model.specs.sound_runs.run_laws.StepEntries.{is_step as is_step_event}
+use Rattle.image_state_laws.specs.model_run_laws.StepEntries.{is_step as is_step_event}
 
 -- LISTS OF MARKS
 
@@ -195,8 +196,8 @@ module _ (b : Beginning) (front snaps : List Entry) (e : Entry) (are : AreSnaps 
 
 -- THE KERNEL
 
-module _ {D : Type 0} (b : Beginning) (tells : Type 0) (clock : D → ℕ) (reading : D → Image) (may_leave : D → Image → Type 0) (left_since : D → ℕ → Image → Type 0) (old new : KernelView) (disk : D) (e : Entry)
-    (r : IsRunning b tells clock reading may_leave left_since old disk) (m : MadeStable b old new e) where
+module _ {D : Type 0} (b : Beginning) (disks : Ghosts D) (old new : KernelView) (disk : D) (e : Entry)
+    (r : IsRunning b disks old disk) (m : MadeStable b old new e) where
   legal_old : IsLegal b (m.front ++ m.snaps)
   legal_old = subst (IsLegal b) m.was r.legal
 
@@ -252,16 +253,16 @@ module _ {D : Type 0} (b : Beginning) (tells : Type 0) (clock : D → ℕ) (read
             omega (arith, few, same, commits, steps));
       }
 
-  stable_holds : HoldsCommits b reading may_leave old disk → HoldsCommits b reading may_leave new disk
+  stable_holds : HoldsCommits b disks old disk → HoldsCommits b disks new disk
   stable_holds h =
-      let was : AreKeptRecords b (m.front ++ m.snaps) (completed b (m.front ++ m.snaps)) (kept_of (reading disk) old.books) = subst (λ (es : List Entry). AreKeptRecords b es (completed b es) (kept_of (reading disk) old.books)) m.was h.records in
-      let moved : AreKeptRecords b (m.front ++ e ∷ []) (completed b (m.front ++ m.snaps)) (kept_of (reading disk) old.books) = stable_records b m.front m.snaps e m.are m.event legal_old legal_new m.commits (completed b (m.front ++ m.snaps)) (kept_of (reading disk) old.books) was in
-      let at : AreKeptRecords b (m.front ++ e ∷ []) (completed b (m.front ++ e ∷ [])) (kept_of (reading disk) old.books) = subst (λ (cs : List Commit). AreKeptRecords b (m.front ++ e ∷ []) cs (kept_of (reading disk) old.books)) (sym m.commits) moved in
-      let now : AreKeptRecords b new.history (completed b new.history) (kept_of (reading disk) old.books) = subst (λ (es : List Entry). AreKeptRecords b es (completed b es) (kept_of (reading disk) old.books)) (sym m.history) at in
+      let was : AreKeptRecords b (m.front ++ m.snaps) (completed b (m.front ++ m.snaps)) (kept_of (disks.reading disk) old.books) = subst (λ (es : List Entry). AreKeptRecords b es (completed b es) (kept_of (disks.reading disk) old.books)) m.was h.records in
+      let moved : AreKeptRecords b (m.front ++ e ∷ []) (completed b (m.front ++ m.snaps)) (kept_of (disks.reading disk) old.books) = stable_records b m.front m.snaps e m.are m.event legal_old legal_new m.commits (completed b (m.front ++ m.snaps)) (kept_of (disks.reading disk) old.books) was in
+      let at : AreKeptRecords b (m.front ++ e ∷ []) (completed b (m.front ++ e ∷ [])) (kept_of (disks.reading disk) old.books) = subst (λ (cs : List Commit). AreKeptRecords b (m.front ++ e ∷ []) cs (kept_of (disks.reading disk) old.books)) (sym m.commits) moved in
+      let now : AreKeptRecords b new.history (completed b new.history) (kept_of (disks.reading disk) old.books) = subst (λ (es : List Entry). AreKeptRecords b es (completed b es) (kept_of (disks.reading disk) old.books)) (sym m.history) at in
       record {
         working = ap (λ (bk : Books). bk.shut) m.books ∙ h.working;
         looked = ap (λ (bk : Books). bk.found) m.books ∙ h.looked;
-        books = subst (λ (bk : Books). AreTrue reading may_leave bk disk) (sym m.books) h.books;
+        books = subst (λ (bk : Books). AreTrue disks bk disk) (sym m.books) h.books;
         small = subst AreSmall (sym m.books) h.small;
         epoch = (
             let low = h.epoch in
@@ -270,10 +271,10 @@ module _ {D : Type 0} (b : Beginning) (tells : Type 0) (clock : D → ℕ) (read
             let now : length (completed b new.history) ≡ length (completed b (m.front ++ e ∷ [])) = ap (λ (es : List Entry). length (completed b es)) m.history in
             omega (arith, low, place, was, now));
         owned = subst (λ (ts : ℕ → List ℕ). AreOwned new.books ts) (sym m.tables) (subst (λ (bk : Books). AreOwned bk old.tables) (sym m.books) h.owned);
-        records = subst (λ (bk : Books). AreKeptRecords b new.history (completed b new.history) (kept_of (reading disk) bk)) (sym m.books) now;
+        records = subst (λ (bk : Books). AreKeptRecords b new.history (completed b new.history) (kept_of (disks.reading disk) bk)) (sym m.books) now;
       }
 
-  pub stable_runs : IsRunning b tells clock reading may_leave left_since new disk
+  pub stable_runs : IsRunning b disks new disk
   stable_runs = record {
     begins = r.begins;
     legal = m.right.legal;
@@ -283,8 +284,8 @@ module _ {D : Type 0} (b : Beginning) (tells : Type 0) (clock : D → ℕ) (read
     time = λ short. r.time short ∙ ap (λ n. b.since + n) (sym same_begun);
     later = r.later;
     moments = λ told t c from left.
-        let was : IsCutImage b (m.front ++ m.snaps) (m.first ++ m.rest) (clock disk) t c = subst (λ (es : List Entry). IsCutImage b es (m.first ++ m.rest) (clock disk) t c) m.was (subst (λ (ms : List ℕ). IsCutImage b old.history ms (clock disk) t c) m.were (r.moments told t c from left)) in
-        let is : IsCutImage b (m.front ++ e ∷ []) (m.first ++ old.books.begun ∷ []) (clock disk) t c =
-        stable_image b m.front m.snaps e m.are m.event legal_old legal_new m.commits m.first m.rest old.books.begun m.each (rest_top m.rest m.first old_top) (clock disk) t c was in
-        subst (λ (es : List Entry). IsCutImage b es new.marks (clock disk) t c) (sym m.history) (subst (λ (ms : List ℕ). IsCutImage b (m.front ++ e ∷ []) ms (clock disk) t c) (sym m.marks) is);
+        let was : IsCutImage b (m.front ++ m.snaps) (m.first ++ m.rest) (disks.clock disk) t c = subst (λ (es : List Entry). IsCutImage b es (m.first ++ m.rest) (disks.clock disk) t c) m.was (subst (λ (ms : List ℕ). IsCutImage b old.history ms (disks.clock disk) t c) m.were (r.moments told t c from left)) in
+        let is : IsCutImage b (m.front ++ e ∷ []) (m.first ++ old.books.begun ∷ []) (disks.clock disk) t c =
+        stable_image b m.front m.snaps e m.are m.event legal_old legal_new m.commits m.first m.rest old.books.begun m.each (rest_top m.rest m.first old_top) (disks.clock disk) t c was in
+        subst (λ (es : List Entry). IsCutImage b es new.marks (disks.clock disk) t c) (sym m.history) (subst (λ (ms : List ℕ). IsCutImage b (m.front ++ e ∷ []) ms (disks.clock disk) t c) (sym m.marks) is);
   }

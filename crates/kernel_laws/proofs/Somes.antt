@@ -1,14 +1,14 @@
 -- An image that stores some of the commits which a stretch of commits makes or tries.
 use Rattle.std.proofs.Common.{◌≡◌, ℕ, ◌+◌, ◌≤◌, List, ◌++◌, length, take, sym, ap, subst, ◌∙◌, arith, length-append}
 use Rattle.std.proofs.Math.Seq.{take-append-add}
-use Rattle.disk_trait.specs.Image.{Image}
-use Rattle.hop_base.specs.declared.histories.Entry.{Entry}
-use Rattle.meant_states.specs.hop_model.Choices.{Commit}
-use Rattle.kernel_model.specs.Beginnings.{Beginning, BeginsRight, IsLegal, completed, first_commits, with_tried}
-use Rattle.kernel_model.specs.Left.{HoldAcknowledged, IsCutImage}
-use Rattle.kernel_model.specs.Records.{StoresCommits, StoresSome}
-use Rattle.kernel_model.proofs.Leaving.{image_of}
-use Rattle.kernel_model.proofs.Staying.{stores_stay}
+use Rattle.edge_disk.specs.Image.{Image}
+use Rattle.base_types.specs.declared.histories.Entry.{Entry}
+use Rattle.image_state_laws.specs.model_kernel.Choices.{Commit}
+use Rattle.kernel_invariant.specs.Beginnings.{Beginning, BeginsRight, IsLegal, completed, first_commits, with_tried}
+use Rattle.kernel_invariant.specs.Left.{HoldAcknowledged, IsCutImage}
+use Rattle.kernel_invariant.specs.Records.{StoresCommits, StoresSome}
+use Rattle.kernel_invariant.proofs.Leaving.{image_of}
+use Rattle.kernel_invariant.proofs.Staying.{stores_stay}
 
 -- more first commits hold what fewer do
 held_more : (b : Beginning) (es : List Entry) (marks : List ℕ) (now t k m : ℕ) → k ≤ m → m ≤ length (with_tried b es) → HoldAcknowledged b es marks now t k → HoldAcknowledged b es marks now t m

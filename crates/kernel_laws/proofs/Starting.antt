@@ -1,23 +1,24 @@
 -- A kernel's record holds at the start of a run.
-use Rattle.std.proofs.Common.{◌≡◌, ℕ, ◌≤◌, List, [], ◌∷◌, ◌++◌, length, slice_get, Some, None, refl, sym, ap, subst, ◌∙◌, arith, inl}
+use Rattle.std.proofs.Common.{◌≡◌, ℕ, ◌≤◌, List, [], ◌∷◌, ◌++◌, length, slice_get, Some, None, refl, sym, ap, subst, ◌∙◌, arith}
 use Rattle.std.specs.List.{AllByRecursion}
 use Rattle.std.proofs.lemmas.List.Elements.{All-nil}
-use Rattle.disk_trait.specs.Image.{Image}
-use Rattle.hop_base.specs.declared.histories.Entry.{Entry}
-use Rattle.meant_states.specs.hop_model.Scripts.{ContainerTable, Script, locus_named}
-use Rattle.meant_states.specs.hop_model.State.{KernelState}
-use Rattle.meant_states.specs.hop_model.Steps.{atlas_in}
-use Rattle.kernel_model.specs.script_form.Rules.{IsScript}
-use Rattle.kernel_model.specs.sound_runs.Kinds.{NamesNoLocus}
-use Rattle.kernel_model.proofs.run_cuts_lemmas.Reaching.{cut_at_start}
-use Rattle.meant_states.specs.image_meaning.Meaning.{Means}
-use Rattle.meant_states.specs.image_meaning.Stores.{Kept}
-use Rattle.kernel_model.specs.store_model.Books.{kept_of}
-use Rattle.kernel_model.specs.Beginnings.{Beginning, BeginsRight, IsLegal, completed, run_of, state_after}
-use Rattle.kernel_model.specs.Left.{IsCutImage}
-use Rattle.kernel_model.specs.Live.{Follows, HasMarks, HoldsCommits, IsCalm, IsLive, IsRunning, KernelView}
-use Rattle.kernel_model.specs.Records.{AreKeptRecords, IsKeptRecord}
-use Rattle.kernel_model.proofs.Leaving.{all_held, sure_within}
+use Rattle.edge_disk.specs.declared.disk.Disk.{Ghosts}
+use Rattle.edge_disk.specs.Image.{Image}
+use Rattle.base_types.specs.declared.histories.Entry.{Entry}
+use Rattle.image_state_laws.specs.model_kernel.Scripts.{ContainerTable, Script, locus_named}
+use Rattle.image_state_laws.specs.model_kernel.State.{KernelState}
+use Rattle.image_state_laws.specs.model_kernel.Steps.{atlas_in}
+use Rattle.image_state_laws.specs.script_types.Rules.{IsScript}
+use Rattle.image_state_laws.specs.model_sound_runs.Kinds.{NamesNoLocus}
+use Rattle.image_state_laws.specs.image_meaning.Meaning.{Means}
+use Rattle.image_state_laws.specs.image_meaning.Stores.{Kept}
+use Rattle.kernel_invariant.specs.store_books.Books.{kept_of}
+use Rattle.kernel_invariant.specs.Beginnings.{Beginning, BeginsRight, IsLegal, completed, run_of, state_after}
+use Rattle.kernel_invariant.specs.Left.{IsCutImage}
+use Rattle.kernel_invariant.specs.Live.{Follows, HasMarks, HoldsCommits, IsCalm, IsLive, IsRunning, KernelView}
+use Rattle.kernel_invariant.specs.Records.{AreKeptRecords, IsKeptRecord}
+use Rattle.kernel_invariant.proofs.Leaving.{all_held, sure_within}
+use Rattle.kernel_invariant.proofs.Opened.{cut_at_start}
 use Rattle.kernel_laws.specs.Opening.{HasNoBirths, StandsAtStart, empty_script, with_script}
 use Rattle.kernel_laws.proofs.Marking.{Marked}
 
@@ -31,7 +32,7 @@ opened_image b marks now t c means = record {
   k = length (completed b []);
   holds = all_held b [] marks now t (length (completed b [])) (omega arith) (sure_within b []);
   state = b.state;
-  cut = cut_at_start b.supply b.policy b.script b.state [] (inl (record { legal = tt; untried = refl }));
+  cut = cut_at_start b;
   means = means;
 }
 
@@ -58,10 +59,10 @@ empty_rules steps low high = record {
 pub empty_names : (steps : ℕ) (w : KernelState) → NamesNoLocus (empty_script steps) w
 empty_names steps w = All-nil (λ (t : ContainerTable). locus_named (atlas_in (w 0).cell) t.name ≡ None)
 
-module _ {D : Type 0} (b : Beginning) (tells : Type 0) (clock : D → ℕ) (reading : D → Image) (may_leave : D → Image → Type 0) (left_since : D → ℕ → Image → Type 0) (k : KernelView) (disk : D) where
+module _ {D : Type 0} (b : Beginning) (disks : Ghosts D) (k : KernelView) (disk : D) where
   -- THE START
 
-  module _ (right : BeginsRight b) (none : HasNoBirths b) (st : StandsAtStart b tells clock reading may_leave left_since k disk) where
+  module _ (right : BeginsRight b) (none : HasNoBirths b) (st : StandsAtStart b disks k disk) where
     start_calm : IsCalm b []
     start_calm = record { births_made = none; nothing_owed = refl; not_tried = refl; nothing_due = λ x. refl }
 
@@ -87,7 +88,7 @@ module _ {D : Type 0} (b : Beginning) (tells : Type 0) (clock : D → ℕ) (read
         no_mark : (i a : ℕ) → slice_get {X = ℕ} [] i ≡ Some a → ⊥
         no_mark i a at = cc
 
-    pub start_lives : IsLive b tells clock reading may_leave left_since k disk
+    pub start_lives : IsLive b disks k disk
     start_lives = record {
       running = record {
         begins = right;
@@ -97,7 +98,7 @@ module _ {D : Type 0} (b : Beginning) (tells : Type 0) (clock : D → ℕ) (read
         stored = λ told _. st.stored told;
         time = st.time;
         later = st.later;
-        moments = λ told t c from left. subst (λ (es : List Entry). IsCutImage b es k.marks (clock disk) t c) (sym st.history) (opened_image b k.marks (clock disk) t c (st.moments told t c from left));
+        moments = λ told t c from left. subst (λ (es : List Entry). IsCutImage b es k.marks (disks.clock disk) t c) (sym st.history) (opened_image b k.marks (disks.clock disk) t c (st.moments told t c from left));
       };
       calm = λ _. subst (IsCalm b) (sym st.history) start_calm;
     }
@@ -128,7 +129,7 @@ module _ {D : Type 0} (b : Beginning) (tells : Type 0) (clock : D → ℕ) (read
             clash : [] ≡ f ∷ fs ++ gs → ⊥
             clash h = cc
 
-    module _ (right : BeginsRight (with_script b script)) (steps : script.steps ≡ b.script.steps) (history : k.history ≡ []) (r : IsRunning b tells clock reading may_leave left_since k disk) where
+    module _ (right : BeginsRight (with_script b script)) (steps : script.steps ≡ b.script.steps) (history : k.history ≡ []) (r : IsRunning b disks k disk) where
       follows_for : Follows (with_script b script) k
       follows_for = record {
         state = r.follows.state ∙ (ap (λ (es : List Entry). state_after b es) history ∙ sym (ap (λ (es : List Entry). state_after (with_script b script) es) history));
@@ -156,10 +157,10 @@ module _ {D : Type 0} (b : Beginning) (tells : Type 0) (clock : D → ℕ) (read
             omega (arith, few, was, now));
       }
 
-      holds_for : HoldsCommits b reading may_leave k disk → HoldsCommits (with_script b script) reading may_leave k disk
+      holds_for : HoldsCommits b disks k disk → HoldsCommits (with_script b script) disks k disk
       holds_for h =
-          let was : AreKeptRecords b [] (completed b []) (kept_of (reading disk) k.books) = subst (λ (es : List Entry). AreKeptRecords b es (completed b es) (kept_of (reading disk) k.books)) history h.records in
-          let now : AreKeptRecords (with_script b script) [] (completed (with_script b script) []) (kept_of (reading disk) k.books) = record { agree = was.agree; each = each_for (kept_of (reading disk) k.books) was.each } in
+          let was : AreKeptRecords b [] (completed b []) (kept_of (disks.reading disk) k.books) = subst (λ (es : List Entry). AreKeptRecords b es (completed b es) (kept_of (disks.reading disk) k.books)) history h.records in
+          let now : AreKeptRecords (with_script b script) [] (completed (with_script b script) []) (kept_of (disks.reading disk) k.books) = record { agree = was.agree; each = each_for (kept_of (disks.reading disk) k.books) was.each } in
           record {
             working = h.working;
             looked = h.looked;
@@ -171,10 +172,10 @@ module _ {D : Type 0} (b : Beginning) (tells : Type 0) (clock : D → ℕ) (read
                 let now : length (completed (with_script b script) k.history) ≡ length (completed b []) = ap (λ (es : List Entry). length (completed (with_script b script) es)) history in
                 omega (arith, low, was, now));
             owned = h.owned;
-            records = subst (λ (es : List Entry). AreKeptRecords (with_script b script) es (completed (with_script b script) es) (kept_of (reading disk) k.books)) (sym history) now;
+            records = subst (λ (es : List Entry). AreKeptRecords (with_script b script) es (completed (with_script b script) es) (kept_of (disks.reading disk) k.books)) (sym history) now;
           }
 
-      pub script_runs : IsRunning (with_script b script) tells clock reading may_leave left_since k disk
+      pub script_runs : IsRunning (with_script b script) disks k disk
       script_runs = record {
         begins = right;
         legal = subst (IsLegal (with_script b script)) (sym history) tt;
@@ -184,6 +185,6 @@ module _ {D : Type 0} (b : Beginning) (tells : Type 0) (clock : D → ℕ) (read
         time = r.time;
         later = r.later;
         moments = λ told t c from left.
-            let was : IsCutImage b [] k.marks (clock disk) t c = subst (λ (es : List Entry). IsCutImage b es k.marks (clock disk) t c) history (r.moments told t c from left) in
-            subst (λ (es : List Entry). IsCutImage (with_script b script) es k.marks (clock disk) t c) (sym history) (image_for k.marks (clock disk) t c was);
+            let was : IsCutImage b [] k.marks (disks.clock disk) t c = subst (λ (es : List Entry). IsCutImage b es k.marks (disks.clock disk) t c) history (r.moments told t c from left) in
+            subst (λ (es : List Entry). IsCutImage (with_script b script) es k.marks (disks.clock disk) t c) (sym history) (image_for k.marks (disks.clock disk) t c was);
       }

@@ -1,26 +1,26 @@
 -- How a kernel goes from one entry of its history to the next.
 use Rattle.std.specs.Prelude.{◌≡◌, ℕ, ◌+◌, ◌≤◌, false, List, [], ◌∷◌, ◌++◌, count_by, length, Some, None}
-use Rattle.disk_tally.specs.Counts.{CountsOn}
-use Rattle.disk_trait.specs.Image.{Image}
-use Rattle.disk_trait.specs.Moments.{LeavesOnly}
-use Rattle.hop_base.specs.declared.histories.Entry.{Entry}
-use Rattle.hop_base.specs.declared.histories.Event.TheVariants.{Snap, Stable, Tried}
-use Rattle.kernel_model.specs.run_cuts.Marks.{completes, is_step}
-use Rattle.kernel_model.specs.store_model.Between.{OnlyPages}
-use Rattle.kernel_model.specs.store_model.Owning.{AreOwned}
-use Rattle.kernel_model.specs.Beginnings.{Beginning, IsLegal, completed}
-use Rattle.kernel_model.specs.Left.{StoresNext}
-use Rattle.kernel_model.specs.Live.{Follows, HoldsCommits, KernelView, Stopped}
+use Rattle.edge_disk.specs.declared.disk.Disk.{Ghosts}
+use Rattle.edge_tally.specs.Counts.{CountsOn}
+use Rattle.edge_disk.specs.Moments.{LeavesOnly}
+use Rattle.base_types.specs.declared.histories.Entry.{Entry}
+use Rattle.base_types.specs.declared.histories.Event.TheVariants.{Snap, Stable, Tried}
+use Rattle.kernel_invariant.specs.store_books.Between.{OnlyPages}
+use Rattle.kernel_invariant.specs.store_books.Owning.{AreOwned}
+use Rattle.kernel_invariant.specs.Beginnings.{Beginning, IsLegal, completed}
+use Rattle.kernel_invariant.specs.Left.{StoresNext}
+use Rattle.kernel_invariant.specs.Marks.{completes, is_step}
+use Rattle.kernel_invariant.specs.Live.{Follows, HoldsCommits, KernelView, Stopped}
 
 -- the history is a legal run, and the cells are what it makes
 pub record IsRight (b : Beginning) (k : KernelView) : Type 0 where
   pub legal : IsLegal b k.history
   pub follows : Follows b k
 
-module _ {D : Type 0} (b : Beginning) (tells : Type 0) (clock : D → ℕ) (reading : D → Image) (may_leave : D → Image → Type 0) (left_since : D → ℕ → Image → Type 0) (old new : KernelView) (disk after : D) where
+module _ {D : Type 0} (b : Beginning) (disks : Ghosts D) (old new : KernelView) (disk after : D) where
   -- only pages were read and written on the way; how many pages the store wrote is beside the point
   abbrev pub WentByPages : Type 0
-  WentByPages = (m n : ℕ) × OnlyPages tells clock reading may_leave left_since disk after old.books new.books m n
+  WentByPages = (m n : ℕ) × OnlyPages disks disk after old.books new.books m n
 
   -- AN EVENT: a birth or a step, with at most one write for a step
   pub record MadeEvent (e : Entry) : Type 0 where
@@ -43,10 +43,10 @@ module _ {D : Type 0} (b : Beginning) (tells : Type 0) (clock : D → ℕ) (read
     pub marks : new.marks ≡ old.marks ++ new.books.begun ∷ []
     pub event : e.event ≡ Snap
     pub right : IsRight b new
-    pub left : tells → LeavesOnly clock left_since disk after (StoresNext b old.history e old.books.count)
-    pub stored : tells → HoldsCommits b reading may_leave new after
+    pub left : disks.tells → LeavesOnly disks disk after (StoresNext b old.history e old.books.count)
+    pub stored : disks.tells → HoldsCommits b disks new after
     pub count : new.books.count ≡ old.books.count
-    pub counts : CountsOn (clock disk) (clock after) old.books.begun new.books.begun
+    pub counts : CountsOn (disks.clock disk) (disks.clock after) old.books.begun new.books.begun
     pub few : new.books.begun ≤ old.books.begun + 1600
 
   -- A STOP without an entry, after which the kernel holds what it did
@@ -68,8 +68,8 @@ module _ {D : Type 0} (b : Beginning) (tells : Type 0) (clock : D → ℕ) (read
     pub marks : new.marks ≡ old.marks
     pub event : e.event ≡ Tried
     pub right : IsRight b new
-    pub left : tells → LeavesOnly clock left_since disk after (StoresNext b old.history e old.books.count)
-    pub counts : CountsOn (clock disk) (clock after) old.books.begun new.books.begun
+    pub left : disks.tells → LeavesOnly disks disk after (StoresNext b old.history e old.books.count)
+    pub counts : CountsOn (disks.clock disk) (disks.clock after) old.books.begun new.books.begun
 
 -- each entry is a Snap
 abbrev pub AreSnaps : List Entry → Type 0

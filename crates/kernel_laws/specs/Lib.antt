@@ -1,7 +1,8 @@
 pub mod Going
 pub mod Opening
-pub use Rattle.meant_states.specs.blob_grammar
-pub use Rattle.meant_states.specs.image_meaning
-pub use Rattle.kernel_model.specs as kernel_model
-pub use Rattle.kernel_model.specs.run_cuts
-pub use Rattle.kernel_model.specs.store_model
+pub use Rattle.image_state_laws.specs.image_blocks
+pub use Rattle.image_state_laws.specs.image_facts
+pub use Rattle.image_state_laws.specs.image_meaning
+pub use Rattle.kernel_invariant.specs as kernel_invariant
+pub use Rattle.image_state_laws.specs.model_cut_laws
+pub use Rattle.kernel_invariant.specs.store_books

@@ -1,16 +1,17 @@
 -- A kernel as an opened image makes it.
 use Rattle.std.specs.Prelude.{◌≡◌, ℕ, ◌+◌, ◌-◌, ◌<◌, ◌≤◌, ◌^◌, false, List, [], ◌∷◌, Contains, Option, Some, None, slice_index}
 use Rattle.std.specs.List.{flat_map}
-use Rattle.disk_trait.specs.Image.{Image}
-use Rattle.hop_base.specs.Edges.{upto}
-use Rattle.hop_base.specs.declared.records.Rec.{Rec}
-use Rattle.meant_states.specs.hop_model.Histories.{births_owed, start_run}
-use Rattle.meant_states.specs.hop_model.Scripts.{Script}
-use Rattle.meant_states.specs.image_meaning.Meaning.{Accepted, Means}
-use Rattle.meant_states.specs.image_meaning.Parts.{Part, chosen, table_in}
-use Rattle.kernel_model.specs.store_model.Books.{Books, Logged, kept_in, logged_recs}
-use Rattle.kernel_model.specs.Beginnings.{Beginning}
-use Rattle.kernel_model.specs.Live.{HoldsCommits, KernelView}
+use Rattle.edge_disk.specs.declared.disk.Disk.{Ghosts}
+use Rattle.edge_disk.specs.Image.{Image}
+use Rattle.base_types.specs.Edges.{upto}
+use Rattle.base_types.specs.declared.records.Rec.{Rec}
+use Rattle.image_state_laws.specs.model_kernel.Histories.{births_owed, start_run}
+use Rattle.image_state_laws.specs.model_kernel.Scripts.{Script}
+use Rattle.image_state_laws.specs.image_meaning.Meaning.{Accepted, Means}
+use Rattle.image_state_laws.specs.image_meaning.Parts.{Part, chosen, table_in}
+use Rattle.kernel_invariant.specs.store_books.Books.{Books, Logged, kept_in, logged_recs}
+use Rattle.kernel_invariant.specs.Beginnings.{Beginning}
+use Rattle.kernel_invariant.specs.Live.{HoldsCommits, KernelView}
 
 abbrev pub rec_list : Option Rec → List Rec
 rec_list None = []
@@ -27,7 +28,7 @@ pub record KeepsChosen (image : Image) (a : Accepted image) (b : Books) : Type 0
 
 -- THE START: nothing was done yet. The cells are the opened state, each newest record is the chosen one, and no wish is open; the store
 -- holds the chosen records, and each image since the first moment means the opened state.
-pub record StandsAtStart {D : Type 0} (b : Beginning) (tells : Type 0) (clock : D → ℕ) (reading : D → Image) (may_leave : D → Image → Type 0) (left_since : D → ℕ → Image → Type 0) (k : KernelView) (disk : D) : Type 0 where
+pub record StandsAtStart {D : Type 0} (b : Beginning) (disks : Ghosts D) (k : KernelView) (disk : D) : Type 0 where
   pub history : k.history ≡ []
   pub marks : k.marks ≡ []
   pub stop : k.stop ≡ None
@@ -36,11 +37,11 @@ pub record StandsAtStart {D : Type 0} (b : Beginning) (tells : Type 0) (clock : 
   pub by_step : (x : ℕ) → k.by_step x ≡ false
   pub asked : (x : ℕ) → k.asked x ≡ false
   pub left : (x : ℕ) → k.left x ≡ b.script.steps
-  pub stored : tells → HoldsCommits b reading may_leave k disk
+  pub stored : disks.tells → HoldsCommits b disks k disk
   pub few : k.books.begun ≤ 1600
-  pub time : clock disk < 2 ^ 64 - 1 → clock disk ≡ b.since + k.books.begun
-  pub later : b.first ≤ clock disk
-  pub moments : tells → (t : ℕ) (c : Image) → b.first ≤ t → left_since disk t c → Means b.supply c b.state
+  pub time : disks.clock disk < 2 ^ 64 - 1 → disks.clock disk ≡ b.since + k.books.begun
+  pub later : b.first ≤ disks.clock disk
+  pub moments : disks.tells → (t : ℕ) (c : Image) → b.first ≤ t → disks.left_since disk t c → Means b.supply c b.state
 
 -- the script names nobody who is to be born
 abbrev pub HasNoBirths : Beginning → Type 0

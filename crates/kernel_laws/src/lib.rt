@@ -3,48 +3,48 @@
 #![tactic(auto)]
 
 ghost use Rattle.std.specs.Prelude.{[], ◌++◌, ◌≡◌, ◌≤◌, ◌<◌, ◌+◌, ◌^◌, ℕ, List, length};
-ghost use Rattle.disk_trait.specs.Image.{Image};
-ghost use Rattle.hop_base.specs.declared.histories.Entry.{Entry};
-ghost use Rattle.meant_states.specs.hop_model.Choices.{Commit};
-ghost use Rattle.meant_states.specs.hop_model.Scripts.{Script};
-ghost use Rattle.meant_states.specs.hop_model.State.{KernelState};
-ghost use Rattle.kernel_model.specs.script_form.Rules.{IsScript};
-ghost use Rattle.kernel_model.specs.sound_runs.Kinds.{NamesNoLocus};
-ghost use Rattle.meant_states.specs.image_form.Layout.{last_number};
-ghost use Rattle.meant_states.specs.image_meaning.Meaning.{Means};
-ghost use Rattle.kernel_model.specs.store_model.Books.{Books, kept_of};
-ghost use Rattle.kernel_model.specs.Beginnings.{Beginning, BeginsRight, IsLegal, completed, state_after, with_tried};
-ghost use Rattle.kernel_model.specs.Left.{HoldAcknowledged, IsCutImage};
-ghost use Rattle.kernel_model.specs.Live.{IsLive, IsRunning, KernelView};
-ghost use Rattle.kernel_model.specs.Records.{AreKeptRecords, StoresSome};
+ghost use Rattle.edge_disk.specs.Image.{Image};
+ghost use Rattle.base_types.specs.declared.histories.Entry.{Entry};
+ghost use Rattle.image_state_laws.specs.model_kernel.Choices.{Commit};
+ghost use Rattle.image_state_laws.specs.model_kernel.Scripts.{Script};
+ghost use Rattle.image_state_laws.specs.model_kernel.State.{KernelState};
+ghost use Rattle.image_state_laws.specs.script_types.Rules.{IsScript};
+ghost use Rattle.image_state_laws.specs.model_sound_runs.Kinds.{NamesNoLocus};
+ghost use Rattle.image_state_laws.specs.image_facts.Layout.{last_number};
+ghost use Rattle.image_state_laws.specs.image_meaning.Meaning.{Means};
+ghost use Rattle.kernel_invariant.specs.store_books.Books.{Books, kept_of};
+ghost use Rattle.kernel_invariant.specs.Beginnings.{Beginning, BeginsRight, IsLegal, completed, state_after, with_tried};
+ghost use Rattle.kernel_invariant.specs.Left.{HoldAcknowledged, IsCutImage};
+ghost use Rattle.kernel_invariant.specs.Live.{IsLive, IsRunning, KernelView};
+ghost use Rattle.kernel_invariant.specs.Records.{AreKeptRecords, StoresSome};
 ghost use Rattle.kernel_laws.specs.Going.{MadeEvent, MadeSnap, MadeStable, StoppedAtCommit, StoppedBetween};
 ghost use Rattle.kernel_laws.specs.Opening.{HasNoBirths, KeepsChosen, StandsAtStart, empty_script, with_script};
 
-use disk_trait::Disk;
-use meant_states::meant_state_law;
+use edge_disk::Disk;
+use image_state_laws::meant_state_law;
 
 /// A kernel's record goes on: over a birth or a step; over a commit with its Snap; and over a Stable, in the place of the Snaps of its
 /// records. A kernel that stops, between entries or at a commit that failed, is live.
 pub fn going_law<D: Disk>()
     ensures event { (b : Beginning) (old new : KernelView) (disk after : D) (e : Entry)
-        → IsRunning b D.tells D.clock D.reading D.may_leave D.left_since old disk
-        → MadeEvent b D.tells D.clock D.reading D.may_leave D.left_since old new disk after e
-        → IsRunning b D.tells D.clock D.reading D.may_leave D.left_since new after }
+        → IsRunning b D.Disk old disk
+        → MadeEvent b D.Disk old new disk after e
+        → IsRunning b D.Disk new after }
     ensures snap { (b : Beginning) (old new : KernelView) (disk after : D) (e : Entry)
-        → IsRunning b D.tells D.clock D.reading D.may_leave D.left_since old disk
-        → MadeSnap b D.tells D.clock D.reading D.may_leave D.left_since old new disk after e
-        → IsRunning b D.tells D.clock D.reading D.may_leave D.left_since new after }
+        → IsRunning b D.Disk old disk
+        → MadeSnap b D.Disk old new disk after e
+        → IsRunning b D.Disk new after }
     ensures stable { (b : Beginning) (old new : KernelView) (disk : D) (e : Entry)
-        → IsRunning b D.tells D.clock D.reading D.may_leave D.left_since old disk → MadeStable b old new e
-        → IsRunning b D.tells D.clock D.reading D.may_leave D.left_since new disk }
+        → IsRunning b D.Disk old disk → MadeStable b old new e
+        → IsRunning b D.Disk new disk }
     ensures stop { (b : Beginning) (old new : KernelView) (disk after : D)
-        → IsRunning b D.tells D.clock D.reading D.may_leave D.left_since old disk
-        → StoppedBetween b D.tells D.clock D.reading D.may_leave D.left_since old new disk after
-        → IsLive b D.tells D.clock D.reading D.may_leave D.left_since new after }
+        → IsRunning b D.Disk old disk
+        → StoppedBetween b D.Disk old new disk after
+        → IsLive b D.Disk new after }
     ensures tried { (b : Beginning) (old new : KernelView) (disk after : D) (e : Entry)
-        → IsRunning b D.tells D.clock D.reading D.may_leave D.left_since old disk
-        → StoppedAtCommit b D.tells D.clock D.reading D.may_leave D.left_since old new disk after e
-        → IsLive b D.tells D.clock D.reading D.may_leave D.left_since new after }
+        → IsRunning b D.Disk old disk
+        → StoppedAtCommit b D.Disk old new disk after e
+        → IsLive b D.Disk new after }
 {}
 
 /// A run may begin from the state that an image means, with each script that keeps its rules and none of whose containers has a
@@ -71,11 +71,11 @@ pub fn opened_records_law()
 pub fn start_law<D: Disk>()
     ensures image { (b : Beginning) (marks : List ℕ) (now t : ℕ) (c : Image) → Means b.supply c b.state → IsCutImage b [] marks now t c }
     ensures live { (b : Beginning) (k : KernelView) (disk : D) → BeginsRight b → HasNoBirths b
-        → StandsAtStart b D.tells D.clock D.reading D.may_leave D.left_since k disk
-        → IsLive b D.tells D.clock D.reading D.may_leave D.left_since k disk }
+        → StandsAtStart b D.Disk k disk
+        → IsLive b D.Disk k disk }
     ensures script { (b : Beginning) (script : Script) (k : KernelView) (disk : D) → BeginsRight (with_script b script)
-        → script.steps ≡ b.script.steps → k.history ≡ [] → IsRunning b D.tells D.clock D.reading D.may_leave D.left_since k disk
-        → IsRunning (with_script b script) D.tells D.clock D.reading D.may_leave D.left_since k disk }
+        → script.steps ≡ b.script.steps → k.history ≡ [] → IsRunning b D.Disk k disk
+        → IsRunning (with_script b script) D.Disk k disk }
 {}
 
 /// An image that stores some of the commits that entries made or tried behind a history is a cut of the longer one, where those of

@@ -3,20 +3,20 @@ use Rattle.std.proofs.Common.{◌≡◌, ◌⊎◌, inl, inr, ℕ, zero, suc, �
 use Rattle.std.specs.Prelude.{All, AllPairs, Any, Contains, slice_index}
 use Rattle.std.proofs.lemmas.Bool.{cases_lt}
 use Rattle.std.proofs.lemmas.List.Elements.{All-from_recursion, Contains-append_left, Contains-append_right}
-use Rattle.wish_laws.specs.cut_laws.Agreeing.{nothing}
-use Rattle.wish_laws.specs.cut_laws.Records.{commits_of}
-use Rattle.hop_base.specs.Edges.{upto}
-use Rattle.hop_base.specs.declared.records.Rec.{Rec}
-use Rattle.snapshot_store.proofs.hop_model_lemmas.Lowering.{greatest_is}
-use Rattle.wish_laws.specs.hop_model.Choices.{Among, Commit, IsBelow, IsGreatest}
-use Rattle.record_laws.specs.image_meaning.Parts.{chosen, chosen_by, cut_of}
+use Rattle.cell_wish_laws.specs.model_cut_laws.Agreeing.{nothing}
+use Rattle.cell_wish_laws.specs.model_cut_laws.Records.{commits_of}
+use Rattle.base_types.specs.Edges.{upto}
+use Rattle.base_types.specs.declared.records.Rec.{Rec}
+use Rattle.page_store.proofs.model_kernel_lemmas.Lowering.{greatest_is}
+use Rattle.page_store.specs.model_kernel.Choices.{Among, Commit, IsBelow, IsGreatest}
+use Rattle.kernel_record_facts.specs.image_meaning.Parts.{chosen, chosen_by, cut_of}
 use Rattle.kernel_records.specs.Keeping.{HasNewest}
-use Rattle.snapshot_store.specs.log_laws.Logs.{AreInRange, IsOlder}
-use Rattle.snapshot_store.specs.store_laws.Choosing.{chosen_list, listed}
-use Rattle.snapshot_store.proofs.store_laws_lemmas.Chosen.{are_row, chosen_is, chosen_more, picked}
-use Rattle.snapshot_store.proofs.store_laws_lemmas.Opened.{narrow_in_range}
-use Rattle.snapshot_store.proofs.store_laws_lemmas.ChosenAlone.{row_of}
-use Rattle.snapshot_store.proofs.store_laws_lemmas.ChosenRows.{row_all}
+use Rattle.store_snapshots.specs.log_facts.Logs.{AreInRange, IsOlder}
+use Rattle.store_snapshots.specs.store_facts.Choosing.{chosen_list, listed}
+use Rattle.store_snapshots.proofs.store_facts_lemmas.Chosen.{are_row, chosen_is, chosen_more, picked}
+use Rattle.store_snapshots.proofs.store_facts_lemmas.Opened.{narrow_in_range}
+use Rattle.store_snapshots.proofs.store_facts_lemmas.ChosenAlone.{row_of}
+use Rattle.store_snapshots.proofs.store_facts_lemmas.ChosenRows.{row_all}
 
 -- the version of a chosen record, 0 for none; and its stamp
 abbrev pub version_in : Option Rec → ℕ

@@ -2,23 +2,23 @@
 use Rattle.std.proofs.Common.{◌≡◌, ◌⊎◌, inl, inr, ℕ, ◌<◌, Bool, true, false, ◌&&◌, ◌||◌, ◌==◌, List, nat_lt, refl, arith}
 use Rattle.std.specs.Prelude.{IsErrOf, Result}
 use Rattle.std.proofs.lemmas.Bool.Decides.{nat_tests}
-use Rattle.disk_trait.specs.declared.disk.NoBlocks.{NoBlocks as TooFew}
-use Rattle.snapshot_store.specs.hop_model.Histories.{Policy}
-use Rattle.snapshot_store.specs.hop_model.State.{Supply}
-use Rattle.wish_laws.specs.kernel_cells.declared.cells.Cell.{Cell}
-use Rattle.wish_laws.specs.kernel_cells.Cells.{part_of}
-use Rattle.wish_laws.specs.kernel_cells.Wishes.{is_open}
-use Rattle.wish_laws.specs.Founded.{IsFoundedCell}
-use Rattle.record_laws.specs.cell_blobs.Blobs.{is_recorded}
-use Rattle.record_laws.specs.store_model.Books.{Books, kept_in}
-use Rattle.snapshot_store.specs.store_laws.Shelves.{records_of}
-use Rattle.snapshot_store.specs.store_laws.State.{State}
-use Rattle.snapshot_store.specs.declared.faults.StoreFault.{StoreFault as Fault}
-use Rattle.snapshot_store.specs.declared.faults.StoreFault.TheVariants.{NoBlocks, ReadFault, Shut, WriteFault}
+use Rattle.edge_disk.specs.declared.disk.NoBlocks.{NoBlocks as TooFew}
+use Rattle.page_store.specs.model_kernel.Histories.{Policy}
+use Rattle.page_store.specs.model_kernel.State.{Supply}
+use Rattle.cell_wish_laws.specs.cell_states.declared.cells.Cell.{Cell}
+use Rattle.cell_wish_laws.specs.cell_states.Cells.{part_of}
+use Rattle.cell_wish_laws.specs.cell_states.Wishes.{is_open}
+use Rattle.cell_wish_laws.specs.Founded.{IsFoundedCell}
+use Rattle.kernel_record_facts.specs.cell_blobs.Blobs.{is_recorded}
+use Rattle.kernel_block_laws.specs.store_books.Books.{Books, kept_in}
+use Rattle.store_snapshots.specs.store_facts.Shelves.{records_of}
+use Rattle.store_snapshots.specs.store_facts.State.{State}
+use Rattle.store_snapshots.specs.declared.faults.StoreFault.{StoreFault as Fault}
+use Rattle.store_snapshots.specs.declared.faults.StoreFault.TheVariants.{NoBlocks, ReadFault, Shut, WriteFault}
 use Rattle.kernel_records.specs.Committing.{CellFaults}
 use Rattle.kernel_records.specs.Snapping.{is_snapped}
 use Rattle.std.proofs.lemmas.Bool.{and_from}
-use Rattle.snapshot_store.proofs.hop_model_lemmas.Basics.{and_left, and_right}
+use Rattle.page_store.proofs.model_kernel_lemmas.Basics.{and_left, and_right}
 
 -- a call that hands on the faults of another, and makes a record where that does
 pub handed_on : {D T U : Type 0} (faults : D → ℕ) (P Q : Type 0) (r : Result T Fault) (r' : Result U Fault) (c d : Cell) (old new : State D) → (P → Q) → (Q → P) → ((f : Fault) → IsErrOf r f → IsErrOf r' f) → ((f : Fault) → IsErrOf r' f → IsErrOf r f)

@@ -6,11 +6,11 @@ use Rattle.std.proofs.lemmas.Bool.Decides.{nat_tests}
 use Rattle.std.proofs.lemmas.List.{map-append}
 use Rattle.std.proofs.lemmas.List.Elements.{filter-append}
 use Rattle.std.proofs.lemmas.List.Sums.{sum_by-append, sum_by-cons}
-use Rattle.hop_base.specs.declared.records.Rec.{Rec}
-use Rattle.record_laws.specs.image_meaning.Parts.{cut_of}
-use Rattle.snapshot_store.specs.store_laws.Committed.{HasNewRecord}
-use Rattle.snapshot_store.specs.store_laws.Shelves.{is_from, records_of}
-use Rattle.record_laws.specs.store_model.Books.{Books, Logged, kept_in, logged_recs}
+use Rattle.base_types.specs.declared.records.Rec.{Rec}
+use Rattle.kernel_record_facts.specs.image_meaning.Parts.{cut_of}
+use Rattle.store_snapshots.specs.store_facts.Committed.{HasNewRecord}
+use Rattle.store_snapshots.specs.store_facts.Shelves.{is_from, records_of}
+use Rattle.kernel_block_laws.specs.store_books.Books.{Books, Logged, kept_in, logged_recs}
 use Rattle.kernel_records.specs.Keeping.{KeepsOneMore}
 use Rattle.kernel_records.proofs.Raising.{cut_rises}
 

@@ -5,14 +5,14 @@ use Rattle.std.specs.List.{list_any, range_with_len}
 use Rattle.std.proofs.lemmas.Bool.{and_parts, false≢true, or_cases, or_left, or_right}
 use Rattle.std.proofs.lemmas.List.{length-take}
 use Rattle.std.proofs.lemmas.Map.Views.{Contains-from_any}
-use Rattle.snapshot_store.specs.image_form.Bodies.{blob_blocks, blocks_for}
-use Rattle.snapshot_store.specs.image_form.Layout.{pool_at}
-use Rattle.snapshot_store.specs.store_laws.Committed.{HasNewRecord}
-use Rattle.record_laws.specs.store_model.Books.{AreHeldPages, Books, Logged, free_in, is_used, kept_in, kept_names, names}
-use Rattle.kernel_room.proofs.Counting.{count_le, count_or}
-use Rattle.kernel_room.proofs.Used.{blocks_count}
+use Rattle.kernel_block_laws.specs.image_facts.Bodies.{blob_blocks, blocks_for}
+use Rattle.kernel_block_laws.specs.image_facts.Layout.{pool_at}
+use Rattle.store_snapshots.specs.store_facts.Committed.{HasNewRecord}
+use Rattle.kernel_block_laws.specs.store_books.Books.{AreHeldPages, Books, Logged, free_in, is_used, kept_in, kept_names, names}
+use Rattle.kernel_block_laws.proofs.Counting.{count_le, count_or}
+use Rattle.kernel_block_laws.proofs.Used.{blocks_count}
 use Rattle.kernel_records.proofs.Fewer.{counts_cons, kept_log, kept_more, own}
-use Rattle.record_laws.proofs.kernel_model_lemmas.store_model_lemmas.Owners.{place_in}
+use Rattle.kernel_block_laws.proofs.store_books_lemmas.Owners.{place_in}
 
 -- SOME ITEM PASSES exactly where one is counted
 module _ {X : Type 0} (p : X → Bool) where

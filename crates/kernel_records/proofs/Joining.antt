@@ -1,24 +1,25 @@
 -- A commit behind the writing of the cell's pages.
 use Rattle.std.proofs.Common.{◌≡◌, ◌⊎◌, inl, inr, ℕ, ◌<◌, ◌^◌, Bool, true, false, List, length, refl, sym, ap, subst, ◌∙◌}
 use Rattle.std.specs.List.{All}
-use Rattle.disk_trait.specs.Counts.{Rose}
-use Rattle.disk_trait.specs.Image.{Image}
-use Rattle.disk_trait.specs.Moments.{LeavesOnly}
-use Rattle.hop_base.specs.declared.records.Rec.{Rec}
-use Rattle.snapshot_store.specs.image_form.Layout.{last_number, slot_count}
-use Rattle.snapshot_store.specs.image_blocks.Logs.{Place}
-use Rattle.record_laws.specs.image_meaning.Stores.{Stores}
-use Rattle.record_laws.specs.store_model.Between.{LeavesOnly-join, OnlyPages}
-use Rattle.record_laws.specs.store_model.Books.{AreSmall, AreTrue, Books, Logged, kept_in, kept_of, logged_recs}
-use Rattle.snapshot_store.specs.store_laws.Committed.{StoresKeptOrMore}
-use Rattle.snapshot_store.specs.store_laws.State.{State, books}
-use Rattle.snapshot_store.specs.page_store.Pages.{IsWriteFault}
-use Rattle.snapshot_store.specs.page_store.declared.faults.PageFault.{PageFault}
-use Rattle.snapshot_store.specs.page_store.declared.faults.PageFault.TheVariants.{NoBlocks, ReadFault, Shut, WriteFault}
-use Rattle.wish_laws.specs.fault_paging.Calls.{IsCausedBy}
-use Rattle.wish_laws.specs.kernel_cells.declared.cells.Cell.{Cell}
-use Rattle.record_laws.specs.cell_blobs.Blobs.{bytes_of, spelt_in}
-use Rattle.record_laws.specs.Cells.{IsSettled, IsSoundIn, table_of}
+use Rattle.edge_disk.specs.declared.disk.Disk.{Ghosts}
+use Rattle.edge_disk.specs.Counts.{Rose}
+use Rattle.edge_disk.specs.Image.{Image}
+use Rattle.edge_disk.specs.Moments.{LeavesOnly}
+use Rattle.base_types.specs.declared.records.Rec.{Rec}
+use Rattle.kernel_block_laws.specs.image_facts.Layout.{last_number, slot_count}
+use Rattle.kernel_block_laws.specs.image_blocks.Logs.{Place}
+use Rattle.kernel_record_facts.specs.image_meaning.Stores.{Stores}
+use Rattle.kernel_block_laws.specs.store_books.Between.{LeavesOnly-join, OnlyPages}
+use Rattle.kernel_block_laws.specs.store_books.Books.{AreSmall, AreTrue, Books, Logged, kept_in, kept_of, logged_recs}
+use Rattle.store_snapshots.specs.store_facts.Committed.{StoresKeptOrMore}
+use Rattle.store_snapshots.specs.store_facts.State.{State, books}
+use Rattle.page_store.specs.Pages.{IsWriteFault}
+use Rattle.page_store.specs.declared.faults.PageFault.{PageFault}
+use Rattle.page_store.specs.declared.faults.PageFault.TheVariants.{NoBlocks, ReadFault, Shut, WriteFault}
+use Rattle.cell_wish_laws.specs.page_memory.Calls.{IsCausedBy}
+use Rattle.cell_wish_laws.specs.cell_states.declared.cells.Cell.{Cell}
+use Rattle.kernel_record_facts.specs.cell_blobs.Blobs.{bytes_of, spelt_in}
+use Rattle.kernel_record_facts.specs.Cells.{IsSettled, IsSoundIn, table_of}
 use Rattle.kernel_records.specs.Committing.{HasPages, IsSpelt, MayCommit, StoresKeptOrCell}
 use Rattle.kernel_records.specs.Flushing.{Flushes}
 use Rattle.kernel_records.proofs.Spelling.{spellable_again}
@@ -52,41 +53,41 @@ failed_by Shut free before now was is h cause working = absurd (let clash : true
 pub small_on : (old new : Books) → new.small ≡ old.small → new.place ≡ old.place → AreSmall old → AreSmall new
 small_on old new same place small = record { recs = same ∙ small.recs; epoch = subst (λ (p : Place). p.epoch < last_number) (sym place) small.epoch }
 
-pub leaves_more : {D : Type 0} (clock : D → ℕ) (left_since : D → ℕ → Image → Type 0) (P Q : Image → Type 0) (a b : D) → ((c : Image) → P c → Q c) → LeavesOnly clock left_since a b P → LeavesOnly clock left_since a b Q
-leaves_more clock left_since P Q a b more so_far = record {
+pub leaves_more : {D : Type 0} (disks : Ghosts D) (P Q : Image → Type 0) (a b : D) → ((c : Image) → P c → Q c) → LeavesOnly disks a b P → LeavesOnly disks a b Q
+leaves_more disks P Q a b more so_far = record {
   later = so_far.later;
   each = λ c left. more c (so_far.each c left);
-  before = λ t c le left. by_time (left_since a t c) c (so_far.before t c le left);
+  before = λ t c le left. by_time (disks.left_since a t c) c (so_far.before t c le left);
 }
   where
     by_time : (X : Type 0) (c : Image) → X ⊎ P c → X ⊎ Q c
     by_time X c (inl h) = inl h
     by_time X c (inr h) = inr (more c h)
 
-module _ {D : Type 0} (tells : Type 0) (clock : D → ℕ) (reading : D → Image) (may_leave : D → Image → Type 0) (left_since : D → ℕ → Image → Type 0) (c d : Cell) (old mid : State D) (told : tells) where
+module _ {D : Type 0} (disks : Ghosts D) (c d : Cell) (old mid : State D) (told : disks.tells) where
   abbrev Left : Image → Type 0
-  Left = StoresKeptOrCell tells clock reading may_leave left_since c d old
+  Left = StoresKeptOrCell disks c d old
 
   abbrev Kept : Image → Type 0
-  Kept = Stores (books old).count (kept_of (reading old.disk) (books old))
+  Kept = Stores (books old).count (kept_of (disks.reading old.disk) (books old))
 
   -- a stop while pages are written leaves what was kept
-  pub moments_pages : OnlyPages tells clock reading may_leave left_since old.disk mid.disk (books old) (books mid) (books old).begun (books mid).begun
-      → AreTrue reading may_leave (books old) old.disk → AreSmall (books old) → (books old).shut ≡ false → LeavesOnly clock left_since old.disk mid.disk Left
-  moments_pages only right small working = leaves_more clock left_since Kept Left old.disk mid.disk (λ image h. inl h) (only.moments told right small working)
+  pub moments_pages : OnlyPages disks old.disk mid.disk (books old) (books mid) (books old).begun (books mid).begun
+      → AreTrue disks (books old) old.disk → AreSmall (books old) → (books old).shut ≡ false → LeavesOnly disks old.disk mid.disk Left
+  moments_pages only right small working = leaves_more disks Kept Left old.disk mid.disk (λ image h. inl h) (only.moments told right small working)
 
   -- and so does one of the commit behind them, or that and the record
-  pub moments_then : (new : D) → HasPages tells clock reading may_leave left_since c.part d.part old mid → IsSpelt d → IsSettled d.part
-      → AreTrue reading may_leave (books old) old.disk → AreSmall (books old) → (books old).shut ≡ false
-      → LeavesOnly clock left_since mid.disk new (StoresKeptOrMore (reading mid.disk) (books mid) d.clock.entity d.clock.version d.clock.stamp.0 (bytes_of (spelt_in d.part)) (table_of d.part))
-      → LeavesOnly clock left_since old.disk new Left
+  pub moments_then : (new : D) → HasPages disks c.part d.part old mid → IsSpelt d → IsSettled d.part
+      → AreTrue disks (books old) old.disk → AreSmall (books old) → (books old).shut ≡ false
+      → LeavesOnly disks mid.disk new (StoresKeptOrMore (disks.reading mid.disk) (books mid) d.clock.entity d.clock.version d.clock.stamp.0 (bytes_of (spelt_in d.part)) (table_of d.part))
+      → LeavesOnly disks old.disk new Left
   moments_then new pages spelt settled right small working second =
-      LeavesOnly-join clock left_since Left old.disk mid.disk new (moments_pages pages.only right small working)
-      (leaves_more clock left_since _ Left mid.disk new each second)
+      LeavesOnly-join disks Left old.disk mid.disk new (moments_pages pages.only right small working)
+      (leaves_more disks _ Left mid.disk new each second)
     where
-      same : Stores (books mid).count (kept_of (reading mid.disk) (books mid)) ≡ Kept
-      same = ap (λ n. Stores n (kept_of (reading mid.disk) (books mid))) pages.only.same_count ∙ ap (Stores (books old).count) (pages.only.same_kept told)
+      same : Stores (books mid).count (kept_of (disks.reading mid.disk) (books mid)) ≡ Kept
+      same = ap (λ n. Stores n (kept_of (disks.reading mid.disk) (books mid))) pages.only.same_count ∙ ap (Stores (books old).count) (pages.only.same_kept told)
 
-      each : (image : Image) → StoresKeptOrMore (reading mid.disk) (books mid) d.clock.entity d.clock.version d.clock.stamp.0 (bytes_of (spelt_in d.part)) (table_of d.part) image → Left image
+      each : (image : Image) → StoresKeptOrMore (disks.reading mid.disk) (books mid) d.clock.entity d.clock.version d.clock.stamp.0 (bytes_of (spelt_in d.part)) (table_of d.part) image → Left image
       each image (inl h) = inl (subst (λ (P : Image → Type 0). P image) same h)
       each image (inr h) = inr (record { flushed = mid; pages = pages; more = h; spelt = spelt; settled = settled })

@@ -1,17 +1,18 @@
 -- What a commit leaves, from what its stages leave.
 use Rattle.std.proofs.Common.{◌≡◌, inl, ℕ, ◌+◌, ◌≤◌, Bool, true, false, List, refl, ◌∙◌, arith}
-use Rattle.disk_trait.specs.Image.{Image}
-use Rattle.record_laws.specs.store_model.Between.{Between-stay}
-use Rattle.record_laws.specs.cell_blobs.Blobs.{IsFormed, blob_need, page_need}
-use Rattle.record_laws.specs.store_model.Books.{free_in, kept_names}
-use Rattle.snapshot_store.specs.store_laws.Committed.{HasFailedShut, SameUsed}
-use Rattle.snapshot_store.specs.store_laws.State.{HoldsPoolBlocks, State, books}
-use Rattle.wish_laws.specs.fault_paging.Calls.{Keeps}
-use Rattle.wish_laws.specs.fault_paging.declared.paged.PagedMemory.{PagedMemory}
-use Rattle.wish_laws.specs.kernel_cells.declared.cells.Cell.{Cell}
-use Rattle.wish_laws.specs.kernel_cells.declared.cells.Part.{Part}
-use Rattle.wish_laws.specs.kernel_cells.declared.cells.Part.TheVariants as part
-use Rattle.record_laws.specs.Cells.{IsSettled, IsSoundIn, words_on}
+use Rattle.edge_disk.specs.declared.disk.Disk.{Ghosts}
+use Rattle.edge_disk.specs.Image.{Image}
+use Rattle.kernel_block_laws.specs.store_books.Between.{Between-stay}
+use Rattle.kernel_record_facts.specs.cell_blobs.Blobs.{IsFormed, blob_need, page_need}
+use Rattle.kernel_block_laws.specs.store_books.Books.{free_in, kept_names}
+use Rattle.store_snapshots.specs.store_facts.Committed.{HasFailedShut, SameUsed}
+use Rattle.store_snapshots.specs.store_facts.State.{HoldsPoolBlocks, State, books}
+use Rattle.cell_wish_laws.specs.page_memory.Calls.{Keeps}
+use Rattle.cell_wish_laws.specs.page_memory.declared.paged.PagedMemory.{PagedMemory}
+use Rattle.cell_wish_laws.specs.cell_states.declared.cells.Cell.{Cell}
+use Rattle.cell_wish_laws.specs.cell_states.declared.cells.Part.{Part}
+use Rattle.cell_wish_laws.specs.cell_states.declared.cells.Part.TheVariants as part
+use Rattle.kernel_record_facts.specs.Cells.{IsSettled, IsSoundIn, words_on}
 use Rattle.kernel_records.specs.Committing.{HasCommitted, HasNotCommitted, HasPages, HasRecord, HoldsSame, IsSpelt, LeavesCell}
 use Rattle.kernel_records.specs.Flushing.{Flushes}
 use Rattle.kernel_records.proofs.Freeing.{record_frees}
@@ -45,10 +46,10 @@ module _ {B : Type 0} (tells : Type 0) (held kept : B → ℕ → Bool) (words :
   )
   flushes_itself (part.Locus l) b = record { part = refl; store = refl }
 
-module _ {D : Type 0} (tells : Type 0) (clock : D → ℕ) (reading : D → Image) (may_leave : D → Image → Type 0) (left_since : D → ℕ → Image → Type 0) where
+module _ {D : Type 0} (disks : Ghosts D) where
   -- pages are written, and behind them what is in use stays
-  pub leaves_cell : (c d : Cell) (old mid new : State D) → HasPages tells clock reading may_leave left_since c.part d.part old mid → HoldsPoolBlocks (books mid) → HoldsSame (books mid) (books new)
-      → (tells → SameUsed (books mid) (reading mid.disk) (reading new.disk)) → d.clock ≡ c.clock → d.left ≡ c.left → LeavesCell tells clock reading may_leave left_since c d old new
+  pub leaves_cell : (c d : Cell) (old mid new : State D) → HasPages disks c.part d.part old mid → HoldsPoolBlocks (books mid) → HoldsSame (books mid) (books new)
+      → (disks.tells → SameUsed (books mid) (disks.reading mid.disk) (disks.reading new.disk)) → d.clock ≡ c.clock → d.left ≡ c.left → LeavesCell disks c d old new
   leaves_cell c d old mid new pages pool holds same_used same_clock same_left = record {
     flushed = mid;
     pages = pages;
@@ -58,23 +59,23 @@ module _ {D : Type 0} (tells : Type 0) (clock : D → ℕ) (reading : D → Imag
     held_words = agree;
     means = λ t s clean.
         let m = pages.means t s clean in (
-          part_stays s (books mid).held (words_on (reading mid.disk)) (words_on (reading new.disk)) (agree t) d.part pages.table ∙ m.0,
-          clean_stays s (books mid).held (words_on (reading mid.disk)) (words_on (reading new.disk)) (agree t) d.part pages.table m.1,
+          part_stays s (books mid).held (words_on (disks.reading mid.disk)) (words_on (disks.reading new.disk)) (agree t) d.part pages.table ∙ m.0,
+          clean_stays s (books mid).held (words_on (disks.reading mid.disk)) (words_on (disks.reading new.disk)) (agree t) d.part pages.table m.1,
         );
     same_clock = same_clock;
     same_left = same_left;
   }
     where
-      agree : tells → (n : ℕ) → (books mid).held n ≡ true → words_on (reading new.disk) n ≡ words_on (reading mid.disk) n
-      agree t = held_words (books mid) (reading mid.disk) (reading new.disk) (same_used t) (λ n is_held. (pool n is_held).0)
+      agree : disks.tells → (n : ℕ) → (books mid).held n ≡ true → words_on (disks.reading new.disk) n ≡ words_on (disks.reading mid.disk) n
+      agree t = held_words (books mid) (disks.reading mid.disk) (disks.reading new.disk) (same_used t) (λ n is_held. (pool n is_held).0)
 
   -- a store that is left as it is
-  pub not_committed : (c : Cell) (st : State D) → IsSoundIn (books st).held c.part → HoldsPoolBlocks (books st) → ((image : Image) → tells → left_since st.disk (clock st.disk) image → may_leave st.disk image)
-      → HasNotCommitted tells clock reading may_leave left_since c c st st
+  pub not_committed : (c : Cell) (st : State D) → IsSoundIn (books st).held c.part → HoldsPoolBlocks (books st) → ((image : Image) → disks.tells → disks.left_since st.disk (disks.clock st.disk) image → disks.may_leave st.disk image)
+      → HasNotCommitted disks c c st st
   not_committed c st sound pool only_now = record {
     leaves = leaves_cell c c st st st (record {
-      flushes = flushes_itself tells (λ (x : State D). (books x).held) (λ (x : State D). kept_names (books x)) (λ (x : State D). words_on (reading x.disk)) c.part st;
-      only = Between-stay tells clock reading may_leave left_since st.disk (books st) (books st).begun only_now;
+      flushes = flushes_itself disks.tells (λ (x : State D). (books x).held) (λ (x : State D). kept_names (books x)) (λ (x : State D). words_on (disks.reading x.disk)) c.part st;
+      only = Between-stay disks st.disk (books st) (books st).begun only_now;
       table = sound;
       means = λ t s clean. (refl, clean);
     }) pool (record { same_held = refl; same_found = refl; same_count = refl }) (λ t n low used. refl) refl refl;
@@ -83,8 +84,8 @@ module _ {D : Type 0} (tells : Type 0) (clock : D → ℕ) (reading : D → Imag
   }
 
   -- a write of the record that failed
-  pub failed_commit : (c : Cell) (q : Part) (old mid new : State D) → HasPages tells clock reading may_leave left_since c.part q old mid → HoldsPoolBlocks (books mid)
-      → (tells → SameUsed (books mid) (reading mid.disk) (reading new.disk)) → HasFailedShut (books mid) (books new) → HasNotCommitted tells clock reading may_leave left_since c (record c { part = q }) old new
+  pub failed_commit : (c : Cell) (q : Part) (old mid new : State D) → HasPages disks c.part q old mid → HoldsPoolBlocks (books mid)
+      → (disks.tells → SameUsed (books mid) (disks.reading mid.disk) (disks.reading new.disk)) → HasFailedShut (books mid) (books new) → HasNotCommitted disks c (record c { part = q }) old new
   failed_commit c q old mid new pages pool same_used failed = record {
     leaves = leaves_cell c (record c { part = q }) old mid new pages pool (record { same_held = failed.same_held; same_found = failed.same_found; same_count = failed.same_count }) same_used refl refl;
     same_logged = failed.same_logged ∙ pages.only.same_logged;
@@ -92,7 +93,7 @@ module _ {D : Type 0} (tells : Type 0) (clock : D → ℕ) (reading : D → Imag
   }
 
   -- a write of a page that failed
-  pub failed_pages : (c : Cell) (q : Part) (old mid : State D) → HasPages tells clock reading may_leave left_since c.part q old mid → HoldsPoolBlocks (books mid) → HasNotCommitted tells clock reading may_leave left_since c (record c { part = q }) old mid
+  pub failed_pages : (c : Cell) (q : Part) (old mid : State D) → HasPages disks c.part q old mid → HoldsPoolBlocks (books mid) → HasNotCommitted disks c (record c { part = q }) old mid
   failed_pages c q old mid pages pool = record {
     leaves = leaves_cell c (record c { part = q }) old mid mid pages pool (record { same_held = refl; same_found = refl; same_count = refl }) (λ t n low used. refl) refl refl;
     same_logged = pages.only.same_logged;
@@ -100,10 +101,10 @@ module _ {D : Type 0} (tells : Type 0) (clock : D → ℕ) (reading : D → Imag
   }
 
   -- a record that was made; then no other is wished
-  pub made_commit : (c : Cell) (q : Part) (old mid new : State D) → HasPages tells clock reading may_leave left_since c.part q old mid → HoldsPoolBlocks (books mid)
-      → (tells → SameUsed (books mid) (reading mid.disk) (reading new.disk)) → HasRecord tells clock reading may_leave left_since (record c { part = q }) mid new → IsSpelt (record c { part = q }) → IsSettled q
+  pub made_commit : (c : Cell) (q : Part) (old mid new : State D) → HasPages disks c.part q old mid → HoldsPoolBlocks (books mid)
+      → (disks.tells → SameUsed (books mid) (disks.reading mid.disk) (disks.reading new.disk)) → HasRecord disks (record c { part = q }) mid new → IsSpelt (record c { part = q }) → IsSettled q
       → free_in (books old) ≤ free_in (books mid) + page_need (kept_names (books old)) c.part → IsFormed c.part
-      → HasCommitted tells clock reading may_leave left_since c (record c { part = q; wish = record { by_step = false; asked = false; newest = c.clock.version } }) old new
+      → HasCommitted disks c (record c { part = q; wish = record { by_step = false; asked = false; newest = c.clock.version } }) old new
   unfolding leaves_cell
   made_commit c q old mid new pages pool same_used has spelt settled few formed =
       let d : Cell = record c { part = q; wish = record { by_step = false; asked = false; newest = c.clock.version } } in
@@ -116,6 +117,6 @@ module _ {D : Type 0} (tells : Type 0) (clock : D → ℕ) (reading : D → Imag
         free = (
             let more : free_in (books mid) ≤ free_in (books new) + blob_need q = record_frees (books mid) (books new) _ _ _ _ _ has.made (held_pages (books mid).held q pages.table) in
             let same : blob_need q ≡ blob_need c.part =
-            same_need tells (λ (x : State D). (books x).held) (λ (x : State D). kept_names (books x)) (λ (x : State D). words_on (reading x.disk)) (books mid).held c.part q old mid pages.flushes pages.table formed in
+            same_need disks.tells (λ (x : State D). (books x).held) (λ (x : State D). kept_names (books x)) (λ (x : State D). words_on (disks.reading x.disk)) (books mid).held c.part q old mid pages.flushes pages.table formed in
             omega (arith, few, more, same));
       }

@@ -10,11 +10,11 @@ pub mod Fewer
 pub mod Newest
 pub mod Freeing
 pub mod ChosenNewest
-pub use Rattle.snapshot_store.proofs.hop_model_lemmas
-pub use Rattle.kernel_room.proofs as kernel_room_lemmas
-pub use Rattle.record_laws.proofs as record_laws_lemmas
-pub use Rattle.wish_laws.proofs.run_laws_lemmas
-pub use Rattle.snapshot_store.proofs as snapshot_store_lemmas
-pub use Rattle.snapshot_store.proofs.store_commit_lemmas
-pub use Rattle.wish_laws.proofs as wish_laws_lemmas
-pub use Rattle.snapshot_store.proofs.store_laws_lemmas
+pub use Rattle.cell_wish_laws.proofs as cell_wish_laws_lemmas
+pub use Rattle.kernel_block_laws.proofs as kernel_block_laws_lemmas
+pub use Rattle.kernel_record_facts.proofs as kernel_record_facts_lemmas
+pub use Rattle.page_store.proofs.model_kernel_lemmas
+pub use Rattle.cell_wish_laws.proofs.model_run_laws_lemmas
+pub use Rattle.store_snapshots.proofs.store_commit_lemmas
+pub use Rattle.store_snapshots.proofs.store_facts_lemmas
+pub use Rattle.store_snapshots.proofs as store_snapshots_lemmas

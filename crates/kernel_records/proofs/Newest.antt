@@ -9,16 +9,16 @@ use Rattle.std.proofs.lemmas.List.{get_or_append_left, length_push, map-append}
 use Rattle.std.proofs.lemmas.List.Elements.{All-filter, All-from_recursion, All-push, All-weaker, recursion_from_All}
 use Rattle.std.proofs.lemmas.List.Kept.{AllPairs-filter}
 use Rattle.std.proofs.lemmas.List.Quantifiers.{Any-push, all_pairs_push}
-use Rattle.hop_base.specs.declared.records.Rec.{Rec}
-use Rattle.wish_laws.specs.cut_laws.Agreeing.{nothing}
-use Rattle.wish_laws.specs.cut_laws.Records.{commits_of, is_rec_from}
-use Rattle.snapshot_store.specs.hop_model.Choices.{Among, IsBelow}
-use Rattle.snapshot_store.specs.hop_model.Words.{put}
-use Rattle.record_laws.specs.image_meaning.Parts.{cut_of}
-use Rattle.snapshot_store.specs.log_laws.Logs.{IsOlder}
-use Rattle.snapshot_store.specs.store_laws.Committed.{HasNewRecord}
-use Rattle.snapshot_store.specs.store_laws.Shelves.{is_from, records_of}
-use Rattle.record_laws.specs.store_model.Books.{Books, Logged, cut_in, kept_in, logged_recs, recs_in}
+use Rattle.base_types.specs.declared.records.Rec.{Rec}
+use Rattle.cell_wish_laws.specs.model_cut_laws.Agreeing.{nothing}
+use Rattle.cell_wish_laws.specs.model_cut_laws.Records.{commits_of, is_rec_from}
+use Rattle.page_store.specs.model_kernel.Choices.{Among, IsBelow}
+use Rattle.page_store.specs.model_kernel.Words.{put}
+use Rattle.kernel_record_facts.specs.image_meaning.Parts.{cut_of}
+use Rattle.store_snapshots.specs.log_facts.Logs.{IsOlder}
+use Rattle.store_snapshots.specs.store_facts.Committed.{HasNewRecord}
+use Rattle.store_snapshots.specs.store_facts.Shelves.{is_from, records_of}
+use Rattle.kernel_block_laws.specs.store_books.Books.{Books, Logged, cut_in, kept_in, logged_recs, recs_in}
 use Rattle.kernel_records.specs.Keeping.{HasNewest, KeepsNewest}
 use Rattle.kernel_records.proofs.Fewer.{counts_cons, own}
 use Rattle.kernel_records.proofs.Raising.{greatest_above, greatest_closed, narrowed, narrowed_high, narrowed_low, narrows}

@@ -2,12 +2,12 @@
 use Rattle.std.proofs.Common.{◌≡◌, ℕ, zero, suc, ◌<◌, ◌≤◌, Bool, ◌&&◌, ◌==◌, nat_le, nat_lt, if◌then◌else◌, List, [], ◌∷◌, ◌++◌, length, map, max, refl, sym, ap, subst, ◌∙◌, arith}
 use Rattle.std.proofs.lemmas.Bool.Decides.{nat_tests}
 use Rattle.std.proofs.lemmas.List.{length-map, map-append}
-use Rattle.hop_base.specs.declared.records.Rec.{Rec}
-use Rattle.wish_laws.specs.cut_laws.Agreeing.{nothing}
-use Rattle.wish_laws.specs.cut_laws.Records.{commit_of, commits_of}
-use Rattle.snapshot_store.specs.hop_model.Choices.{Commit, IsBelow, IsClosedChoice, IsGreatest, IsNarrow, all_below, covered, greatest, lower, lowered, top}
-use Rattle.snapshot_store.proofs.hop_model_lemmas.Lowering.{greatest_is, rising_cut}
-use Rattle.record_laws.specs.image_meaning.Parts.{cut_of}
+use Rattle.base_types.specs.declared.records.Rec.{Rec}
+use Rattle.cell_wish_laws.specs.model_cut_laws.Agreeing.{nothing}
+use Rattle.cell_wish_laws.specs.model_cut_laws.Records.{commit_of, commits_of}
+use Rattle.page_store.specs.model_kernel.Choices.{Commit, IsBelow, IsClosedChoice, IsGreatest, IsNarrow, all_below, covered, greatest, lower, lowered, top}
+use Rattle.page_store.proofs.model_kernel_lemmas.Lowering.{greatest_is, rising_cut}
+use Rattle.kernel_record_facts.specs.image_meaning.Parts.{cut_of}
 
 -- THE SAME COMMITS with nothing past the last entity in their stamps
 

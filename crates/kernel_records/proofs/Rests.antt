@@ -3,23 +3,23 @@ use Rattle.std.proofs.Common.{◌≡◌, ◌≢◌, ◌⊎◌, inl, inr, ℕ, �
 use Rattle.std.specs.Prelude.{IsErrOf, OnOk, Result, Ok, Err, slice_index}
 use Rattle.std.proofs.lemmas.Bool.{false≢true}
 use Rattle.std.proofs.lemmas.List.{same_from_push}
-use Rattle.disk_trait.specs.Counts.{Rose}
-use Rattle.disk_trait.specs.Image.{Image}
-use Rattle.hop_base.specs.declared.records.Rec.{Rec}
-use Rattle.snapshot_store.specs.image_form.Bodies.{blob_in, blocks_for}
-use Rattle.wish_laws.specs.kernel_cells.declared.cells.Cell.{Cell}
-use Rattle.wish_laws.specs.kernel_cells.declared.cells.Part.{Part}
-use Rattle.wish_laws.specs.kernel_cells.declared.cells.Part.TheVariants as part
-use Rattle.record_laws.specs.cell_blobs.Blobs.{bytes_of, spelt_in}
-use Rattle.record_laws.specs.Cells.{IsSoundIn, table_of}
-use Rattle.record_laws.proofs.Telling.{no_blocks}
-use Rattle.snapshot_store.specs.CommitAnswers.{CommitAnswers}
-use Rattle.snapshot_store.specs.store_laws.Committed.{CommitsInFreeBlocks, HasFailedShut, HasNewRecord}
-use Rattle.snapshot_store.specs.store_laws.Putting.{are_small}
-use Rattle.snapshot_store.specs.store_laws.State.{State, books}
-use Rattle.snapshot_store.specs.declared.faults.StoreFault.{StoreFault as Fault}
-use Rattle.snapshot_store.specs.declared.faults.StoreFault.TheVariants.{NoBlocks, ReadFault, Shut, WriteFault}
-use Rattle.record_laws.specs.store_model.Books.{Logged, free_in, kept_in}
+use Rattle.edge_disk.specs.declared.disk.Disk.{Ghosts}
+use Rattle.edge_disk.specs.Counts.{Rose}
+use Rattle.base_types.specs.declared.records.Rec.{Rec}
+use Rattle.kernel_block_laws.specs.image_facts.Bodies.{blob_in, blocks_for}
+use Rattle.cell_wish_laws.specs.cell_states.declared.cells.Cell.{Cell}
+use Rattle.cell_wish_laws.specs.cell_states.declared.cells.Part.{Part}
+use Rattle.cell_wish_laws.specs.cell_states.declared.cells.Part.TheVariants as part
+use Rattle.kernel_record_facts.specs.cell_blobs.Blobs.{bytes_of, spelt_in}
+use Rattle.kernel_record_facts.specs.Cells.{IsSoundIn, table_of}
+use Rattle.kernel_record_facts.proofs.Telling.{no_blocks}
+use Rattle.store_snapshots.specs.CommitAnswers.{CommitAnswers}
+use Rattle.store_snapshots.specs.store_facts.Committed.{CommitsInFreeBlocks, HasFailedShut, HasNewRecord}
+use Rattle.store_snapshots.specs.store_facts.Putting.{are_small}
+use Rattle.store_snapshots.specs.store_facts.State.{State, books}
+use Rattle.store_snapshots.specs.declared.faults.StoreFault.{StoreFault as Fault}
+use Rattle.store_snapshots.specs.declared.faults.StoreFault.TheVariants.{NoBlocks, ReadFault, Shut, WriteFault}
+use Rattle.kernel_block_laws.specs.store_books.Books.{Logged, free_in, kept_in}
 use Rattle.kernel_records.specs.Committing.{HasRecord}
 
 -- the blocks of a part's table are held
@@ -46,28 +46,28 @@ last_of a b now k l (inl one) (inr two) = last_is a b now k l one two
 last_of a b now k l (inr one) (inl two) = last_is b a now k l one two
 last_of a b now k l (inr one) (inr two) = last_is b b now k l one two
 
-module _ {D : Type 0} (tells : Type 0) (clock : D → ℕ) (reading : D → Image) (may_leave : D → Image → Type 0) (left_since : D → ℕ → Image → Type 0) (c : Cell) (old new : State D) where
+module _ {D : Type 0} (disks : Ghosts D) (c : Cell) (old new : State D) where
   has_record : (made : HasNewRecord c.clock.entity c.clock.version (length (bytes_of (spelt_in c.part))) c.clock.stamp.0 (table_of c.part) (books old) (books new))
-      → (tells → CommitsInFreeBlocks c.clock.entity c.clock.version c.clock.stamp.0 (bytes_of (spelt_in c.part)) (table_of c.part) (reading new.disk) (books old) (books new))
-      → (books new).small ≡ ((books old).small && are_small c.clock.version c.clock.stamp.0) → HasRecord tells clock reading may_leave left_since c old new
+      → (disks.tells → CommitsInFreeBlocks c.clock.entity c.clock.version c.clock.stamp.0 (bytes_of (spelt_in c.part)) (table_of c.part) (disks.reading new.disk) (books old) (books new))
+      → (books new).small ≡ ((books old).small && are_small c.clock.version c.clock.stamp.0) → HasRecord disks c old new
   has_record made committed small = record {
     made = made;
     blob = λ t.
         let k = (committed t).commits in
         let same : k.rec ≡ made.rec = ap (λ (l : Logged). l.rec) (last_of (books old).logged (kept_in (books old)) (books new).logged (record { rec = k.rec; table = table_of c.part }) (record { rec = made.rec; table = table_of c.part }) k.log made.log) in
-        subst (λ (r : Rec). blob_in (reading new.disk) r ≡ bytes_of (spelt_in c.part)) same k.blob_is;
+        subst (λ (r : Rec). blob_in (disks.reading new.disk) r ≡ bytes_of (spelt_in c.part)) same k.blob_is;
     small = small;
   }
 
   -- with the blob and the table as they were handed over
   pub record_made : (r : Result (Unit {0}) Fault) (blob table : List ℕ) → blob ≡ bytes_of (spelt_in c.part) → table ≡ table_of c.part
       → OnOk r (HasNewRecord c.clock.entity c.clock.version (length blob) c.clock.stamp.0 table (books old) (books new))
-      → (tells → OnOk r (CommitsInFreeBlocks c.clock.entity c.clock.version c.clock.stamp.0 blob table (reading new.disk) (books old) (books new)))
-      → OnOk r ((books new).small ≡ ((books old).small && are_small c.clock.version c.clock.stamp.0)) → OnOk r (HasRecord tells clock reading may_leave left_since c old new)
+      → (disks.tells → OnOk r (CommitsInFreeBlocks c.clock.entity c.clock.version c.clock.stamp.0 blob table (disks.reading new.disk) (books old) (books new)))
+      → OnOk r ((books new).small ≡ ((books old).small && are_small c.clock.version c.clock.stamp.0)) → OnOk r (HasRecord disks c old new)
   record_made (Err e) blob table is_blob is_table made committed small = tt
   record_made (Ok x) blob table is_blob is_table made committed small = has_record
       (subst (λ (t : List ℕ). HasNewRecord c.clock.entity c.clock.version (length (bytes_of (spelt_in c.part))) c.clock.stamp.0 t (books old) (books new)) is_table
       (subst (λ (b : List ℕ). HasNewRecord c.clock.entity c.clock.version (length b) c.clock.stamp.0 table (books old) (books new)) is_blob made))
-      (λ t. subst (λ (u : List ℕ). CommitsInFreeBlocks c.clock.entity c.clock.version c.clock.stamp.0 (bytes_of (spelt_in c.part)) u (reading new.disk) (books old) (books new)) is_table
-      (subst (λ (b : List ℕ). CommitsInFreeBlocks c.clock.entity c.clock.version c.clock.stamp.0 b table (reading new.disk) (books old) (books new)) is_blob (committed t)))
+      (λ t. subst (λ (u : List ℕ). CommitsInFreeBlocks c.clock.entity c.clock.version c.clock.stamp.0 (bytes_of (spelt_in c.part)) u (disks.reading new.disk) (books old) (books new)) is_table
+      (subst (λ (b : List ℕ). CommitsInFreeBlocks c.clock.entity c.clock.version c.clock.stamp.0 b table (disks.reading new.disk) (books old) (books new)) is_blob (committed t)))
       small

@@ -2,23 +2,23 @@
 use Rattle.std.proofs.Common.{◌≡◌, ℕ, ◌+◌, ◌*◌, ◌≤◌, Bool, List, ◌∷◌, ◌++◌, length, take, Option, Some, None, IfSome, refl, sym, ap, subst, ◌∙◌, arith, length-append}
 use Rattle.std.specs.List.{flat_map}
 use Rattle.std.proofs.lemmas.List.{length-take-le}
-use Rattle.hop_base.specs.declared.entities.Kind.TheVariants.{Atlas as AtlasKind, Container as ContainerKind, Locus as LocusKind}
-use Rattle.snapshot_store.specs.hop_model.State.{ContainerState}
-use Rattle.record_laws.specs.blob_grammar.Spelling.{caps_bytes, container_blob, entry_byte, instr_bytes, listed, region_bytes}
+use Rattle.base_types.specs.declared.entities.Kind.TheVariants.{Atlas as AtlasKind, Container as ContainerKind, Locus as LocusKind}
+use Rattle.page_store.specs.model_kernel.State.{ContainerState}
+use Rattle.kernel_record_facts.specs.blob_grammar.Spelling.{caps_bytes, container_blob, entry_byte, instr_bytes, listed, region_bytes}
 use Rattle.byteorder.specs.Endian.{little_bytes}
-use Rattle.record_laws.proofs.blob_grammar_lemmas.KindSizes.{some}
-use Rattle.record_laws.proofs.blob_grammar_lemmas.Sizes.{numbers_len}
-use Rattle.snapshot_store.specs.image_form.Bodies.{blocks_for}
-use Rattle.record_laws.specs.image_meaning.Parts.{Part as Spelt, AtlasPart, ContainerPart, LocusPart, IsOf, Spells}
-use Rattle.record_laws.specs.locus_machine.declared.loci.Head.{Head}
-use Rattle.record_laws.specs.locus_machine.Loci.{container_with}
-use Rattle.wish_laws.specs.fault_paging.declared.paged.PagedMemory.{PagedMemory}
-use Rattle.wish_laws.specs.fault_paging.Words.{IsSoundTable}
-use Rattle.wish_laws.specs.kernel_cells.declared.cells.Cell.{Cell}
-use Rattle.wish_laws.specs.kernel_cells.declared.cells.Part.{Part}
-use Rattle.wish_laws.specs.kernel_cells.declared.cells.Part.TheVariants as part
-use Rattle.record_laws.specs.cell_blobs.Blobs.{HasFormedHead, IsFormed, blob_need, bytes_of, spelt_in, spelt_storage}
-use Rattle.record_laws.specs.Cells.{IsSoundIn, IsSpellable}
+use Rattle.kernel_record_facts.proofs.blob_grammar_lemmas.KindSizes.{some}
+use Rattle.kernel_record_facts.proofs.blob_grammar_lemmas.Sizes.{numbers_len}
+use Rattle.kernel_block_laws.specs.image_facts.Bodies.{blocks_for}
+use Rattle.kernel_record_facts.specs.image_meaning.Parts.{Part as Spelt, AtlasPart, ContainerPart, LocusPart, IsOf, Spells}
+use Rattle.cell_wish_laws.specs.act_alone.declared.loci.Head.{Head}
+use Rattle.cell_wish_laws.specs.act_alone.Loci.{container_with}
+use Rattle.cell_wish_laws.specs.page_memory.declared.paged.PagedMemory.{PagedMemory}
+use Rattle.cell_wish_laws.specs.page_memory.Words.{IsSoundTable}
+use Rattle.cell_wish_laws.specs.cell_states.declared.cells.Cell.{Cell}
+use Rattle.cell_wish_laws.specs.cell_states.declared.cells.Part.{Part}
+use Rattle.cell_wish_laws.specs.cell_states.declared.cells.Part.TheVariants as part
+use Rattle.kernel_record_facts.specs.cell_blobs.Blobs.{HasFormedHead, IsFormed, blob_need, bytes_of, spelt_in, spelt_storage}
+use Rattle.kernel_record_facts.specs.Cells.{IsSoundIn, IsSpellable}
 use Rattle.kernel_records.specs.Flushing.{Flushes}
 
 -- LENGTHS

@@ -1,20 +1,20 @@
 -- A part means what it did where the blocks that are held have the same words.
 use Rattle.std.proofs.Common.{◌≡◌, ◌≢◌, ℕ, ◌/◌, ◌%◌, ◌≤◌, ◌==◌, ◌||◌, inl, inr, Bool, true, if◌then◌else◌, List, slice_index, Option, Some, None, refl, sym, ap, subst, ◌∙◌}
 use Rattle.std.proofs.lemmas.Bool.{cases_eq}
-use Rattle.disk_trait.specs.Image.{Image}
-use Rattle.snapshot_store.specs.hop_model.State.{ContainerCell, Supply}
-use Rattle.snapshot_store.specs.image_form.Layout.{pool_at}
-use Rattle.record_laws.specs.store_model.Books.{Books, kept_names, words_of_bytes}
-use Rattle.snapshot_store.specs.store_laws.Committed.{SameUsed}
-use Rattle.frame_table.specs.FrameTable.{Resident, page_at}
-use Rattle.record_laws.specs.locus_machine.declared.loci.Head.{Head}
-use Rattle.record_laws.specs.locus_machine.Loci.{container_with}
-use Rattle.wish_laws.specs.fault_paging.declared.paged.PagedMemory.{PagedMemory}
-use Rattle.wish_laws.specs.fault_paging.Words.{IsSoundTable, block_at as page_block, stored_word, word_by, words_of}
-use Rattle.wish_laws.specs.kernel_cells.declared.cells.Part.{Part}
-use Rattle.wish_laws.specs.kernel_cells.declared.cells.Part.TheVariants as part
-use Rattle.wish_laws.specs.kernel_cells.Cells.{container_cell, part_of}
-use Rattle.record_laws.specs.Cells.{IsCleanIn, IsSoundIn, words_on}
+use Rattle.edge_disk.specs.Image.{Image}
+use Rattle.page_store.specs.model_kernel.State.{ContainerCell, Supply}
+use Rattle.kernel_block_laws.specs.image_facts.Layout.{pool_at}
+use Rattle.kernel_block_laws.specs.store_books.Books.{Books, kept_names, words_of_bytes}
+use Rattle.store_snapshots.specs.store_facts.Committed.{SameUsed}
+use Rattle.data_frames.specs.FrameTable.{Resident, page_at}
+use Rattle.cell_wish_laws.specs.act_alone.declared.loci.Head.{Head}
+use Rattle.cell_wish_laws.specs.act_alone.Loci.{container_with}
+use Rattle.cell_wish_laws.specs.page_memory.declared.paged.PagedMemory.{PagedMemory}
+use Rattle.cell_wish_laws.specs.page_memory.Words.{IsSoundTable, block_at as page_block, stored_word, word_by, words_of}
+use Rattle.cell_wish_laws.specs.cell_states.declared.cells.Part.{Part}
+use Rattle.cell_wish_laws.specs.cell_states.declared.cells.Part.TheVariants as part
+use Rattle.cell_wish_laws.specs.cell_states.Cells.{container_cell, part_of}
+use Rattle.kernel_record_facts.specs.Cells.{IsCleanIn, IsSoundIn, words_on}
 
 module _ (s : Supply) (held : ℕ → Bool) (words words' : ℕ → List ℕ) (same : (n : ℕ) → held n ≡ true → words' n ≡ words n) where
   stored_stays : (tag block page place : ℕ) → (block ≢ 0 → held block ≡ true) → stored_word s tag words' block page place ≡ stored_word s tag words block page place

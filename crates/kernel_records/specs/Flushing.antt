@@ -1,9 +1,10 @@
 -- What the writing of a part's changed pages leaves.
 use Rattle.std.specs.Prelude.{◌≡◌, ℕ, Bool, true, List, ◌+◌, ◌≤◌}
-use Rattle.wish_laws.specs.fault_paging.Calls.{Keeps, KeepsPages}
-use Rattle.wish_laws.specs.kernel_cells.declared.cells.Part.{Part}
-use Rattle.wish_laws.specs.kernel_cells.declared.cells.Part.TheVariants as part
-use Rattle.wish_laws.specs.kernel_cells.declared.cells.Storage.{Storage}
+use Rattle.page_store.specs.declared.store.PageStore.{Ghosts}
+use Rattle.cell_wish_laws.specs.page_memory.Calls.{Keeps, KeepsPages}
+use Rattle.cell_wish_laws.specs.cell_states.declared.cells.Part.{Part}
+use Rattle.cell_wish_laws.specs.cell_states.declared.cells.Part.TheVariants as part
+use Rattle.cell_wish_laws.specs.cell_states.declared.cells.Storage.{Storage}
 
 -- the same container with the same head, of whose pages some have other blocks; other blocks are held as before and keep their words
 pub record FlushesStorage {B : Type 0} (tells : Type 0) (held kept : B → ℕ → Bool) (words : B → ℕ → List ℕ) (a b : Storage) (old new : B) : Type 0 where
@@ -26,3 +27,7 @@ Flushes tells held kept words (part.Locus l) q old new = StaysWhole (part.Locus 
 pub record FewWrites (was_shut is_shut : Bool) (written_before written_now : ℕ) : Type 0 where
   pub few : written_now ≤ written_before + 256
   pub stays_shut : was_shut ≡ true → is_shut ≡ true
+
+-- the same of a store of any type, by the ghost members of that type
+abbrev pub FlushesIn : {B : Type 0} → Ghosts B → Part → Part → B → B → Type 0
+FlushesIn stores p q old new = Flushes stores.tells stores.held stores.kept_names stores.words p q old new

@@ -1,11 +1,11 @@
 -- LAWS of how many records are kept, whatever the disk tells.
 use Rattle.std.specs.Prelude.{◌≡◌, ◌⊎◌, ℕ, ◌+◌, ◌*◌, ◌<◌, ◌≤◌, ◌==◌, if◌then◌else◌, All, AllPairs, Any, List, length, slice_index}
-use Rattle.hop_base.specs.declared.records.Rec.{Rec}
-use Rattle.snapshot_store.specs.hop_model.Words.{put}
-use Rattle.snapshot_store.specs.log_laws.Logs.{IsOlder}
-use Rattle.snapshot_store.specs.store_laws.Committed.{HasNewRecord}
-use Rattle.snapshot_store.specs.store_laws.Shelves.{records_of}
-use Rattle.record_laws.specs.store_model.Books.{Books, Logged, kept_in, recs_in}
+use Rattle.base_types.specs.declared.records.Rec.{Rec}
+use Rattle.page_store.specs.model_kernel.Words.{put}
+use Rattle.store_snapshots.specs.log_facts.Logs.{IsOlder}
+use Rattle.store_snapshots.specs.store_facts.Committed.{HasNewRecord}
+use Rattle.store_snapshots.specs.store_facts.Shelves.{records_of}
+use Rattle.kernel_block_laws.specs.store_books.Books.{Books, Logged, kept_in, recs_in}
 
 -- one record more at most is kept, of the entity whose it is
 pub record KeepsOneMore (entity : ℕ) (old new : Books) : Type 0 where

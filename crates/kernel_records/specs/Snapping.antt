@@ -1,12 +1,12 @@
 -- When a snapshot of a cell is made.
 use Rattle.std.specs.Prelude.{ℕ, Bool, ◌&&◌, List, nat_lt}
-use Rattle.snapshot_store.specs.hop_model.Histories.{Policy}
-use Rattle.snapshot_store.specs.hop_model.State.{Supply}
-use Rattle.wish_laws.specs.kernel_cells.declared.cells.Cell.{Cell}
-use Rattle.wish_laws.specs.kernel_cells.Cells.{part_of}
-use Rattle.wish_laws.specs.kernel_cells.Wishes.{is_open}
-use Rattle.snapshot_store.specs.store_laws.Shelves.{records_of}
-use Rattle.record_laws.specs.store_model.Books.{Books, kept_in}
+use Rattle.page_store.specs.model_kernel.Histories.{Policy}
+use Rattle.page_store.specs.model_kernel.State.{Supply}
+use Rattle.cell_wish_laws.specs.cell_states.declared.cells.Cell.{Cell}
+use Rattle.cell_wish_laws.specs.cell_states.Cells.{part_of}
+use Rattle.cell_wish_laws.specs.cell_states.Wishes.{is_open}
+use Rattle.store_snapshots.specs.store_facts.Shelves.{records_of}
+use Rattle.kernel_block_laws.specs.store_books.Books.{Books, kept_in}
 
 -- FULL: the store keeps four records of the entity or more
 abbrev pub has_room : Books → ℕ → Bool

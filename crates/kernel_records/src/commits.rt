@@ -1,21 +1,21 @@
 // The commit of a cell.
 ghost use Rattle.std.specs.Prelude.{◌≡◌, ◌↔◌, ◌⊎◌, ◌+◌, ◌≤◌, true, false, Ok, OnOk, OnErr, IsErrOf};
-ghost use Rattle.disk_trait.specs.Counts.{Rose};
-ghost use Rattle.disk_trait.specs.Disk.{Only};
-ghost use Rattle.disk_trait.specs.Moments.{LeavesOnly};
-ghost use Rattle.record_laws.specs.cell_blobs.Blobs.{blob_need, is_recorded, page_need};
+ghost use Rattle.edge_disk.specs.Disks.{IsStable};
+ghost use Rattle.edge_disk.specs.Counts.{Rose};
+ghost use Rattle.edge_disk.specs.Moments.{LeavesOnly};
+ghost use Rattle.kernel_record_facts.specs.cell_blobs.Blobs.{blob_need, is_recorded, page_need};
 ghost use Rattle.kernel_records.specs.Committing.{CellFaults, CommitCounts, HasCommitted, HasNotCommitted, MayCommit, StoresKeptOrCell};
-ghost use Rattle.snapshot_store.specs.store_laws.Putting.{are_small};
-ghost use Rattle.snapshot_store.specs.store_laws.State.{books};
-ghost use Rattle.snapshot_store.specs.declared.faults.StoreFault.{StoreFault as Fault};
-ghost use Rattle.record_laws.specs.store_model.Books.{AreSmall, AreTrue, free_in, kept_names};
+ghost use Rattle.store_snapshots.specs.store_facts.Putting.{are_small};
+ghost use Rattle.store_snapshots.specs.store_facts.State.{books};
+ghost use Rattle.store_snapshots.specs.declared.faults.StoreFault.{StoreFault as Fault};
+ghost use Rattle.kernel_block_laws.specs.store_books.Books.{AreSmall, AreTrue, free_in, kept_names};
 
 use crate::flushing::flush_part;
 use crate::recording::record_cell;
-use block_code::Blob;
-use disk_trait::{Disk, NoBlocks};
-use record_laws::{Cell, Wish, is_recorded, need_cell};
-use snapshot_store::{Store, StoreFault};
+use base_bytes::Blob;
+use edge_disk::{Disk, NoBlocks};
+use kernel_record_facts::{Cell, Wish, is_recorded, need_cell};
+use store_snapshots::{Store, StoreFault};
 
 /// Writes the changed pages of a cell and commits a record of it, for all of which enough blocks are free. Then no record is wished.
 fn put_cell<D: Disk>(
@@ -26,15 +26,15 @@ fn put_cell<D: Disk>(
     requires may { MayCommit (books store.old) cell.old }
     requires working { (books store.old).shut ≡ false }
     requires free { page_need (kept_names (books store.old)) cell.old.part + blob_need cell.old.part ≤ free_in (books store.old) }
-    requires true_books { D.tells → AreTrue D.reading D.may_leave (books store.old) store.old.disk }
-    ensures made { OnOk result (HasCommitted D.tells D.clock D.reading D.may_leave D.left_since cell.old cell.new store.old store.new) }
-    ensures unmade { OnErr result (HasNotCommitted D.tells D.clock D.reading D.may_leave D.left_since cell.old cell.new store.old store.new) }
-    ensures true_books { D.tells → OnOk result (AreTrue D.reading D.may_leave (books store.new) store.new.disk) }
-    ensures stable { D.tells → OnOk result (Only (D.reading store.new.disk) (D.may_leave store.new.disk)) }
+    requires true_books { D.tells → AreTrue D.Disk (books store.old) store.old.disk }
+    ensures made { OnOk result (HasCommitted D.Disk cell.old cell.new store.old store.new) }
+    ensures unmade { OnErr result (HasNotCommitted D.Disk cell.old cell.new store.old store.new) }
+    ensures true_books { D.tells → OnOk result (AreTrue D.Disk (books store.new) store.new.disk) }
+    ensures stable { D.tells → OnOk result (IsStable D.Disk store.new.disk) }
     ensures any_moment { D.tells → AreSmall (books store.old) → are_small cell.old.clock.version cell.old.clock.stamp.0 ≡ true
-        → LeavesOnly D.clock D.left_since store.old.disk store.new.disk (StoresKeptOrCell D.tells D.clock D.reading D.may_leave D.left_since cell.old cell.new store.old) }
+        → LeavesOnly D.Disk store.old.disk store.new.disk (StoresKeptOrCell D.Disk cell.old cell.new store.old) }
     ensures failed { (e : Fault) → IsErrOf result e → (e ≡ StoreFault.WriteFault) × Rose (D.faults store.old.disk) (D.faults store.new.disk) × ((books store.new).shut ≡ true) }
-    ensures counts { CommitCounts D.clock D.faults store.old store.new }
+    ensures counts { CommitCounts D.Disk store.old store.new }
 {
     let flushed = flush_part(&mut cell.part, store);
     store.held_law();
@@ -65,16 +65,16 @@ pub fn commit_cell<D: Disk>(
     blob: &mut Blob,
 ) -> Result<bool, StoreFault>
     requires may { is_recorded cell.old ≡ false → MayCommit (books store.old) cell.old }
-    requires true_books { D.tells → AreTrue D.reading D.may_leave (books store.old) store.old.disk }
+    requires true_books { D.tells → AreTrue D.Disk (books store.old) store.old.disk }
     ensures recorded { is_recorded cell.old ≡ true → (result ≡ Ok false) × (cell.new ≡ cell.old) × (store.new ≡ store.old) }
-    ensures made { is_recorded cell.old ≡ false → OnOk result ((result ≡ Ok true) × HasCommitted D.tells D.clock D.reading D.may_leave D.left_since cell.old cell.new store.old store.new) }
-    ensures unmade { OnErr result (HasNotCommitted D.tells D.clock D.reading D.may_leave D.left_since cell.old cell.new store.old store.new) }
-    ensures true_books { D.tells → OnOk result (AreTrue D.reading D.may_leave (books store.new) store.new.disk) }
-    ensures stable { D.tells → is_recorded cell.old ≡ false → OnOk result (Only (D.reading store.new.disk) (D.may_leave store.new.disk)) }
+    ensures made { is_recorded cell.old ≡ false → OnOk result ((result ≡ Ok true) × HasCommitted D.Disk cell.old cell.new store.old store.new) }
+    ensures unmade { OnErr result (HasNotCommitted D.Disk cell.old cell.new store.old store.new) }
+    ensures true_books { D.tells → OnOk result (AreTrue D.Disk (books store.new) store.new.disk) }
+    ensures stable { D.tells → is_recorded cell.old ≡ false → OnOk result (IsStable D.Disk store.new.disk) }
     ensures any_moment { D.tells → is_recorded cell.old ≡ false → (books store.old).shut ≡ false → AreSmall (books store.old) → are_small cell.old.clock.version cell.old.clock.stamp.0 ≡ true
-        → LeavesOnly D.clock D.left_since store.old.disk store.new.disk (StoresKeptOrCell D.tells D.clock D.reading D.may_leave D.left_since cell.old cell.new store.old) }
+        → LeavesOnly D.Disk store.old.disk store.new.disk (StoresKeptOrCell D.Disk cell.old cell.new store.old) }
     ensures faults { CellFaults D.faults (is_recorded cell.old ≡ false) result cell.old cell.new store.old store.new }
-    ensures counts { CommitCounts D.clock D.faults store.old store.new }
+    ensures counts { CommitCounts D.Disk store.old store.new }
 {
     if is_recorded(cell) {
         return Ok(false);

@@ -1,15 +1,15 @@
 // The changed pages of a part, written.
 ghost use Rattle.std.specs.Prelude.{◌≡◌, ◌≤◌, ◌+◌, ℕ, OnOk, IfErr};
-ghost use Rattle.snapshot_store.specs.hop_model.State.{Supply};
-ghost use Rattle.snapshot_store.specs.page_store.Pages.{IsWriteFault};
-ghost use Rattle.wish_laws.specs.fault_paging.Calls.{IsCausedBy};
-ghost use Rattle.wish_laws.specs.kernel_cells.Cells.{part_of};
-ghost use Rattle.record_laws.specs.cell_blobs.Blobs.{page_need};
-ghost use Rattle.record_laws.specs.Cells.{IsCleanIn, IsSettled, IsSoundIn};
-ghost use Rattle.kernel_records.specs.Flushing.{FewWrites, Flushes};
+ghost use Rattle.page_store.specs.model_kernel.State.{Supply};
+ghost use Rattle.page_store.specs.Pages.{IsWriteFault};
+ghost use Rattle.cell_wish_laws.specs.page_memory.Calls.{IsCausedIn};
+ghost use Rattle.cell_wish_laws.specs.cell_states.Cells.{part_of};
+ghost use Rattle.kernel_record_facts.specs.cell_blobs.Blobs.{page_need};
+ghost use Rattle.kernel_record_facts.specs.Cells.{IsCleanIn, IsSettled, IsSoundIn};
+ghost use Rattle.kernel_records.specs.Flushing.{FewWrites, FlushesIn};
 
+use kernel_record_facts::Part;
 use page_store::{PageFault, PageStore};
-use record_laws::Part;
 
 /// Writes the changed pages of a container, for which enough blocks are free. What has no pages is left as it is.
 ///
@@ -22,10 +22,10 @@ pub fn flush_part<B: PageStore>(part: &mut Part, store: &mut B) -> Result<(), Pa
         → (part_of s (B.words store.new) part.new ≡ part_of s (B.words store.old) part.old) × IsCleanIn s (B.words store.new) part.new }
     ensures settled { OnOk result (IsSettled part.new) }
     ensures table { IsSoundIn (B.held store.new) part.new }
-    ensures flushes { Flushes B.tells B.held B.kept_names B.words part.old part.new store.old store.new }
+    ensures flushes { FlushesIn B.PageStore part.old part.new store.old store.new }
     ensures free { OnOk result (B.free store.old ≤ B.free store.new + page_need (B.kept_names store.old) part.old) }
     ensures fault { IfErr result IsWriteFault }
-    ensures cause { IfErr result (IsCausedBy (B.free store.old) (B.faults store.old) (B.faults store.new) (B.is_shut store.old) (B.is_shut store.new)) }
+    ensures cause { IfErr result (IsCausedIn B.PageStore store.old store.new) }
     ensures writes { FewWrites (B.is_shut store.old) (B.is_shut store.new) (B.written store.old) (B.written store.new) }
     ensures faults { B.faults store.old ≤ B.faults store.new }
     ensures same_shut { OnOk result (B.is_shut store.new ≡ B.is_shut store.old) }

@@ -2,16 +2,16 @@
 ghost use Rattle.kernel_records.specs.Keeping.{FewKeptLaw, KeptMoreLaw, NewestLaw, SettledStoreLaw};
 ghost use Rattle.kernel_records.specs.Told.{LeftCellLaw, ToldCommitLaw};
 
-use disk_trait::Disk;
+use edge_disk::Disk;
 
 /// After a commit of a cell, also one that failed, each state that had the cell has it still, with clean pages, whose blocks are held.
 pub fn left_cell_law<D: Disk>()
-    ensures { LeftCellLaw D.tells D.clock D.reading D.may_leave D.left_since }
+    ensures { LeftCellLaw D.Disk }
 {}
 
 /// After a commit that was made the new record tells besides what the entity is there.
 pub fn told_commit_law<D: Disk>()
-    ensures { ToldCommitLaw D.tells D.clock D.reading D.may_leave D.left_since }
+    ensures { ToldCommitLaw D.Disk }
 {}
 
 /// A record more in memory is one kept record more at most, of its entity.

@@ -13,4 +13,4 @@ pub use laws::{
     few_kept_law, kept_more_law, left_cell_law, newest_law, settled_store_law, told_commit_law,
 };
 pub use snaps::{FULL, mark_entry, snap_cell};
-pub use snapshot_store::{OpenFault, OpenWhy, Store, StoreFault, SyncedLog};
+pub use store_snapshots::{OpenFault, OpenWhy, Store, StoreFault, SyncedLog};

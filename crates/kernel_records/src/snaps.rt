@@ -1,24 +1,24 @@
 // A snapshot of a cell by its wish.
 ghost use Rattle.std.specs.Prelude.{◌≡◌, ◌↔◌, ◌⊎◌, ◌+◌, ◌≤◌, ℕ, List, true, false, Ok, Some, None, OnOk, OnErr, IsErrOf};
-ghost use Rattle.disk_trait.specs.Disk.{Only};
-ghost use Rattle.disk_trait.specs.Moments.{LeavesOnly};
-ghost use Rattle.hop_base.specs.declared.histories.Event.TheVariants.{Snap};
-ghost use Rattle.snapshot_store.specs.hop_model.Histories.{mark};
-ghost use Rattle.snapshot_store.specs.hop_model.State.{Supply};
+ghost use Rattle.edge_disk.specs.Disks.{IsStable};
+ghost use Rattle.edge_disk.specs.Moments.{LeavesOnly};
+ghost use Rattle.base_types.specs.declared.histories.Event.TheVariants.{Snap};
+ghost use Rattle.page_store.specs.model_kernel.Histories.{mark};
+ghost use Rattle.page_store.specs.model_kernel.State.{Supply};
 ghost use Rattle.kernel_records.specs.Committing.{CellFaults, CommitCounts, HasCommitted, HasNotCommitted, MayCommit, StoresKeptOrCell};
 ghost use Rattle.kernel_records.specs.Snapping.{is_snapped};
-ghost use Rattle.snapshot_store.specs.store_laws.Putting.{are_small};
-ghost use Rattle.snapshot_store.specs.store_laws.State.{books};
-ghost use Rattle.record_laws.specs.store_model.Books.{AreSmall, AreTrue};
-ghost use Rattle.wish_laws.specs.Founded.{IsFoundedCell};
+ghost use Rattle.store_snapshots.specs.store_facts.Putting.{are_small};
+ghost use Rattle.store_snapshots.specs.store_facts.State.{books};
+ghost use Rattle.kernel_block_laws.specs.store_books.Books.{AreSmall, AreTrue};
+ghost use Rattle.cell_wish_laws.specs.Founded.{IsFoundedCell};
 
 use crate::commits::commit_cell;
-use block_code::Blob;
-use disk_trait::Disk;
-use hop_base::{Answer, Entity, Entry, Event, Touched};
-use manager_gate::{Gate, Policy, Supplier};
-use record_laws::Cell;
-use snapshot_store::{Store, StoreFault};
+use base_bytes::Blob;
+use base_types::{Answer, Entity, Entry, Event, Touched};
+use edge_disk::Disk;
+use edge_managers::{Gate, Policy, Supplier};
+use kernel_record_facts::Cell;
+use store_snapshots::{Store, StoreFault};
 
 /// An entity with so many kept records has no further snapshot made.
 pub const FULL: u16 = 4;
@@ -49,22 +49,22 @@ pub fn snap_cell<D: Disk, S: Supplier, P: Policy>(
     requires keeps { P.keeps gate.now.policy }
     requires founded { IsFoundedCell cell.old }
     requires may { (s : Supply) → (words : ℕ → List ℕ) → is_snapped (P.wish gate.now.policy) s words cell.old (books store.old) ≡ true → MayCommit (books store.old) cell.old }
-    requires true_books { D.tells → AreTrue D.reading D.may_leave (books store.old) store.old.disk }
+    requires true_books { D.tells → AreTrue D.Disk (books store.old) store.old.disk }
 
     ensures none { (s : Supply) → (words : ℕ → List ℕ) → is_snapped (P.wish gate.now.policy) s words cell.old (books store.old) ≡ false
         → (result ≡ Ok None) × (cell.new ≡ cell.old) × (store.new ≡ store.old) }
     ensures made { (s : Supply) → (words : ℕ → List ℕ) → is_snapped (P.wish gate.now.policy) s words cell.old (books store.old) ≡ true
-        → OnOk result ((result ≡ Ok (Some (mark Snap cell.old.clock.entity cell.old.clock.version))) × HasCommitted D.tells D.clock D.reading D.may_leave D.left_since cell.old cell.new store.old store.new) }
-    ensures unmade { OnErr result (HasNotCommitted D.tells D.clock D.reading D.may_leave D.left_since cell.old cell.new store.old store.new) }
-    ensures true_books { D.tells → OnOk result (AreTrue D.reading D.may_leave (books store.new) store.new.disk) }
+        → OnOk result ((result ≡ Ok (Some (mark Snap cell.old.clock.entity cell.old.clock.version))) × HasCommitted D.Disk cell.old cell.new store.old store.new) }
+    ensures unmade { OnErr result (HasNotCommitted D.Disk cell.old cell.new store.old store.new) }
+    ensures true_books { D.tells → OnOk result (AreTrue D.Disk (books store.new) store.new.disk) }
     ensures stable { D.tells → (s : Supply) → (words : ℕ → List ℕ) → is_snapped (P.wish gate.now.policy) s words cell.old (books store.old) ≡ true
-        → OnOk result (Only (D.reading store.new.disk) (D.may_leave store.new.disk)) }
+        → OnOk result (IsStable D.Disk store.new.disk) }
     ensures any_moment { D.tells → (s : Supply) → (words : ℕ → List ℕ) → is_snapped (P.wish gate.now.policy) s words cell.old (books store.old) ≡ true
         → (books store.old).shut ≡ false → AreSmall (books store.old) → are_small cell.old.clock.version cell.old.clock.stamp.0 ≡ true
-        → LeavesOnly D.clock D.left_since store.old.disk store.new.disk (StoresKeptOrCell D.tells D.clock D.reading D.may_leave D.left_since cell.old cell.new store.old) }
+        → LeavesOnly D.Disk store.old.disk store.new.disk (StoresKeptOrCell D.Disk cell.old cell.new store.old) }
     ensures faults { (s : Supply) → (words : ℕ → List ℕ)
         → CellFaults D.faults (is_snapped (P.wish gate.now.policy) s words cell.old (books store.old) ≡ true) result cell.old cell.new store.old store.new }
-    ensures counts { CommitCounts D.clock D.faults store.old store.new }
+    ensures counts { CommitCounts D.Disk store.old store.new }
 {
     let entity = cell.clock.entity;
     let version = cell.clock.version;

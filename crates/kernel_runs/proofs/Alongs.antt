@@ -1,32 +1,32 @@
 -- A kernel along its course: by one pick, by one locus, and to its end.
 use Rattle.std.proofs.Common.{◌≡◌, ℕ, ◌+◌, ◌<◌, ◌≤◌, List, [], ◌∷◌, ◌++◌, length, Option, Some, slice_get, sym, ap, subst, ◌∙◌}
 use Rattle.std.specs.Prelude.{Result}
-use Rattle.disk_trait.specs.Image.{Image}
-use Rattle.disk_trait.specs.declared.disk.NoBlocks.{NoBlocks as TooFewBlocks}
-use Rattle.hop_base.specs.declared.histories.Entry.{Entry}
-use Rattle.kernel_core.specs.hop_model.Histories.{Policy}
-use Rattle.kernel_core.specs.hop_model.Scripts.{Script, locus_named}
-use Rattle.kernel_core.specs.hop_model.Serial.{looks_of}
-use Rattle.kernel_core.specs.hop_model.State.{Supply, Text}
-use Rattle.kernel_core.specs.hop_model.Steps.{atlas_in}
-use Rattle.kernel_core.specs.fitting_births.Fitting.{Fits}
-use Rattle.kernel_core.specs.serial_runs.Serial.{IsStopped, opening}
-use Rattle.kernel_core.specs.serial_turns.Turns.{ComeFirst, HasLooked, before_locus, before_pick}
-use Rattle.kernel_core.proofs.serial_turns_lemmas.Course.{loci_first, locus_more, picks_first}
-use Rattle.kernel_core.proofs.serial_turns_lemmas.Picks.{pick_now}
-use Rattle.kernel_core.proofs.serial_turns_lemmas.Stops.{stopped_opening}
-use Rattle.kernel_core.proofs.serial_turns_lemmas.Whereabouts.{looked_opening}
+use Rattle.edge_disk.specs.declared.disk.Disk.{Ghosts}
+use Rattle.edge_disk.specs.declared.disk.NoBlocks.{NoBlocks as TooFewBlocks}
+use Rattle.base_types.specs.declared.histories.Entry.{Entry}
+use Rattle.script_types.specs.model_kernel.Histories.{Policy}
+use Rattle.script_types.specs.model_kernel.Scripts.{Script, locus_named}
+use Rattle.script_types.specs.model_kernel.Serial.{looks_of}
+use Rattle.script_types.specs.model_kernel.State.{Supply, Text}
+use Rattle.script_types.specs.model_kernel.Steps.{atlas_in}
+use Rattle.kernel_core.specs.model_births.Fitting.{Fits}
+use Rattle.kernel_core.specs.model_serial.Serial.{IsStopped, opening}
+use Rattle.kernel_core.specs.model_serial_turns.Turns.{ComeFirst, HasLooked, before_locus, before_pick}
+use Rattle.kernel_core.proofs.model_serial_turns_lemmas.Course.{loci_first, locus_more, picks_first}
+use Rattle.kernel_core.proofs.model_serial_turns_lemmas.Picks.{pick_now}
+use Rattle.kernel_core.proofs.model_serial_turns_lemmas.Stops.{stopped_opening}
+use Rattle.kernel_core.proofs.model_serial_turns_lemmas.Whereabouts.{looked_opening}
 use Rattle.kernel_core.proofs.table_births_lemmas.AtlasStates.{same_atlas}
 use Rattle.kernel_core.specs.table_births.Births.{atlas_state_in}
-use Rattle.kernel_core.specs.record_laws.Cells.{words_on}
+use Rattle.kernel_core.specs.kernel_record_facts.Cells.{words_on}
 use Rattle.kernel_core.specs.kernel_laws.Opening.{empty_script, with_script}
-use Rattle.kernel_core.specs.kernel_model.Beginnings.{Beginning, run_of, state_after}
-use Rattle.kernel_core.specs.core_laws.Kernels.{Held, Lives}
-use Rattle.kernel_core.specs.commit_laws.Lacking.{LacksIn}
-use Rattle.kernel_core.specs.commit_laws.Pieces.{StopsIn}
+use Rattle.kernel_core.specs.kernel_invariant.Beginnings.{Beginning, run_of, state_after}
+use Rattle.kernel_core.specs.kernel_core_facts.Kernels.{Held, Lives}
+use Rattle.kernel_core.specs.kernel_commit_facts.Lacking.{LacksIn}
+use Rattle.kernel_core.specs.kernel_commit_facts.Pieces.{StopsIn}
 use Rattle.kernel_core.specs.kernel_commits.declared.stopping.Stopped.{Stopped}
 use Rattle.kernel_core.specs.kernel_commits.declared.stopping.Stopped.TheVariants.{TooFew}
-use Rattle.kernel_core.proofs.commit_laws_lemmas.Dues.{due_opening}
+use Rattle.kernel_core.proofs.kernel_commit_facts_lemmas.Dues.{due_opening}
 use Rattle.kernel_core.proofs.kernel_commits_lemmas.Wishing.{fault_in}
 use Rattle.kernel_runs.specs.Running.{HasStopped, IsOver, IsRunBy, RunsAlong, TakesOn, opened_in}
 use Rattle.kernel_runs.proofs.Course.{over}
@@ -49,9 +49,9 @@ pub record IsPick (b : Beginning) (es : List Entry) (i : ℕ) (name : Text) : Ty
   pub next : before_pick b.script (opened_in b) (i + 1) ≡ before_pick b.script (opened_in b) i ++ locus ∷ []
   pub first : ComeFirst b.script (opened_in b) (before_pick b.script (opened_in b) i ++ locus ∷ [])
 
-module _ {D : Type 0} (tells : Type 0) (clock faults : D → ℕ) (reading : D → Image) (may_leave : D → Image → Type 0) (left_since : D → ℕ → Image → Type 0) (supply : Supply) (policy : Policy) where
+module _ {D : Type 0} (disks : Ghosts D) (supply : Supply) (policy : Policy) where
   abbrev Along : Beginning → List ℕ → Held D → Type 0
-  Along = RunsAlong tells clock faults reading may_leave left_since
+  Along = RunsAlong disks
 
   pub next_pick : (b : Beginning) (i : ℕ) (name : Text) (k : Held D) → IsRunBy supply policy b → slice_get b.script.order i ≡ Some name → Along b (before_pick b.script (opened_in b) i) k
       → IsPick b k.parts.noted.entries i name
@@ -62,7 +62,7 @@ module _ {D : Type 0} (tells : Type 0) (clock faults : D → ℕ) (reading : D �
 
   -- a round without an entry ends the run
   pub ends : (b : Beginning) (n : ℕ) (old new : Held D) → IsRunBy supply policy b → Along b (looks_of b.script (opened_in b) n) old → Along b (looks_of b.script (opened_in b) (n + 1)) new
-      → length new.parts.noted.entries ≤ length old.parts.noted.entries → IsOver tells clock faults reading may_leave left_since b new
+      → length new.parts.noted.entries ≤ length old.parts.noted.entries → IsOver disks b new
   ends b n old new given was is few =
       let begins = is.lives.live.running.begins in
       record {
@@ -72,24 +72,24 @@ module _ {D : Type 0} (tells : Type 0) (clock faults : D → ℕ) (reading : D �
 
   -- a script that fits the cells' atlas before any entry fits the run's
   pub run_by : (b : Beginning) (script : Script) (k : Held D) → b.supply ≡ supply → b.policy ≡ policy → b.script ≡ script → k.parts.noted.entries ≡ [] → Fits (atlas_state_in k.parts.cells) script
-      → Lives tells clock faults reading may_leave left_since (with_script b (empty_script b.script.steps)) k → IsRunBy supply policy b
+      → Lives disks (with_script b (empty_script b.script.steps)) k → IsRunBy supply policy b
   run_by b script k s p same none fits lives = record {
     same_supply = s;
     same_policy = p;
     fits =
-        let words = words_on (reading k.parts.store.disk) in
+        let words = words_on (disks.reading k.parts.store.disk) in
         let state = lives.live.running.follows.state ∙ ap (state_after (with_script b (empty_script b.script.steps))) none in
         subst (λ a. Fits a b.script) (sym (same_atlas b.supply words k.parts.cells) ∙ ap (λ w. atlas_in (w 0).cell) state) (subst (Fits (atlas_state_in k.parts.cells)) (sym same) fits);
   }
 
   -- behind the births the kernel is along its course
-  pub opens : (b : Beginning) (k : Held D) → Lives tells clock faults reading may_leave left_since b k → k.parts.noted.entries ≡ opening b.supply b.script b.state → Along b [] k
+  pub opens : (b : Beginning) (k : Held D) → Lives disks b k → k.parts.noted.entries ≡ opening b.supply b.script b.state → Along b [] k
   opens b k lives same = record { lives = lives; looks = subst (HasLooked b.supply b.policy b.script b.state []) (sym same) (looked_opening b.supply b.policy b.script b.state) }
 
   -- the births were stopped
-  pub stops_opening : (b : Beginning) (k : Held D) → Lives tells clock faults reading may_leave left_since b k → StopsIn b (opening b.supply b.script b.state) [] k.parts.noted.entries
+  pub stops_opening : (b : Beginning) (k : Held D) → Lives disks b k → StopsIn b (opening b.supply b.script b.state) [] k.parts.noted.entries
       → ((n : TooFewBlocks) → k.stop ≡ Some (TooFew n) → LacksIn b (opening b.supply b.script b.state) [] k.parts)
-      → HasStopped tells clock faults reading may_leave left_since b k
+      → HasStopped disks b k
   stops_opening b k lives p enough = record {
     lives = lives;
     part = subst (IsStopped b.supply b.policy b.script b.state) (sym p.entries) (stopped_opening b.supply b.script b.policy b.state p.part p.is);
@@ -99,10 +99,10 @@ module _ {D : Type 0} (tells : Type 0) (clock faults : D → ℕ) (reading : D �
 
   -- a look at the locus of the pick
   pub takes_pick : (b : Beginning) (i : ℕ) (name : Text) (old new : Held D) (l : ℕ) {T : Type 0} (r : Result T Stopped) (p : IsPick b old.parts.noted.entries i name) → Some l ≡ Some p.locus
-      → (ComeFirst b.script (opened_in b) (before_pick b.script (opened_in b) i ++ l ∷ []) → TakesOn tells clock faults reading may_leave left_since b (before_pick b.script (opened_in b) i ++ l ∷ []) r new)
-      → TakesOn tells clock faults reading may_leave left_since b (before_pick b.script (opened_in b) (i + 1)) r new
+      → (ComeFirst b.script (opened_in b) (before_pick b.script (opened_in b) i ++ l ∷ []) → TakesOn disks b (before_pick b.script (opened_in b) i ++ l ∷ []) r new)
+      → TakesOn disks b (before_pick b.script (opened_in b) (i + 1)) r new
   takes_pick b i name old new l r p same takes =
       let is : l ≡ p.locus = cc in
       let next : before_pick b.script (opened_in b) i ++ l ∷ [] ≡ before_pick b.script (opened_in b) (i + 1) = ap (λ x. before_pick b.script (opened_in b) i ++ x ∷ []) is ∙ sym p.next in
-      subst (λ looked. TakesOn tells clock faults reading may_leave left_since b looked r new) next
+      subst (λ looked. TakesOn disks b looked r new) next
       (takes (subst (λ x. ComeFirst b.script (opened_in b) (before_pick b.script (opened_in b) i ++ x ∷ [])) (sym is) p.first))

@@ -1,17 +1,17 @@
 -- A round over the loci that are born is a round over all: one that isn't born makes nothing.
 use Rattle.std.proofs.Common.{◌≡◌, ℕ, zero, suc, ◌+◌, ◌-◌, ◌<◌, ◌≤◌, false, ◌&&◌, nat_lt, List, length, Option, None, is_some, sym, ap, subst, arith}
 use Rattle.std.proofs.lemmas.Bool.Decides.{nat_tests}
-use Rattle.hop_base.specs.declared.histories.Entry.{Entry}
-use Rattle.kernel_core.specs.hop_model.Histories.{start_run}
-use Rattle.kernel_core.specs.hop_model.Serial.{can_step, looks_of}
-use Rattle.kernel_core.specs.hop_model.Soundness.{AreSound, is_born}
-use Rattle.kernel_core.specs.hop_model.State.{AtlasState, Cell, LocusState}
-use Rattle.kernel_core.specs.hop_model.Steps.{atlas_in, running}
-use Rattle.kernel_core.proofs.sound_runs_lemmas.Standing.{standing_over}
-use Rattle.kernel_core.specs.serial_turns.Turns.{HasLooked, before_locus}
-use Rattle.kernel_core.proofs.serial_turns_lemmas.Course.{rounded}
-use Rattle.kernel_core.proofs.serial_turns_lemmas.Whereabouts.{looked_idle}
-use Rattle.kernel_core.specs.kernel_model.Beginnings.{Beginning, BeginsRight, IsLegal, run_of}
+use Rattle.base_types.specs.declared.histories.Entry.{Entry}
+use Rattle.script_types.specs.model_kernel.Histories.{start_run}
+use Rattle.script_types.specs.model_kernel.Serial.{can_step, looks_of}
+use Rattle.script_types.specs.model_kernel.Soundness.{AreSound, is_born}
+use Rattle.script_types.specs.model_kernel.State.{AtlasState, Cell, LocusState}
+use Rattle.script_types.specs.model_kernel.Steps.{atlas_in, running}
+use Rattle.kernel_core.proofs.model_sound_runs_lemmas.Standing.{standing_over}
+use Rattle.kernel_core.specs.model_serial_turns.Turns.{HasLooked, before_locus}
+use Rattle.kernel_core.proofs.model_serial_turns_lemmas.Course.{rounded}
+use Rattle.kernel_core.proofs.model_serial_turns_lemmas.Whereabouts.{looked_idle}
+use Rattle.kernel_core.specs.kernel_invariant.Beginnings.{Beginning, BeginsRight, IsLegal, run_of}
 use Rattle.kernel_runs.specs.Running.{end_of, opened_in}
 use Rattle.kernel_runs.proofs.Alongs.{locus_next}
 

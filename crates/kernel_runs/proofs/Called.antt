@@ -1,26 +1,26 @@
 -- The loci of the run in the directory of the cells.
 use Rattle.std.proofs.Common.{◌≡◌, ℕ, ◌+◌, ◌≤◌, true, false, ◌&&◌, if◌then◌else◌, nat_lt, nat_le, List, [], ◌∷◌, length, Option, None, Some, is_some, slice_get, refl, sym, ap, subst, ◌∙◌, arith}
 use Rattle.std.proofs.lemmas.Bool.Decides.{nat_tests}
-use Rattle.disk_trait.specs.Image.{Image}
-use Rattle.kernel_core.specs.hop_model.Histories.{start_run}
-use Rattle.kernel_core.specs.hop_model.Scripts.{atlas_name, container_named, locus_named, number_of, place_of, text_eq}
-use Rattle.kernel_core.specs.hop_model.State.{KernelState, Supply, Text}
-use Rattle.kernel_core.specs.hop_model.Steps.{atlas_in}
-use Rattle.kernel_core.specs.hop_model.Words.{or_else}
-use Rattle.kernel_core.proofs.hop_model_lemmas.LegalRuns.{state_after as state_run}
-use Rattle.atlas_dir.specs.directory_form.Directory.{Directory, IsDirectory, entity_named}
-use Rattle.kernel_core.proofs.directory_laws_lemmas.NameLaws.{numbers_same}
-use Rattle.kernel_core.specs.kernel_calls.Calls.{atlas_state}
-use Rattle.kernel_core.specs.kernel_cells.declared.cells.Cell.{Cell}
-use Rattle.kernel_core.specs.kernel_cells.declared.cells.Part.TheVariants as part
-use Rattle.kernel_core.specs.kernel_cells.Cells.{part_of}
-use Rattle.kernel_core.specs.cell_table.Tables.{entity_in, state_in}
-use Rattle.kernel_core.proofs.directory_laws_lemmas.ByKind.{container_test, locus_test, no_locus}
-use Rattle.kernel_core.specs.record_laws.Cells.{words_on}
-use Rattle.kernel_core.specs.kernel_model.Beginnings.{Beginning, run_of}
-use Rattle.kernel_core.specs.core_laws.Kernels.{Held, Lives}
+use Rattle.script_types.specs.model_kernel.Histories.{start_run}
+use Rattle.script_types.specs.model_kernel.Scripts.{atlas_name, container_named, locus_named, number_of, place_of, text_eq}
+use Rattle.script_types.specs.model_kernel.State.{KernelState, Supply, Text}
+use Rattle.script_types.specs.model_kernel.Steps.{atlas_in}
+use Rattle.script_types.specs.model_kernel.Words.{or_else}
+use Rattle.script_types.proofs.model_kernel_lemmas.LegalRuns.{state_after as state_run}
+use Rattle.data_atlas.specs.data_atlas_facts.Directory.{Directory, IsDirectory, entity_named}
+use Rattle.kernel_core.proofs.act_atlas_laws_lemmas.NameLaws.{numbers_same}
+use Rattle.kernel_core.specs.act_calls.Calls.{atlas_state}
+use Rattle.kernel_core.specs.cell_states.declared.cells.Cell.{Cell}
+use Rattle.kernel_core.specs.cell_states.declared.cells.Part.TheVariants as part
+use Rattle.kernel_core.specs.cell_states.Cells.{part_of}
+use Rattle.kernel_core.specs.table_laws.Tables.{entity_in, state_in}
+use Rattle.kernel_core.proofs.act_atlas_laws_lemmas.ByKind.{container_test, locus_test, no_locus}
+use Rattle.kernel_core.specs.kernel_record_facts.Cells.{words_on}
+use Rattle.kernel_core.specs.kernel_invariant.Beginnings.{Beginning, run_of}
+use Rattle.kernel_core.specs.kernel_core_facts.Kernels.{Held, Lives}
 use Rattle.std.proofs.lemmas.Option.{same_Some}
 use Rattle.std.proofs.lemmas.Bool.{true≢false}
+use Rattle.edge_disk.specs.declared.disk.Disk.{Ghosts}
 
 none_some : {l : ℕ} → None ≡ Some l → ⊥
 none_some e = cc
@@ -77,19 +77,19 @@ loci_within s words cs d w at same = subst (λ (v : KernelState). length (atlas_
     by (Some c) is = subst (λ p. length (atlas_in (part_of s words p)).loci ≤ length d.loci) (sym (at c is)) (omega arith)
 
 -- IN A RUN: this is the directory of a live kernel
-module _ {D : Type 0} (tells : Type 0) (clock faults : D → ℕ) (reading : D → Image) (may_leave : D → Image → Type 0) (left_since : D → ℕ → Image → Type 0) (b : Beginning) (k : Held D) (d : Directory)
-    (lives : Lives tells clock faults reading may_leave left_since b k) (at : (c : Cell) → slice_get k.parts.cells 0 ≡ Some c → c.part ≡ part.Atlas d) where
+module _ {D : Type 0} (disks : Ghosts D) (b : Beginning) (k : Held D) (d : Directory)
+    (lives : Lives disks b k) (at : (c : Cell) → slice_get k.parts.cells 0 ≡ Some c → c.part ≡ part.Atlas d) where
   abbrev now : KernelState
   now = (run_of b k.parts.noted.entries).state
 
-  same_state : state_in b.supply (words_on (reading k.parts.store.disk)) k.parts.cells ≡ now
+  same_state : state_in b.supply (words_on (disks.reading k.parts.store.disk)) k.parts.cells ≡ now
   same_state = lives.live.running.follows.state ∙ sym (state_run b.supply b.policy b.script (start_run b.state) k.parts.noted.entries)
 
   pub finds : (name : Text) (l : ℕ) → IsDirectory d → locus_named (atlas_in (now 0).cell) name ≡ Some l → entity_named d name ≡ Some l
-  finds name l h e = called d name l h (located b.supply (words_on (reading k.parts.store.disk)) k.parts.cells d now name l at same_state e)
+  finds name l h e = called d name l h (located b.supply (words_on (disks.reading k.parts.store.disk)) k.parts.cells d now name l at same_state e)
 
   pub none_born : (name : Text) (l : ℕ) → length d.loci ≡ 0 → locus_named (atlas_in (now 0).cell) name ≡ Some l → ⊥
-  none_born name l none e = none_called d name l none (located b.supply (words_on (reading k.parts.store.disk)) k.parts.cells d now name l at same_state e)
+  none_born name l none e = none_called d name l none (located b.supply (words_on (disks.reading k.parts.store.disk)) k.parts.cells d now name l at same_state e)
 
   pub born_before : 41 + length (atlas_in (now 0).cell).loci ≤ 41 + length d.loci
-  born_before = (let within = loci_within b.supply (words_on (reading k.parts.store.disk)) k.parts.cells d now at same_state in omega (arith, within))
+  born_before = (let within = loci_within b.supply (words_on (disks.reading k.parts.store.disk)) k.parts.cells d now at same_state in omega (arith, within))

@@ -1,18 +1,18 @@
 -- What stopped a run: over a longer stretch, in a look, and in the births.
 use Rattle.std.proofs.Common.{◌≡◌, inl, inr, ℕ, ◌<◌, ◌≤◌, refl, sym, subst, arith}
 use Rattle.std.specs.Prelude.{Err, IsErrOf, ⊤}
-use Rattle.disk_trait.specs.Counts.{Rose}
-use Rattle.disk_trait.specs.Image.{Image}
-use Rattle.disk_trait.specs.declared.disk.NoBlocks.{NoBlocks}
-use Rattle.kernel_core.specs.hop_model.Scripts.{Script}
-use Rattle.kernel_core.specs.commit_laws.Parts.{Parts}
-use Rattle.kernel_core.specs.commit_laws.Stabilising.{AreTooFew}
+use Rattle.edge_disk.specs.declared.disk.Disk.{Ghosts}
+use Rattle.edge_disk.specs.Counts.{Rose}
+use Rattle.edge_disk.specs.declared.disk.NoBlocks.{NoBlocks}
+use Rattle.script_types.specs.model_kernel.Scripts.{Script}
+use Rattle.kernel_core.specs.kernel_commit_facts.Parts.{Parts}
+use Rattle.kernel_core.specs.kernel_commit_facts.Stabilising.{AreTooFew}
 use Rattle.kernel_core.specs.kernel_commits.Stops.{IsCause}
 use Rattle.kernel_core.specs.kernel_commits.declared.stopping.Stopped.{Stopped}
 use Rattle.kernel_core.specs.kernel_commits.declared.stopping.Stopped.TheVariants.{Failed, TooFew}
-use Rattle.kernel_core.specs.core_laws.Bearing.{IsShortBehind}
-use Rattle.kernel_core.specs.core_laws.Looking.{StopsLook}
-use Rattle.disk_trait.proofs.Ticks.{Rose-before}
+use Rattle.kernel_core.specs.kernel_core_facts.Bearing.{IsShortBehind}
+use Rattle.kernel_core.specs.kernel_core_facts.Looking.{StopsLook}
+use Rattle.edge_disk.proofs.Ticks.{Rose-before}
 
 -- the cause of a part of a stretch is one of the whole
 pub cause_from : {D : Type 0} (faults : D → ℕ) (old mid new : Parts D) (why : Stopped) → faults old.store.disk ≤ faults mid.store.disk → faults mid.store.disk ≤ faults new.store.disk
@@ -24,11 +24,11 @@ fewer_by : (need free : ℕ) (n : NoBlocks) → n ≡ record { need = need; free
 fewer_by need free n is lt = subst (λ (m : NoBlocks). m.free < m.need) (sym is) lt
 
 -- what stopped a look
-pub look_cause : {D : Type 0} (tells : Type 0) (clock faults : D → ℕ) (reading : D → Image) (may_leave : D → Image → Type 0) (left_since : D → ℕ → Image → Type 0) (me : ℕ) (old new : Parts D) (T : Type 0) (why : Stopped)
-    → StopsLook tells clock faults reading may_leave left_since me old new why → (IsErrOf {T = T} (Err why) Failed → Rose (faults old.store.disk) (faults new.store.disk)) → IsCause faults old new why
-look_cause tells clock faults reading may_leave left_since me old new T (TooFew n) (inl at_step) rose = fewer_by 1 0 n at_step.cause.1 (omega arith)
-look_cause tells clock faults reading may_leave left_since me old new T (TooFew n) (inr behind) rose = behind.leaves.cause
-look_cause tells clock faults reading may_leave left_since me old new T Failed stops rose = rose refl
+pub look_cause : {D : Type 0} (disks : Ghosts D) (me : ℕ) (old new : Parts D) (T : Type 0) (why : Stopped)
+    → StopsLook disks me old new why → (IsErrOf {T = T} (Err why) Failed → Rose (disks.faults old.store.disk) (disks.faults new.store.disk)) → IsCause disks.faults old new why
+look_cause disks me old new T (TooFew n) (inl at_step) rose = fewer_by 1 0 n at_step.cause.1 (omega arith)
+look_cause disks me old new T (TooFew n) (inr behind) rose = behind.leaves.cause
+look_cause disks me old new T Failed stops rose = rose refl
 
 -- and what stopped the births
 pub births_cause : {D : Type 0} (faults : D → ℕ) (script : Script) (old new : Parts D) (why : Stopped) → IsShortBehind script (Err why) old new

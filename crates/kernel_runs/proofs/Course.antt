@@ -1,22 +1,22 @@
 -- The steps of a run along its course, over its entries.
 use Rattle.std.proofs.Common.{◌≡◌, ℕ, ◌+◌, ◌≤◌, List, [], ◌∷◌, ◌++◌, length, refl, sym, ap, subst, ◌∙◌, arith}
 use Rattle.std.proofs.lemmas.List.{append-nil, length-append}
-use Rattle.hop_base.specs.declared.histories.Entry.{Entry}
-use Rattle.kernel_core.specs.hop_model.Histories.{Policy, Run, run_after, start_run}
-use Rattle.kernel_core.specs.hop_model.Scripts.{Script}
-use Rattle.kernel_core.specs.hop_model.Serial.{all_loci, looks_of}
-use Rattle.kernel_core.specs.hop_model.Soundness.{IsSound}
-use Rattle.kernel_core.specs.hop_model.State.{KernelState, Supply}
-use Rattle.kernel_core.specs.hop_model.Steps.{atlas_in}
-use Rattle.kernel_core.specs.script_form.Rules.{IsScript}
-use Rattle.kernel_core.specs.fitting_births.Fitting.{Fits}
-use Rattle.kernel_core.specs.serial_runs.Serial.{IsStopped, IsWhole, look, looks, opening}
-use Rattle.kernel_core.proofs.serial_runs_lemmas.Histories.{looks_append}
-use Rattle.kernel_core.specs.serial_turns.Turns.{ComeFirst, HasLooked, IsStoppedIn, opened}
-use Rattle.kernel_core.proofs.serial_turns_lemmas.Course.{rounded}
-use Rattle.kernel_core.proofs.serial_turns_lemmas.Stops.{stopped_looks}
-use Rattle.kernel_core.proofs.serial_turns_lemmas.Whereabouts.{looked_more, round_idle, whole}
-use Rattle.kernel_core.proofs.hop_model_lemmas.StableCuts.{run_append}
+use Rattle.base_types.specs.declared.histories.Entry.{Entry}
+use Rattle.script_types.specs.model_kernel.Histories.{Policy, Run, run_after, start_run}
+use Rattle.script_types.specs.model_kernel.Scripts.{Script}
+use Rattle.script_types.specs.model_kernel.Serial.{all_loci, looks_of}
+use Rattle.script_types.specs.model_kernel.Soundness.{IsSound}
+use Rattle.script_types.specs.model_kernel.State.{KernelState, Supply}
+use Rattle.script_types.specs.model_kernel.Steps.{atlas_in}
+use Rattle.script_types.specs.Rules.{IsScript}
+use Rattle.kernel_core.specs.model_births.Fitting.{Fits}
+use Rattle.kernel_core.specs.model_serial.Serial.{IsStopped, IsWhole, look, looks, opening}
+use Rattle.kernel_core.proofs.model_serial_lemmas.Histories.{looks_append}
+use Rattle.kernel_core.specs.model_serial_turns.Turns.{ComeFirst, HasLooked, IsStoppedIn, opened}
+use Rattle.kernel_core.proofs.model_serial_turns_lemmas.Course.{rounded}
+use Rattle.kernel_core.proofs.model_serial_turns_lemmas.Stops.{stopped_looks}
+use Rattle.kernel_core.proofs.model_serial_turns_lemmas.Whereabouts.{looked_more, round_idle, whole}
+use Rattle.script_types.proofs.model_kernel_lemmas.StableCuts.{run_append}
 
 module _ (s : Supply) (policy : Policy) (script : Script) (w : KernelState) where
   abbrev run : List Entry → Run

@@ -1,16 +1,16 @@
 -- What takes a kernel along the serial history of its run, and how a run ends.
 use Rattle.std.specs.Prelude.{◌≡◌, ℕ, ◌+◌, ◌*◌, List, length, Some, OnErr, OnOk, Result}
-use Rattle.disk_trait.specs.Image.{Image}
-use Rattle.disk_trait.specs.declared.disk.NoBlocks.{NoBlocks}
-use Rattle.kernel_core.specs.hop_model.Histories.{Policy, Run}
-use Rattle.kernel_core.specs.hop_model.State.{AtlasState, Supply}
-use Rattle.kernel_core.specs.hop_model.Steps.{atlas_in}
-use Rattle.kernel_core.specs.fitting_births.Fitting.{Fits}
-use Rattle.kernel_core.specs.serial_runs.Serial.{IsStopped, IsWhole}
-use Rattle.kernel_core.specs.serial_turns.Turns.{HasLooked, opened}
-use Rattle.kernel_core.specs.kernel_model.Beginnings.{Beginning}
-use Rattle.kernel_core.specs.core_laws.Kernels.{Held, Lives}
-use Rattle.kernel_core.specs.commit_laws.Lacking.{IsDue, LacksBlocks}
+use Rattle.edge_disk.specs.declared.disk.Disk.{Ghosts}
+use Rattle.edge_disk.specs.declared.disk.NoBlocks.{NoBlocks}
+use Rattle.script_types.specs.model_kernel.Histories.{Policy, Run}
+use Rattle.script_types.specs.model_kernel.State.{AtlasState, Supply}
+use Rattle.script_types.specs.model_kernel.Steps.{atlas_in}
+use Rattle.kernel_core.specs.model_births.Fitting.{Fits}
+use Rattle.kernel_core.specs.model_serial.Serial.{IsStopped, IsWhole}
+use Rattle.kernel_core.specs.model_serial_turns.Turns.{HasLooked, opened}
+use Rattle.kernel_core.specs.kernel_invariant.Beginnings.{Beginning}
+use Rattle.kernel_core.specs.kernel_core_facts.Kernels.{Held, Lives}
+use Rattle.kernel_core.specs.kernel_commit_facts.Lacking.{IsDue, LacksBlocks}
 use Rattle.kernel_core.specs.kernel_commits.declared.stopping.Stopped.{Stopped}
 use Rattle.kernel_core.specs.kernel_commits.declared.stopping.Stopped.TheVariants.{TooFew}
 
@@ -32,23 +32,23 @@ end_of a = 41 + length a.loci
 abbrev pub look_most : ℕ
 look_most = 1 + 64 * 1556
 
-module _ {D : Type 0} (tells : Type 0) (clock faults : D → ℕ) (reading : D → Image) (may_leave : D → Image → Type 0) (left_since : D → ℕ → Image → Type 0) where
+module _ {D : Type 0} (disks : Ghosts D) where
   -- THE KERNEL IS ALONG ITS COURSE: live, and behind a look at each of these loci
   pub record RunsAlong (b : Beginning) (looked : List ℕ) (k : Held D) : Type 0 where
-    pub lives : Lives tells clock faults reading may_leave left_since b k
+    pub lives : Lives disks b k
     pub looks : HasLooked b.supply b.policy b.script b.state looked k.parts.noted.entries
 
   -- THE RUN WAS STOPPED: the kernel is live, and has noted the serial history up to where it stopped. It was short of blocks only where the
   -- image lacks them, and where the next entry of the serial history is a record, or a step that reads or writes a word
   pub record HasStopped (b : Beginning) (k : Held D) : Type 0 where
-    pub lives : Lives tells clock faults reading may_leave left_since b k
+    pub lives : Lives disks b k
     pub part : IsStopped b.supply b.policy b.script b.state k.parts.noted.entries
     pub enough : (n : NoBlocks) → k.stop ≡ Some (TooFew n) → LacksBlocks b k.parts
     pub due : (n : NoBlocks) → k.stop ≡ Some (TooFew n) → IsDue b k.parts.noted.entries
 
   -- THE RUN IS OVER: the kernel is live, and has noted the whole serial history
   pub record IsOver (b : Beginning) (k : Held D) : Type 0 where
-    pub lives : Lives tells clock faults reading may_leave left_since b k
+    pub lives : Lives disks b k
     pub whole : IsWhole b.supply b.policy b.script b.state k.parts.noted.entries
 
   -- WHAT LOOKS LEAVE: the kernel is behind them all, or was stopped in one

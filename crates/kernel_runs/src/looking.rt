@@ -1,19 +1,19 @@
 // Looks at loci, by number and by name.
 ghost use Rattle.std.specs.Prelude.{◌≡◌, ◌+◌, ◌*◌, ◌++◌, ◌∷◌, [], ℕ, List, None, Some, Err, IfErr, IfSome, OnOk, length, map, slice_get, string_bytes};
-ghost use Rattle.kernel_core.specs.hop_model.Scripts.{locus_named};
-ghost use Rattle.kernel_core.specs.hop_model.Serial.{looks_of};
-ghost use Rattle.kernel_core.specs.hop_model.Steps.{atlas_in};
-ghost use Rattle.kernel_core.specs.commit_laws.Pieces.{CountsWithin};
+ghost use Rattle.script_types.specs.model_kernel.Scripts.{locus_named};
+ghost use Rattle.script_types.specs.model_kernel.Serial.{looks_of};
+ghost use Rattle.script_types.specs.model_kernel.Steps.{atlas_in};
+ghost use Rattle.kernel_core.specs.kernel_commit_facts.Pieces.{CountsWithin};
 ghost use Rattle.kernel_core.specs.kernel_commits.Stops.{IsCause};
-ghost use Rattle.kernel_core.specs.core_laws.Kernels.{Lives, StaysClean};
-ghost use Rattle.kernel_core.specs.kernel_model.Beginnings.{Beginning, run_of};
+ghost use Rattle.kernel_core.specs.kernel_core_facts.Kernels.{Lives, StaysClean};
+ghost use Rattle.kernel_core.specs.kernel_invariant.Beginnings.{Beginning, run_of};
 ghost use Rattle.kernel_runs.specs.Running.{IsRunBy, RunsAlong, TakesOn, look_most, opened_in};
-ghost use Rattle.kernel_core.specs.serial_turns.Turns.{ComeFirst, before_pick};
+ghost use Rattle.kernel_core.specs.model_serial_turns.Turns.{ComeFirst, before_pick};
 
-use disk_trait::Disk;
-use hop_base::{Entity, Kind};
+use base_types::{Entity, Kind};
+use edge_disk::Disk;
+use edge_managers::{Gate, Policy, Supplier};
 use kernel_core::{Kernel, Stopped};
-use manager_gate::{Gate, Policy, Supplier};
 
 /// One look at the locus with this number.
 pub(crate) fn look_at<D: Disk, S: Supplier, P: Policy>(
@@ -23,16 +23,16 @@ pub(crate) fn look_at<D: Disk, S: Supplier, P: Policy>(
 ) -> Result<(), Stopped>
     requires keeps { S.keeps gate.now.supply }
     requires wishes { P.keeps gate.now.policy }
-    requires clean { StaysClean D.tells D.reading (S.word gate.now.supply) kernel.old }
+    requires clean { StaysClean D.Disk (S.word gate.now.supply) kernel.old }
     requires going { kernel.old.stop ≡ None }
     ensures stops { IfErr result (λ why. kernel.new.stop ≡ Some why) }
     ensures goes { OnOk result (kernel.new.stop ≡ None) }
     ensures caused { IfErr result (IsCause D.faults kernel.old.parts kernel.new.parts) }
-    ensures clean { StaysClean D.tells D.reading (S.word gate.now.supply) kernel.new }
-    ensures counts { CountsWithin D.clock D.faults (look_most) kernel.old.parts.store kernel.new.parts.store }
+    ensures clean { StaysClean D.Disk (S.word gate.now.supply) kernel.new }
+    ensures counts { CountsWithin D.Disk (look_most) kernel.old.parts.store kernel.new.parts.store }
     ensures run { D.tells → (b : Beginning) (looked : List ℕ) → IsRunBy (S.word gate.now.supply) (P.wish gate.now.policy) b
-        → ComeFirst b.script (opened_in b) (looked ++ locus ∷ []) → RunsAlong D.tells D.clock D.faults D.reading D.may_leave D.left_since b looked kernel.old
-        → TakesOn D.tells D.clock D.faults D.reading D.may_leave D.left_since b (looked ++ locus ∷ []) result kernel.new }
+        → ComeFirst b.script (opened_in b) (looked ++ locus ∷ []) → RunsAlong D.Disk b looked kernel.old
+        → TakesOn D.Disk b (looked ++ locus ∷ []) result kernel.new }
 {
     match kernel.step(locus, gate) {
         Ok(_) => Ok(()),
@@ -42,7 +42,7 @@ pub(crate) fn look_at<D: Disk, S: Supplier, P: Policy>(
 
 /// The locus of a name, if it has one.
 fn locus_called<D: Disk>(kernel: &Kernel<D>, name: &str) -> Option<Entity>
-    ensures { D.tells → (b : Beginning) (l : ℕ) → Lives D.tells D.clock D.faults D.reading D.may_leave D.left_since b kernel.now
+    ensures { D.tells → (b : Beginning) (l : ℕ) → Lives D.Disk b kernel.now
         → locus_named (atlas_in ((run_of b kernel.now.parts.noted.entries).state 0).cell) name.now ≡ Some l → result ≡ Some l }
 {
     let atlas = kernel.atlas();
@@ -60,17 +60,17 @@ fn look_for<D: Disk, S: Supplier, P: Policy>(
 ) -> Result<(), Stopped>
     requires keeps { S.keeps gate.now.supply }
     requires wishes { P.keeps gate.now.policy }
-    requires clean { StaysClean D.tells D.reading (S.word gate.now.supply) kernel.old }
+    requires clean { StaysClean D.Disk (S.word gate.now.supply) kernel.old }
     requires going { kernel.old.stop ≡ None }
     ensures stops { IfErr result (λ why. kernel.new.stop ≡ Some why) }
     ensures goes { OnOk result (kernel.new.stop ≡ None) }
     ensures caused { IfErr result (IsCause D.faults kernel.old.parts kernel.new.parts) }
-    ensures clean { StaysClean D.tells D.reading (S.word gate.now.supply) kernel.new }
-    ensures counts { CountsWithin D.clock D.faults (look_most) kernel.old.parts.store kernel.new.parts.store }
+    ensures clean { StaysClean D.Disk (S.word gate.now.supply) kernel.new }
+    ensures counts { CountsWithin D.Disk (look_most) kernel.old.parts.store kernel.new.parts.store }
     ensures run { D.tells → (b : Beginning) (i : ℕ) → IsRunBy (S.word gate.now.supply) (P.wish gate.now.policy) b
         → slice_get b.script.order i ≡ Some name.now
-        → RunsAlong D.tells D.clock D.faults D.reading D.may_leave D.left_since b (before_pick b.script (opened_in b) i) kernel.old
-        → TakesOn D.tells D.clock D.faults D.reading D.may_leave D.left_since b (before_pick b.script (opened_in b) (i + 1)) result kernel.new }
+        → RunsAlong D.Disk b (before_pick b.script (opened_in b) i) kernel.old
+        → TakesOn D.Disk b (before_pick b.script (opened_in b) (i + 1)) result kernel.new }
 {
     match locus_called(kernel, name) {
         Some(locus) => look_at(kernel, locus, gate),
@@ -86,17 +86,17 @@ fn look_for_all<D: Disk, S: Supplier, P: Policy>(
 ) -> Result<(), Stopped>
     requires keeps { S.keeps gate.now.supply }
     requires wishes { P.keeps gate.now.policy }
-    requires clean { StaysClean D.tells D.reading (S.word gate.now.supply) kernel.old }
+    requires clean { StaysClean D.Disk (S.word gate.now.supply) kernel.old }
     requires going { kernel.old.stop ≡ None }
     ensures stops { IfErr result (λ why. kernel.new.stop ≡ Some why) }
     ensures goes { OnOk result (kernel.new.stop ≡ None) }
     ensures caused { IfErr result (IsCause D.faults kernel.old.parts kernel.new.parts) }
-    ensures clean { StaysClean D.tells D.reading (S.word gate.now.supply) kernel.new }
-    ensures counts { CountsWithin D.clock D.faults (length order.now * look_most) kernel.old.parts.store kernel.new.parts.store }
+    ensures clean { StaysClean D.Disk (S.word gate.now.supply) kernel.new }
+    ensures counts { CountsWithin D.Disk (length order.now * look_most) kernel.old.parts.store kernel.new.parts.store }
     ensures run { D.tells → (b : Beginning) → IsRunBy (S.word gate.now.supply) (P.wish gate.now.policy) b
         → b.script.order ≡ map string_bytes order.now
-        → RunsAlong D.tells D.clock D.faults D.reading D.may_leave D.left_since b [] kernel.old
-        → TakesOn D.tells D.clock D.faults D.reading D.may_leave D.left_since b (looks_of b.script (opened_in b) 0) result kernel.new }
+        → RunsAlong D.Disk b [] kernel.old
+        → TakesOn D.Disk b (looks_of b.script (opened_in b) 0) result kernel.new }
 {
     for i in 0..order.len() {
         if let Err(why) = look_for(kernel, order[i].as_str(), gate) {
@@ -117,17 +117,17 @@ pub fn play<D: Disk, S: Supplier, P: Policy>(
 ) -> Result<(), Stopped>
     requires keeps { S.keeps gate.now.supply }
     requires wishes { P.keeps gate.now.policy }
-    requires clean { StaysClean D.tells D.reading (S.word gate.now.supply) kernel.old }
+    requires clean { StaysClean D.Disk (S.word gate.now.supply) kernel.old }
     ensures was_stopped { IfSome kernel.old.stop (λ why. (result ≡ Err why) × (kernel.new ≡ kernel.old)) }
     ensures stops { IfErr result (λ why. kernel.new.stop ≡ Some why) }
     ensures goes { OnOk result (kernel.new.stop ≡ None) }
     ensures caused { kernel.old.stop ≡ None → IfErr result (IsCause D.faults kernel.old.parts kernel.new.parts) }
-    ensures clean { StaysClean D.tells D.reading (S.word gate.now.supply) kernel.new }
-    ensures counts { CountsWithin D.clock D.faults (length order.now * look_most) kernel.old.parts.store kernel.new.parts.store }
+    ensures clean { StaysClean D.Disk (S.word gate.now.supply) kernel.new }
+    ensures counts { CountsWithin D.Disk (length order.now * look_most) kernel.old.parts.store kernel.new.parts.store }
     ensures run { D.tells → kernel.old.stop ≡ None → (b : Beginning) → IsRunBy (S.word gate.now.supply) (P.wish gate.now.policy) b
         → b.script.order ≡ map string_bytes order.now
-        → RunsAlong D.tells D.clock D.faults D.reading D.may_leave D.left_since b [] kernel.old
-        → TakesOn D.tells D.clock D.faults D.reading D.may_leave D.left_since b (looks_of b.script (opened_in b) 0) result kernel.new }
+        → RunsAlong D.Disk b [] kernel.old
+        → TakesOn D.Disk b (looks_of b.script (opened_in b) 0) result kernel.new }
 {
     if let Some(why) = kernel.stopped() {
         return Err(why);

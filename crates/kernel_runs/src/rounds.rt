@@ -1,26 +1,26 @@
 // Rounds over all loci, until one makes no entry.
 ghost use Rattle.std.specs.Prelude.{◌≡◌, ◌+◌, ◌*◌, ◌^◌, ◌≤◌, ℕ, None, Some, Err, IfErr, IfSome, OnOk, length};
-ghost use Rattle.kernel_core.specs.hop_model.Serial.{looks_of};
-ghost use Rattle.kernel_core.specs.hop_model.Steps.{atlas_in};
-ghost use Rattle.kernel_core.specs.commit_laws.Pieces.{CountsWithin};
+ghost use Rattle.script_types.specs.model_kernel.Serial.{looks_of};
+ghost use Rattle.script_types.specs.model_kernel.Steps.{atlas_in};
+ghost use Rattle.kernel_core.specs.kernel_commit_facts.Pieces.{CountsWithin};
 ghost use Rattle.kernel_core.specs.kernel_commits.Stops.{IsCause};
-ghost use Rattle.kernel_core.specs.core_laws.Kernels.{Lives, StaysClean};
-ghost use Rattle.kernel_core.specs.kernel_model.Beginnings.{Beginning, run_of};
+ghost use Rattle.kernel_core.specs.kernel_core_facts.Kernels.{Lives, StaysClean};
+ghost use Rattle.kernel_core.specs.kernel_invariant.Beginnings.{Beginning, run_of};
 ghost use Rattle.kernel_runs.specs.Running.{EndsRun, IsRunBy, RunsAlong, TakesOn, end_of, look_most, opened_in};
 
 use crate::looking::look_at;
-use disk_trait::Disk;
-use hop_base::{Entity, Kind};
+use base_types::{Entity, FIRST_LOCUS, Kind};
+use edge_disk::Disk;
+use edge_managers::{Gate, Policy, Supplier};
 use kernel_core::{Kernel, Stopped};
-use manager_gate::{Gate, Policy, Supplier};
 
 /// The number behind the last locus that is born.
 fn loci_end<D: Disk>(kernel: &Kernel<D>) -> u8
     ensures few { result ≤ 64 }
-    ensures past { D.tells → (b : Beginning) → Lives D.tells D.clock D.faults D.reading D.may_leave D.left_since b kernel.now
+    ensures past { D.tells → (b : Beginning) → Lives D.Disk b kernel.now
         → end_of (atlas_in ((run_of b kernel.now.parts.noted.entries).state 0).cell) ≤ result }
 {
-    41 + kernel.atlas().named(Kind::Locus)
+    FIRST_LOCUS + kernel.atlas().named(Kind::Locus)
 }
 
 /// A round: one look at each locus that is born, by number, and so at one that is born in the round, too.
@@ -30,18 +30,18 @@ fn round<D: Disk, S: Supplier, P: Policy>(
 ) -> Result<(), Stopped>
     requires keeps { S.keeps gate.now.supply }
     requires wishes { P.keeps gate.now.policy }
-    requires clean { StaysClean D.tells D.reading (S.word gate.now.supply) kernel.old }
+    requires clean { StaysClean D.Disk (S.word gate.now.supply) kernel.old }
     requires going { kernel.old.stop ≡ None }
     ensures stops { IfErr result (λ why. kernel.new.stop ≡ Some why) }
     ensures goes { OnOk result (kernel.new.stop ≡ None) }
     ensures caused { IfErr result (IsCause D.faults kernel.old.parts kernel.new.parts) }
-    ensures clean { StaysClean D.tells D.reading (S.word gate.now.supply) kernel.new }
-    ensures counts { CountsWithin D.clock D.faults (23 * look_most) kernel.old.parts.store kernel.new.parts.store }
+    ensures clean { StaysClean D.Disk (S.word gate.now.supply) kernel.new }
+    ensures counts { CountsWithin D.Disk (23 * look_most) kernel.old.parts.store kernel.new.parts.store }
     ensures run { D.tells → (b : Beginning) (made : ℕ) → IsRunBy (S.word gate.now.supply) (P.wish gate.now.policy) b
-        → RunsAlong D.tells D.clock D.faults D.reading D.may_leave D.left_since b (looks_of b.script (opened_in b) made) kernel.old
-        → TakesOn D.tells D.clock D.faults D.reading D.may_leave D.left_since b (looks_of b.script (opened_in b) (made + 1)) result kernel.new }
+        → RunsAlong D.Disk b (looks_of b.script (opened_in b) made) kernel.old
+        → TakesOn D.Disk b (looks_of b.script (opened_in b) (made + 1)) result kernel.new }
 {
-    let mut number = 41;
+    let mut number = FIRST_LOCUS;
     while number < loci_end(kernel) {
         if let Err(why) = look_at(kernel, Entity::of(number), gate) {
             return Err(why);
@@ -66,16 +66,16 @@ fn go_round<D: Disk, S: Supplier, P: Policy>(
 ) -> Result<(), Stopped>
     requires keeps { S.keeps gate.now.supply }
     requires wishes { P.keeps gate.now.policy }
-    requires clean { StaysClean D.tells D.reading (S.word gate.now.supply) kernel.old }
+    requires clean { StaysClean D.Disk (S.word gate.now.supply) kernel.old }
     requires going { kernel.old.stop ≡ None }
     ensures stops { IfErr result (λ why. kernel.new.stop ≡ Some why) }
     ensures goes { OnOk result (kernel.new.stop ≡ None) }
     ensures caused { IfErr result (IsCause D.faults kernel.old.parts kernel.new.parts) }
-    ensures clean { StaysClean D.tells D.reading (S.word gate.now.supply) kernel.new }
-    ensures counts { CountsWithin D.clock D.faults ((2 ^ 22 + 1) * (23 * look_most)) kernel.old.parts.store kernel.new.parts.store }
+    ensures clean { StaysClean D.Disk (S.word gate.now.supply) kernel.new }
+    ensures counts { CountsWithin D.Disk ((2 ^ 22 + 1) * (23 * look_most)) kernel.old.parts.store kernel.new.parts.store }
     ensures run { D.tells → (b : Beginning) (made : ℕ) → IsRunBy (S.word gate.now.supply) (P.wish gate.now.policy) b
-        → RunsAlong D.tells D.clock D.faults D.reading D.may_leave D.left_since b (looks_of b.script (opened_in b) made) kernel.old
-        → EndsRun D.tells D.clock D.faults D.reading D.may_leave D.left_since b result kernel.new }
+        → RunsAlong D.Disk b (looks_of b.script (opened_in b) made) kernel.old
+        → EndsRun D.Disk b result kernel.new }
 {
     loop {
         let noted = entries_noted(kernel);
@@ -99,16 +99,16 @@ pub fn finish<D: Disk, S: Supplier, P: Policy>(
 ) -> Result<(), Stopped>
     requires keeps { S.keeps gate.now.supply }
     requires wishes { P.keeps gate.now.policy }
-    requires clean { StaysClean D.tells D.reading (S.word gate.now.supply) kernel.old }
+    requires clean { StaysClean D.Disk (S.word gate.now.supply) kernel.old }
     ensures was_stopped { IfSome kernel.old.stop (λ why. (result ≡ Err why) × (kernel.new ≡ kernel.old)) }
     ensures stops { IfErr result (λ why. kernel.new.stop ≡ Some why) }
     ensures goes { OnOk result (kernel.new.stop ≡ None) }
     ensures caused { kernel.old.stop ≡ None → IfErr result (IsCause D.faults kernel.old.parts kernel.new.parts) }
-    ensures clean { StaysClean D.tells D.reading (S.word gate.now.supply) kernel.new }
-    ensures counts { CountsWithin D.clock D.faults ((2 ^ 22 + 1) * (23 * look_most)) kernel.old.parts.store kernel.new.parts.store }
+    ensures clean { StaysClean D.Disk (S.word gate.now.supply) kernel.new }
+    ensures counts { CountsWithin D.Disk ((2 ^ 22 + 1) * (23 * look_most)) kernel.old.parts.store kernel.new.parts.store }
     ensures run { D.tells → kernel.old.stop ≡ None → (b : Beginning) (made : ℕ) → IsRunBy (S.word gate.now.supply) (P.wish gate.now.policy) b
-        → RunsAlong D.tells D.clock D.faults D.reading D.may_leave D.left_since b (looks_of b.script (opened_in b) made) kernel.old
-        → EndsRun D.tells D.clock D.faults D.reading D.may_leave D.left_since b result kernel.new }
+        → RunsAlong D.Disk b (looks_of b.script (opened_in b) made) kernel.old
+        → EndsRun D.Disk b result kernel.new }
 {
     if let Some(why) = kernel.stopped() {
         return Err(why);

@@ -1,22 +1,22 @@
 // A whole run of a script.
 ghost use Rattle.std.specs.Prelude.{◌≡◌, ◌+◌, ◌*◌, ◌^◌, [], None, Some, Err, IfErr, IfSome, OnOk, length};
-ghost use Rattle.kernel_core.specs.fitting_births.Fitting.{Fits};
-ghost use Rattle.kernel_core.specs.commit_laws.Pieces.{CountsWithin};
+ghost use Rattle.kernel_core.specs.model_births.Fitting.{Fits};
+ghost use Rattle.kernel_core.specs.kernel_commit_facts.Pieces.{CountsWithin};
 ghost use Rattle.kernel_core.specs.kernel_commits.Stops.{IsCause};
-ghost use Rattle.kernel_core.specs.core_laws.Kernels.{Lives, StaysClean};
+ghost use Rattle.kernel_core.specs.kernel_core_facts.Kernels.{Lives, StaysClean};
 ghost use Rattle.kernel_core.specs.kernel_laws.Opening.{empty_script, with_script};
-ghost use Rattle.kernel_core.specs.kernel_model.Beginnings.{Beginning};
+ghost use Rattle.kernel_core.specs.kernel_invariant.Beginnings.{Beginning};
 ghost use Rattle.kernel_runs.specs.Running.{EndsRun, look_most};
-ghost use Rattle.kernel_core.specs.script_form.Rules.{IsScript};
-ghost use Rattle.kernel_core.specs.script_form.Scripts.{tables_of};
+ghost use Rattle.script_types.specs.Rules.{IsScript};
+ghost use Rattle.script_types.specs.Scripts.{tables_of};
 ghost use Rattle.kernel_core.specs.table_births.Births.{atlas_state_in};
 
 use crate::looking::play;
 use crate::rounds::finish;
-use disk_trait::Disk;
+use edge_disk::Disk;
+use edge_managers::{Gate, Policy, Supplier};
 use kernel_core::{Kernel, Stopped};
-use manager_gate::{Gate, Policy, Supplier};
-use script_form::Script;
+use script_types::Script;
 
 /// Runs a script: its births, the picks of its order, and rounds over the loci until none can step. A kernel that has stopped does
 /// nothing, and tells why it stopped; one that a fault meets stops there.
@@ -29,7 +29,7 @@ pub fn run<D: Disk, S: Supplier, P: Policy>(
 ) -> Result<(), Stopped>
     requires keeps { S.keeps gate.now.supply }
     requires wishes { P.keeps gate.now.policy }
-    requires clean { StaysClean D.tells D.reading (S.word gate.now.supply) kernel.old }
+    requires clean { StaysClean D.Disk (S.word gate.now.supply) kernel.old }
     requires allowed { IsScript (tables_of script.now) }
     requires fits { Fits (atlas_state_in kernel.old.parts.cells) (tables_of script.now) }
     requires first { kernel.old.parts.noted.entries ≡ [] }
@@ -37,12 +37,12 @@ pub fn run<D: Disk, S: Supplier, P: Policy>(
     ensures stops { IfErr result (λ why. kernel.new.stop ≡ Some why) }
     ensures goes { OnOk result (kernel.new.stop ≡ None) }
     ensures caused { kernel.old.stop ≡ None → IfErr result (IsCause D.faults kernel.old.parts kernel.new.parts) }
-    ensures clean { StaysClean D.tells D.reading (S.word gate.now.supply) kernel.new }
-    ensures counts { CountsWithin D.clock D.faults (64 * 1556 + length script.now.order.items * look_most + (2 ^ 22 + 1) * (23 * look_most)) kernel.old.parts.store kernel.new.parts.store }
+    ensures clean { StaysClean D.Disk (S.word gate.now.supply) kernel.new }
+    ensures counts { CountsWithin D.Disk (64 * 1556 + length script.now.order.items * look_most + (2 ^ 22 + 1) * (23 * look_most)) kernel.old.parts.store kernel.new.parts.store }
     ensures run { D.tells → kernel.old.stop ≡ None → (b : Beginning) → b.supply ≡ S.word gate.now.supply → b.policy ≡ P.wish gate.now.policy
         → b.script ≡ tables_of script.now
-        → Lives D.tells D.clock D.faults D.reading D.may_leave D.left_since (with_script b (empty_script b.script.steps)) kernel.old
-        → EndsRun D.tells D.clock D.faults D.reading D.may_leave D.left_since b result kernel.new }
+        → Lives D.Disk (with_script b (empty_script b.script.steps)) kernel.old
+        → EndsRun D.Disk b result kernel.new }
 {
     if let Err(why) = kernel.births(script) {
         return Err(why);

@@ -2,25 +2,25 @@
 use Rattle.std.proofs.Common.{◌≡◌, ◌≢◌, ◌⊎◌, ◌↔◌, inl, inr, ℕ, zero, suc, ◌<◌, ◌≤◌, Bool, true, false, List, [], ◌∷◌, slice_get, slice_index, Option, Some, None, refl, sym, ap, subst, ◌∙◌, arith}
 use Rattle.std.specs.Prelude.{Contains}
 use Rattle.std.proofs.lemmas.Bool.{cases_eq}
-use Rattle.disk_trait.specs.Image.{Image}
-use Rattle.kernel_records.specs.image_form.Bodies.{blob_blocks}
-use Rattle.kernel_records.specs.image_form.Layout.{pool_at}
-use Rattle.kernel_laws.specs.store_model.Books.{Books, Logged, kept_in, kept_names, names}
-use Rattle.kernel_laws.specs.store_model.Owning.{AreOwned, NamesPage}
-use Rattle.kernel_records.specs.store_laws.State.{State, books}
-use Rattle.kernel_records.specs.fault_paging.declared.paged.PagedMemory.{PagedMemory}
-use Rattle.kernel_records.specs.fault_paging.Calls.{IsOfTable, Keeps}
-use Rattle.kernel_records.specs.kernel_cells.declared.cells.Cell.{Cell}
-use Rattle.kernel_records.specs.kernel_cells.declared.cells.Part.{Part}
-use Rattle.kernel_records.specs.kernel_cells.declared.cells.Part.TheVariants as part
-use Rattle.cell_table.specs.beside_steps.Besides.{memory_of}
-use Rattle.cell_table.specs.Tables.{HasNews, IsOrderly, blocks_by, memory_at, tables_in}
-use Rattle.cell_table.specs.Lending.{Lends}
-use Rattle.kernel_laws.proofs.kernel_model_lemmas.Apart.{page_names}
+use Rattle.edge_disk.specs.declared.disk.Disk.{Ghosts}
+use Rattle.kernel_laws.specs.image_facts.Bodies.{blob_blocks}
+use Rattle.kernel_laws.specs.image_facts.Layout.{pool_at}
+use Rattle.kernel_laws.specs.store_books.Books.{Books, Logged, kept_in, kept_names, names}
+use Rattle.kernel_laws.specs.store_books.Owning.{AreOwned, NamesPage}
+use Rattle.kernel_records.specs.store_facts.State.{State, books}
+use Rattle.kernel_records.specs.page_memory.declared.paged.PagedMemory.{PagedMemory}
+use Rattle.kernel_records.specs.page_memory.Calls.{IsOfTable, Keeps}
+use Rattle.kernel_records.specs.cell_states.declared.cells.Cell.{Cell}
+use Rattle.kernel_records.specs.cell_states.declared.cells.Part.{Part}
+use Rattle.kernel_records.specs.cell_states.declared.cells.Part.TheVariants as part
+use Rattle.table_laws.specs.cell_calls.Besides.{memory_of}
+use Rattle.table_laws.specs.Tables.{HasNews, IsOrderly, blocks_by, memory_at, tables_in}
+use Rattle.table_laws.specs.Lending.{Lends}
+use Rattle.kernel_laws.proofs.kernel_invariant_lemmas.Apart.{page_names}
 use Rattle.kernel_records.specs.Flushing.{Flushes}
 use Rattle.kernel_views.proofs.Keeping.{blob_named, kept_named}
 use Rattle.kernel_views.proofs.Others.{held_at}
-use Rattle.kernel_laws.proofs.kernel_model_lemmas.store_model_lemmas.Owners.{place_in}
+use Rattle.kernel_laws.proofs.store_books_lemmas.Owners.{place_in}
 
 -- LISTS
 
@@ -40,12 +40,12 @@ module _ (cs cs' : List Cell) (c d : Cell) (same : d.clock.entity ≡ c.clock.en
 
 -- PAGES ARE WRITTEN
 
-module _ {D : Type 0} (tells : Type 0) (reading : D → Image) (words : State D → ℕ → List ℕ) (old flushed : State D) where
+module _ {D : Type 0} (disks : Ghosts D) (words : State D → ℕ → List ℕ) (old flushed : State D) where
   abbrev Flushed : Part → Part → Type 0
-  Flushed p q = Flushes tells (λ (st : State D). (books st).held) (λ (st : State D). kept_names (books st)) words p q old flushed
+  Flushed p q = Flushes disks.tells (λ (st : State D). (books st).held) (λ (st : State D). kept_names (books st)) words p q old flushed
 
   abbrev KeepsOf : PagedMemory → PagedMemory → Type 0
-  KeepsOf m m' = Keeps tells (λ (st : State D). (books st).held) (λ (st : State D). kept_names (books st)) words m m' old flushed
+  KeepsOf m m' = Keeps disks.tells (λ (st : State D). (books st).held) (λ (st : State D). kept_names (books st)) words m m' old flushed
 
   -- how the blocks of a part's memory go on
   pub record Goes (o o' : Option PagedMemory) : Type 0 where

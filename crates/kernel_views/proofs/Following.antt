@@ -2,22 +2,22 @@
 use Rattle.std.proofs.Common.{◌≡◌, ℕ, ◌+◌, ◌<◌, Bool, true, false, ◌||◌, cond, List, [], ◌∷◌, slice_get, count_by, Option, Some, None, refl, sym, ap, ◌∙◌, arith}
 use Rattle.std.specs.List.{list_any}
 use Rattle.std.proofs.lemmas.List.Sums.{sum_by-cons}
-use Rattle.disk_trait.specs.Image.{Image}
-use Rattle.hop_base.specs.declared.histories.Entry.{Entry}
-use Rattle.kernel_records.specs.hop_model.Histories.{Run, start_run, version_of, writes}
-use Rattle.kernel_records.specs.hop_model.State.{KernelState}
-use Rattle.kernel_records.proofs.hop_model_lemmas.LegalRuns.{state_after as state_run}
-use Rattle.kernel_records.proofs.run_laws_lemmas.Wishes.{steps_stay}
-use Rattle.kernel_records.proofs.run_laws_lemmas.Tellings.{versions_told}
-use Rattle.kernel_records.specs.kernel_cells.declared.cells.Cell.{Cell}
-use Rattle.kernel_records.specs.kernel_cells.Wishes.{HasWish}
-use Rattle.kernel_records.specs.wish_laws.Founded.{IsFoundedIn}
-use Rattle.kernel_records.proofs.wish_laws_lemmas.Founding.{founded}
-use Rattle.cell_table.specs.Tables.{AreNumbered, entity_in}
-use Rattle.kernel_records.specs.record_laws.Cells.{words_on}
-use Rattle.kernel_laws.specs.store_model.Books.{Books}
-use Rattle.kernel_laws.specs.kernel_model.Beginnings.{Beginning, IsLegal, run_of}
-use Rattle.kernel_laws.specs.kernel_model.Live.{Follows, Stopped}
+use Rattle.edge_disk.specs.Image.{Image}
+use Rattle.base_types.specs.declared.histories.Entry.{Entry}
+use Rattle.kernel_records.specs.model_kernel.Histories.{Run, start_run, version_of, writes}
+use Rattle.kernel_records.specs.model_kernel.State.{KernelState}
+use Rattle.kernel_records.proofs.model_kernel_lemmas.LegalRuns.{state_after as state_run}
+use Rattle.kernel_records.proofs.model_run_laws_lemmas.Wishes.{steps_stay}
+use Rattle.kernel_records.proofs.model_run_laws_lemmas.Tellings.{versions_told}
+use Rattle.kernel_records.specs.cell_states.declared.cells.Cell.{Cell}
+use Rattle.kernel_records.specs.cell_states.Wishes.{HasWish}
+use Rattle.kernel_records.specs.cell_wish_laws.Founded.{IsFoundedIn}
+use Rattle.kernel_records.proofs.cell_wish_laws_lemmas.Founding.{founded}
+use Rattle.table_laws.specs.Tables.{AreNumbered, entity_in}
+use Rattle.kernel_records.specs.kernel_record_facts.Cells.{words_on}
+use Rattle.kernel_laws.specs.store_books.Books.{Books}
+use Rattle.kernel_laws.specs.kernel_invariant.Beginnings.{Beginning, IsLegal, run_of}
+use Rattle.kernel_laws.specs.kernel_invariant.Live.{Follows, Stopped}
 use Rattle.kernel_views.specs.Views.{FollowsRun, asked_at, by_step_at, left_at, newest_at, view_in}
 
 -- an entity without an open mark and a newest record at no version

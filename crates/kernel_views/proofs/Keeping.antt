@@ -3,15 +3,15 @@ use Rattle.std.proofs.Common.{◌≡◌, ℕ, ◌<◌, ◌≤◌, ◌==◌, ◌|
 use Rattle.std.specs.Prelude.{Contains}
 use Rattle.std.proofs.lemmas.Bool.{cases_lt, false≢true, or_left, or_right}
 use Rattle.std.specs.List.{AllByRecursion, concat, flat_map, list_any}
-use Rattle.disk_trait.specs.Image.{Image, block_at}
-use Rattle.kernel_records.specs.image_form.Bodies.{blob_blocks, blob_in}
-use Rattle.kernel_records.specs.image_form.Layout.{pool_at}
+use Rattle.edge_disk.specs.Image.{Image, block_at}
+use Rattle.kernel_laws.specs.image_facts.Bodies.{blob_blocks, blob_in}
+use Rattle.kernel_laws.specs.image_facts.Layout.{pool_at}
 use Rattle.kernel_laws.specs.image_meaning.Stores.{Kept, Page}
-use Rattle.kernel_laws.proofs.kernel_model_lemmas.Apart.{any_passes}
-use Rattle.kernel_laws.proofs.kernel_model_lemmas.Naming.{behind, first_in}
-use Rattle.kernel_laws.specs.store_model.Books.{AreApartFrom, Books, IsApart, IsBeforePool, Logged, is_used, kept_for, kept_in, kept_names, kept_of, names, page_for}
-use Rattle.kernel_laws.specs.store_model.Owning.{NamesPage}
-use Rattle.kernel_records.specs.store_laws.Committed.{SameUsed}
+use Rattle.kernel_laws.proofs.kernel_invariant_lemmas.Apart.{any_passes}
+use Rattle.kernel_laws.proofs.kernel_invariant_lemmas.Naming.{behind, first_in}
+use Rattle.kernel_laws.specs.store_books.Books.{AreApartFrom, Books, IsApart, IsBeforePool, Logged, is_used, kept_for, kept_in, kept_names, kept_of, names, page_for}
+use Rattle.kernel_laws.specs.store_books.Owning.{NamesPage}
+use Rattle.kernel_records.specs.store_facts.Committed.{SameUsed}
 
 -- A BLOCK OF A KEPT RECORD IS IN USE
 

@@ -2,35 +2,35 @@
 use Rattle.std.proofs.Common.{◌≡◌, ◌≢◌, ◌⊎◌, inl, inr, ℕ, suc, ◌≤◌, true, ◌&&◌, nat_le, List, [], ◌∷◌, slice_get, slice_index, Option, Some, None, refl, sym, ap, subst, ◌∙◌}
 use Rattle.std.specs.List.{list_all}
 use Rattle.std.proofs.lemmas.Bool.{le-leb}
-use Rattle.disk_trait.specs.Image.{Image}
-use Rattle.hop_base.specs.declared.histories.Entry.{Entry}
-use Rattle.kernel_records.specs.hop_model.Histories.{Run, version_of}
-use Rattle.kernel_records.specs.hop_model.State.{KernelState, Supply}
-use Rattle.kernel_records.specs.image_form.Layout.{last_number}
-use Rattle.kernel_records.specs.store_laws.Putting.{are_small}
-use Rattle.kernel_records.specs.store_laws.State.{State, books}
-use Rattle.kernel_records.specs.event_clocks.declared.Clock.{Clock}
-use Rattle.vector_stamps.specs.Stamps.{component}
-use Rattle.kernel_records.specs.kernel_cells.declared.cells.Cell.{Cell}
-use Rattle.kernel_records.specs.kernel_cells.declared.cells.Part.{Part}
-use Rattle.kernel_records.specs.kernel_cells.declared.cells.Part.TheVariants as part
-use Rattle.kernel_records.specs.kernel_cells.Cells.{HasCell}
-use Rattle.kernel_records.specs.fault_paging.declared.paged.PagedMemory.{PagedMemory}
-use Rattle.kernel_records.specs.fault_paging.Words.{AreCleanTrue}
-use Rattle.cell_table.specs.beside_steps.Besides.{memory_of}
-use Rattle.cell_table.specs.Tables.{AreClean, AreNumbered, IsOrderly, blocks_by, entity_by, entity_in, memory_at, state_in}
-use Rattle.cell_table.proofs.Having.{state_has}
-use Rattle.kernel_records.specs.record_laws.Cells.{IsCleanIn, IsSpellable, table_of, words_on}
-use Rattle.kernel_records.proofs.record_laws_lemmas.Telling.{no_blocks}
+use Rattle.base_types.specs.declared.histories.Entry.{Entry}
+use Rattle.kernel_records.specs.model_kernel.Histories.{Run, version_of}
+use Rattle.kernel_records.specs.model_kernel.State.{KernelState, Supply}
+use Rattle.kernel_laws.specs.image_facts.Layout.{last_number}
+use Rattle.kernel_records.specs.store_facts.Putting.{are_small}
+use Rattle.kernel_records.specs.store_facts.State.{State, books}
+use Rattle.kernel_records.specs.cell_clocks.declared.Clock.{Clock}
+use Rattle.data_stamps.specs.Stamps.{component}
+use Rattle.kernel_records.specs.cell_states.declared.cells.Cell.{Cell}
+use Rattle.kernel_records.specs.cell_states.declared.cells.Part.{Part}
+use Rattle.kernel_records.specs.cell_states.declared.cells.Part.TheVariants as part
+use Rattle.kernel_records.specs.cell_states.Cells.{HasCell}
+use Rattle.kernel_records.specs.page_memory.declared.paged.PagedMemory.{PagedMemory}
+use Rattle.kernel_records.specs.page_memory.Words.{AreCleanTrue}
+use Rattle.table_laws.specs.cell_calls.Besides.{memory_of}
+use Rattle.table_laws.specs.Tables.{AreClean, AreNumbered, IsOrderly, blocks_by, entity_by, entity_in, memory_at, state_in}
+use Rattle.table_laws.proofs.Having.{state_has}
+use Rattle.kernel_records.specs.kernel_record_facts.Cells.{IsCleanIn, IsSpellable, table_of, words_on}
+use Rattle.kernel_records.proofs.kernel_record_facts_lemmas.Telling.{no_blocks}
 use Rattle.kernel_records.specs.Committing.{LeavesCell}
-use Rattle.cell_table.specs.Lending.{Lends}
-use Rattle.kernel_laws.specs.kernel_model.Beginnings.{Beginning, run_of}
+use Rattle.table_laws.specs.Lending.{Lends}
+use Rattle.kernel_laws.specs.kernel_invariant.Beginnings.{Beginning, run_of}
 use Rattle.kernel_views.specs.Views.{FollowsRun}
 use Rattle.kernel_views.specs.Snaps.{Stands}
 use Rattle.kernel_views.proofs.Flushing.{spot}
 use Rattle.kernel_views.proofs.Following.{cells_follow}
 use Rattle.kernel_views.proofs.Others.{other_clean, other_part}
 use Rattle.std.proofs.lemmas.Option.{same_Some}
+use Rattle.edge_disk.specs.declared.disk.Disk.{Ghosts}
 
 -- clean pages, of a part and of its memory
 pub clean_part : (s : _) (words : ℕ → List ℕ) (p : Part) → ((m : PagedMemory) → memory_of p ≡ Some m → AreCleanTrue s words m) → IsCleanIn s words p
@@ -58,38 +58,38 @@ pub small_both : (version : ℕ) (stamp : List ℕ) → version ≤ last_number 
 small_both version stamp low each = ap (λ t. t && list_all (λ n. nat_le n last_number) stamp) (le-leb version last_number low) ∙ all_small stamp each
 
 -- THE PAGES STAY CLEAN behind a commit of one cell, whether it was made or not
-module _ {D : Type 0} (tells : Type 0) (clock : D → ℕ) (reading : D → Image) (may_leave : D → Image → Type 0) (left_since : D → ℕ → Image → Type 0) (told : tells)
+module _ {D : Type 0} (disks : Ghosts D) (told : disks.tells)
     (s : Supply) (cs cs' : List Cell) (c d : Cell) (old new : State D) (ord : IsOrderly (books old).held cs) (lends : Lends cs cs' (c ∷ []) (d ∷ []))
-    (l : LeavesCell tells clock reading may_leave left_since c d old new) (clean : AreClean s (words_on (reading old.disk)) cs) where
-  pub clean_cell : IsCleanIn s (words_on (reading old.disk)) c.part
-  clean_cell = clean_part s (words_on (reading old.disk)) c.part (λ m is. clean c.clock.entity m (ap memory_at lends.stood.0 ∙ is))
+    (l : LeavesCell disks c d old new) (clean : AreClean s (words_on (disks.reading old.disk)) cs) where
+  pub clean_cell : IsCleanIn s (words_on (disks.reading old.disk)) c.part
+  clean_cell = clean_part s (words_on (disks.reading old.disk)) c.part (λ m is. clean c.clock.entity m (ap memory_at lends.stood.0 ∙ is))
 
-  pub stay_clean : AreClean s (words_on (reading new.disk)) cs'
-  stay_clean y m is = elim (spot cs cs' c d (ap (λ (k : Clock). k.entity) l.same_clock) lends y) as (λ _. AreCleanTrue s (words_on (reading new.disk)) m) [
-    | inl p ↦ clean_memory s (words_on (reading new.disk)) d.part m (l.means told s clean_cell).1 (sym (ap memory_at p.1) ∙ is)
-    | inr p ↦ (let was = sym (ap memory_at p.1) ∙ is in other_clean tells clock reading may_leave left_since told s cs c.clock.entity c d old new ord lends.stood.0 l y m p.0 was (clean y m was))
+  pub stay_clean : AreClean s (words_on (disks.reading new.disk)) cs'
+  stay_clean y m is = elim (spot cs cs' c d (ap (λ (k : Clock). k.entity) l.same_clock) lends y) as (λ _. AreCleanTrue s (words_on (disks.reading new.disk)) m) [
+    | inl p ↦ clean_memory s (words_on (disks.reading new.disk)) d.part m (l.means told s clean_cell).1 (sym (ap memory_at p.1) ∙ is)
+    | inr p ↦ (let was = sym (ap memory_at p.1) ∙ is in other_clean disks told s cs c.clock.entity c d old new ord lends.stood.0 l y m p.0 was (clean y m was))
   ]
 
 -- WHAT IS LEFT, whether the commit was made or not
-pub record LeftCell {D : Type 0} (tells : Type 0) (clock faults : D → ℕ) (reading : D → Image) (may_leave : D → Image → Type 0) (left_since : D → ℕ → Image → Type 0)
+pub record LeftCell {D : Type 0} (disks : Ghosts D)
     (b : Beginning) (cs cs' : List Cell) (c d : Cell) (old new : State D) (es : List Entry) (marks : List ℕ) : Type 0 where
-  pub told : tells
-  pub stands : Stands tells clock faults reading may_leave left_since b cs old es marks
+  pub told : disks.tells
+  pub stands : Stands disks b cs old es marks
   pub lends : Lends cs cs' (c ∷ []) (d ∷ [])
   pub spellable : IsSpellable c
-  pub leaves : LeavesCell tells clock reading may_leave left_since c d old new
+  pub leaves : LeavesCell disks c d old new
 
-module _ {D : Type 0} {tells : Type 0} {clock faults : D → ℕ} {reading : D → Image} {may_leave : D → Image → Type 0} {left_since : D → ℕ → Image → Type 0}
+module _ {D : Type 0} {disks : Ghosts D}
     {b : Beginning} {cs cs' : List Cell} {c d : Cell} {old new : State D} {es : List Entry} {marks : List ℕ}
-    (q : LeftCell tells clock faults reading may_leave left_since b cs cs' c d old new es marks) where
+    (q : LeftCell disks b cs cs' c d old new es marks) where
   abbrev x : ℕ
   x = c.clock.entity
 
   abbrev words0 : ℕ → List ℕ
-  words0 = words_on (reading old.disk)
+  words0 = words_on (disks.reading old.disk)
 
   abbrev words2 : ℕ → List ℕ
-  words2 = words_on (reading new.disk)
+  words2 = words_on (disks.reading new.disk)
 
   abbrev r : Run
   r = run_of b es
@@ -101,13 +101,13 @@ module _ {D : Type 0} {tells : Type 0} {clock faults : D → ℕ} {reading : D �
   stood = q.lends.stood.0
 
   pub follows_before : FollowsRun b words0 cs es
-  follows_before = cells_follow b es (reading old.disk) cs numbered (books old) marks None q.stands.runs.follows
+  follows_before = cells_follow b es (disks.reading old.disk) cs numbered (books old) marks None q.stands.runs.follows
 
   pub had : HasCell b.supply words0 r.state c
   had = subst (λ (w : KernelState). HasCell b.supply words0 w c) follows_before.state (state_has b.supply words0 cs c stood)
 
   pub clean_before : IsCleanIn b.supply words0 c.part
-  clean_before = clean_cell tells clock reading may_leave left_since q.told b.supply cs cs' c d old new q.stands.orderly q.lends q.leaves q.stands.clean
+  clean_before = clean_cell disks q.told b.supply cs cs' c d old new q.stands.orderly q.lends q.leaves q.stands.clean
 
   pub kept_clock : d.clock ≡ c.clock
   kept_clock = q.leaves.same_clock
@@ -130,7 +130,7 @@ module _ {D : Type 0} {tells : Type 0} {clock faults : D → ℕ} {reading : D �
       by_cell : (y : ℕ) → y ≢ x → (o : Option Cell) → slice_get cs y ≡ o → entity_in b.supply words2 y o ≡ entity_in b.supply words0 y o
       by_cell y differs None is = refl
       by_cell y differs (Some a) is =
-          λ i. record { cell = other_part tells clock reading may_leave left_since q.told b.supply cs x c d old new q.stands.orderly stood q.leaves y a differs is i; version = a.clock.version; stamp = λ z. component a.clock.stamp z }
+          λ i. record { cell = other_part disks q.told b.supply cs x c d old new q.stands.orderly stood q.leaves y a differs is i; version = a.clock.version; stamp = λ z. component a.clock.stamp z }
 
   -- THE STATE IS THE SAME
   pub state_same : state_in b.supply words2 cs' ≡ r.state
@@ -149,4 +149,4 @@ module _ {D : Type 0} {tells : Type 0} {clock faults : D → ℕ} {reading : D �
   version_is = sym had.clock.version
 
   pub clean_after : AreClean b.supply words2 cs'
-  clean_after = stay_clean tells clock reading may_leave left_since q.told b.supply cs cs' c d old new q.stands.orderly q.lends q.leaves q.stands.clean
+  clean_after = stay_clean disks q.told b.supply cs cs' c d old new q.stands.orderly q.lends q.leaves q.stands.clean

@@ -1,9 +1,9 @@
 -- One entry more.
 use Rattle.std.proofs.Common.{◌≡◌, List, [], ◌∷◌, ◌++◌}
-use Rattle.hop_base.specs.declared.histories.Entry.{Entry}
-use Rattle.kernel_records.specs.hop_model.Histories.{IsLegalFrom, May, Run, goes_on, run_after, start_run}
-use Rattle.kernel_records.proofs.hop_model_lemmas.StableCuts.{run_append}
-use Rattle.kernel_laws.specs.kernel_model.Beginnings.{Beginning, run_of}
+use Rattle.base_types.specs.declared.histories.Entry.{Entry}
+use Rattle.kernel_records.specs.model_kernel.Histories.{IsLegalFrom, May, Run, goes_on, run_after, start_run}
+use Rattle.kernel_records.proofs.model_kernel_lemmas.StableCuts.{run_append}
+use Rattle.kernel_laws.specs.kernel_invariant.Beginnings.{Beginning, run_of}
 
 -- a legal run goes on by an entry that may follow
 pub legal_then : (b : Beginning) (r : Run) (es : List Entry) (e : Entry) → IsLegalFrom b.supply b.policy b.script r es → May b.supply b.policy b.script (run_after b.supply b.script r es) e

@@ -1,35 +1,35 @@
 -- The cells stay in order as the pages of one of them are written.
 use Rattle.std.proofs.Common.{◌≡◌, ◌≢◌, ◌⊎◌, inl, inr, ℕ, Bool, true, false, ◌==◌, if◌then◌else◌, List, [], ◌∷◌, slice_get, slice_index, Option, Some, None, refl, sym, ap, subst, ◌∙◌}
 use Rattle.std.proofs.lemmas.Bool.{cases_eq}
-use Rattle.disk_trait.specs.Image.{Image}
-use Rattle.kernel_records.specs.hop_model.State.{AtlasCell, ContainerCell, ContainerState, NotBorn, Supply, empty_state, no_atlas}
-use Rattle.kernel_records.specs.event_clocks.declared.Clock.{Clock}
-use Rattle.vector_stamps.specs.Stamps.{component}
-use Rattle.kernel_records.specs.locus_machine.declared.loci.Head.{Head}
-use Rattle.kernel_records.specs.store_laws.State.{State, books}
-use Rattle.kernel_laws.specs.store_model.Books.{kept_names}
-use Rattle.kernel_records.specs.fault_paging.declared.paged.PagedMemory.{PagedMemory}
-use Rattle.kernel_records.specs.fault_paging.Words.{block_at}
-use Rattle.kernel_records.specs.fault_paging.Calls.{IsOfTable}
-use Rattle.kernel_records.specs.kernel_cells.declared.cells.Cell.{Cell}
-use Rattle.kernel_records.specs.kernel_cells.declared.cells.Part.{Part}
-use Rattle.kernel_records.specs.kernel_cells.declared.cells.Part.TheVariants as part
-use Rattle.kernel_records.specs.kernel_cells.declared.cells.Storage.{Storage}
-use Rattle.kernel_records.specs.kernel_cells.Cells.{container_cell, part_of}
-use Rattle.cell_table.specs.beside_steps.Besides.{memory_of}
-use Rattle.cell_table.specs.cell_laws.Memories.{HasOwnMemory, IsOwn}
-use Rattle.kernel_records.specs.wish_laws.Founded.{IsFoundedCell}
-use Rattle.cell_table.specs.sound_states.States.{IsSoundState, IsSupplied}
-use Rattle.cell_table.specs.Lending.{Lends}
-use Rattle.cell_table.specs.Tables.{AreNumbered, HasKind, IsOrderly, blocks_by, entity_in, memory_at, state_in, tables_in}
-use Rattle.kernel_records.specs.record_laws.Cells.{IsSoundIn}
+use Rattle.kernel_records.specs.model_kernel.State.{AtlasCell, ContainerCell, ContainerState, NotBorn, Supply, empty_state, no_atlas}
+use Rattle.kernel_records.specs.cell_clocks.declared.Clock.{Clock}
+use Rattle.data_stamps.specs.Stamps.{component}
+use Rattle.kernel_records.specs.act_alone.declared.loci.Head.{Head}
+use Rattle.kernel_records.specs.store_facts.State.{State, books}
+use Rattle.kernel_laws.specs.store_books.Books.{kept_names}
+use Rattle.kernel_records.specs.page_memory.declared.paged.PagedMemory.{PagedMemory}
+use Rattle.kernel_records.specs.page_memory.Words.{block_at}
+use Rattle.kernel_records.specs.page_memory.Calls.{IsOfTable}
+use Rattle.kernel_records.specs.cell_states.declared.cells.Cell.{Cell}
+use Rattle.kernel_records.specs.cell_states.declared.cells.Part.{Part}
+use Rattle.kernel_records.specs.cell_states.declared.cells.Part.TheVariants as part
+use Rattle.kernel_records.specs.cell_states.declared.cells.Storage.{Storage}
+use Rattle.kernel_records.specs.cell_states.Cells.{container_cell, part_of}
+use Rattle.table_laws.specs.cell_calls.Besides.{memory_of}
+use Rattle.table_laws.specs.cell_blob_laws.Memories.{HasOwnMemory, IsOwn}
+use Rattle.kernel_records.specs.cell_wish_laws.Founded.{IsFoundedCell}
+use Rattle.table_laws.specs.model_sound_states.States.{IsSoundState, IsSupplied}
+use Rattle.table_laws.specs.Lending.{Lends}
+use Rattle.table_laws.specs.Tables.{AreNumbered, HasKind, IsOrderly, blocks_by, entity_in, memory_at, state_in, tables_in}
+use Rattle.kernel_records.specs.kernel_record_facts.Cells.{IsSoundIn}
 use Rattle.kernel_records.specs.Flushing.{Flushes}
-use Rattle.cell_table.proofs.Blocks.{seek}
-use Rattle.cell_table.proofs.Looked.{own_supplied}
-use Rattle.cell_table.proofs.WordsApart.{blank, sound_by_blank}
+use Rattle.table_laws.proofs.Blocks.{seek}
+use Rattle.table_laws.proofs.Looked.{own_supplied}
+use Rattle.table_laws.proofs.WordsApart.{blank, sound_by_blank}
 use Rattle.kernel_views.proofs.Flushing.{Goes, goes, spot}
 use Rattle.kernel_views.proofs.Others.{apart, held_at, own_table}
 use Rattle.std.proofs.lemmas.Option.{same_Some}
+use Rattle.edge_disk.specs.declared.disk.Disk.{Ghosts}
 
 -- THE PART MEANS the same but for its words
 
@@ -71,9 +71,9 @@ module _ {D : Type 0} (tells : Type 0) (words : State D → ℕ → List ℕ) (o
 
 -- THE TABLE IS IN ORDER
 
-module _ {D : Type 0} (tells : Type 0) (reading : D → Image) (words : State D → ℕ → List ℕ) (old flushed : State D) (cs cs' : List Cell) (c d : Cell)
+module _ {D : Type 0} (disks : Ghosts D) (words : State D → ℕ → List ℕ) (old flushed : State D) (cs cs' : List Cell) (c d : Cell)
     (clock : d.clock ≡ c.clock) (lends : Lends cs cs' (c ∷ []) (d ∷ [])) (founded : IsFoundedCell d)
-    (f : Flushes tells (λ (st : State D). (books st).held) (λ (st : State D). kept_names (books st)) words c.part d.part old flushed)
+    (f : Flushes disks.tells (λ (st : State D). (books st).held) (λ (st : State D). kept_names (books st)) words c.part d.part old flushed)
     (sound_table : IsSoundIn (books flushed).held d.part) (ord : IsOrderly (books old).held cs) where
   abbrev x : ℕ
   x = c.clock.entity
@@ -87,11 +87,11 @@ module _ {D : Type 0} (tells : Type 0) (reading : D → Image) (words : State D 
   at : slice_get cs x ≡ Some c
   at = lends.stood.0
 
-  g : Goes tells reading words old flushed (memory_of c.part) (memory_of d.part)
-  g = goes tells reading words old flushed c.part d.part f
+  g : Goes disks words old flushed (memory_of c.part) (memory_of d.part)
+  g = goes disks words old flushed c.part d.part f
 
   own_d : HasOwnMemory (books flushed).held d.part
-  own_d = own_stays tells words old flushed (books old).held c.part d.part f (ord.own x c at) sound_table
+  own_d = own_stays disks.tells words old flushed (books old).held c.part d.part f (ord.own x c at) sound_table
 
   each_cell : (P : ℕ → Cell → Type 0) → P x d → ((y : ℕ) (a : Cell) → y ≢ x → slice_get cs y ≡ Some a → P y a) → (y : ℕ) (a : Cell) → slice_get cs' y ≡ Some a → P y a
   each_cell P one rest y a is = elim (place y) as (λ _. P y a) [
@@ -136,7 +136,7 @@ module _ {D : Type 0} (tells : Type 0) (reading : D → Image) (words : State D 
   blank_same s ws y = elim (place y) as (λ _. blank (state_in s ws cs' y).cell ≡ blank (state_in s ws cs y).cell) [
     | inl p ↦
         ap (λ (o : Option Cell). blank (entity_in s ws y o).cell) p.1
-        ∙ (part_blank tells words old flushed s ws c.part d.part f ∙ sym (ap (λ (o : Option Cell). blank (entity_in s ws y o).cell) (ap (slice_get cs) p.0 ∙ at)))
+        ∙ (part_blank disks.tells words old flushed s ws c.part d.part f ∙ sym (ap (λ (o : Option Cell). blank (entity_in s ws y o).cell) (ap (slice_get cs) p.0 ∙ at)))
     | inr p ↦ ap (λ (o : Option Cell). blank (entity_in s ws y o).cell) p.1
   ]
 
@@ -236,7 +236,7 @@ module _ {D : Type 0} (tells : Type 0) (reading : D → Image) (words : State D 
     numbers = numbered;
     sound = sound';
     founded = each_cell (λ y a. IsFoundedCell a) founded (λ y a differs is. ord.founded y a is);
-    kinds = each_cell (λ y a. HasKind y a.part) (kind_stays tells words old flushed x c.part d.part f (ord.kinds x c at)) (λ y a differs is. ord.kinds y a is);
+    kinds = each_cell (λ y a. HasKind y a.part) (kind_stays disks.tells words old flushed x c.part d.part f (ord.kinds x c at)) (λ y a differs is. ord.kinds y a is);
     own = own_each;
     once = once';
     named = named_all;

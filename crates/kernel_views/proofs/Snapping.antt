@@ -1,39 +1,39 @@
 -- A commit of one cell takes a kernel on with its Snap.
 use Rattle.std.proofs.Common.{◌≡◌, inl, inr, ℕ, ◌+◌, ◌≤◌, ◌^◌, Bool, true, ◌&&◌, List, [], ◌∷◌, ◌++◌, length, slice_get, slice_index, Some, None, IfSome, refl, sym, ap, subst, ◌∙◌, arith}
-use Rattle.disk_trait.specs.Image.{Image}
-use Rattle.hop_base.specs.declared.histories.Entry.{Entry}
-use Rattle.hop_base.specs.declared.histories.Event.TheVariants.{Snap}
-use Rattle.kernel_records.specs.hop_model.Choices.{Commit}
-use Rattle.kernel_records.specs.hop_model.Histories.{MayCommit, Run, goes_on, mark, start_run}
-use Rattle.kernel_records.specs.hop_model.State.{KernelState}
-use Rattle.kernel_records.proofs.hop_model_lemmas.LegalRuns.{state_after as state_run}
-use Rattle.kernel_records.specs.image_form.Logs.{AreFitting}
-use Rattle.kernel_records.specs.image_blocks.Logs.{Place}
+use Rattle.edge_disk.specs.Image.{Image}
+use Rattle.base_types.specs.declared.histories.Entry.{Entry}
+use Rattle.base_types.specs.declared.histories.Event.TheVariants.{Snap}
+use Rattle.kernel_records.specs.model_kernel.Choices.{Commit}
+use Rattle.kernel_records.specs.model_kernel.Histories.{MayCommit, Run, goes_on, mark, start_run}
+use Rattle.kernel_records.specs.model_kernel.State.{KernelState}
+use Rattle.kernel_records.proofs.model_kernel_lemmas.LegalRuns.{state_after as state_run}
+use Rattle.kernel_laws.specs.image_facts.Logs.{AreFitting}
+use Rattle.kernel_laws.specs.image_blocks.Logs.{Place}
 use Rattle.kernel_laws.specs.image_meaning.Parts.{Spells}
-use Rattle.kernel_laws.specs.store_model.Books.{AreApartFrom, AreSmall, IsBeforePool, Logged, kept_for, kept_of, logged_recs, recs_in}
-use Rattle.kernel_laws.specs.store_model.Owning.{AreOwned}
-use Rattle.kernel_records.specs.store_laws.Putting.{are_small}
-use Rattle.kernel_records.specs.store_laws.State.{State, books}
-use Rattle.kernel_records.specs.event_clocks.declared.Clock.{Clock}
-use Rattle.vector_stamps.specs.Stamps.{component}
-use Rattle.kernel_records.specs.kernel_cells.declared.cells.Cell.{Cell}
-use Rattle.kernel_records.specs.kernel_cells.Wishes.{HasWish}
+use Rattle.kernel_laws.specs.store_books.Books.{AreApartFrom, AreSmall, IsBeforePool, Logged, kept_for, kept_of, logged_recs, recs_in}
+use Rattle.kernel_laws.specs.store_books.Owning.{AreOwned}
+use Rattle.kernel_records.specs.store_facts.Putting.{are_small}
+use Rattle.kernel_records.specs.store_facts.State.{State, books}
+use Rattle.kernel_records.specs.cell_clocks.declared.Clock.{Clock}
+use Rattle.data_stamps.specs.Stamps.{component}
+use Rattle.kernel_records.specs.cell_states.declared.cells.Cell.{Cell}
+use Rattle.kernel_records.specs.cell_states.Wishes.{HasWish}
 use Rattle.kernel_records.specs.cell_blobs.Blobs.{spelt_in}
-use Rattle.cell_table.specs.Tables.{AreClean, IsOrderly, tables_in}
-use Rattle.kernel_records.specs.record_laws.Cells.{table_of, words_on}
-use Rattle.kernel_records.specs.record_laws.Telling.{IsRecordOf}
+use Rattle.table_laws.specs.Tables.{AreClean, IsOrderly, tables_in}
+use Rattle.kernel_records.specs.kernel_record_facts.Cells.{table_of, words_on}
+use Rattle.kernel_records.specs.kernel_record_facts.Telling.{IsRecordOf}
 use Rattle.kernel_records.specs.Committing.{HasCommitted, HasPages, StoresKeptOrCell}
-use Rattle.kernel_laws.specs.kernel_model.Beginnings.{Beginning, IsLegal, completed, run_of}
-use Rattle.kernel_laws.specs.kernel_model.Left.{StoresNext}
-use Rattle.kernel_laws.specs.kernel_model.Live.{HoldsCommits}
-use Rattle.kernel_laws.specs.kernel_model.Records.{AreKeptRecords}
-use Rattle.kernel_laws.proofs.kernel_model_lemmas.Growing.{books_grow, fitting_narrow}
+use Rattle.kernel_laws.specs.kernel_invariant.Beginnings.{Beginning, IsLegal, completed, run_of}
+use Rattle.kernel_laws.specs.kernel_invariant.Left.{StoresNext}
+use Rattle.kernel_laws.specs.kernel_invariant.Live.{HoldsCommits}
+use Rattle.kernel_laws.specs.kernel_invariant.Records.{AreKeptRecords}
+use Rattle.kernel_laws.proofs.kernel_invariant_lemmas.Growing.{books_grow, fitting_narrow}
 use Rattle.kernel_laws.proofs.Going.{snap_commits, snap_sure}
 use Rattle.kernel_laws.proofs.Numbers.{epoch_small, stamp_small, version_small}
-use Rattle.kernel_records.proofs.kernel_room_lemmas.Owned.{owned_more}
-use Rattle.kernel_laws.proofs.kernel_model_lemmas.Stretches.{leaves_map}
+use Rattle.kernel_records.proofs.kernel_block_laws_lemmas.Owned.{owned_more}
+use Rattle.kernel_laws.proofs.kernel_invariant_lemmas.Stretches.{leaves_map}
 use Rattle.kernel_laws.specs.Going.{MadeSnap}
-use Rattle.kernel_records.proofs.wish_laws_lemmas.Recorded.{other_wish, snap_wish, state_stays}
+use Rattle.kernel_records.proofs.cell_wish_laws_lemmas.Recorded.{other_wish, snap_wish, state_stays}
 use Rattle.kernel_views.specs.Views.{FollowsRun, view_in}
 use Rattle.kernel_views.specs.Snaps.{CommitsOne}
 use Rattle.kernel_views.proofs.Following.{follows}
@@ -42,13 +42,14 @@ use Rattle.kernel_views.proofs.Legal.{legal_then, run_next}
 use Rattle.kernel_views.proofs.Leaving.{LeftCell, clean_after, clean_before, follows_before, had, kept_clock, kept_entity, numbered, numbered_after, place_of, small_both, state_same, stood, version_is}
 use Rattle.kernel_views.proofs.Storing.{IsNextEntry, hold, kept_record, next_commits, owned_by_pages, records0, same_books, stored, stores_next, stores_still, table_there}
 use Rattle.std.proofs.lemmas.Option.{same_Some}
+use Rattle.edge_disk.specs.declared.disk.Disk.{Ghosts}
 
-module _ {D : Type 0} {tells : Type 0} {clock faults : D → ℕ} {reading : D → Image} {may_leave : D → Image → Type 0} {left_since : D → ℕ → Image → Type 0}
+module _ {D : Type 0} {disks : Ghosts D}
     {b : Beginning} {cs cs' : List Cell} {c d : Cell} {old new : State D} {es : List Entry} {marks : List ℕ}
-    (q : LeftCell tells clock faults reading may_leave left_since b cs cs' c d old new es marks)
+    (q : LeftCell disks b cs cs' c d old new es marks)
     (sure : (run_of b es).tried ≡ None) (may : MayCommit b.policy (run_of b es) c.clock.entity)
-    (k : CommitsOne tells clock faults reading may_leave left_since cs cs' c d old new)
-    (ord_at : (fl : State D) → HasPages tells clock reading may_leave left_since c.part d.part old fl → IsOrderly (books fl).held cs') where
+    (k : CommitsOne disks cs cs' c d old new)
+    (ord_at : (fl : State D) → HasPages disks c.part d.part old fl → IsOrderly (books fl).held cs') where
   abbrev x : ℕ
   x = c.clock.entity
 
@@ -56,15 +57,15 @@ module _ {D : Type 0} {tells : Type 0} {clock faults : D → ℕ} {reading : D �
   e = mark Snap c.clock.entity c.clock.version
 
   abbrev words0 : ℕ → List ℕ
-  words0 = words_on (reading old.disk)
+  words0 = words_on (disks.reading old.disk)
 
   abbrev words2 : ℕ → List ℕ
-  words2 = words_on (reading new.disk)
+  words2 = words_on (disks.reading new.disk)
 
   abbrev r : Run
   r = run_of b es
 
-  abbrev h : HasCommitted tells clock reading may_leave left_since c d old new
+  abbrev h : HasCommitted disks c d old new
   h = k.committed
 
   next : run_of b (es ++ e ∷ []) ≡ goes_on b.supply b.script r e
@@ -102,7 +103,7 @@ module _ {D : Type 0} {tells : Type 0} {clock faults : D → ℕ} {reading : D �
   abbrev fl : State D
   fl = h.leaves.flushed
 
-  pages : HasPages tells clock reading may_leave left_since c.part d.part old fl
+  pages : HasPages disks c.part d.part old fl
   pages = h.leaves.pages
 
   ord' : IsOrderly (books fl).held cs'
@@ -137,7 +138,7 @@ module _ {D : Type 0} {tells : Type 0} {clock faults : D → ℕ} {reading : D �
   owned_fl : AreOwned (books fl) (tables_in cs')
   owned_fl = owned_by_pages q e entry fl pages h.settled h.spelt ord'
 
-  last_is : IsRecordOf (reading new.disk) d (kept_for (reading new.disk) l)
+  last_is : IsRecordOf (disks.reading new.disk) d (kept_for (disks.reading new.disk) l)
   last_is = record {
     entity = h.has.made.entity_is;
     version = h.has.made.version_is;
@@ -147,9 +148,9 @@ module _ {D : Type 0} {tells : Type 0} {clock faults : D → ℕ} {reading : D �
     pages = refl;
   }
 
-  same_now : kept_of (reading new.disk) (books fl) ≡ kept_of (reading fl.disk) (books fl)
-  same_now = kept_same (books fl) (reading fl.disk) (reading new.disk) (h.leaves.same_used q.told)
-      (blob_high (books fl) (reading fl.disk) (subst (AreApartFrom IsBeforePool) (sym (same_books q e entry fl pages h.settled h.spelt ord')) (stored q e entry).pool))
+  same_now : kept_of (disks.reading new.disk) (books fl) ≡ kept_of (disks.reading fl.disk) (books fl)
+  same_now = kept_same (books fl) (disks.reading fl.disk) (disks.reading new.disk) (h.leaves.same_used q.told)
+      (blob_high (books fl) (disks.reading fl.disk) (subst (AreApartFrom IsBeforePool) (sym (same_books q e entry fl pages h.settled h.spelt ord')) (stored q e entry).pool))
       (λ m n within named. (owned_fl.kept_pool m n within named).0)
 
   small_now : AreSmall (books new)
@@ -174,18 +175,18 @@ module _ {D : Type 0} {tells : Type 0} {clock faults : D → ℕ} {reading : D �
     count = h.has.made.same_count;
   })
 
-  records_now : AreKeptRecords b (es ++ e ∷ []) (completed b (es ++ e ∷ [])) (kept_of (reading new.disk) (books new))
+  records_now : AreKeptRecords b (es ++ e ∷ []) (completed b (es ++ e ∷ [])) (kept_of (disks.reading new.disk) (books new))
   records_now =
       let means = h.leaves.means q.told b.supply (clean_before q) in
-      subst (λ (z : List Commit). AreKeptRecords b (es ++ e ∷ []) z (kept_of (reading new.disk) (books new)))
-      (sym (sym (snap_sure b es e legal' refl) ∙ next_commits q e entry fl pages h.settled h.spelt ord' (reading new.disk) means (kept_for (reading new.disk) l) last_is))
-      (books_grow b (es ++ e ∷ []) (completed b es) (books fl) (reading new.disk) l
+      subst (λ (z : List Commit). AreKeptRecords b (es ++ e ∷ []) z (kept_of (disks.reading new.disk) (books new)))
+      (sym (sym (snap_sure b es e legal' refl) ∙ next_commits q e entry fl pages h.settled h.spelt ord' (disks.reading new.disk) means (kept_for (disks.reading new.disk) l) last_is))
+      (books_grow b (es ++ e ∷ []) (completed b es) (books fl) (disks.reading new.disk) l
       (subst (AreKeptRecords b (es ++ e ∷ []) (completed b es)) (sym same_now) (records0 q e entry fl pages h.settled h.spelt ord'))
-      (kept_record q e entry fl pages h.settled h.spelt ord' (reading new.disk) means (kept_for (reading new.disk) l) last_is)
+      (kept_record q e entry fl pages h.settled h.spelt ord' (disks.reading new.disk) means (kept_for (disks.reading new.disk) l) last_is)
       (fitting_narrow (books old).count (recs_in (books fl)) fit_before) (books new) h.has.made.log
       (fitting_narrow (books old).count (recs_in (books new)) fit_now))
 
-  holds_now : HoldsCommits b reading may_leave (view_in b.supply b.script.steps (reading new.disk) cs' (books new) (es ++ e ∷ []) (marks ++ (books new).begun ∷ []) None) new.disk
+  holds_now : HoldsCommits b disks (view_in b.supply b.script.steps (disks.reading new.disk) cs' (books new) (es ++ e ∷ []) (marks ++ (books new).begun ∷ []) None) new.disk
   holds_now = record {
     working = h.has.made.working;
     looked = h.has.made.same_found ∙ (pages.only.same_found ∙ (hold q e entry).looked);
@@ -196,26 +197,26 @@ module _ {D : Type 0} {tells : Type 0} {clock faults : D → ℕ} {reading : D �
     records = records_now;
   }
 
-  left_next : (image : Image) → StoresKeptOrCell tells clock reading may_leave left_since c d old image → StoresNext b es e (books old).count image
+  left_next : (image : Image) → StoresKeptOrCell disks c d old image → StoresNext b es e (books old).count image
   left_next image (inl s) = inl (stores_still q e entry image s)
   left_next image (inr s) = inr (stores_next q e entry s.flushed s.pages s.settled s.spelt (ord_at s.flushed s.pages) image s.more)
 
   -- THE KERNEL GOES ON
-  pub made_snap : MadeSnap b tells clock reading may_leave left_since (view_in b.supply b.script.steps (reading old.disk) cs (books old) es marks None)
-      (view_in b.supply b.script.steps (reading new.disk) cs' (books new) (es ++ e ∷ []) (marks ++ (books new).begun ∷ []) None) old.disk new.disk e
+  pub made_snap : MadeSnap b disks (view_in b.supply b.script.steps (disks.reading old.disk) cs (books old) es marks None)
+      (view_in b.supply b.script.steps (disks.reading new.disk) cs' (books new) (es ++ e ∷ []) (marks ++ (books new).begun ∷ []) None) old.disk new.disk e
   made_snap = record {
     was_going = refl;
     going = refl;
     history = refl;
     marks = refl;
     event = refl;
-    right = record { legal = legal'; follows = follows b (es ++ e ∷ []) (reading new.disk) cs' (numbered_after q) legal' follow' (books new) (marks ++ (books new).begun ∷ []) None };
-    left = λ _. leaves_map clock left_since old.disk new.disk (StoresKeptOrCell tells clock reading may_leave left_since c d old) (StoresNext b es e (books old).count) left_next k.left.moments;
+    right = record { legal = legal'; follows = follows b (es ++ e ∷ []) (disks.reading new.disk) cs' (numbered_after q) legal' follow' (books new) (marks ++ (books new).begun ∷ []) None };
+    left = λ _. leaves_map disks old.disk new.disk (StoresKeptOrCell disks c d old) (StoresNext b es e (books old).count) left_next k.left.moments;
     stored = λ _. holds_now;
     count = h.has.made.same_count ∙ pages.only.same_count;
     counts = k.left.counts.counts;
     few = (let few = k.left.counts.few in omega (arith, few));
   }
 
-  pub clean_on : AreClean b.supply (words_on (reading new.disk)) cs'
+  pub clean_on : AreClean b.supply (words_on (disks.reading new.disk)) cs'
   clean_on = clean_after q

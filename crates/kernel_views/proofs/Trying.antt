@@ -1,20 +1,20 @@
 -- A commit of one cell that failed stops a kernel with its Tried.
 use Rattle.std.proofs.Common.{◌≡◌, inl, inr, ℕ, List, [], ◌∷◌, ◌++◌, slice_get, Some, None, option_to_list, refl, sym, ap, subst, ◌∙◌}
-use Rattle.disk_trait.specs.Image.{Image}
-use Rattle.hop_base.specs.declared.histories.Entry.{Entry}
-use Rattle.hop_base.specs.declared.histories.Event.TheVariants.{Tried}
-use Rattle.kernel_records.specs.hop_model.Histories.{MayCommit, Run, commit_of as run_commit, mark, start_run}
-use Rattle.kernel_records.proofs.hop_model_lemmas.LegalRuns.{state_after as state_run}
-use Rattle.kernel_records.specs.store_laws.State.{State, books}
-use Rattle.kernel_records.specs.kernel_cells.declared.cells.Cell.{Cell}
-use Rattle.kernel_records.specs.kernel_cells.Wishes.{HasWish}
-use Rattle.cell_table.specs.Tables.{IsOrderly}
-use Rattle.kernel_records.specs.record_laws.Cells.{words_on}
+use Rattle.edge_disk.specs.Image.{Image}
+use Rattle.base_types.specs.declared.histories.Entry.{Entry}
+use Rattle.base_types.specs.declared.histories.Event.TheVariants.{Tried}
+use Rattle.kernel_records.specs.model_kernel.Histories.{MayCommit, Run, commit_of as run_commit, mark, start_run}
+use Rattle.kernel_records.proofs.model_kernel_lemmas.LegalRuns.{state_after as state_run}
+use Rattle.kernel_records.specs.store_facts.State.{State, books}
+use Rattle.kernel_records.specs.cell_states.declared.cells.Cell.{Cell}
+use Rattle.kernel_records.specs.cell_states.Wishes.{HasWish}
+use Rattle.table_laws.specs.Tables.{IsOrderly}
+use Rattle.kernel_records.specs.kernel_record_facts.Cells.{words_on}
 use Rattle.kernel_records.specs.Committing.{HasNotCommitted, HasPages, StoresKeptOrCell}
-use Rattle.kernel_laws.specs.kernel_model.Beginnings.{Beginning, IsLegal, run_of}
-use Rattle.kernel_laws.specs.kernel_model.Left.{StoresNext}
-use Rattle.kernel_laws.specs.kernel_model.Live.{Failed}
-use Rattle.kernel_laws.proofs.kernel_model_lemmas.Stretches.{leaves_map}
+use Rattle.kernel_laws.specs.kernel_invariant.Beginnings.{Beginning, IsLegal, run_of}
+use Rattle.kernel_laws.specs.kernel_invariant.Left.{StoresNext}
+use Rattle.kernel_laws.specs.kernel_invariant.Live.{Failed}
+use Rattle.kernel_laws.proofs.kernel_invariant_lemmas.Stretches.{leaves_map}
 use Rattle.kernel_laws.specs.Going.{StoppedAtCommit}
 use Rattle.kernel_views.specs.Views.{FollowsRun, view_in}
 use Rattle.kernel_views.specs.Snaps.{LeavesOne}
@@ -23,13 +23,14 @@ use Rattle.kernel_views.proofs.Legal.{legal_then, run_next}
 use Rattle.kernel_views.proofs.Leaving.{LeftCell, follows_before, numbered_after, place_of, state_same, stood, version_is}
 use Rattle.kernel_views.proofs.Storing.{IsNextEntry, stores_next, stores_still}
 use Rattle.std.proofs.lemmas.Option.{same_Some}
+use Rattle.edge_disk.specs.declared.disk.Disk.{Ghosts}
 
-module _ {D : Type 0} {tells : Type 0} {clock faults : D → ℕ} {reading : D → Image} {may_leave : D → Image → Type 0} {left_since : D → ℕ → Image → Type 0}
+module _ {D : Type 0} {disks : Ghosts D}
     {b : Beginning} {cs cs' : List Cell} {c d : Cell} {old new : State D} {es : List Entry} {marks : List ℕ}
-    (q : LeftCell tells clock faults reading may_leave left_since b cs cs' c d old new es marks)
+    (q : LeftCell disks b cs cs' c d old new es marks)
     (sure : (run_of b es).tried ≡ None) (may : MayCommit b.policy (run_of b es) c.clock.entity)
-    (k : LeavesOne tells clock faults reading may_leave left_since cs cs' c d old new) (h : HasNotCommitted tells clock reading may_leave left_since c d old new)
-    (ord_at : (fl : State D) → HasPages tells clock reading may_leave left_since c.part d.part old fl → IsOrderly (books fl).held cs') where
+    (k : LeavesOne disks cs cs' c d old new) (h : HasNotCommitted disks c d old new)
+    (ord_at : (fl : State D) → HasPages disks c.part d.part old fl → IsOrderly (books fl).held cs') where
   abbrev x : ℕ
   x = c.clock.entity
 
@@ -37,7 +38,7 @@ module _ {D : Type 0} {tells : Type 0} {clock faults : D → ℕ} {reading : D �
   e = mark Tried c.clock.entity c.clock.version
 
   abbrev words2 : ℕ → List ℕ
-  words2 = words_on (reading new.disk)
+  words2 = words_on (disks.reading new.disk)
 
   abbrev r : Run
   r = run_of b es
@@ -76,13 +77,13 @@ module _ {D : Type 0} {tells : Type 0} {clock faults : D → ℕ} {reading : D �
   follow' : FollowsRun b words2 cs' (es ++ e ∷ [])
   follow' = record { state = state_same q ∙ sym run_state; wishes = wish_at }
 
-  left_next : (image : Image) → StoresKeptOrCell tells clock reading may_leave left_since c d old image → StoresNext b es e (books old).count image
+  left_next : (image : Image) → StoresKeptOrCell disks c d old image → StoresNext b es e (books old).count image
   left_next image (inl s) = inl (stores_still q e entry image s)
   left_next image (inr s) = inr (stores_next q e entry s.flushed s.pages s.settled s.spelt (ord_at s.flushed s.pages) image s.more)
 
   -- THE KERNEL STOPS
-  pub stopped : StoppedAtCommit b tells clock reading may_leave left_since (view_in b.supply b.script.steps (reading old.disk) cs (books old) es marks None)
-      (view_in b.supply b.script.steps (reading new.disk) cs' (books new) (es ++ e ∷ []) marks (Some Failed)) old.disk new.disk e
+  pub stopped : StoppedAtCommit b disks (view_in b.supply b.script.steps (disks.reading old.disk) cs (books old) es marks None)
+      (view_in b.supply b.script.steps (disks.reading new.disk) cs' (books new) (es ++ e ∷ []) marks (Some Failed)) old.disk new.disk e
   stopped = record {
     was_going = refl;
     why = Failed;
@@ -90,7 +91,7 @@ module _ {D : Type 0} {tells : Type 0} {clock faults : D → ℕ} {reading : D �
     history = refl;
     marks = refl;
     event = refl;
-    right = record { legal = legal'; follows = follows b (es ++ e ∷ []) (reading new.disk) cs' (numbered_after q) legal' follow' (books new) marks (Some Failed) };
-    left = λ _. leaves_map clock left_since old.disk new.disk (StoresKeptOrCell tells clock reading may_leave left_since c d old) (StoresNext b es e (books old).count) left_next k.moments;
+    right = record { legal = legal'; follows = follows b (es ++ e ∷ []) (disks.reading new.disk) cs' (numbered_after q) legal' follow' (books new) marks (Some Failed) };
+    left = λ _. leaves_map disks old.disk new.disk (StoresKeptOrCell disks c d old) (StoresNext b es e (books old).count) left_next k.moments;
     counts = k.counts.counts;
   }

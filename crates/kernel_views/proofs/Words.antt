@@ -1,16 +1,16 @@
 -- A memory and a part mean what they did where the blocks of its pages have the same words.
 use Rattle.std.proofs.Common.{◌≡◌, ◌≢◌, ℕ, ◌/◌, ◌%◌, ◌==◌, inl, inr, if◌then◌else◌, List, slice_index, Option, Some, None, refl, sym, ap, subst, ◌∙◌}
 use Rattle.std.proofs.lemmas.Bool.{cases_eq}
-use Rattle.kernel_records.specs.hop_model.State.{ContainerCell, Supply}
-use Rattle.frame_table.specs.FrameTable.{Resident, page_at}
-use Rattle.kernel_records.specs.locus_machine.declared.loci.Head.{Head}
-use Rattle.kernel_records.specs.locus_machine.Loci.{container_with}
-use Rattle.kernel_records.specs.fault_paging.declared.paged.PagedMemory.{PagedMemory}
-use Rattle.kernel_records.specs.fault_paging.Words.{AreCleanTrue, block_at, stored_word, word_by, words_of}
-use Rattle.kernel_records.specs.kernel_cells.declared.cells.Part.{Part}
-use Rattle.kernel_records.specs.kernel_cells.declared.cells.Part.TheVariants as part
-use Rattle.kernel_records.specs.kernel_cells.Cells.{container_cell, part_of}
-use Rattle.cell_table.specs.beside_steps.Besides.{memory_of}
+use Rattle.kernel_records.specs.model_kernel.State.{ContainerCell, Supply}
+use Rattle.data_frames.specs.FrameTable.{Resident, page_at}
+use Rattle.kernel_records.specs.act_alone.declared.loci.Head.{Head}
+use Rattle.kernel_records.specs.act_alone.Loci.{container_with}
+use Rattle.kernel_records.specs.page_memory.declared.paged.PagedMemory.{PagedMemory}
+use Rattle.kernel_records.specs.page_memory.Words.{AreCleanTrue, block_at, stored_word, word_by, words_of}
+use Rattle.kernel_records.specs.cell_states.declared.cells.Part.{Part}
+use Rattle.kernel_records.specs.cell_states.declared.cells.Part.TheVariants as part
+use Rattle.kernel_records.specs.cell_states.Cells.{container_cell, part_of}
+use Rattle.table_laws.specs.cell_calls.Besides.{memory_of}
 
 module _ (s : Supply) (words words' : ℕ → List ℕ) where
   -- the blocks of the memory's pages have the same words

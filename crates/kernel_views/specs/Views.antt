@@ -1,15 +1,15 @@
 -- A kernel as its cells and its store make it.
 use Rattle.std.specs.Prelude.{◌≡◌, ℕ, Bool, false, List, Option, Some, None, slice_get}
-use Rattle.disk_trait.specs.Image.{Image}
-use Rattle.hop_base.specs.declared.histories.Entry.{Entry}
-use Rattle.kernel_records.specs.hop_model.State.{Supply}
-use Rattle.kernel_records.specs.kernel_cells.declared.cells.Cell.{Cell}
-use Rattle.cell_table.specs.Tables.{HasTableWishes, state_in, tables_in}
-use Rattle.kernel_records.specs.record_laws.Cells.{words_on}
-use Rattle.kernel_laws.specs.store_model.Books.{Books}
-use Rattle.kernel_records.specs.store_laws.State.{State, books}
-use Rattle.kernel_laws.specs.kernel_model.Beginnings.{Beginning, run_of}
-use Rattle.kernel_laws.specs.kernel_model.Live.{KernelView, Stopped}
+use Rattle.edge_disk.specs.Image.{Image}
+use Rattle.base_types.specs.declared.histories.Entry.{Entry}
+use Rattle.kernel_records.specs.model_kernel.State.{Supply}
+use Rattle.kernel_records.specs.cell_states.declared.cells.Cell.{Cell}
+use Rattle.table_laws.specs.Tables.{HasTableWishes, state_in, tables_in}
+use Rattle.kernel_records.specs.kernel_record_facts.Cells.{words_on}
+use Rattle.kernel_laws.specs.store_books.Books.{Books}
+use Rattle.kernel_records.specs.store_facts.State.{State, books}
+use Rattle.kernel_laws.specs.kernel_invariant.Beginnings.{Beginning, run_of}
+use Rattle.kernel_laws.specs.kernel_invariant.Live.{KernelView, Stopped}
 
 abbrev pub newest_at : Option Cell → ℕ
 newest_at (Some c) = c.wish.newest

@@ -1,13 +1,13 @@
 -- What the checks say together.
 use Rattle.std.proofs.Common.{◌≡◌, ◌==◌, ℕ, Bool, if◌then◌else◌, List, [], ◌∷◌, length, Option, Some, None, sym, ap, subst, ◌∙◌}
 use Rattle.std.specs.Prelude.{Result, Ok, Err, IsErrOf, MatchOption, MatchResult}
-use Rattle.disk_trait.specs.Image.{Image, block_at}
-use Rattle.image_blocks.specs.hop_model.Words.{first}
+use Rattle.edge_disk.specs.Image.{Image, block_at}
+use Rattle.image_blocks.specs.model_kernel.Words.{first}
 use Rattle.image_blocks.specs.Checks.{Bad, check_1, check_2, check_3, in_block, records_fault}
-use Rattle.image_blocks.specs.image_form.Checks.{superblock_fault}
+use Rattle.image_blocks.specs.image_facts.Checks.{superblock_fault}
 use Rattle.log_reading.specs.declared.faults.ReadingFault.{ReadingFault}
 use Rattle.log_reading.specs.declared.faults.ReadingFault.TheVariants.{Foreign}
-use Rattle.image_blocks.proofs.image_form_lemmas.Firsts.{ne_test}
+use Rattle.image_blocks.proofs.image_facts_lemmas.Firsts.{ne_test}
 
 pub first_bad : (image : Image) (bad : Bad) → check_1 image ≡ Some bad → records_fault image ≡ Some bad
 unfolding records_fault

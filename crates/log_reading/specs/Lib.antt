@@ -1,4 +1,4 @@
 pub mod Logs
 pub use Rattle.image_blocks.specs as image_blocks
-pub use Rattle.image_blocks.specs.image_form
-pub use Rattle.log_laws.specs as log_laws
+pub use Rattle.image_blocks.specs.image_facts
+pub use Rattle.log_facts.specs as log_facts

@@ -1,12 +1,12 @@
 -- What is read of an image's log.
 use Rattle.std.specs.Prelude.{◌≡◌, ◌≤◌, ℕ, AllPairs, length}
-use Rattle.disk_trait.specs.Image.{Image}
-use Rattle.image_blocks.specs.image_form.Checks.{count_in}
+use Rattle.edge_disk.specs.Image.{Image}
+use Rattle.image_blocks.specs.image_facts.Checks.{count_in}
 use Rattle.image_blocks.specs.Layout.{epoch_in}
-use Rattle.image_blocks.specs.image_form.Layout.{last_number, most_blocks, pool_at, slot_count}
+use Rattle.image_blocks.specs.image_facts.Layout.{last_number, most_blocks, pool_at, slot_count}
 use Rattle.image_blocks.specs.Logs.{HasRecords}
 use Rattle.log_reading.specs.declared.log.ImageLog.{ImageLog}
-use Rattle.log_laws.specs.Logs.{AreInRange, IsOlder}
+use Rattle.log_facts.specs.Logs.{AreInRange, IsOlder}
 
 -- the image has these records in this area, with this epoch, and so many blocks
 pub record IsLogOf (image : Image) (log : ImageLog) : Type 0 where

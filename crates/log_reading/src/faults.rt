@@ -1,7 +1,7 @@
 // Why a log could not be read.
 ghost use Rattle.std.specs.Prelude.{◌≡◌};
 
-use disk_trait::DiskFault;
+use edge_disk::DiskFault;
 use image_blocks::Bad;
 use std::alloc::AllocFailed;
 

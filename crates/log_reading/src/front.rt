@@ -1,14 +1,14 @@
 // The superblock, and which area is active.
 ghost use Rattle.std.specs.Prelude.{◌≡◌, ◌≤◌, None, Some, IfOk, IfErr, MatchResult};
-ghost use Rattle.disk_trait.specs.Disk.{HasCause};
+ghost use Rattle.edge_disk.specs.Disk.{HasCause};
 ghost use Rattle.image_blocks.specs.Checks.{active_area, active_by, check_1, check_2, no_area};
-ghost use Rattle.image_blocks.specs.image_form.Checks.{count_in};
+ghost use Rattle.image_blocks.specs.image_facts.Checks.{count_in};
 ghost use Rattle.image_blocks.specs.Layout.{epoch_in};
-ghost use Rattle.image_blocks.specs.image_form.Layout.{last_number, most_blocks, pool_at};
-ghost use Rattle.log_laws.specs.Reads.{ReadsOnly};
+ghost use Rattle.image_blocks.specs.image_facts.Layout.{last_number, most_blocks, pool_at};
+ghost use Rattle.log_facts.specs.Reads.{ReadsOnly};
 
 use crate::looks::{area_epoch, block_of, is_area_open};
-use disk_trait::{Disk, DiskFault};
+use edge_disk::{Disk, DiskFault};
 use image_blocks::{Area, Bad, header_of, read_header, read_superblock};
 
 // How many blocks the image has; or the first bad place of its superblock.
@@ -17,7 +17,7 @@ pub(crate) fn front_of<D: Disk>(disk: &mut D) -> Result<Result<u32, Bad>, DiskFa
         (λ bad. check_1 (D.reading disk.old) ≡ Some bad)) }
     ensures enough { IfOk result (λ r. IfOk r (λ count. (pool_at ≤ count) × (count ≤ D.block_count disk.old) × (count ≤ most_blocks))) }
     ensures cause { HasCause (D.faults disk.old) (D.faults disk.new) result }
-    ensures same { ReadsOnly D.tells D.block_count D.reading D.may_leave D.left_since D.clock D.faults disk.old disk.new }
+    ensures same { ReadsOnly D.Disk disk.old disk.new }
 {
     let blocks = disk.blocks();
     if blocks == 0 {
@@ -56,7 +56,7 @@ fn active_of<D: Disk>(disk: &mut D) -> Result<Result<Area, Bad>, DiskFault>
     requires { pool_at ≤ D.block_count disk.old }
     ensures active { D.tells → IfOk result (λ r. MatchResult r (λ area. active_area (D.reading disk.old) ≡ Some area) (λ bad. check_2 (D.reading disk.old) ≡ Some bad)) }
     ensures cause { HasCause (D.faults disk.old) (D.faults disk.new) result }
-    ensures same { ReadsOnly D.tells D.block_count D.reading D.may_leave D.left_since D.clock D.faults disk.old disk.new }
+    ensures same { ReadsOnly D.Disk disk.old disk.new }
 {
     let a_open = is_area_open(disk, Area::A)?;
     let b_open = is_area_open(disk, Area::B)?;
@@ -72,7 +72,7 @@ pub(crate) fn place_of<D: Disk>(disk: &mut D) -> Result<Result<(Area, u64), Bad>
         (λ bad. check_2 (D.reading disk.old) ≡ Some bad)) }
     ensures epoch { IfOk result (λ r. IfOk r (λ p. p.1 ≤ last_number)) }
     ensures cause { HasCause (D.faults disk.old) (D.faults disk.new) result }
-    ensures same { ReadsOnly D.tells D.block_count D.reading D.may_leave D.left_since D.clock D.faults disk.old disk.new }
+    ensures same { ReadsOnly D.Disk disk.old disk.new }
 {
     let area = match active_of(disk)? {
         Ok(area) => area,

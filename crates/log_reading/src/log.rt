@@ -1,15 +1,15 @@
 // The log of an image.
 ghost use Rattle.std.specs.Prelude.{◌≡◌, ◌≤◌, Some, length, IfOk, IsErrOf};
 ghost use Rattle.image_blocks.specs.Checks.{Bad as BadPlace, records_fault};
-ghost use Rattle.disk_trait.specs.Counts.{Rose};
+ghost use Rattle.edge_disk.specs.Counts.{Rose};
 ghost use Rattle.log_reading.specs.Logs.{IsKnown, IsLogOf};
-ghost use Rattle.log_laws.specs.Reads.{ReadsOnly};
+ghost use Rattle.log_facts.specs.Reads.{ReadsOnly};
 
 use crate::ReadingFault;
 use crate::front::{front_of, place_of};
 use crate::slots::records_of;
-use disk_trait::Disk;
-use hop_base::Rec;
+use base_types::Rec;
+use edge_disk::Disk;
 use image_blocks::Area;
 use std::alloc::Global;
 
@@ -31,7 +31,7 @@ pub fn read_log<D: Disk>(alloc: Global, disk: &mut D) -> Result<ImageLog, Readin
     ensures foreign { D.tells → (bad : BadPlace) → IsErrOf result (ReadingFault.Foreign bad) → records_fault (D.reading disk.old) ≡ Some bad }
     ensures known { IfOk result (IsKnown (D.block_count disk.old)) }
     ensures cause { IsErrOf result ReadingFault.Disk → Rose (D.faults disk.old) (D.faults disk.new) }
-    ensures same { ReadsOnly D.tells D.block_count D.reading D.may_leave D.left_since D.clock D.faults disk.old disk.new }
+    ensures same { ReadsOnly D.Disk disk.old disk.new }
 {
     let blocks = match front_of(disk)? {
         Ok(blocks) => blocks,

@@ -1,12 +1,12 @@
 // Looks at single blocks.
 ghost use Rattle.std.specs.Prelude.{◌≡◌, ◌<◌, ◌≤◌, ◌==◌, IfOk};
-ghost use Rattle.disk_trait.specs.Disk.{HasCause};
-ghost use Rattle.disk_trait.specs.Image.{block_at};
+ghost use Rattle.edge_disk.specs.Disk.{HasCause};
+ghost use Rattle.edge_disk.specs.Image.{block_at};
 ghost use Rattle.image_blocks.specs.Layout.{epoch_in, gate_at};
-ghost use Rattle.image_blocks.specs.image_form.Layout.{is_open as opens, pool_at};
-ghost use Rattle.log_laws.specs.Reads.{ReadsOnly};
+ghost use Rattle.image_blocks.specs.image_facts.Layout.{is_open as opens, pool_at};
+ghost use Rattle.log_facts.specs.Reads.{ReadsOnly};
 
-use disk_trait::{Disk, DiskFault};
+use edge_disk::{Disk, DiskFault};
 use image_blocks::{Area, epoch_of, gate_of, header_of, is_open};
 
 // The bytes of a block.
@@ -14,7 +14,7 @@ pub(crate) fn block_of<D: Disk>(disk: &mut D, at: u32) -> Result<[u8; 1024], Dis
     requires { at < D.block_count disk.old }
     ensures block { D.tells → IfOk result (λ b. b ≡ block_at (D.reading disk.old) at) }
     ensures cause { HasCause (D.faults disk.old) (D.faults disk.new) result }
-    ensures same { ReadsOnly D.tells D.block_count D.reading D.may_leave D.left_since D.clock D.faults disk.old disk.new }
+    ensures same { ReadsOnly D.Disk disk.old disk.new }
 {
     let mut block = [0; 1024];
     disk.read(at, &mut block)?;
@@ -26,7 +26,7 @@ pub(crate) fn is_area_open<D: Disk>(disk: &mut D, area: Area) -> Result<bool, Di
     requires { pool_at ≤ D.block_count disk.old }
     ensures gate { D.tells → IfOk result (λ b. b ≡ opens (D.reading disk.old) (gate_at area)) }
     ensures cause { HasCause (D.faults disk.old) (D.faults disk.new) result }
-    ensures same { ReadsOnly D.tells D.block_count D.reading D.may_leave D.left_since D.clock D.faults disk.old disk.new }
+    ensures same { ReadsOnly D.Disk disk.old disk.new }
 {
     let block = block_of(disk, gate_of(area))?;
     Ok(is_open(&block))
@@ -37,7 +37,7 @@ pub(crate) fn area_epoch<D: Disk>(disk: &mut D, area: Area) -> Result<u64, DiskF
     requires { pool_at ≤ D.block_count disk.old }
     ensures epoch { D.tells → IfOk result (λ n. n ≡ epoch_in (D.reading disk.old) area) }
     ensures cause { HasCause (D.faults disk.old) (D.faults disk.new) result }
-    ensures same { ReadsOnly D.tells D.block_count D.reading D.may_leave D.left_since D.clock D.faults disk.old disk.new }
+    ensures same { ReadsOnly D.Disk disk.old disk.new }
 {
     let block = block_of(disk, header_of(area))?;
     Ok(epoch_of(&block))

@@ -1,18 +1,18 @@
 // The slots of an area.
 ghost use Rattle.std.specs.Prelude.{◌≡◌, ◌<◌, ◌≤◌, true, false, None, Some, AllPairs, length, IfOk, IsErrOf, MatchOption};
-ghost use Rattle.disk_trait.specs.Disk.{HasCause};
+ghost use Rattle.edge_disk.specs.Disk.{HasCause};
 ghost use Rattle.image_blocks.specs.Checks.{Bad as BadPlace, body_in, log_fault, log_in};
-ghost use Rattle.image_blocks.specs.image_form.Checks.{count_in};
-ghost use Rattle.disk_trait.specs.Counts.{Rose};
-ghost use Rattle.image_blocks.specs.image_form.Layout.{is_open as opens, pool_at, slot_count};
+ghost use Rattle.image_blocks.specs.image_facts.Checks.{count_in};
+ghost use Rattle.edge_disk.specs.Counts.{Rose};
+ghost use Rattle.image_blocks.specs.image_facts.Layout.{is_open as opens, pool_at, slot_count};
 ghost use Rattle.image_blocks.specs.Layout.{slot_gate_at};
-ghost use Rattle.log_laws.specs.Logs.{AreInRange, IsOlder};
-ghost use Rattle.log_laws.specs.Reads.{ReadsOnly};
+ghost use Rattle.log_facts.specs.Logs.{AreInRange, IsOlder};
+ghost use Rattle.log_facts.specs.Reads.{ReadsOnly};
 
 use crate::ReadingFault;
 use crate::looks::block_of;
-use disk_trait::{Disk, DiskFault};
-use hop_base::Rec;
+use base_types::Rec;
+use edge_disk::{Disk, DiskFault};
 use image_blocks::{Area, Bad, SLOT_COUNT, body_of, is_open, read_body};
 use std::alloc::Global;
 
@@ -23,7 +23,7 @@ fn slot_of<D: Disk>(disk: &mut D, area: Area, slot: u16) -> Result<Option<[u8; 1
     ensures slot { D.tells → IfOk result (λ o. MatchOption o (opens (D.reading disk.old) (slot_gate_at area slot) ≡ false)
         (λ b. (opens (D.reading disk.old) (slot_gate_at area slot) ≡ true) × (b ≡ body_in (D.reading disk.old) area slot))) }
     ensures cause { HasCause (D.faults disk.old) (D.faults disk.new) result }
-    ensures same { ReadsOnly D.tells D.block_count D.reading D.may_leave D.left_since D.clock D.faults disk.old disk.new }
+    ensures same { ReadsOnly D.Disk disk.old disk.new }
 {
     let at = body_of(area, slot);
     let gate = block_of(disk, at + 1)?;
@@ -50,7 +50,7 @@ pub(crate) fn records_of<D: Disk>(
     ensures in_range { IfOk result (λ recs. AreInRange count recs.items) }
     ensures ascending { IfOk result (λ recs. AllPairs IsOlder recs.items) }
     ensures cause { IsErrOf result ReadingFault.Disk → Rose (D.faults disk.old) (D.faults disk.new) }
-    ensures same { ReadsOnly D.tells D.block_count D.reading D.may_leave D.left_since D.clock D.faults disk.old disk.new }
+    ensures same { ReadsOnly D.Disk disk.old disk.new }
 {
     let mut recs = Vec::new(alloc);
     for slot in 0..SLOT_COUNT {

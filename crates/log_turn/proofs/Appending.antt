@@ -1,20 +1,21 @@
 -- An append, with the log's place.
 use Rattle.std.proofs.Common.{◌≡◌, ◌==◌, ◌<◌, ℕ, inl, inr, List, length, sym, ap, subst, ◌∙◌, arith}
 use Rattle.std.specs.Prelude.{Result, Ok, Err, OnOk}
-use Rattle.disk_trait.specs.Disk.{Only}
-use Rattle.disk_trait.specs.Image.{Image, SameOutside, block_at}
-use Rattle.disk_trait.specs.Moments.{LeavesOnly}
-use Rattle.disk_trait.proofs.Phases.{LeavesOnly-weaker, Moments}
-use Rattle.hop_base.specs.declared.records.Rec.{Rec}
-use Rattle.commit_log.specs.image_blocks.Layout.{epoch_in, gate_at, header_at, other}
-use Rattle.commit_log.specs.image_form.Layout.{first_number}
-use Rattle.commit_log.specs.image_blocks.Logs.{HasLog, IsActive, IsAppending, IsNextSlot, Place}
-use Rattle.commit_log.specs.image_blocks.declared.areas.Area.{Area}
-use Rattle.commit_log.specs.image_blocks.declared.areas.Area.TheVariants.{A, B}
-use Rattle.commit_log.specs.Standing.{area_of as log_area, Stands as LogStands}
-use Rattle.commit_log.specs.declared.log.Log.{Log}
-use Rattle.disk_tally.specs.declared.Tally.{Tally}
-use Rattle.commit_log.specs.log_laws.Stages.{IsLogging}
+use Rattle.edge_disk.specs.declared.disk.Disk.{Ghosts}
+use Rattle.edge_disk.specs.Disk.{Only}
+use Rattle.edge_disk.specs.Image.{Image, SameOutside, block_at}
+use Rattle.edge_disk.specs.Moments.{LeavesOnly}
+use Rattle.edge_disk.proofs.Phases.{LeavesOnly-weaker, Moments}
+use Rattle.base_types.specs.declared.records.Rec.{Rec}
+use Rattle.log_append.specs.image_blocks.Layout.{epoch_in, gate_at, header_at, other}
+use Rattle.log_append.specs.image_facts.Layout.{first_number}
+use Rattle.log_append.specs.image_blocks.Logs.{HasLog, IsActive, IsAppending, IsNextSlot, Place}
+use Rattle.log_append.specs.image_blocks.declared.areas.Area.{Area}
+use Rattle.log_append.specs.image_blocks.declared.areas.Area.TheVariants.{A, B}
+use Rattle.log_append.specs.Standing.{area_of as log_area, Stands as LogStands}
+use Rattle.log_append.specs.declared.log.Log.{Log}
+use Rattle.edge_tally.specs.declared.Tally.{Tally}
+use Rattle.log_append.specs.log_facts.Stages.{IsLogging}
 use Rattle.log_turn.specs.Standing.{Stands, area_of, place_of, used_of}
 use Rattle.log_turn.specs.declared.areas.Areas.{Areas}
 
@@ -44,11 +45,11 @@ active_same p used d c same has =
       above = λ opens. (let lt = has.above (sym (gate (other p.active)) ∙ opens) in let e : epoch_in c (other p.active) ≡ epoch_in d (other p.active) = ap first_number (header (other p.active)) in omega (arith, lt, e));
     }
 
-module _ {D : Type 0} {clock : D → ℕ} {may_leave : D → Image → Type 0} {left_since : D → ℕ → Image → Type 0} (laws : Moments clock may_leave left_since) (reading : D → Image) where
-  pub log_stands : (areas : Areas) (recs : List Rec) (disk : D) → Stands reading may_leave areas recs disk → LogStands reading may_leave areas.log recs disk
+module _ {D : Type 0} {disks : Ghosts D} (laws : Moments disks) where
+  pub log_stands : (areas : Areas) (recs : List Rec) (disk : D) → Stands disks areas recs disk → LogStands disks areas.log recs disk
   log_stands areas recs disk s = record { used = s.used; slots = s.log.slots; left = λ c may. (s.left c may).0.slots }
 
-  logging : (areas : Areas) (recs : List Rec) (rec : Rec) (old : D) → Stands reading may_leave areas recs old → (c : Image) → IsAppending may_leave reading (area_of areas) recs rec old c → IsLogging may_leave reading (place_of areas) recs rec old c
+  logging : (areas : Areas) (recs : List Rec) (rec : Rec) (old : D) → Stands disks areas recs old → (c : Image) → IsAppending disks (area_of areas) recs rec old c → IsLogging disks (place_of areas) recs rec old c
   logging areas recs rec old s c (inl not_yet) = inl (record {
     from = not_yet.from;
     could = not_yet.could;
@@ -57,21 +58,21 @@ module _ {D : Type 0} {clock : D → ℕ} {may_leave : D → Image → Type 0} {
   })
   logging areas recs rec old s c (inr added) = inr (record {
     same = added.same;
-    log = record { active = active_same (place_of areas) (length recs) (reading old) c added.same s.log.active; slots = added.slots };
+    log = record { active = active_same (place_of areas) (length recs) (disks.reading old) c added.same s.log.active; slots = added.slots };
   })
 
-  pub moments_logging : (areas : Areas) (recs : List Rec) (rec : Rec) (old new : D) → Stands reading may_leave areas recs old → LeavesOnly clock left_since old new (IsAppending may_leave reading (area_of areas) recs rec old)
-      → LeavesOnly clock left_since old new (IsLogging may_leave reading (place_of areas) recs rec old)
-  moments_logging areas recs rec old new s so_far = LeavesOnly-weaker laws (IsLogging may_leave reading (place_of areas) recs rec old) (logging areas recs rec old s) so_far
+  pub moments_logging : (areas : Areas) (recs : List Rec) (rec : Rec) (old new : D) → Stands disks areas recs old → LeavesOnly disks old new (IsAppending disks (area_of areas) recs rec old)
+      → LeavesOnly disks old new (IsLogging disks (place_of areas) recs rec old)
+  moments_logging areas recs rec old new s so_far = LeavesOnly-weaker laws (IsLogging disks (place_of areas) recs rec old) (logging areas recs rec old s) so_far
 
 -- the areas stand with one record more
-pub stands_more : {D : Type 0} (may_leave : D → Image → Type 0) (reading : D → Image) (areas : Areas) (log : Log) (tally : Tally) (recs more : List Rec) (old new : D) → Stands reading may_leave areas recs old → log_area log ≡ area_of areas
-    → SameOutside (IsNextSlot (area_of areas) (used_of areas)) (reading old) (reading new) → LogStands reading may_leave log more new → Only (reading new) (may_leave new)
-    → Stands reading may_leave (record { log = log; tally = tally; epoch = areas.epoch }) more new
-stands_more may_leave reading areas log tally recs more old new s area outside after only =
-    let active : IsActive (record { active = log_area log; epoch = areas.epoch }) (reading new) =
-    subst (λ (a : Area). IsActive (record { active = a; epoch = areas.epoch }) (reading new)) (sym area) (active_same (place_of areas) (used_of areas) (reading old) (reading new) outside s.log.active) in
-    let whole : HasLog (record { active = log_area log; epoch = areas.epoch }) more (reading new) = record { active = active; slots = after.slots } in
+pub stands_more : {D : Type 0} (disks : Ghosts D) (areas : Areas) (log : Log) (tally : Tally) (recs more : List Rec) (old new : D) → Stands disks areas recs old → log_area log ≡ area_of areas
+    → SameOutside (IsNextSlot (area_of areas) (used_of areas)) (disks.reading old) (disks.reading new) → LogStands disks log more new → Only (disks.reading new) (disks.may_leave new)
+    → Stands disks (record { log = log; tally = tally; epoch = areas.epoch }) more new
+stands_more disks areas log tally recs more old new s area outside after only =
+    let active : IsActive (record { active = log_area log; epoch = areas.epoch }) (disks.reading new) =
+    subst (λ (a : Area). IsActive (record { active = a; epoch = areas.epoch }) (disks.reading new)) (sym area) (active_same (place_of areas) (used_of areas) (disks.reading old) (disks.reading new) outside s.log.active) in
+    let whole : HasLog (record { active = log_area log; epoch = areas.epoch }) more (disks.reading new) = record { active = active; slots = after.slots } in
     record {
       used = after.used;
       log = whole;

@@ -1,3 +1,3 @@
 pub mod Answers
 pub mod Standing
-pub use Rattle.commit_log.specs.log_laws
+pub use Rattle.log_append.specs.log_facts

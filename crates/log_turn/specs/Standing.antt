@@ -1,17 +1,18 @@
 -- What the two areas stand for on a disk.
 use Rattle.std.specs.Prelude.{◌≡◌, ℕ, ◌+◌, Bool, true, false, List, length, Result, OnOk, OnErr, IsErrOf}
-use Rattle.disk_trait.specs.Image.{Image, block_at}
-use Rattle.hop_base.specs.declared.records.Rec.{Rec}
-use Rattle.commit_log.specs.image_form.Layout.{closed_gate, header_block, open_gate}
-use Rattle.commit_log.specs.image_blocks.Layout.{gate_at, header_at, other}
-use Rattle.commit_log.specs.image_blocks.Logs.{HasLog, Place}
-use Rattle.commit_log.specs.image_blocks.declared.areas.Area.{Area}
-use Rattle.commit_log.specs.Standing.{area_of as log_area, has_failed as log_failed, used_of as log_used}
-use Rattle.commit_log.specs.declared.log.LogFault.{LogFault}
-use Rattle.commit_log.specs.declared.log.LogFault.TheVariants.{WriteFault}
-use Rattle.commit_log.specs.log_laws.Stages.{HasSlotGates}
+use Rattle.edge_disk.specs.declared.disk.Disk.{Ghosts}
+use Rattle.edge_disk.specs.Image.{Image, block_at}
+use Rattle.base_types.specs.declared.records.Rec.{Rec}
+use Rattle.log_append.specs.image_facts.Layout.{closed_gate, header_block, open_gate}
+use Rattle.log_append.specs.image_blocks.Layout.{gate_at, header_at, other}
+use Rattle.log_append.specs.image_blocks.Logs.{HasLog, Place}
+use Rattle.log_append.specs.image_blocks.declared.areas.Area.{Area}
+use Rattle.log_append.specs.Standing.{area_of as log_area, has_failed as log_failed, used_of as log_used}
+use Rattle.log_append.specs.declared.log.LogFault.{LogFault}
+use Rattle.log_append.specs.declared.log.LogFault.TheVariants.{WriteFault}
+use Rattle.log_append.specs.log_facts.Stages.{HasSlotGates}
 use Rattle.log_turn.specs.declared.areas.Areas.{Areas}
-use Rattle.commit_log.specs.log_laws.Areas.{SameAreas}
+use Rattle.log_append.specs.log_facts.Areas.{SameAreas}
 
 -- WHAT THE AREAS SHOW
 
@@ -37,20 +38,20 @@ abbrev pub place_of : Areas → Place
 place_of areas = record { active = area_of areas; epoch = areas.epoch }
 
 -- the disk reads as a log with these records, and each image that a stop now may leave agrees with that in headers, gates and log
-pub record Stands {D : Type 0} (reading : D → Image) (may_leave : D → Image → Type 0) (areas : Areas) (recs : List Rec) (disk : D) : Type 0 where
+pub record Stands {D : Type 0} (disks : Ghosts D) (areas : Areas) (recs : List Rec) (disk : D) : Type 0 where
   pub used : length recs ≡ used_of areas
-  pub log : HasLog (place_of areas) recs (reading disk)
-  pub left : (c : Image) → may_leave disk c → HasLog (place_of areas) recs c × SameAreas (reading disk) c
+  pub log : HasLog (place_of areas) recs (disks.reading disk)
+  pub left : (c : Image) → disks.may_leave disk c → HasLog (place_of areas) recs c × SameAreas (disks.reading disk) c
 
 -- WHAT CALLS LEAVE
 
 -- after a turn the areas stand with the kept records, behind a whole header with the next epoch; the gates of the kept slots and the new area's are written open, and the gate behind the slots and the old area's closed
-pub record IsTurnedTo {D : Type 0} (reading : D → Image) (may_leave : D → Image → Type 0) (kept : List Rec) (old new : Areas) (disk : D) : Type 0 where
-  pub stands : Stands reading may_leave new kept disk
-  pub header : block_at (reading disk) (header_at (other (area_of old))) ≡ header_block (epoch_of old + 1)
-  pub opened : block_at (reading disk) (gate_at (other (area_of old))) ≡ open_gate
-  pub closed : block_at (reading disk) (gate_at (area_of old)) ≡ closed_gate
-  pub slot_gates : HasSlotGates (other (area_of old)) (length kept) (reading disk)
+pub record IsTurnedTo {D : Type 0} (disks : Ghosts D) (kept : List Rec) (old new : Areas) (disk : D) : Type 0 where
+  pub stands : Stands disks new kept disk
+  pub header : block_at (disks.reading disk) (header_at (other (area_of old))) ≡ header_block (epoch_of old + 1)
+  pub opened : block_at (disks.reading disk) (gate_at (other (area_of old))) ≡ open_gate
+  pub closed : block_at (disks.reading disk) (gate_at (area_of old)) ≡ closed_gate
+  pub slot_gates : HasSlotGates (other (area_of old)) (length kept) (disks.reading disk)
 
 -- of the areas themselves: the other one is active with the next epoch and so many slots used, or all that is as before
 pub record HasTurned {T : Type 0} (kept : ℕ) (result : Result T LogFault) (old new : Areas) : Type 0 where

@@ -1,21 +1,22 @@
 // The two areas of the log.
 ghost use Rattle.std.specs.Prelude.{◌≡◌, ◌⊎◌, ◌≤◌, ◌<◌, ◌+◌, ◌*◌, ◌^◌, ◌∷◌, ◌++◌, [], List, true, false, length, OnOk, OnErr, slice_set};
-ghost use Rattle.disk_trait.specs.Disk.{Elapses, HasCause, LeavesNoMore, Only, Tears, Ticks};
-ghost use Rattle.disk_trait.specs.Image.{HasRun, IsInRun, SameOutside};
-ghost use Rattle.disk_trait.specs.Moments.{LeavesOnly, Quiet};
-ghost use Rattle.hop_base.specs.declared.records.Rec.{Rec as Record};
-ghost use Rattle.disk_tally.specs.Counts.{Begins, CountsOn, shown};
-ghost use Rattle.disk_trait.specs.Counts.{Rose};
-ghost use Rattle.commit_log.specs.image_form.Layout.{last_number, pool_at, slot_count};
-ghost use Rattle.commit_log.specs.image_blocks.Logs.{IsNextSlot, IsTurned, IsTurning};
-ghost use Rattle.commit_log.specs.log_laws.Stages.{IsLogging};
+ghost use Rattle.edge_disk.specs.Disks.{IsStable, LeavesRead, TimePasses};
+ghost use Rattle.edge_disk.specs.Disk.{HasCause, LeavesNoMore, Tears, Ticks};
+ghost use Rattle.edge_disk.specs.Image.{HasRun, IsInRun, SameOutside};
+ghost use Rattle.edge_disk.specs.Moments.{LeavesOnly, Quiet};
+ghost use Rattle.base_types.specs.declared.records.Rec.{Rec as Record};
+ghost use Rattle.edge_tally.specs.Counts.{Begins, CountsOn, shown};
+ghost use Rattle.edge_disk.specs.Counts.{Rose};
+ghost use Rattle.log_append.specs.image_facts.Layout.{last_number, pool_at, slot_count};
+ghost use Rattle.log_append.specs.image_blocks.Logs.{IsNextSlot, IsTurned, IsTurning};
+ghost use Rattle.log_append.specs.log_facts.Stages.{IsLogging};
 
 use crate::filling::write_kept;
 use crate::gates::{close_area, switch};
-use commit_log::{Area, Log, LogFault, other_area};
-use disk_tally::Tally;
-use disk_trait::{Disk, DiskFault};
-use hop_base::Rec;
+use base_types::Rec;
+use edge_disk::{Disk, DiskFault};
+use edge_tally::Tally;
+use log_append::{Area, Log, LogFault, other_area};
 
 /// Both areas: the log of the active one, its epoch, and how many writes and syncs were begun.
 #[derive(Clone, Copy, Debug)]
@@ -28,8 +29,8 @@ pub struct Areas {
 impl Areas {
     ghost use Rattle.log_turn.specs.Answers.{TurnAnswers};
     ghost use Rattle.log_turn.specs.Standing.{HasCounted, HasGrown, HasTurned, IsTurnedTo, Stands, area_of, begun_of, epoch_of, has_failed, place_of, used_of};
-    ghost use Rattle.commit_log.specs.Answers.{AppendAnswers};
-    ghost use Rattle.commit_log.specs.log_laws.Gates.{HasGates};
+    ghost use Rattle.log_append.specs.Answers.{AppendAnswers};
+    ghost use Rattle.log_append.specs.log_facts.Gates.{HasGates};
 
     /// The areas, of which this one is active, with this epoch up to 2^62 and so many slots used, up to 640. Writes and syncs are counted
     /// behind those of the tally.
@@ -91,20 +92,20 @@ impl Areas {
         requires enough { pool_at ≤ D.block_count disk.old }
         requires few { length kept.now ≤ slot_count }
         requires epoch { epoch_of self.old < 2 ^ 63 }
-        requires stands { D.tells → has_failed self.old ≡ false → (recs : List Record) × Stands D.reading D.may_leave self.old recs disk.old }
+        requires stands { D.tells → has_failed self.old ≡ false → (recs : List Record) × Stands D.Disk self.old recs disk.old }
 
-        ensures turned { D.tells → has_failed self.old ≡ false → OnOk result (IsTurnedTo D.reading D.may_leave kept.now self.old self.new disk.new) }
+        ensures turned { D.tells → has_failed self.old ≡ false → OnOk result (IsTurnedTo D.Disk kept.now self.old self.new disk.new) }
         ensures outside { D.tells → SameOutside (IsTurned (area_of self.old)) (D.reading disk.old) (D.reading disk.new) }
-        ensures stable { D.tells → OnOk result (Only (D.reading disk.new) (D.may_leave disk.new)) }
+        ensures stable { D.tells → OnOk result (IsStable D.Disk disk.new) }
 
         // A stop at any moment of the call leaves the old log or the kept one.
-        ensures any_moment { D.tells → has_failed self.old ≡ false → (recs : List Record) → Stands D.reading D.may_leave self.old recs disk.old
-            → LeavesOnly D.clock D.left_since disk.old disk.new (IsTurning D.may_leave (place_of self.old) recs kept.now disk.old) }
+        ensures any_moment { D.tells → has_failed self.old ≡ false → (recs : List Record) → Stands D.Disk self.old recs disk.old
+            → LeavesOnly D.Disk disk.old disk.new (IsTurning D.may_leave (place_of self.old) recs kept.now disk.old) }
 
         ensures answers { TurnAnswers (has_failed self.old) (Rose (D.faults disk.old) (D.faults disk.new)) result }
         ensures areas { HasTurned (length kept.now) result self.old self.new }
         ensures untouched { has_failed self.old ≡ true → (disk.new ≡ disk.old) × (self.new ≡ self.old) }
-        ensures begins { Begins (2 * length kept.now + 9) (shown D.block_count D.clock D.faults disk.old (begun_of self.old)) (shown D.block_count D.clock D.faults disk.new (begun_of self.new)) }
+        ensures begins { Begins (2 * length kept.now + 9) (shown D.Disk disk.old (begun_of self.old)) (shown D.Disk disk.new (begun_of self.new)) }
     {
         if self.log.is_shut() {
             return Err(LogFault::Shut);
@@ -125,22 +126,22 @@ impl Areas {
     /// without it.
     pub fn append<D: Disk>(&mut self, disk: &mut D, rec: &Rec) -> Result<(), LogFault>
         requires enough { pool_at ≤ D.block_count disk.old }
-        requires stands { D.tells → has_failed self.old ≡ false → (recs : List Record) × Stands D.reading D.may_leave self.old recs disk.old }
+        requires stands { D.tells → has_failed self.old ≡ false → (recs : List Record) × Stands D.Disk self.old recs disk.old }
 
-        ensures added { D.tells → (recs : List Record) → Stands D.reading D.may_leave self.old recs disk.old
-            → OnOk result (Stands D.reading D.may_leave self.new (recs ++ rec.now ∷ []) disk.new) }
+        ensures added { D.tells → (recs : List Record) → Stands D.Disk self.old recs disk.old
+            → OnOk result (Stands D.Disk self.new (recs ++ rec.now ∷ []) disk.new) }
         ensures gates { D.tells → OnOk result (HasGates (area_of self.old) (used_of self.old) (D.reading disk.new)) }
         ensures outside { D.tells → SameOutside (IsNextSlot (area_of self.old) (used_of self.old)) (D.reading disk.old) (D.reading disk.new) }
-        ensures stable { D.tells → OnOk result (Only (D.reading disk.new) (D.may_leave disk.new)) }
+        ensures stable { D.tells → OnOk result (IsStable D.Disk disk.new) }
 
         // A stop at any moment of the call leaves the old log, or the new one with all that was written before the call.
-        ensures any_moment { D.tells → has_failed self.old ≡ false → (recs : List Record) → Stands D.reading D.may_leave self.old recs disk.old
-            → LeavesOnly D.clock D.left_since disk.old disk.new (IsLogging D.may_leave D.reading (place_of self.old) recs rec.now disk.old) }
+        ensures any_moment { D.tells → has_failed self.old ≡ false → (recs : List Record) → Stands D.Disk self.old recs disk.old
+            → LeavesOnly D.Disk disk.old disk.new (IsLogging D.Disk (place_of self.old) recs rec.now disk.old) }
 
         ensures answers { AppendAnswers (has_failed self.old) (used_of self.old) (Rose (D.faults disk.old) (D.faults disk.new)) result }
         ensures areas { HasGrown result self.old self.new }
         ensures untouched { (has_failed self.old ≡ true) ⊎ (used_of self.old ≡ slot_count) → (disk.new ≡ disk.old) × (self.new ≡ self.old) }
-        ensures begins { Begins 5 (shown D.block_count D.clock D.faults disk.old (begun_of self.old)) (shown D.block_count D.clock D.faults disk.new (begun_of self.new)) }
+        ensures begins { Begins 5 (shown D.Disk disk.old (begun_of self.old)) (shown D.Disk disk.new (begun_of self.new)) }
     {
         self.log.append(&mut self.tally, disk, rec)
     }
@@ -161,7 +162,7 @@ impl Areas {
         ensures block { D.tells → OnOk result (D.reading disk.new ≡ slice_set (D.reading disk.old) at from.now) }
         ensures reading { D.tells → SameOutside (λ n. n ≡ at) (D.reading disk.old) (D.reading disk.new) }
         ensures stop { D.tells → Tears D.may_leave at disk.old disk.new }
-        ensures time { D.tells → Elapses D.clock D.may_leave D.left_since disk.old disk.new }
+        ensures time { D.tells → TimePasses D.Disk disk.old disk.new }
         ensures areas { HasCounted self.old self.new }
     {
         self.tally.write(disk, at, from)
@@ -181,7 +182,7 @@ impl Areas {
         ensures cause { HasCause (D.faults disk.old) (D.faults disk.new) result }
         ensures run { D.tells → OnOk result (HasRun at run.now (D.reading disk.new)) }
         ensures reading { D.tells → SameOutside (IsInRun at (length run.now)) (D.reading disk.old) (D.reading disk.new) }
-        ensures any_moment { D.tells → Quiet D.clock D.may_leave D.left_since (IsInRun at (length run.now)) disk.old disk.new }
+        ensures any_moment { D.tells → Quiet D.Disk (IsInRun at (length run.now)) disk.old disk.new }
         ensures areas { HasCounted self.old self.new }
     {
         self.tally.write_run(disk, at, run)
@@ -194,11 +195,11 @@ impl Areas {
         ensures begun { Ticks (begun_of self.old) (begun_of self.new) }
         ensures counts { CountsOn (D.clock disk.old) (D.clock disk.new) (begun_of self.old) (begun_of self.new) }
         ensures cause { HasCause (D.faults disk.old) (D.faults disk.new) result }
-        ensures stable { D.tells → OnOk result (Only (D.reading disk.old) (D.may_leave disk.new)) }
+        ensures stable { D.tells → OnOk result (LeavesRead D.Disk disk.old disk.new) }
         ensures unstable { D.tells → OnErr result (LeavesNoMore D.may_leave disk.new disk.old) }
         ensures reading { D.tells → D.reading disk.new ≡ D.reading disk.old }
         ensures stop { D.tells → LeavesNoMore D.may_leave disk.old disk.new }
-        ensures time { D.tells → Elapses D.clock D.may_leave D.left_since disk.old disk.new }
+        ensures time { D.tells → TimePasses D.Disk disk.old disk.new }
         ensures areas { HasCounted self.old self.new }
     {
         self.tally.sync(disk)

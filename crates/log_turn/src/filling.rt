@@ -1,21 +1,22 @@
 // Writing kept records into an area whose gate is closed.
 ghost use Rattle.std.specs.Prelude.{◌≡◌, ◌≤◌, ◌<◌, ◌+◌, ◌*◌, true, false, length, OnOk};
-ghost use Rattle.disk_trait.specs.Disk.{HasCause, Only};
-ghost use Rattle.disk_trait.specs.Image.{SameOutside, block_at};
-ghost use Rattle.disk_trait.specs.Moments.{Quiet};
-ghost use Rattle.disk_tally.specs.Counts.{CountsOn};
-ghost use Rattle.commit_log.specs.image_form.Bodies.{body_block as block_of};
-ghost use Rattle.commit_log.specs.image_blocks.Layout.{body_at, header_at, slot_gate_at};
-ghost use Rattle.commit_log.specs.image_form.Layout.{closed_gate as closed_block, header_block as header_with, open_gate as open_block, pool_at, slot_count};
-ghost use Rattle.commit_log.specs.image_blocks.Logs.{HasSlots};
-ghost use Rattle.commit_log.specs.log_laws.Stages.{HasFilled, HasSlotGates, IsBehindGate, IsGateOf, IsOfSlot};
+ghost use Rattle.edge_disk.specs.Disks.{IsStable};
+ghost use Rattle.edge_disk.specs.Disk.{HasCause};
+ghost use Rattle.edge_disk.specs.Image.{SameOutside, block_at};
+ghost use Rattle.edge_disk.specs.Moments.{Quiet};
+ghost use Rattle.edge_tally.specs.Counts.{CountsOn};
+ghost use Rattle.log_append.specs.image_facts.Bodies.{body_block as block_of};
+ghost use Rattle.log_append.specs.image_blocks.Layout.{body_at, header_at, slot_gate_at};
+ghost use Rattle.log_append.specs.image_facts.Layout.{closed_gate as closed_block, header_block as header_with, open_gate as open_block, pool_at, slot_count};
+ghost use Rattle.log_append.specs.image_blocks.Logs.{HasSlots};
+ghost use Rattle.log_append.specs.log_facts.Stages.{HasFilled, HasSlotGates, IsBehindGate, IsGateOf, IsOfSlot};
 
-use commit_log::{
+use base_types::Rec;
+use edge_disk::{Disk, DiskFault};
+use edge_tally::Tally;
+use log_append::{
     Area, SLOT_COUNT, body_block, body_of, closed_gate, header_block, header_of, open_gate,
 };
-use disk_tally::Tally;
-use disk_trait::{Disk, DiskFault};
-use hop_base::Rec;
 
 // Writes a record into a slot, and the slot's gate open.
 fn write_slot<D: Disk>(
@@ -34,7 +35,7 @@ fn write_slot<D: Disk>(
     ensures body { D.tells → OnOk result (block_at (D.reading disk.new) (body_at area slot) ≡ block_of rec.now) }
     ensures gate { D.tells → OnOk result (block_at (D.reading disk.new) (slot_gate_at area slot) ≡ open_block) }
     ensures reading { D.tells → SameOutside (IsOfSlot area slot) (D.reading disk.old) (D.reading disk.new) }
-    ensures any_moment { D.tells → Quiet D.clock D.may_leave D.left_since (IsOfSlot area slot) disk.old disk.new }
+    ensures any_moment { D.tells → Quiet D.Disk (IsOfSlot area slot) disk.old disk.new }
 {
     let at = body_of(area, slot);
     tally.write(disk, at, &body_block(rec))?;
@@ -58,7 +59,7 @@ fn write_slots<D: Disk>(
     ensures filled { D.tells → OnOk result (HasFilled area kept.now (D.reading disk.new)) }
     ensures header { D.tells → block_at (D.reading disk.new) (header_at area) ≡ block_at (D.reading disk.old) (header_at area) }
     ensures reading { D.tells → SameOutside (IsBehindGate area) (D.reading disk.old) (D.reading disk.new) }
-    ensures any_moment { D.tells → Quiet D.clock D.may_leave D.left_since (IsBehindGate area) disk.old disk.new }
+    ensures any_moment { D.tells → Quiet D.Disk (IsBehindGate area) disk.old disk.new }
 {
     for (i, rec) in kept.iter().enumerate() {
         write_slot(tally, disk, area, i as u16, rec)?;
@@ -81,7 +82,7 @@ fn close_slot<D: Disk>(
     ensures cause { HasCause (D.faults disk.old) (D.faults disk.new) result }
     ensures closed { D.tells → OnOk result (used < slot_count → block_at (D.reading disk.new) (slot_gate_at area used) ≡ closed_block) }
     ensures reading { D.tells → SameOutside (IsGateOf area used) (D.reading disk.old) (D.reading disk.new) }
-    ensures any_moment { D.tells → Quiet D.clock D.may_leave D.left_since (IsGateOf area used) disk.old disk.new }
+    ensures any_moment { D.tells → Quiet D.Disk (IsGateOf area used) disk.old disk.new }
 {
     if used == SLOT_COUNT {
         return Ok(());
@@ -109,8 +110,8 @@ pub(crate) fn write_kept<D: Disk>(
     ensures slots { D.tells → OnOk result (HasSlots area kept.now (D.reading disk.new)) }
     ensures gates { D.tells → OnOk result (HasSlotGates area (length kept.now) (D.reading disk.new)) }
     ensures reading { D.tells → SameOutside (IsBehindGate area) (D.reading disk.old) (D.reading disk.new) }
-    ensures stable { D.tells → OnOk result (Only (D.reading disk.new) (D.may_leave disk.new)) }
-    ensures any_moment { D.tells → Quiet D.clock D.may_leave D.left_since (IsBehindGate area) disk.old disk.new }
+    ensures stable { D.tells → OnOk result (IsStable D.Disk disk.new) }
+    ensures any_moment { D.tells → Quiet D.Disk (IsBehindGate area) disk.old disk.new }
 {
     tally.write(disk, header_of(area), &header_block(epoch))?;
     write_slots(tally, disk, area, kept)?;

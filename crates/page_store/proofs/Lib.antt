@@ -1,2 +1,2 @@
 pub mod Held
-pub use Rattle.hop_model.proofs as hop_model_lemmas
+pub use Rattle.model_kernel.proofs as model_kernel_lemmas

@@ -1,4 +1,4 @@
 pub mod Memory
 pub mod MemoryPages
 pub mod Pages
-pub use Rattle.hop_model.specs as hop_model
+pub use Rattle.model_kernel.specs as model_kernel

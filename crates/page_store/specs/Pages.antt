@@ -1,6 +1,6 @@
 -- What the calls of a page store do to its blocks and to its counts.
 use Rattle.std.specs.Prelude.{◌≡◌, ◌⊎◌, ℕ, ◌≤◌, Bool, true, ◌||◌, IsTrue, List, Result, IsErrOf, OnOk}
-use Rattle.disk_trait.specs.Counts.{Rose}
+use Rattle.edge_disk.specs.Counts.{Rose}
 use Rattle.page_store.specs.declared.faults.PageFault.{PageFault}
 use Rattle.page_store.specs.declared.faults.PageFault.TheVariants.{ReadFault, WriteFault, Shut}
 

@@ -1,4 +1,4 @@
-use disk_trait::NoBlocks;
+use edge_disk::NoBlocks;
 
 /// Why a page was not read or written.
 #[derive(Clone, Copy, Debug, PartialEq, Eq)]

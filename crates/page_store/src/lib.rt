@@ -10,7 +10,7 @@ mod memory;
 mod page;
 mod store;
 
-pub use disk_trait::NoBlocks;
+pub use edge_disk::NoBlocks;
 pub use faults::PageFault;
 pub use memory::MemoryPages;
 pub use store::PageStore;

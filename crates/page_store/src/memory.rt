@@ -1,10 +1,10 @@
 ghost use Rattle.std.specs.Prelude.{◌≡◌, ◌≢◌, ◌<◌, ◌≤◌, ◌↔◌, ◌+◌, ◌^◌, ◌||◌, ℕ, Bool, not, true, false, List, length, count_by, IfOk, IfSome, IfNone, IsTrue, Contains, ◌==◌};
-ghost use Rattle.disk_trait.specs.Disk.{Ticks};
+ghost use Rattle.edge_disk.specs.Disk.{Ticks};
 ghost use Rattle.page_store.specs.Memory.{AreWhole, place_at, is_free, is_held, words_at, whole_at};
 
 use crate::page::Page;
 use crate::{PageFault, PageStore};
-use disk_trait::NoBlocks;
+use edge_disk::NoBlocks;
 use std::alloc::{AllocError as Memory, Global};
 
 /// A page store in memory, whose reads and writes fail at given numbers.

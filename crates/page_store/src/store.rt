@@ -1,9 +1,9 @@
 ghost use Rattle.std.specs.Prelude.{◌≡◌, ◌≢◌, ◌≤◌, ◌+◌, ◌||◌, ℕ, Bool, true, false, List, length, if◌then◌else◌, OnOk, IfOk, IfErr, IsTrue};
-ghost use Rattle.hop_model.specs.Words.{put};
-ghost use Rattle.disk_trait.specs.Disk.{Ticks};
+ghost use Rattle.model_kernel.specs.Words.{put};
+ghost use Rattle.edge_disk.specs.Disk.{Ticks};
 
 use crate::PageFault;
-use disk_trait::NoBlocks;
+use edge_disk::NoBlocks;
 
 /// A store of pages of 128 words in blocks.
 pub trait PageStore {

@@ -1,3 +1,3 @@
 mod Words
-pub use Rattle.store_model.proofs.image_meaning_lemmas
-pub use Rattle.store_model.proofs as store_model_lemmas
+pub use Rattle.store_books.proofs.image_meaning_lemmas
+pub use Rattle.store_books.proofs as store_books_lemmas

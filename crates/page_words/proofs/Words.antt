@@ -1,8 +1,8 @@
 -- Words in a block, one after the other.
 use Rattle.std.proofs.Common.{◌≡◌, ◌≢◌, ◌<◌, inl, inr, ℕ, ◌+◌, ◌*◌, ◌^◌, List, get_or, sym, ap, subst, ◌∙◌, arith}
 use Rattle.std.proofs.lemmas.Bool.{cases_eq, cases_lt}
-use Rattle.block_code.specs.Fields.{PutsNumber, number_at, with_number}
-use Rattle.block_code.proofs.FieldLaws.{number_at-with_number_apart, number_at-with_number_same}
+use Rattle.base_bytes.specs.Fields.{PutsNumber, number_at, with_number}
+use Rattle.base_bytes.proofs.FieldLaws.{number_at-with_number_apart, number_at-with_number_same}
 
 -- the word that was put is read back
 pub put_here : (place word : ℕ) (old new : List ℕ) → word < 2 ^ 64 → PutsNumber (8 * place) 8 word old new → number_at (8 * place) 8 new ≡ word

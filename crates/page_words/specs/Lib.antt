@@ -1,3 +1,3 @@
-pub use Rattle.store_model.specs.image_meaning
-pub use Rattle.store_model.specs.log_turn
-pub use Rattle.store_model.specs as store_model
+pub use Rattle.store_books.specs.image_meaning
+pub use Rattle.store_books.specs.log_turn
+pub use Rattle.store_books.specs as store_books

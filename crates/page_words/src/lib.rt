@@ -2,11 +2,11 @@
 #![tactic(auto)]
 
 ghost use Rattle.std.specs.Prelude.{◌≡◌, ◌≢◌, ◌*◌, ◌<◌, ℕ, replicate, []};
-ghost use Rattle.block_code.specs.Fields.{number_at};
-ghost use Rattle.store_model.specs.Books.{words_of_bytes};
+ghost use Rattle.base_bytes.specs.Fields.{number_at};
+ghost use Rattle.store_books.specs.Books.{words_of_bytes};
 
-use block_code::{get_u64, put_u64};
-pub use store_model::{Areas, LogFault};
+use base_bytes::{get_u64, put_u64};
+pub use store_books::{Areas, LogFault};
 
 // The word at a place of the block.
 fn word_at(block: &[u8; 1024], place: usize) -> u64

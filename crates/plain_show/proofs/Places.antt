@@ -2,17 +2,17 @@
 use Rattle.std.proofs.Common.{◌≡◌, ℕ, ◌+◌, ◌-◌, ◌<◌, ◌≤◌, IsTrue, List, length, Option, Some, None, Result, slice_get, string_bytes, refl, sym, ap, subst, ◌∙◌, arith}
 use Rattle.std.proofs.lemmas.Bool.Decides.{nat_tests}
 use Rattle.std.proofs.lemmas.List.{length-map}
-use Rattle.history_model.specs.hop_model.Soundness.{IsSound, is_born_container, is_born_locus}
-use Rattle.history_model.specs.hop_model.State.{Supply, AtlasState, ContainerState, LocusState, Cell, NotBorn, ContainerCell, LocusCell}
-use Rattle.stream_edge.specs.Streams.{Puts}
-use Rattle.history_model.specs.Plains.{atlas_of, cells_of, locus_cell}
-use Rattle.history_model.specs.declared.plain.Plain.{Plain}
-use Rattle.history_model.specs.declared.plain.PlainContainer.{PlainContainer}
-use Rattle.history_model.specs.declared.plain.PlainLocus.{PlainLocus}
-use Rattle.history_model.proofs.CellLemmas.{high_cell}
-use Rattle.history_model.proofs.SoundLemmas.{sound_container, sound_here}
+use Rattle.plain_states.specs.model_kernel.Soundness.{IsSound, is_born_container, is_born_locus}
+use Rattle.plain_states.specs.model_kernel.State.{Supply, AtlasState, ContainerState, LocusState, Cell, NotBorn, ContainerCell, LocusCell}
+use Rattle.edge_streams.specs.Streams.{Puts}
+use Rattle.plain_states.specs.Plains.{atlas_of, cells_of, locus_cell}
+use Rattle.plain_states.specs.declared.plain.Plain.{Plain}
+use Rattle.plain_states.specs.declared.plain.PlainContainer.{PlainContainer}
+use Rattle.plain_states.specs.declared.plain.PlainLocus.{PlainLocus}
+use Rattle.plain_states.proofs.CellLemmas.{high_cell}
+use Rattle.plain_states.proofs.SoundLemmas.{sound_container, sound_here}
 use Rattle.plain_show.specs.Show.{cell_lines, container_lines, entity_lines, locus_lines}
-use Rattle.text_lines.proofs.Puts.{Puts-as}
+use Rattle.line_text.proofs.Puts.{Puts-as}
 
 -- a container is there
 pub record HasContainer (s : Supply) (p : Plain) (i : ℕ) : Type 0 where

@@ -1,15 +1,15 @@
 -- Names and rights are short.
 use Rattle.std.proofs.Common.{◌≡◌, ℕ, zero, suc, ◌+◌, ◌-◌, ◌≤◌, ◌==◌, Bool, true, false, if◌then◌else◌, nat_lt, List, [], ◌∷◌, length, slice_get, unwrap_or, arith}
-use Rattle.history_model.proofs.hop_model_lemmas.Basics.{and_left, and_right}
-use Rattle.history_model.proofs.hop_model_lemmas.Names.{name_short}
-use Rattle.history_model.specs.hop_model.Scripts.{atlas_name}
-use Rattle.history_model.specs.hop_model.Soundness.{IsSound, IsSoundAtlas, are_names_from, is_name_of}
-use Rattle.history_model.specs.hop_model.State.{AtlasState, Supply, Text}
-use Rattle.history_model.specs.Plains.{atlas_of, cells_of}
-use Rattle.history_model.specs.declared.plain.Plain.{Plain}
-use Rattle.history_model.proofs.SoundLemmas.{sound_here}
-use Rattle.text_lines.specs.Lines.{HasShortNames, name_in}
-use Rattle.instr_set.proofs.Lines.{rights_len}
+use Rattle.plain_states.proofs.model_kernel_lemmas.Basics.{and_left, and_right}
+use Rattle.plain_states.proofs.model_kernel_lemmas.Names.{name_short}
+use Rattle.plain_states.specs.model_kernel.Scripts.{atlas_name}
+use Rattle.plain_states.specs.model_kernel.Soundness.{IsSound, IsSoundAtlas, are_names_from, is_name_of}
+use Rattle.plain_states.specs.model_kernel.State.{AtlasState, Supply, Text}
+use Rattle.plain_states.specs.Plains.{atlas_of, cells_of}
+use Rattle.plain_states.specs.declared.plain.Plain.{Plain}
+use Rattle.plain_states.proofs.SoundLemmas.{sound_here}
+use Rattle.line_text.specs.Lines.{HasShortNames, name_in}
+use Rattle.base_instructions.proofs.Lines.{rights_len}
 
 -- RIGHTS
 

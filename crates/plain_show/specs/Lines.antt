@@ -1,9 +1,9 @@
 -- Words of lines.
 use Rattle.std.specs.Prelude.{ℕ, ◌++◌, Option, Some, None, codes, decimal}
-use Rattle.hop_base.specs.declared.instructions.Condition.{Condition}
-use Rattle.hop_base.specs.declared.instructions.Condition.TheVariants.{Running, Stopped, Halted}
-use Rattle.history_model.specs.hop_model.State.{Text, AtlasState}
-use Rattle.text_lines.specs.Lines.{name_in, word}
+use Rattle.base_types.specs.declared.instructions.Condition.{Condition}
+use Rattle.base_types.specs.declared.instructions.Condition.TheVariants.{Running, Stopped, Halted}
+use Rattle.plain_states.specs.model_kernel.State.{Text, AtlasState}
+use Rattle.line_text.specs.Lines.{name_in, word}
 
 -- the first word of a line, and the name of the entity that it is about
 unfoldable pub named : AtlasState → Text → ℕ → Text

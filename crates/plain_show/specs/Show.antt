@@ -1,18 +1,18 @@
 -- What is shown of a state: its containers, and then its loci, each by its lines.
 use Rattle.std.specs.Prelude.{ℕ, ◌+◌, ◌*◌, ◌==◌, if◌then◌else◌, List, [], ◌++◌, Option, Some, None, codes, decimal, length}
 use Rattle.std.specs.List.{flat_map}
-use Rattle.hop_base.specs.Edges.{upto}
-use Rattle.hop_base.specs.declared.capabilities.Cap.{Cap}
-use Rattle.hop_base.specs.declared.capabilities.Private.{Private}
-use Rattle.hop_base.specs.declared.capabilities.Region.{Region}
-use Rattle.hop_base.specs.declared.instructions.Call.{Call}
-use Rattle.hop_base.specs.declared.instructions.Walk.{Walk}
-use Rattle.history_model.specs.hop_model.Outcomes.{supplied}
-use Rattle.history_model.specs.hop_model.State.{Supply, Text, AtlasState, ContainerState, LocusState, Cell, NotBorn, AtlasCell, ContainerCell, LocusCell}
-use Rattle.history_model.specs.hop_model.Steps.{atlas_in}
-use Rattle.history_model.specs.hop_model.Words.{cap_at}
-use Rattle.instr_set.specs.Spelling.{rights}
-use Rattle.text_lines.specs.Lines.{line_end, name_in, word}
+use Rattle.base_types.specs.Edges.{upto}
+use Rattle.base_types.specs.declared.capabilities.Cap.{Cap}
+use Rattle.base_types.specs.declared.capabilities.Private.{Private}
+use Rattle.base_types.specs.declared.capabilities.Region.{Region}
+use Rattle.base_types.specs.declared.instructions.Call.{Call}
+use Rattle.base_types.specs.declared.instructions.Walk.{Walk}
+use Rattle.plain_states.specs.model_kernel.Outcomes.{supplied}
+use Rattle.plain_states.specs.model_kernel.State.{Supply, Text, AtlasState, ContainerState, LocusState, Cell, NotBorn, AtlasCell, ContainerCell, LocusCell}
+use Rattle.plain_states.specs.model_kernel.Steps.{atlas_in}
+use Rattle.plain_states.specs.model_kernel.Words.{cap_at}
+use Rattle.base_instructions.specs.Spelling.{rights}
+use Rattle.line_text.specs.Lines.{line_end, name_in, word}
 use Rattle.plain_show.specs.Lines.{condition_word, named, optional}
 
 -- PARTS OF BOTH KINDS

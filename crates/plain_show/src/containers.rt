@@ -1,19 +1,19 @@
 //! What is shown of a container.
 ghost use Rattle.std.specs.Prelude.{◌≡◌, ◌<◌, ◌≤◌, ◌^◌, ◌*◌, ℕ, OnErr};
 ghost use Rattle.std.specs.List.{flat_map};
-ghost use Rattle.hop_base.specs.Edges.{upto};
-ghost use Rattle.disk_trait.specs.Counts.{Rose};
-ghost use Rattle.stream_edge.specs.Streams.{Puts};
-ghost use Rattle.history_model.specs.hop_model.State.{Supply};
-ghost use Rattle.history_model.specs.Plains.{container_of};
-ghost use Rattle.text_lines.specs.Lines.{HasShortNames};
+ghost use Rattle.base_types.specs.Edges.{upto};
+ghost use Rattle.edge_disk.specs.Counts.{Rose};
+ghost use Rattle.edge_streams.specs.Streams.{Puts};
+ghost use Rattle.plain_states.specs.model_kernel.State.{Supply};
+ghost use Rattle.plain_states.specs.Plains.{container_of};
+ghost use Rattle.line_text.specs.Lines.{HasShortNames};
 ghost use Rattle.plain_show.specs.Show.{changed_word, container_line, container_lines, region_line, word_line, word_line_by};
 
 use crate::lines::{named_line, push_optional, push_region, put_caps};
-use history_model::PlainContainer;
-use hop_base::{Entity, PAGE_WORDS, Region};
-use stream_edge::{Sink, SinkFault};
-use text_lines::{Names, push_number_word, put_line};
+use base_types::{Entity, PAGE_WORDS, Region};
+use edge_streams::{Sink, SinkFault};
+use line_text::{Names, push_number_word, put_line};
+use plain_states::PlainContainer;
 
 /// Puts the first line of a container.
 fn put_head<W: Sink, N: Names>(
@@ -36,7 +36,7 @@ fn put_head<W: Sink, N: Names>(
 }
 
 /// Puts the line of a region.
-#[tactic(auto, using(stream_edge::proofs::Streams::puts))]
+#[tactic(auto, using(edge_streams::proofs::Streams::puts))]
 fn put_region_line<W: Sink, N: Names>(
     sink: &mut W,
     names: &N,
@@ -54,7 +54,7 @@ fn put_region_line<W: Sink, N: Names>(
 }
 
 /// Puts a line for each region.
-#[tactic(auto, using(stream_edge::proofs::Streams::puts))]
+#[tactic(auto, using(edge_streams::proofs::Streams::puts))]
 fn put_regions<W: Sink, N: Names>(
     sink: &mut W,
     names: &N,
@@ -116,7 +116,7 @@ fn put_word_line<W: Sink, N: Names>(
 }
 
 /// Puts a line for each word that differs from the supplier's.
-#[tactic(auto, using(text_lines::proofs::Puts::pieces))]
+#[tactic(auto, using(line_text::proofs::Puts::pieces))]
 fn put_words<W: Sink, N: Names, S: Fn(u64, u32, u16) -> u64>(
     sink: &mut W,
     names: &N,

@@ -1,18 +1,18 @@
 //! Parts of lines that both kinds of entities show.
 ghost use Rattle.std.specs.Prelude.{◌≡◌, ◌+◌, ◌≤◌, ◌++◌, OnErr, length};
 ghost use Rattle.arrayvec.specs.ArrayString.{array_string_len};
-ghost use Rattle.disk_trait.specs.Counts.{Rose};
-ghost use Rattle.stream_edge.specs.Streams.{Puts};
-ghost use Rattle.instr_set.specs.Spelling.{rights};
-ghost use Rattle.text_lines.specs.Lines.{HasShortNames, word};
+ghost use Rattle.edge_disk.specs.Counts.{Rose};
+ghost use Rattle.edge_streams.specs.Streams.{Puts};
+ghost use Rattle.base_instructions.specs.Spelling.{rights};
+ghost use Rattle.line_text.specs.Lines.{HasShortNames, word};
 ghost use Rattle.plain_show.specs.Lines.{named, optional};
 ghost use Rattle.plain_show.specs.Show.{cap_line, cap_lines, region_words};
 
 use arrayvec::ArrayString;
-use hop_base::{Cap, Entity, Region, Rights};
-use instr_set::write_rights;
-use stream_edge::{Sink, SinkFault};
-use text_lines::{LINE, Names, push_name_word, push_number_word, push_word, put_line};
+use base_instructions::write_rights;
+use base_types::{Cap, Entity, Region, Rights};
+use edge_streams::{Sink, SinkFault};
+use line_text::{LINE, Names, push_name_word, push_number_word, push_word, put_line};
 
 /// A line with its first word and the name of the entity that it is about.
 #[tactic(auto, unfolding(crate::specs::Lines::named))]

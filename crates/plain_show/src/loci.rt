@@ -2,19 +2,19 @@
 ghost use Rattle.std.specs.Prelude.{◌≡◌, ◌+◌, ◌≤◌, ◌++◌, OnErr, length};
 ghost use Rattle.std.specs.List.{flat_map};
 ghost use Rattle.arrayvec.specs.ArrayString.{array_string_len};
-ghost use Rattle.disk_trait.specs.Counts.{Rose};
-ghost use Rattle.stream_edge.specs.Streams.{Puts};
-ghost use Rattle.history_model.specs.Plains.{locus_of};
-ghost use Rattle.text_lines.specs.Lines.{HasShortNames};
+ghost use Rattle.edge_disk.specs.Counts.{Rose};
+ghost use Rattle.edge_streams.specs.Streams.{Puts};
+ghost use Rattle.plain_states.specs.Plains.{locus_of};
+ghost use Rattle.line_text.specs.Lines.{HasShortNames};
 ghost use Rattle.plain_show.specs.Lines.{condition_word};
 ghost use Rattle.plain_show.specs.Show.{call_line, locus_front, locus_line, locus_lines, printed_line, private_line, register_words, walk_line};
 
 use crate::lines::{named_line, push_region, put_caps};
 use arrayvec::ArrayString;
-use history_model::PlainLocus;
-use hop_base::{Call, Condition, Entity, Private, Walk};
-use stream_edge::{Sink, SinkFault};
-use text_lines::{LINE, Names, push_name_word, push_number_word, push_word, put_line};
+use base_types::{Call, Condition, Entity, Private, Walk};
+use edge_streams::{Sink, SinkFault};
+use line_text::{LINE, Names, push_name_word, push_number_word, push_word, put_line};
+use plain_states::PlainLocus;
 
 fn word_of(condition: Condition) -> &'static str
     ensures word { result.now ≡ condition_word condition }
@@ -109,7 +109,7 @@ fn put_private<W: Sink, N: Names>(
 }
 
 /// Puts a line for each private region.
-#[tactic(auto, using(stream_edge::proofs::Streams::puts))]
+#[tactic(auto, using(edge_streams::proofs::Streams::puts))]
 fn put_privates<W: Sink, N: Names>(
     sink: &mut W,
     names: &N,
@@ -146,7 +146,7 @@ fn put_call<W: Sink, N: Names>(
 }
 
 /// Puts a line for each call, the oldest first.
-#[tactic(auto, using(stream_edge::proofs::Streams::puts))]
+#[tactic(auto, using(edge_streams::proofs::Streams::puts))]
 fn put_chain<W: Sink, N: Names>(
     sink: &mut W,
     names: &N,

@@ -1,12 +1,12 @@
 //! The names of a plain atlas.
 ghost use Rattle.std.specs.Prelude.{◌≡◌, ◌≤◌, ◌+◌, ◌++◌, length};
-ghost use Rattle.history_model.specs.Plains.{atlas_of};
-ghost use Rattle.text_lines.specs.Lines.{name_in};
+ghost use Rattle.plain_states.specs.Plains.{atlas_of};
+ghost use Rattle.line_text.specs.Lines.{name_in};
 
 use arrayvec::ArrayString;
-use history_model::PlainAtlas;
-use hop_base::Entity;
-use text_lines::{LINE, NameLists, Names};
+use base_types::Entity;
+use line_text::{LINE, NameLists, Names};
+use plain_states::PlainAtlas;
 
 /// The names of an atlas, for lines.
 #[derive(Clone, Copy)]
@@ -17,7 +17,7 @@ pub struct PlainNames<'a> {
 impl Names for PlainNames<'_> {
     ghost atlas = { λ names. atlas_of names.atlas.now };
 
-    #[tactic(auto, unfolding(text_lines::specs::Lines::name_in))]
+    #[tactic(auto, unfolding(line_text::specs::Lines::name_in))]
     fn append_name(&self, entity: Entity, line: &mut ArrayString<LINE>) {
         let lists = NameLists {
             containers: &self.atlas.containers,

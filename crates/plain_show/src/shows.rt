@@ -1,21 +1,21 @@
 //! What is shown of a state.
 ghost use Rattle.std.specs.Prelude.{◌≡◌, ◌<◌, ◌≤◌, ◌^◌, ◌+◌, ℕ, OnErr, length};
 ghost use Rattle.std.specs.List.{flat_map};
-ghost use Rattle.hop_base.specs.Edges.{upto};
-ghost use Rattle.disk_trait.specs.Counts.{Rose};
-ghost use Rattle.stream_edge.specs.Streams.{Puts};
-ghost use Rattle.history_model.specs.hop_model.Soundness.{IsSound};
-ghost use Rattle.history_model.specs.hop_model.State.{Supply, ContainerCell, LocusCell};
-ghost use Rattle.history_model.specs.Plains.{atlas_of, cells_of, container_of, locus_of};
-ghost use Rattle.text_lines.specs.Lines.{HasShortNames};
+ghost use Rattle.base_types.specs.Edges.{upto};
+ghost use Rattle.edge_disk.specs.Counts.{Rose};
+ghost use Rattle.edge_streams.specs.Streams.{Puts};
+ghost use Rattle.plain_states.specs.model_kernel.Soundness.{IsSound};
+ghost use Rattle.plain_states.specs.model_kernel.State.{Supply, ContainerCell, LocusCell};
+ghost use Rattle.plain_states.specs.Plains.{atlas_of, cells_of, container_of, locus_of};
+ghost use Rattle.line_text.specs.Lines.{HasShortNames};
 ghost use Rattle.plain_show.specs.Show.{entity_lines, shown};
 
 use crate::containers::put_container;
 use crate::loci::put_locus;
 use crate::names::PlainNames;
-use history_model::{Plain, PlainContainer, PlainLocus};
-use hop_base::Entity;
-use stream_edge::{Sink, SinkFault};
+use base_types::{Entity, FIRST_LOCUS};
+use edge_streams::{Sink, SinkFault};
+use plain_states::{Plain, PlainContainer, PlainLocus};
 
 /// The names of a state's atlas.
 fn names_of(state: &Plain) -> PlainNames<'_>
@@ -105,7 +105,7 @@ fn put_locus_at<W: Sink>(sink: &mut W, state: &Plain, place: usize) -> Result<()
 {
     let names = names_of(state);
     let l = locus_at(state, place);
-    match Entity::new(place as u8 + 41) {
+    match Entity::new(place as u8 + FIRST_LOCUS) {
         Some(entity) => put_locus(sink, &names, entity, l),
         None => unreachable!(),
     }

@@ -1,3 +1,3 @@
-pub use Rattle.plain_laws.specs.history_model
-pub use Rattle.plain_laws.specs as plain_laws
-pub use Rattle.plain_laws.specs.serial_turns
+pub use Rattle.plain_facts.specs.model_births
+pub use Rattle.model_kernel.specs as model_kernel
+pub use Rattle.plain_facts.specs as plain_facts

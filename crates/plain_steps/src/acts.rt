@@ -1,21 +1,21 @@
 ghost use Rattle.std.specs.Prelude.{◌≡◌, ℕ, ◌+◌, ◌/◌, ◌*◌, ◌<◌, ◌≤◌, ◌^◌, IsTrue, IfOk, OnOk, OnErr, true, false};
-ghost use Rattle.hop_base.specs.Instructions.{IsInstruction};
-ghost use Rattle.hop_model.specs.Outcomes.{load as loaded, on_cell, store as stored, through as gone_through, with_word};
-ghost use Rattle.hop_model.specs.State.{Supply, ContainerCell, no_atlas};
-ghost use Rattle.hop_model.specs.Words.{denied};
-ghost use Rattle.wanted_act.specs.Views.{IsReadyLocus, ShowsPage};
-ghost use Rattle.plain_laws.specs.history_model.Plains.{container_of, locus_of};
-ghost use Rattle.plain_laws.specs.history_model.wanted_laws.Readiness.{IsReadyContainer, leaves_atlas};
-ghost use Rattle.plain_laws.specs.Acts.{Acted};
+ghost use Rattle.base_types.specs.Instructions.{IsInstruction};
+ghost use Rattle.model_kernel.specs.Outcomes.{load as loaded, on_cell, store as stored, through as gone_through, with_word};
+ghost use Rattle.model_kernel.specs.State.{Supply, ContainerCell, no_atlas};
+ghost use Rattle.model_kernel.specs.Words.{denied};
+ghost use Rattle.model_acts.specs.Views.{IsReadyLocus, ShowsPage};
+ghost use Rattle.plain_states.specs.Plains.{container_of, locus_of};
+ghost use Rattle.plain_states.specs.model_act_facts.Readiness.{IsReadyContainer, leaves_atlas};
+ghost use Rattle.plain_facts.specs.Acts.{Acted};
 
 use crate::beside_acts::{back, give, invoke, leave, take};
 use crate::local_acts::finish;
-use history_model::looks::{next_address, region_at};
-use history_model::reads::{given_cap, register};
-use history_model::{PlainContainer, PlainLocus};
-use hop_base::{Answer, Entity, Instr, PAGE_WORDS, Region, Reply, Rights};
+use base_types::{Answer, Entity, Instr, PAGE_WORDS, Region, Reply, Rights};
+use model_acts::next_walk;
+use plain_states::looks::{next_address, region_at};
+use plain_states::reads::{given_cap, register};
+use plain_states::{PlainContainer, PlainLocus};
 use std::alloc::AllocError;
-use wanted_act::next_walk;
 
 // A LOOK
 
@@ -64,7 +64,7 @@ fn word<S: Fn(u64, u32, u16) -> u64>(c: &PlainContainer, supply: &S, address: u6
 }
 
 /// The look of a load.
-#[tactic(auto, unfolding(hop_model::specs::Outcomes::load))]
+#[tactic(auto, unfolding(model_kernel::specs::Outcomes::load))]
 fn load<S: Fn(u64, u32, u16) -> u64>(
     l: &mut PlainLocus,
     c: &PlainContainer,

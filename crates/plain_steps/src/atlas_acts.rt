@@ -1,19 +1,19 @@
 //! The acts that write the atlas: mappings between containers, and what a program gives birth to.
 ghost use Rattle.std.specs.Prelude.{◌≡◌, ◌+◌, ◌-◌, ◌<◌, ◌≤◌, IfOk, OnOk, OnErr, Some, None, find, filter, not, ◌==◌, length};
 ghost use Rattle.std.specs.List.{list_any};
-ghost use Rattle.hop_model.specs.Outcomes.{edge_put, map_refusal as refused, map_region, unmap as unmapped};
-ghost use Rattle.hop_model.specs.State.{Supply, ContainerCell};
-ghost use Rattle.hop_model.specs.Words.{insert_region as inserted, overlaps};
-ghost use Rattle.plain_laws.specs.history_model.EdgeLists.{AreReadyEdges};
-ghost use Rattle.plain_laws.specs.history_model.Born.{AreEdges};
-ghost use Rattle.plain_laws.specs.history_model.Plains.{atlas_of, container_of, edges_of, locus_of};
-ghost use Rattle.plain_laws.specs.AtlasActs.{ActedOnBoth, with_regions};
+ghost use Rattle.model_kernel.specs.Outcomes.{edge_put, map_refusal as refused, map_region, unmap as unmapped};
+ghost use Rattle.model_kernel.specs.State.{Supply, ContainerCell};
+ghost use Rattle.model_kernel.specs.Words.{insert_region as inserted, overlaps};
+ghost use Rattle.plain_states.specs.EdgeLists.{AreReadyEdges};
+ghost use Rattle.plain_states.specs.Born.{AreEdges};
+ghost use Rattle.plain_states.specs.Plains.{atlas_of, container_of, edges_of, locus_of};
+ghost use Rattle.plain_facts.specs.AtlasActs.{ActedOnBoth, with_regions};
 
 use crate::local_acts::finish;
-use history_model::circles::leads;
-use history_model::edges::{count_down, count_up};
-use history_model::{PlainAtlas, PlainContainer, PlainLocus, insert_region};
-use hop_base::{Answer, Entity, MOST_REGIONS, Region, Reply};
+use base_types::{Answer, Entity, MOST_REGIONS, Region, Reply};
+use plain_states::circles::leads;
+use plain_states::edges::{count_down, count_up};
+use plain_states::{PlainAtlas, PlainContainer, PlainLocus, insert_region};
 use std::alloc::AllocError;
 
 // MAPPINGS
@@ -88,7 +88,7 @@ fn add_mapping(
 }
 
 /// What map makes of the locus, the atlas and the container. On want of memory nothing is changed.
-#[tactic(auto, unfolding(hop_model::specs::Outcomes::map_region))]
+#[tactic(auto, unfolding(model_kernel::specs::Outcomes::map_region))]
 pub fn map(
     l: &mut PlainLocus,
     atlas: &mut PlainAtlas,
@@ -139,7 +139,7 @@ fn remove_mapping(atlas: &mut PlainAtlas, number: Entity, c: &mut PlainContainer
 }
 
 /// What unmap makes of the locus, the atlas and the container.
-#[tactic(auto, unfolding(hop_model::specs::Outcomes::unmap))]
+#[tactic(auto, unfolding(model_kernel::specs::Outcomes::unmap))]
 pub fn unmap(
     l: &mut PlainLocus,
     atlas: &mut PlainAtlas,

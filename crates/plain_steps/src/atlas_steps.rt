@@ -1,27 +1,27 @@
 //! Steps that write the atlas: mappings, and what a program gives birth to.
 ghost use Rattle.std.specs.Prelude.{◌≡◌, ℕ, ◌+◌, ◌<◌, ◌≤◌, IfOk, OnErr, None, length, false};
-ghost use Rattle.hop_base.specs.Instructions.{IsInstruction};
-ghost use Rattle.hop_base.specs.declared.entities.Kind.TheVariants.{Container as ContainerKind, Locus as LocusKind};
-ghost use Rattle.hop_model.specs.Acts.{beside_and_atlas, bearing};
-ghost use Rattle.hop_model.specs.Outcomes.{on_cell};
-ghost use Rattle.hop_model.specs.Refusals.{refusal};
-ghost use Rattle.hop_model.specs.Soundness.{IsSound};
-ghost use Rattle.hop_model.specs.State.{Supply, ContainerCell};
-ghost use Rattle.plain_laws.specs.history_model.EdgeLists.{AreReadyEdges};
-ghost use Rattle.plain_laws.specs.history_model.Born.{AreEdges};
-ghost use Rattle.plain_laws.specs.history_model.Events.{AreFewVersions, StepsTo, Stays};
-ghost use Rattle.plain_laws.specs.history_model.Lists.{IsActingAt};
-ghost use Rattle.plain_laws.specs.history_model.sound_runs.Names.{KeepsNames};
-ghost use Rattle.plain_laws.specs.history_model.Plains.{atlas_of, cells_of, container_of, edges_of, locus_of};
-ghost use Rattle.plain_laws.specs.history_model.wanted_laws.Readiness.{leaves_atlas};
-ghost use Rattle.plain_laws.specs.AtlasActs.{ActedOnBoth};
+ghost use Rattle.base_types.specs.Instructions.{IsInstruction};
+ghost use Rattle.base_types.specs.declared.entities.Kind.TheVariants.{Container as ContainerKind, Locus as LocusKind};
+ghost use Rattle.model_kernel.specs.Acts.{beside_and_atlas, bearing};
+ghost use Rattle.model_kernel.specs.Outcomes.{on_cell};
+ghost use Rattle.model_kernel.specs.Refusals.{refusal};
+ghost use Rattle.model_kernel.specs.Soundness.{IsSound};
+ghost use Rattle.model_kernel.specs.State.{Supply, ContainerCell};
+ghost use Rattle.plain_states.specs.EdgeLists.{AreReadyEdges};
+ghost use Rattle.plain_states.specs.Born.{AreEdges};
+ghost use Rattle.plain_states.specs.Events.{AreFewVersions, StepsTo, Stays};
+ghost use Rattle.plain_states.specs.Lists.{IsActingAt};
+ghost use Rattle.plain_states.specs.model_sound_runs.Names.{KeepsNames};
+ghost use Rattle.plain_states.specs.Plains.{atlas_of, cells_of, container_of, edges_of, locus_of};
+ghost use Rattle.plain_states.specs.model_act_facts.Readiness.{leaves_atlas};
+ghost use Rattle.plain_facts.specs.AtlasActs.{ActedOnBoth};
 
 use crate::atlas_acts::{map, unmap};
 use crate::program_births::{MadeContainer, SpawnedLocus, make, spawn};
-use history_model::entries::{entry_of_three, entry_of_two, wrote};
-use history_model::reads::{new_region, register};
-use history_model::{Plain, PlainAtlas, PlainContainer, PlainLocus, push_within};
-use hop_base::{Answer, Entity, Entry, Instr};
+use base_types::{Answer, Entity, Entry, Instr};
+use plain_states::entries::{entry_of_three, entry_of_two, wrote};
+use plain_states::reads::{new_region, register};
+use plain_states::{Plain, PlainAtlas, PlainContainer, PlainLocus, push_within};
 use std::alloc::AllocError;
 
 // MAPPINGS

@@ -1,14 +1,14 @@
 ghost use Rattle.std.specs.Prelude.{◌≡◌, ◌<◌, ◌≤◌, IfOk, OnOk, OnErr, Some, None, slice_set};
-ghost use Rattle.hop_model.specs.Outcomes.{back as returned, give as given, going, invoke as invoked, leave as left, stopped, take_cap};
-ghost use Rattle.hop_model.specs.State.{Supply, ContainerCell};
-ghost use Rattle.plain_laws.specs.history_model.Plains.{container_of, locus_of};
-ghost use Rattle.plain_laws.specs.Acts.{Acted, going_on_in};
+ghost use Rattle.model_kernel.specs.Outcomes.{back as returned, give as given, going, invoke as invoked, leave as left, stopped, take_cap};
+ghost use Rattle.model_kernel.specs.State.{Supply, ContainerCell};
+ghost use Rattle.plain_states.specs.Plains.{container_of, locus_of};
+ghost use Rattle.plain_facts.specs.Acts.{Acted, going_on_in};
 
 use crate::acts::{Made, read_only, written};
 use crate::local_acts::finish;
-use history_model::reads::{cap_at, free_slot};
-use history_model::{PlainContainer, PlainLocus};
-use hop_base::{Answer, Call, Cap, Condition, Entity, Instr, MOST_CALLS, Reply};
+use base_types::{Answer, Call, Cap, Condition, Entity, Instr, MOST_CALLS, Reply};
+use plain_states::reads::{cap_at, free_slot};
+use plain_states::{PlainContainer, PlainLocus};
 use std::alloc::AllocError;
 
 // INVOCATION
@@ -34,7 +34,7 @@ fn code_of(c: &PlainContainer) -> Result<Vec<Instr>, AllocError>
 }
 
 /// A call of a container, to which a return comes back. On want of memory nothing is changed.
-#[tactic(auto, unfolding(hop_model::specs::Outcomes::invoke))]
+#[tactic(auto, unfolding(model_kernel::specs::Outcomes::invoke))]
 pub fn invoke(l: &mut PlainLocus, number: Entity, c: &PlainContainer) -> Result<Answer, AllocError>
     requires place { l.old.place ≤ 128 }
     ensures locus { OnOk result ((s : Supply) → locus_of l.new ≡ (invoked (locus_of l.old) number (container_of s c.now)).locus) }
@@ -57,7 +57,7 @@ pub fn invoke(l: &mut PlainLocus, number: Entity, c: &PlainContainer) -> Result<
 }
 
 /// A call of a container that doesn't come back. On want of memory nothing is changed.
-#[tactic(auto, unfolding(hop_model::specs::Outcomes::leave))]
+#[tactic(auto, unfolding(model_kernel::specs::Outcomes::leave))]
 pub fn leave(l: &mut PlainLocus, number: Entity, c: &PlainContainer) -> Result<Answer, AllocError>
     requires place { l.old.place ≤ 128 }
     ensures locus { OnOk result ((s : Supply) → locus_of l.new ≡ (left (locus_of l.old) number (container_of s c.now)).locus) }
@@ -72,7 +72,7 @@ pub fn leave(l: &mut PlainLocus, number: Entity, c: &PlainContainer) -> Result<A
 }
 
 /// The return to the container of the last call. On want of memory nothing is changed.
-#[tactic(auto, unfolding(hop_model::specs::Outcomes::back))]
+#[tactic(auto, unfolding(model_kernel::specs::Outcomes::back))]
 pub fn back(l: &mut PlainLocus, c: &PlainContainer) -> Result<Made, AllocError>
     requires place { l.old.place ≤ 128 }
     ensures made { IfOk result (λ made. (s : Supply) → Acted (returned (locus_of l.old) (container_of s c.now)) (locus_of l.new) (ContainerCell (container_of s c.now)) (ContainerCell (container_of s c.now)) made.answer made.wrote) }
@@ -88,7 +88,7 @@ pub fn back(l: &mut PlainLocus, c: &PlainContainer) -> Result<Made, AllocError>
 // CAPABILITIES
 
 /// A copy of a container's capability in the locus's lowest empty slot.
-#[tactic(auto, unfolding(hop_model::specs::Outcomes::take_cap))]
+#[tactic(auto, unfolding(model_kernel::specs::Outcomes::take_cap))]
 pub fn take(l: &mut PlainLocus, c: &PlainContainer, d: u8, slot: u64) -> Answer
     requires register { d < 8 }
     requires place { l.old.place ≤ 128 }
@@ -107,7 +107,7 @@ pub fn take(l: &mut PlainLocus, c: &PlainContainer, d: u8, slot: u64) -> Answer
 }
 
 /// The capability in the container's lowest empty slot.
-#[tactic(auto, unfolding(hop_model::specs::Outcomes::give))]
+#[tactic(auto, unfolding(model_kernel::specs::Outcomes::give))]
 pub fn give(l: &mut PlainLocus, c: &mut PlainContainer, d: u8, cap: Cap) -> Answer
     requires register { d < 8 }
     requires place { l.old.place ≤ 128 }

@@ -1,22 +1,22 @@
 //! What a running locus's step makes of a state, by what its act touches.
 ghost use Rattle.std.specs.Prelude.{◌≡◌, ℕ, ◌+◌, ◌<◌, ◌≤◌, ◌^◌, IsTrue, IfOk, OnErr, Some, None, true, [], ◌∷◌, nat_lt, if◌then◌else◌};
-ghost use Rattle.hop_base.specs.declared.instructions.Instr.{Instr as AnInstr};
-ghost use Rattle.hop_model.specs.Acts.{alone, beside};
-ghost use Rattle.hop_model.specs.Soundness.{IsSound};
-ghost use Rattle.hop_model.specs.State.{Supply};
-ghost use Rattle.wanted_act.specs.Views.{may_name_itself};
-ghost use Rattle.plain_laws.specs.history_model.Entries.{step_entry, versions_after};
-ghost use Rattle.plain_laws.specs.history_model.Events.{AreFewVersions, StepsTo, Stays};
-ghost use Rattle.plain_laws.specs.history_model.Lists.{IsActingAt};
-ghost use Rattle.plain_laws.specs.history_model.Plains.{atlas_of, cells_of, locus_of};
-ghost use Rattle.plain_laws.specs.Acts.{controlled as controlled_by};
+ghost use Rattle.base_types.specs.declared.instructions.Instr.{Instr as AnInstr};
+ghost use Rattle.model_kernel.specs.Acts.{alone, beside};
+ghost use Rattle.model_kernel.specs.Soundness.{IsSound};
+ghost use Rattle.model_kernel.specs.State.{Supply};
+ghost use Rattle.model_acts.specs.Views.{may_name_itself};
+ghost use Rattle.plain_states.specs.Entries.{step_entry, versions_after};
+ghost use Rattle.plain_states.specs.Events.{AreFewVersions, StepsTo, Stays};
+ghost use Rattle.plain_states.specs.Lists.{IsActingAt};
+ghost use Rattle.plain_states.specs.Plains.{atlas_of, cells_of, locus_of};
+ghost use Rattle.plain_facts.specs.Acts.{controlled as controlled_by};
 
 use crate::acts::beside_container;
 use crate::beside_acts::{let_go_on, stop_other};
 use crate::local_acts::{finish, local};
-use history_model::entries::{Mark, entry_alone, entry_of_two, wrote};
-use history_model::{Plain, PlainLocus};
-use hop_base::{Answer, Entity, Entry, FIRST_LOCUS, Instr, Reply};
+use base_types::{Answer, Entity, Entry, FIRST_LOCUS, Instr, Reply};
+use plain_states::entries::{Mark, entry_alone, entry_of_two, wrote};
+use plain_states::{Plain, PlainLocus};
 use std::alloc::AllocError;
 
 /// The step of a locus that refuses its act itself.

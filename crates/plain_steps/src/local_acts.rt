@@ -1,17 +1,17 @@
 ghost use Rattle.std.specs.Prelude.{◌≡◌, ℕ, ◌+◌, ◌<◌, ◌≤◌, IfOk, OnOk, OnErr, None, not, ◌&&◌, ◌==◌, filter, slice_set, length};
 ghost use Rattle.std.specs.List.{position_or_len};
-ghost use Rattle.hop_base.specs.Instructions.{IsInstruction};
-ghost use Rattle.hop_base.specs.declared.instructions.Instr.TheVariants.{Set as SetAct, Copy as CopyAct, Add as AddAct, Sub as SubAct, Jump as JumpAct, Jz as JzAct, Lunmap as LunmapAct, Drop as DropAct, Stop as StopAct, Print as PrintAct, Halt as HaltAct};
-ghost use Rattle.hop_base.specs.declared.instructions.Reply.TheVariants.{Ok as OkReply};
-ghost use Rattle.hop_model.specs.Outcomes.{finish as finished, insert_private as inserted, local_act, next as gone_on, own_reply, with_private};
-ghost use Rattle.hop_model.specs.Refusals.{refusal};
-ghost use Rattle.wanted_act.specs.Views.{IsReadyLocus};
-ghost use Rattle.plain_laws.specs.history_model.Plains.{locus_of};
-ghost use Rattle.plain_laws.specs.Acts.{stands_before as is_before};
+ghost use Rattle.base_types.specs.Instructions.{IsInstruction};
+ghost use Rattle.base_types.specs.declared.instructions.Instr.TheVariants.{Set as SetAct, Copy as CopyAct, Add as AddAct, Sub as SubAct, Jump as JumpAct, Jz as JzAct, Lunmap as LunmapAct, Drop as DropAct, Stop as StopAct, Print as PrintAct, Halt as HaltAct};
+ghost use Rattle.base_types.specs.declared.instructions.Reply.TheVariants.{Ok as OkReply};
+ghost use Rattle.model_kernel.specs.Outcomes.{finish as finished, insert_private as inserted, local_act, next as gone_on, own_reply, with_private};
+ghost use Rattle.model_kernel.specs.Refusals.{refusal};
+ghost use Rattle.model_acts.specs.Views.{IsReadyLocus};
+ghost use Rattle.plain_states.specs.Plains.{locus_of};
+ghost use Rattle.plain_facts.specs.Acts.{stands_before as is_before};
 
-use history_model::PlainLocus;
-use history_model::reads::{new_region, register};
-use hop_base::{Answer, Condition, Entity, Instr, MOST_PRINTED, Private, Region, Reply, Rights};
+use base_types::{Answer, Condition, Entity, Instr, MOST_PRINTED, Private, Region, Reply, Rights};
+use plain_states::PlainLocus;
+use plain_states::reads::{new_region, register};
 use std::alloc::AllocError;
 
 /// The next place, and nothing to tell.
@@ -38,7 +38,7 @@ pub fn finish(l: &mut PlainLocus, reply: Reply) -> Answer
 
 // REGISTERS AND PLACES
 
-#[tactic(auto, unfolding(hop_model::specs::Outcomes::local_act))]
+#[tactic(auto, unfolding(model_kernel::specs::Outcomes::local_act))]
 fn set(l: &mut PlainLocus, d: u8, n: u64) -> Answer
     requires register { d < 8 }
     requires place { l.old.place ≤ 128 }
@@ -49,7 +49,7 @@ fn set(l: &mut PlainLocus, d: u8, n: u64) -> Answer
     go_on(l)
 }
 
-#[tactic(auto, unfolding(hop_model::specs::Outcomes::local_act))]
+#[tactic(auto, unfolding(model_kernel::specs::Outcomes::local_act))]
 fn copy(l: &mut PlainLocus, d: u8, s: u8) -> Answer
     requires register { d < 8 }
     requires source { s < 8 }
@@ -61,7 +61,7 @@ fn copy(l: &mut PlainLocus, d: u8, s: u8) -> Answer
     go_on(l)
 }
 
-#[tactic(auto, unfolding(hop_model::specs::Outcomes::local_act))]
+#[tactic(auto, unfolding(model_kernel::specs::Outcomes::local_act))]
 fn add(l: &mut PlainLocus, d: u8, s: u8) -> Answer
     requires register { d < 8 }
     requires source { s < 8 }
@@ -73,7 +73,7 @@ fn add(l: &mut PlainLocus, d: u8, s: u8) -> Answer
     go_on(l)
 }
 
-#[tactic(auto, unfolding(hop_model::specs::Outcomes::local_act))]
+#[tactic(auto, unfolding(model_kernel::specs::Outcomes::local_act))]
 fn sub(l: &mut PlainLocus, d: u8, s: u8) -> Answer
     requires register { d < 8 }
     requires source { s < 8 }
@@ -85,7 +85,7 @@ fn sub(l: &mut PlainLocus, d: u8, s: u8) -> Answer
     go_on(l)
 }
 
-#[tactic(auto, unfolding(hop_model::specs::Outcomes::local_act))]
+#[tactic(auto, unfolding(model_kernel::specs::Outcomes::local_act))]
 fn jump(l: &mut PlainLocus, place: u8) -> Answer
     ensures locus { locus_of l.new ≡ (local_act (locus_of l.old) (JumpAct place)).locus }
     ensures answer { result ≡ (local_act (locus_of l.old) (JumpAct place)).answer }
@@ -94,7 +94,7 @@ fn jump(l: &mut PlainLocus, place: u8) -> Answer
     Answer::Quiet
 }
 
-#[tactic(auto, unfolding(hop_model::specs::Outcomes::local_act))]
+#[tactic(auto, unfolding(model_kernel::specs::Outcomes::local_act))]
 fn jump_if_zero(l: &mut PlainLocus, s: u8, place: u8) -> Answer
     requires source { s < 8 }
     requires place { l.old.place ≤ 128 }
@@ -107,7 +107,7 @@ fn jump_if_zero(l: &mut PlainLocus, s: u8, place: u8) -> Answer
     go_on(l)
 }
 
-#[tactic(auto, unfolding(hop_model::specs::Outcomes::local_act))]
+#[tactic(auto, unfolding(model_kernel::specs::Outcomes::local_act))]
 fn print(l: &mut PlainLocus, r: u8) -> Answer
     requires register { r < 8 }
     requires place { l.old.place ≤ 128 }
@@ -121,7 +121,7 @@ fn print(l: &mut PlainLocus, r: u8) -> Answer
     Answer::Print(register(l, r))
 }
 
-#[tactic(auto, unfolding(hop_model::specs::Outcomes::local_act))]
+#[tactic(auto, unfolding(model_kernel::specs::Outcomes::local_act))]
 fn halt(l: &mut PlainLocus) -> Answer
     ensures locus { locus_of l.new ≡ (local_act (locus_of l.old) HaltAct).locus }
     ensures answer { result ≡ (local_act (locus_of l.old) HaltAct).answer }
@@ -183,7 +183,7 @@ fn remove_private(privates: &mut Vec<Private>, host: Entity, page: u64)
     privates.retain(|p| !(p.made == host && p.region.at as u64 == page));
 }
 
-#[tactic(auto, unfolding(hop_model::specs::Outcomes::local_act))]
+#[tactic(auto, unfolding(model_kernel::specs::Outcomes::local_act))]
 fn lunmap(l: &mut PlainLocus, a: u8) -> Answer
     requires register { a < 8 }
     requires place { l.old.place ≤ 128 }
@@ -198,7 +198,7 @@ fn lunmap(l: &mut PlainLocus, a: u8) -> Answer
 
 // SLOTS AND CONTROL
 
-#[tactic(auto, unfolding(hop_model::specs::Outcomes::local_act))]
+#[tactic(auto, unfolding(model_kernel::specs::Outcomes::local_act))]
 fn drop_cap(l: &mut PlainLocus, s: u8) -> Answer
     requires register { s < 8 }
     requires place { l.old.place ≤ 128 }
@@ -212,7 +212,7 @@ fn drop_cap(l: &mut PlainLocus, s: u8) -> Answer
     finish(l, Reply::Ok)
 }
 
-#[tactic(auto, unfolding(hop_model::specs::Outcomes::local_act))]
+#[tactic(auto, unfolding(model_kernel::specs::Outcomes::local_act))]
 fn stop_itself(l: &mut PlainLocus, c: u8) -> Answer
     requires place { l.old.place ≤ 128 }
     ensures locus { locus_of l.new ≡ (local_act (locus_of l.old) (StopAct c)).locus }

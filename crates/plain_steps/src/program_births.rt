@@ -1,14 +1,14 @@
 //! What a program gives birth to: containers that it makes and loci that it spawns.
 ghost use Rattle.std.specs.Prelude.{◌≡◌, ◌<◌, ◌≤◌, IfOk, OnErr, length, string_bytes};
-ghost use Rattle.hop_model.specs.Outcomes.{code_for as code_given, holding, made_container as container_made, made_name as name_made, make as made_by, spawn as spawned_by, spawned as locus_spawned};
-ghost use Rattle.hop_model.specs.State.{Supply};
-ghost use Rattle.plain_laws.specs.history_model.Plains.{atlas_of, container_of, locus_of};
-ghost use Rattle.plain_laws.specs.AtlasActs.{ActedOnAtlas, container_bears, locus_bears};
+ghost use Rattle.model_kernel.specs.Outcomes.{code_for as code_given, holding, made_container as container_made, made_name as name_made, make as made_by, spawn as spawned_by, spawned as locus_spawned};
+ghost use Rattle.model_kernel.specs.State.{Supply};
+ghost use Rattle.plain_states.specs.Plains.{atlas_of, container_of, locus_of};
+ghost use Rattle.plain_facts.specs.AtlasActs.{ActedOnAtlas, container_bears, locus_bears};
 
 use crate::local_acts::finish;
-use history_model::reads::free_slot;
-use history_model::{PlainAtlas, PlainContainer, PlainLocus, free_container, free_locus};
-use hop_base::{Answer, Cap, Condition, Entity, Instr, MOST_CAPS, Reply, Rights};
+use base_types::{Answer, Cap, Condition, Entity, Instr, MOST_CAPS, Reply, Rights};
+use plain_states::reads::free_slot;
+use plain_states::{PlainAtlas, PlainContainer, PlainLocus, free_container, free_locus};
 use std::alloc::{AllocError, Global};
 use std::collections::BTreeMap;
 
@@ -100,7 +100,7 @@ pub struct MadeContainer {
 
 /// What make makes of the locus and the atlas, and the newborn, which the caller adds to the containers. On want of
 /// memory nothing is changed.
-#[tactic(auto, unfolding(hop_model::specs::Outcomes::make))]
+#[tactic(auto, unfolding(model_kernel::specs::Outcomes::make))]
 pub fn make(
     alloc: Global,
     l: &mut PlainLocus,
@@ -145,7 +145,7 @@ pub struct SpawnedLocus {
 
 /// What spawn makes of the locus and the atlas, and the newborn, which the caller adds to the loci. On want of memory
 /// nothing is changed.
-#[tactic(auto, unfolding(hop_model::specs::Outcomes::spawn))]
+#[tactic(auto, unfolding(model_kernel::specs::Outcomes::spawn))]
 pub fn spawn(
     alloc: Global,
     l: &mut PlainLocus,

@@ -1,21 +1,21 @@
 ghost use Rattle.std.specs.Prelude.{◌≡◌, ℕ, ◌+◌, ◌<◌, ◌≤◌, ◌↔◌, ◌^◌, if◌then◌else◌, IfOk, IfSome, IfNone, IsNone, None, OnErr};
-ghost use Rattle.hop_model.specs.Soundness.{IsSound};
-ghost use Rattle.hop_model.specs.State.{Supply};
-ghost use Rattle.hop_model.specs.Steps.{running};
-ghost use Rattle.hop_model.specs.Acts.{alone, beside};
-ghost use Rattle.wanted_act.specs.Views.{act_of, is_number, seen_by as act_seen_by};
-ghost use Rattle.plain_laws.specs.history_model.Born.{AreEdges};
-ghost use Rattle.plain_laws.specs.history_model.Events.{StepsTo, Stays, AreFewVersions};
-ghost use Rattle.plain_laws.specs.history_model.Lists.{IsActingAt, IsRunningAt, IsIdleIn};
-ghost use Rattle.plain_laws.specs.history_model.sound_runs.Names.{KeepsNames};
-ghost use Rattle.plain_laws.specs.history_model.Plains.{atlas_of, cells_of};
+ghost use Rattle.model_kernel.specs.Soundness.{IsSound};
+ghost use Rattle.model_kernel.specs.State.{Supply};
+ghost use Rattle.model_kernel.specs.Steps.{running};
+ghost use Rattle.model_kernel.specs.Acts.{alone, beside};
+ghost use Rattle.model_acts.specs.Views.{act_of, is_number, seen_by as act_seen_by};
+ghost use Rattle.plain_states.specs.Born.{AreEdges};
+ghost use Rattle.plain_states.specs.Events.{StepsTo, Stays, AreFewVersions};
+ghost use Rattle.plain_states.specs.Lists.{IsActingAt, IsRunningAt, IsIdleIn};
+ghost use Rattle.plain_states.specs.model_sound_runs.Names.{KeepsNames};
+ghost use Rattle.plain_states.specs.Plains.{atlas_of, cells_of};
 
 use crate::atlas_steps::{step_make, step_mapping, step_spawn};
 use crate::carry::{step_atlas, step_container, step_local, step_locus, step_refused};
-use history_model::{Plain, PlainLocus};
-use hop_base::{Condition, Entity, Entry, FIRST_LOCUS, Instr, Kind};
+use base_types::{Condition, Entity, Entry, FIRST_LOCUS, Instr, Kind};
+use model_acts::{Act, wants};
+use plain_states::{Plain, PlainLocus};
 use std::alloc::AllocError;
-use wanted_act::{Act, wants};
 
 /// The place in its list of a locus that is born and running.
 fn running_place(loci: &[PlainLocus], locus: Entity) -> Option<usize>

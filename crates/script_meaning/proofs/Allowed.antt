@@ -8,23 +8,23 @@ use Rattle.std.proofs.lemmas.Option.{none-some, same_Some}
 use Rattle.std.proofs.lemmas.List.{map_push}
 use Rattle.std.proofs.lemmas.List.Elements.{All-nil, All-push}
 use Rattle.std.proofs.lemmas.List.Folds.{list_all-append}
-use Rattle.hop_base.specs.declared.instructions.Instr.{Instr}
-use Rattle.hop_base.specs.Instructions.{IsInstruction, IsPlace, IsAccess}
-use Rattle.script_form.specs.hop_model.Scripts.{RegionTable, CapTable, ContainerTable, LocusTable, text_eq, atlas_name}
-use Rattle.script_form.specs.hop_model.Soundness.{is_given_name, IsSoundCode}
-use Rattle.script_form.specs.hop_model.State.{Text}
-use Rattle.instr_set.specs.Spelling.{spelling, IsSpelling}
-use Rattle.instr_set.specs.Reader.{instr_of, rights_of}
-use Rattle.instr_set.proofs.Reader.{IsReader-instr_of}
+use Rattle.base_types.specs.declared.instructions.Instr.{Instr}
+use Rattle.base_types.specs.Instructions.{IsInstruction, IsPlace, IsAccess}
+use Rattle.script_types.specs.model_kernel.Scripts.{RegionTable, CapTable, ContainerTable, LocusTable, text_eq, atlas_name}
+use Rattle.script_types.specs.model_kernel.Soundness.{is_given_name, IsSoundCode}
+use Rattle.script_types.specs.model_kernel.State.{Text}
+use Rattle.base_instructions.specs.Spelling.{spelling, IsSpelling}
+use Rattle.base_instructions.specs.Reader.{instr_of, rights_of}
+use Rattle.base_instructions.proofs.Reader.{IsReader-instr_of}
 use Rattle.toml.specs.Data.{Data, Members, no_members, member, get_member}
 use Rattle.script_meaning.specs.Ordered.{in_order}
 use Rattle.script_meaning.specs.Reading.{◌>>=◌, refused, or_refused, optional, dotted}
 use Rattle.script_meaning.specs.Strings.{RegionForm, cut, region_number, name_form, access_of, region_form, named_form, placed_form, sized_form, cap_form}
 use Rattle.script_meaning.specs.Fields.{a_string, a_table, a_list, a_number, a_name, only, text_at, number_at, number_or, name_at, item_key, each}
 use Rattle.script_meaning.specs.Meaning.{Program, FramedTables, a_line, a_program, more_programs, programs_in, programs_at, code_named, overlap, is_within, fits, table_of_region, placed_region, a_region, regions_at, known_cap, a_cap, caps_at, names_of, known_names, every_at, sized_container, code_at, entry_at, coded_container, whole_container, container_keys, a_container, containers_at, host_at, whole_locus, locus_keys, a_locus, loci_at, a_pick, order_at, entities_at}
-use Rattle.script_form.specs.Rules.{is_among, AreDifferent, IsRegionTable, AreApart, AreAllApart, IsCapTable, IsContainerTable, IsLocusTable, container_names, locus_names, AreContainerTables, AreLocusTables, IsScript}
-use Rattle.script_form.proofs.Tables.{containers_more, loci_more}
-use Rattle.script_form.specs.declared.refusals.Why.TheVariants.{Name, Unknown, Range, BadCode}
+use Rattle.script_types.specs.Rules.{is_among, AreDifferent, IsRegionTable, AreApart, AreAllApart, IsCapTable, IsContainerTable, IsLocusTable, container_names, locus_names, AreContainerTables, AreLocusTables, IsScript}
+use Rattle.script_types.proofs.Tables.{containers_more, loci_more}
+use Rattle.script_types.specs.declared.refusals.Why.TheVariants.{Name, Unknown, Range, BadCode}
 use Rattle.script_meaning.proofs.Lists.{any_of_append}
 use Rattle.script_meaning.proofs.Readings.{then_ok, or_ok, same_ok, test_ok, err_is_not_ok, a_number_ok, number_at_ok, number_or_ok, a_list_ok, list_keeps, each_keeps, each_length}
 use Rattle.std.proofs.Math.Bool.{or-false}

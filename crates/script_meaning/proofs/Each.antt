@@ -7,8 +7,8 @@ use Rattle.toml.specs.View.{view}
 use Rattle.toml.specs.declared.value.Value.{Value}
 use Rattle.script_meaning.specs.Fields.{each}
 use Rattle.script_meaning.specs.Reading.{Reading, ◌>>=◌, IsFaultOf, Reads}
-use Rattle.script_form.specs.declared.refusals.ScriptFault.{ScriptFault}
-use Rattle.script_form.specs.declared.refusals.ScriptFault.TheVariants.{Refused, Memory}
+use Rattle.script_types.specs.declared.refusals.ScriptFault.{ScriptFault}
+use Rattle.script_types.specs.declared.refusals.ScriptFault.TheVariants.{Refused, Memory}
 
 -- a fault of the first is one of both
 pub passes_on : {A B : Type 0} (r : Reading A) (next : A → Reading B) (e : ScriptFault) → IsFaultOf r e → IsFaultOf (r >>= next) e

@@ -2,16 +2,16 @@
 use Rattle.std.proofs.Common.{◌≡◌, ℕ, ◌<◌, ◌≤◌, Bool, true, false, nat_le, le-leb, ◌||◌, ◌&&◌, List, [], ◌∷◌, ◌++◌, length, map, Ok, refl, ap, ◌∙◌, arith}
 use Rattle.std.proofs.lemmas.Bool.Decides.{nat_tests}
 use Rattle.std.specs.List.{list_any, list_all}
-use Rattle.script_form.specs.hop_model.State.{Text}
+use Rattle.script_types.specs.model_kernel.State.{Text}
 use Rattle.toml.specs.Data.{Data}
 use Rattle.toml.specs.View.{view, items_view}
 use Rattle.toml.specs.declared.value.Value.{Value}
 use Rattle.script_meaning.specs.Fields.{list_of, at_most}
 use Rattle.script_meaning.specs.Reading.{Reading, refused, IsFaultOf, IsBlamed}
-use Rattle.script_form.specs.declared.refusals.Why.{Why}
-use Rattle.script_form.specs.declared.refusals.Why.TheVariants.{TooMany}
-use Rattle.script_form.specs.declared.refusals.ScriptFault.{ScriptFault}
-use Rattle.script_form.specs.declared.refusals.ScriptFault.TheVariants.{Refused, Memory}
+use Rattle.script_types.specs.declared.refusals.Why.{Why}
+use Rattle.script_types.specs.declared.refusals.Why.TheVariants.{TooMany}
+use Rattle.script_types.specs.declared.refusals.ScriptFault.{ScriptFault}
+use Rattle.script_types.specs.declared.refusals.ScriptFault.TheVariants.{Refused, Memory}
 
 pub any_of_map : {A B : Type 0} (test : B → Bool) (f : A → B) (xs : List A) → list_any (λ x. test (f x)) xs ≡ list_any test (map f xs)
 any_of_map test f [] = refl

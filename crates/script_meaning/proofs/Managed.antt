@@ -3,15 +3,15 @@ use Rattle.std.proofs.Common.{◌≡◌, ℕ, pos, false, not, ◌==◌, if◌th
 use Rattle.std.specs.List.{list_all}
 use Rattle.std.proofs.lemmas.List.Elements.{All-nil, All-push}
 use Rattle.std.proofs.lemmas.List.Sums.{AllPass-from_list_all}
-use Rattle.hop_base.specs.declared.instructions.Instr.{Instr}
-use Rattle.script_form.specs.hop_model.State.{Text}
-use Rattle.manager_form.specs.Managing.{ManagerTable, ManagerTables, has_number, is_managing, AreDifferent, IsManagerCode, IsManagerTable, AreManagerTables, AreScriptManagers}
+use Rattle.base_types.specs.declared.instructions.Instr.{Instr}
+use Rattle.script_types.specs.model_kernel.State.{Text}
+use Rattle.base_managers.specs.Managing.{ManagerTable, ManagerTables, has_number, is_managing, AreDifferent, IsManagerCode, IsManagerTable, AreManagerTables, AreScriptManagers}
 use Rattle.toml.specs.Data.{Data, Members}
 use Rattle.script_meaning.specs.Reading.{◌>>=◌, refused, or_refused}
 use Rattle.script_meaning.specs.Strings.{ManagerForm, manager_form}
 use Rattle.script_meaning.specs.Fields.{a_string, in_range, item_key}
 use Rattle.script_meaning.specs.Meaning.{Program, code_named, managing_code, new_manager, formed_manager, a_manager, managers_at, both_kinds}
-use Rattle.script_form.specs.declared.refusals.Why.TheVariants.{Unknown, BadCode, Clash}
+use Rattle.script_types.specs.declared.refusals.Why.TheVariants.{Unknown, BadCode, Clash}
 use Rattle.script_meaning.proofs.Allowed.{Sound, eq_sym, named_ok}
 use Rattle.script_meaning.proofs.Lists.{any_of_append}
 use Rattle.script_meaning.proofs.Readings.{then_ok, or_ok, same_ok, test_ok, in_range_ok, list_keeps}

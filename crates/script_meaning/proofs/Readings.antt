@@ -2,12 +2,12 @@
 use Rattle.std.proofs.Common.{◌≡◌, ℕ, ◌+◌, ◌≤◌, ℤ, pos, negsuc, Bool, true, false, ◌&&◌, nat_le, if◌then◌else◌, List, [], ◌∷◌, ◌++◌, length, Ok, Err, Option, Some, None, refl, ap, subst, arith, length-append}
 use Rattle.std.proofs.lemmas.Bool.{and_parts}
 use Rattle.std.proofs.lemmas.Bool.Decides.{nat_tests}
-use Rattle.script_form.specs.hop_model.State.{Text}
+use Rattle.script_types.specs.model_kernel.State.{Text}
 use Rattle.toml.specs.Data.{Data, Members, get_member, as_integer}
 use Rattle.script_meaning.specs.Reading.{Blame, Reading, ◌>>=◌, refused, or_refused, optional, dotted}
 use Rattle.script_meaning.specs.Fields.{at_most, a_list, in_range, a_number, required, number_at, number_or, list_at, each}
-use Rattle.script_form.specs.declared.refusals.Why.{Why}
-use Rattle.script_form.specs.declared.refusals.Why.TheVariants.{Kind, Range, TooMany}
+use Rattle.script_types.specs.declared.refusals.Why.{Why}
+use Rattle.script_types.specs.declared.refusals.Why.TheVariants.{Kind, Range, TooMany}
 
 pub err_is_not_ok : {A : Type 0} (b : Blame) (x : A) → ◌≡◌ {A = Reading A} (Err b) (Ok x) → ⊥
 err_is_not_ok b x e = cc

@@ -1,12 +1,12 @@
 -- Keys of tables and their values, of a kind and within a range.
 use Rattle.std.specs.Prelude.{ℕ, ℤ, pos, negsuc, ◌&&◌, not, nat_le, if◌then◌else◌, List, [], ◌∷◌, ◌++◌, length, Ok, option_map, decimal, codes}
-use Rattle.script_form.specs.hop_model.State.{Text}
-use Rattle.script_form.specs.hop_model.Soundness.{is_given_name}
+use Rattle.script_types.specs.model_kernel.State.{Text}
+use Rattle.script_types.specs.model_kernel.Soundness.{is_given_name}
 use Rattle.toml.specs.Data.{Data, Items, no_items, item, Members, no_members, member, get_member, as_str, as_integer, as_array, as_table}
 use Rattle.script_meaning.specs.Reading.{Reading, ◌>>=◌, refused, or_refused, optional, dotted}
-use Rattle.script_form.specs.Rules.{is_among}
+use Rattle.script_types.specs.Rules.{is_among}
 use Rattle.script_meaning.specs.Ordered.{in_order}
-use Rattle.script_form.specs.declared.refusals.Why.TheVariants.{Missing, Kind, Name, Unknown, Range, TooMany}
+use Rattle.script_types.specs.declared.refusals.Why.TheVariants.{Missing, Kind, Name, Unknown, Range, TooMany}
 
 -- KINDS
 

@@ -2,19 +2,19 @@
 use Rattle.std.specs.Prelude.{ℕ, pos, ◌+◌, Bool, true, false, not, ◌&&◌, nat_lt, nat_le, if◌then◌else◌, List, [], ◌∷◌, ◌++◌, length, Ok, Option, Some, None, codes}
 use Rattle.std.specs.List.{list_all}
 use Rattle.std.specs.Str.{is_utf8}
-use Rattle.hop_base.specs.declared.instructions.Instr.{Instr}
-use Rattle.script_form.specs.hop_model.State.{Text}
-use Rattle.script_form.specs.hop_model.Scripts.{RegionTable, CapTable, ContainerTable, LocusTable, Script as Tables, text_eq, atlas_name}
+use Rattle.base_types.specs.declared.instructions.Instr.{Instr}
+use Rattle.script_types.specs.model_kernel.State.{Text}
+use Rattle.script_types.specs.model_kernel.Scripts.{RegionTable, CapTable, ContainerTable, LocusTable, Script as Tables, text_eq, atlas_name}
 use Rattle.toml.specs.Data.{Data, Members, no_members, member, get_member}
 use Rattle.toml.specs.Parse.{parse_document}
-use Rattle.instr_set.specs.Reader.{instr_of}
-use Rattle.manager_form.specs.Managing.{ManagerTable, ManagerTables, has_number, is_managing}
+use Rattle.base_instructions.specs.Reader.{instr_of}
+use Rattle.base_managers.specs.Managing.{ManagerTable, ManagerTables, has_number, is_managing}
 use Rattle.script_meaning.specs.Ordered.{in_order}
 use Rattle.script_meaning.specs.Reading.{Reading, ◌>>=◌, refused, or_refused, optional, dotted}
 use Rattle.script_meaning.specs.Strings.{RegionForm, CapForm, ManagerForm, region_form, cap_form, manager_form}
 use Rattle.script_meaning.specs.Fields.{a_string, a_table, a_list, in_range, a_number, only, text_at, number_at, number_or, list_at, name_at, item_key, each}
-use Rattle.script_form.specs.Rules.{is_among, container_names, locus_names}
-use Rattle.script_form.specs.declared.refusals.Why.TheVariants.{NotToml, Unknown, Range, BadCode, Long, Clash}
+use Rattle.script_types.specs.Rules.{is_among, container_names, locus_names}
+use Rattle.script_types.specs.declared.refusals.Why.TheVariants.{NotToml, Unknown, Range, BadCode, Long, Clash}
 
 -- PROGRAMS
 

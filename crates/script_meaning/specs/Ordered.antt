@@ -1,6 +1,6 @@
 -- Members of a table in the order of their keys' bytes.
 use Rattle.std.specs.Prelude.{if◌then◌else◌}
-use Rattle.script_form.specs.hop_model.State.{Text}
+use Rattle.script_types.specs.model_kernel.State.{Text}
 use Rattle.toml.specs.Data.{Data, Members, no_members, member, is_before}
 
 -- one more among those that are in order

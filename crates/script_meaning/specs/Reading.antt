@@ -1,9 +1,9 @@
 -- What is read of a source: a value, or the first refusal.
 use Rattle.std.specs.Prelude.{◌≡◌, ⊤, [], ◌∷◌, ◌++◌, Result, Ok, Err, Option, Some, None, MatchResult, codes, string_bytes}
-use Rattle.script_form.specs.hop_model.State.{Text}
-use Rattle.script_form.specs.declared.refusals.Why.{Why}
-use Rattle.script_form.specs.declared.refusals.ScriptFault.{ScriptFault}
-use Rattle.script_form.specs.declared.refusals.ScriptFault.TheVariants.{Refused, Memory}
+use Rattle.script_types.specs.model_kernel.State.{Text}
+use Rattle.script_types.specs.declared.refusals.Why.{Why}
+use Rattle.script_types.specs.declared.refusals.ScriptFault.{ScriptFault}
+use Rattle.script_types.specs.declared.refusals.ScriptFault.TheVariants.{Refused, Memory}
 
 -- what is wrong, and at which key
 pub record Blame : Type 0 where

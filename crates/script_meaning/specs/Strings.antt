@@ -1,9 +1,9 @@
 -- Strings of a source: names, numbers, rights, and the strings of regions, capabilities and managers.
 use Rattle.std.specs.Prelude.{ℕ, ◌+◌, ◌-◌, ◌*◌, min, Bool, false, not, ◌&&◌, ◌||◌, ◌==◌, nat_lt, nat_le, if◌then◌else◌, [], ◌∷◌, length, fold, Option, Some, None, option_and_then}
 use Rattle.std.specs.List.{list_all, position_or_len, before_first, after_first}
-use Rattle.script_form.specs.hop_model.State.{Text}
-use Rattle.instr_set.specs.Reader.{is_blank, rights_of}
-use Rattle.script_form.specs.hop_model.Soundness.{is_name_byte, begins_with_letter}
+use Rattle.script_types.specs.model_kernel.State.{Text}
+use Rattle.base_instructions.specs.Reader.{is_blank, rights_of}
+use Rattle.script_types.specs.model_kernel.Soundness.{is_name_byte, begins_with_letter}
 
 -- 1 to 24 bytes, the first a letter; the atlas's name is one too
 abbrev pub is_name : Text → Bool

@@ -3,23 +3,24 @@ use Rattle.std.proofs.Common.{◌≡◌, ℕ, ◌≤◌, Bool, true, false, ◌=
 use Rattle.std.specs.List.{AllByRecursion, flat_map}
 use Rattle.std.proofs.lemmas.Bool.{and_parts, le-leb, leb-true}
 use Rattle.std.proofs.lemmas.List.{map-append}
-use Rattle.disk_trait.specs.Disk.{Only}
-use Rattle.disk_trait.specs.Image.{Image, block_at}
-use Rattle.hop_base.specs.declared.records.Rec.{Rec}
-use Rattle.store_model.proofs.hop_model_lemmas.Lowering.{greatest_is}
-use Rattle.store_model.specs.hop_model.Choices.{IsBelow, IsClosedChoice}
-use Rattle.store_model.specs.cut_laws.Agreeing.{nothing}
-use Rattle.store_model.specs.cut_laws.Records.{commits_of}
-use Rattle.store_model.specs.image_form.Layout.{slot_count}
-use Rattle.store_model.specs.image_form.Logs.{AreFitting}
-use Rattle.store_model.specs.image_blocks.Logs.{HasLog, Place}
-use Rattle.store_model.specs.image_meaning.Parts.{cut_of}
-use Rattle.store_model.specs.image_meaning.Stores.{IsFound, IsHeld, Page}
-use Rattle.store_model.specs.log_laws.Areas.{SameAreas}
-use Rattle.store_model.specs.log_turn.Standing.{epoch_of, place_of, used_of}
-use Rattle.store_model.specs.log_turn.declared.areas.Areas.{Areas}
-use Rattle.store_model.specs.Books.{AreSmall, AreStored, Books, IsApart, IsBeforePool, Logged, cut_in, is_small, kept_for, kept_in, kept_of, logged_recs, page_for, recs_in}
-use Rattle.store_model.proofs.Keeping.{at_or_above, kept_agree}
+use Rattle.edge_disk.specs.declared.disk.Disk.{Ghosts}
+use Rattle.edge_disk.specs.Disk.{Only}
+use Rattle.edge_disk.specs.Image.{Image, block_at}
+use Rattle.base_types.specs.declared.records.Rec.{Rec}
+use Rattle.store_books.proofs.model_kernel_lemmas.Lowering.{greatest_is}
+use Rattle.store_books.specs.model_kernel.Choices.{IsBelow, IsClosedChoice}
+use Rattle.store_books.specs.model_cut_laws.Agreeing.{nothing}
+use Rattle.store_books.specs.model_cut_laws.Records.{commits_of}
+use Rattle.store_books.specs.image_facts.Layout.{slot_count}
+use Rattle.store_books.specs.image_facts.Logs.{AreFitting}
+use Rattle.store_books.specs.image_blocks.Logs.{HasLog, Place}
+use Rattle.store_books.specs.image_meaning.Parts.{cut_of}
+use Rattle.store_books.specs.image_meaning.Stores.{IsFound, IsHeld, Page}
+use Rattle.store_books.specs.log_facts.Areas.{SameAreas}
+use Rattle.store_books.specs.log_turn.Standing.{epoch_of, place_of, used_of}
+use Rattle.store_books.specs.log_turn.declared.areas.Areas.{Areas}
+use Rattle.store_books.specs.Books.{AreSmall, AreStored, Books, IsApart, IsBeforePool, Logged, cut_in, is_small, kept_for, kept_in, kept_of, logged_recs, page_for, recs_in}
+use Rattle.store_books.proofs.Keeping.{at_or_above, kept_agree}
 use Rattle.store_commit.specs.Ready.{AreAt, TrueAfterLaw, books_after, next_in, roomy_logged}
 use Rattle.store_commit.specs.Storing.{HasLogged, new_of, roomy_log}
 use Rattle.store_commit.proofs.Agreeing.{greatest_kept}
@@ -108,10 +109,10 @@ roomy_recs : (lt : Bool) (ls ks : List Logged) (r : Rec) (table : List ℕ) → 
 roomy_recs true ls ks r table = map-append (λ (l : Logged). l.rec) ls (record { rec = r; table = table } ∷ [])
 roomy_recs false ls ks r table = map-append (λ (l : Logged). l.rec) ks (record { rec = r; table = table } ∷ [])
 
-module _ {D : Type 0} (reading : D → Image) (may_leave : D → Image → Type 0) (reads_now : (d : D) → may_leave d (reading d)) (b : Books) (areas after : Areas) (old new : D) (r : Rec) (blob : List (List ℕ)) (bytes table : List ℕ)
-    (small : Bool) (has : AreAt reading may_leave b areas old) (are_small : AreSmall b)
-    (logged : HasLogged reading may_leave b.count after (roomy_log (used_of areas) (recs_in b) (logged_recs (kept_in b)) ++ r ∷ []) (kept_of (reading old) b ++ new_of (next_in (reading old) b bytes table) r ∷ []) new)
-    (only : Only (reading new) (may_leave new)) where
+module _ {D : Type 0} (disks : Ghosts D) (reads_now : (d : D) → disks.may_leave d (disks.reading d)) (b : Books) (areas after : Areas) (old new : D) (r : Rec) (blob : List (List ℕ)) (bytes table : List ℕ)
+    (small : Bool) (has : AreAt disks b areas old) (are_small : AreSmall b)
+    (logged : HasLogged disks b.count after (roomy_log (used_of areas) (recs_in b) (logged_recs (kept_in b)) ++ r ∷ []) (kept_of (disks.reading old) b ++ new_of (next_in (disks.reading old) b bytes table) r ∷ []) new)
+    (only : Only (disks.reading new) (disks.may_leave new)) where
   recs_are : recs_in (books_after b areas after r table small) ≡ roomy_log (used_of areas) (recs_in b) (logged_recs (kept_in b)) ++ r ∷ []
   recs_are = roomy_recs (nat_lt (used_of areas) slot_count) b.logged (kept_in b) r table
 
@@ -123,51 +124,51 @@ module _ {D : Type 0} (reading : D → Image) (may_leave : D → Image → Type 
   rises =
       let narrow = narrow_fit b.count (recs_in b) (has.true_books.stored are_small has.working).fit in
       let greatest = greatest_is nothing (commits_of (recs_in b)) narrow in
-      let kept_closed : IsClosedChoice nothing (commits_of (logged_recs (kept_in b))) (cut_in b) = subst (λ (rs : List Rec). IsClosedChoice nothing (commits_of rs) (cut_in b)) (sym (logged_is (reading old) b)) (greatest_kept (cut_in b) (recs_in b) greatest).closed in
+      let kept_closed : IsClosedChoice nothing (commits_of (logged_recs (kept_in b))) (cut_in b) = subst (λ (rs : List Rec). IsClosedChoice nothing (commits_of rs) (cut_in b)) (sym (logged_is (disks.reading old) b)) (greatest_kept (cut_in b) (recs_in b) greatest).closed in
       let closed : IsClosedChoice nothing (commits_of (roomy_log (used_of areas) (recs_in b) (logged_recs (kept_in b)))) (cut_in b) =
       either (λ (rs : List Rec). IsClosedChoice nothing (commits_of rs) (cut_in b)) (nat_lt (used_of areas) slot_count) (recs_in b) (logged_recs (kept_in b)) greatest.closed kept_closed in
       subst (λ (rs : List Rec). IsBelow (cut_in b) (cut_of rs)) (sym recs_are) (closed_below (roomy_log (used_of areas) (recs_in b) (logged_recs (kept_in b))) r (cut_in b) closed (narrow_fit b.count (roomy_log (used_of areas) (recs_in b) (logged_recs (kept_in b)) ++ r ∷ []) logged.stored.fit))
 
-  kept_safe : AllByRecursion (IsSafe (reading new)) (kept_in b) × IsSafe (reading new) (record { rec = r; table = table })
+  kept_safe : AllByRecursion (IsSafe (disks.reading new)) (kept_in b) × IsSafe (disks.reading new) (record { rec = r; table = table })
   kept_safe =
-      let apart = all_front (IsApart IsBeforePool) (kept_of (reading old) b) (new_of (next_in (reading old) b bytes table) r) logged.stored.pool in
-      let held = all_front (IsHeld (reading new)) (kept_of (reading old) b) (new_of (next_in (reading old) b bytes table) r) (logged.stored.held (reading new) (reads_now new)) in (
-        all_both (reading old) (reading new) (kept_in b) (all_mapped (IsApart IsBeforePool) (kept_for (reading old)) (kept_in b) apart.0) (all_mapped (IsHeld (reading new)) (kept_for (reading old)) (kept_in b) held.0),
-        safe_new (reading old) (reading new) r bytes table apart.1 held.1,
+      let apart = all_front (IsApart IsBeforePool) (kept_of (disks.reading old) b) (new_of (next_in (disks.reading old) b bytes table) r) logged.stored.pool in
+      let held = all_front (IsHeld (disks.reading new)) (kept_of (disks.reading old) b) (new_of (next_in (disks.reading old) b bytes table) r) (logged.stored.held (disks.reading new) (reads_now new)) in (
+        all_both (disks.reading old) (disks.reading new) (kept_in b) (all_mapped (IsApart IsBeforePool) (kept_for (disks.reading old)) (kept_in b) apart.0) (all_mapped (IsHeld (disks.reading new)) (kept_for (disks.reading old)) (kept_in b) held.0),
+        safe_new (disks.reading old) (disks.reading new) r bytes table apart.1 held.1,
       )
 
-  now_safe : AllByRecursion (IsSafe (reading new)) (kept_in (books_after b areas after r table small))
+  now_safe : AllByRecursion (IsSafe (disks.reading new)) (kept_in (books_after b areas after r table small))
   now_safe =
-      let passing : Logged → Type 0 = λ l. at_or_above (cut_in b) l ≡ true → IsSafe (reading new) l in
-      let all : AllByRecursion passing b.logged = all_unfilter (IsSafe (reading new)) (at_or_above (cut_in b)) b.logged kept_safe.0 in
-      let turned : AllByRecursion passing (kept_in b) = all_weaker (IsSafe (reading new)) passing (kept_in b) (λ l safe _. safe) kept_safe.0 in
+      let passing : Logged → Type 0 = λ l. at_or_above (cut_in b) l ≡ true → IsSafe (disks.reading new) l in
+      let all : AllByRecursion passing b.logged = all_unfilter (IsSafe (disks.reading new)) (at_or_above (cut_in b)) b.logged kept_safe.0 in
+      let turned : AllByRecursion passing (kept_in b) = all_weaker (IsSafe (disks.reading new)) passing (kept_in b) (λ l safe _. safe) kept_safe.0 in
       let behind : AllByRecursion passing (roomy_logged (used_of areas) b) = either (AllByRecursion passing) (nat_lt (used_of areas) slot_count) b.logged (kept_in b) all turned in
-      all_refilter (IsSafe (reading new)) (at_or_above (cut_in b)) (at_or_above (cut_in (books_after b areas after r table small))) (raised (cut_in b) (cut_in (books_after b areas after r table small)) rises)
+      all_refilter (IsSafe (disks.reading new)) (at_or_above (cut_in b)) (at_or_above (cut_in (books_after b areas after r table small))) (raised (cut_in b) (cut_in (books_after b areas after r table small)) rises)
       (roomy_logged (used_of areas) b ++ record { rec = r; table = table } ∷ [])
       (all_more passing (roomy_logged (used_of areas) b) (record { rec = r; table = table }) behind (λ _. kept_safe.1))
 
-  pub stored_now : AreStored reading may_leave b.count (place_of after) (recs_in (books_after b areas after r table small)) (kept_of (reading new) (books_after b areas after r table small)) new
+  pub stored_now : AreStored disks b.count (place_of after) (recs_in (books_after b areas after r table small)) (kept_of (disks.reading new) (books_after b areas after r table small)) new
   stored_now = record {
     fit = fits;
-    agree = kept_agree (reading new) (books_after b areas after r table small) (narrow_fit b.count (recs_in (books_after b areas after r table small)) fits);
-    pool = map_holds (IsApart IsBeforePool) (kept_for (reading new)) (kept_in (books_after b areas after r table small)) (all_weaker (IsSafe (reading new)) (λ l. IsApart IsBeforePool (kept_for (reading new) l)) (kept_in (books_after b areas after r table small)) (λ l safe. safe.apart) now_safe);
-    left = λ c may. subst (λ (rs : List Rec). HasLog (place_of after) rs c × SameAreas (reading new) c) (sym recs_are) (logged.stored.left c may);
+    agree = kept_agree (disks.reading new) (books_after b areas after r table small) (narrow_fit b.count (recs_in (books_after b areas after r table small)) fits);
+    pool = map_holds (IsApart IsBeforePool) (kept_for (disks.reading new)) (kept_in (books_after b areas after r table small)) (all_weaker (IsSafe (disks.reading new)) (λ l. IsApart IsBeforePool (kept_for (disks.reading new) l)) (kept_in (books_after b areas after r table small)) (λ l safe. safe.apart) now_safe);
+    left = λ c may. subst (λ (rs : List Rec). HasLog (place_of after) rs c × SameAreas (disks.reading new) c) (sym recs_are) (logged.stored.left c may);
     front = logged.stored.front;
-    held = λ c may. subst (λ (i : Image). AllByRecursion (IsHeld i) (kept_of (reading new) (books_after b areas after r table small))) (sym (only c may))
-        (map_holds (IsHeld (reading new)) (kept_for (reading new)) (kept_in (books_after b areas after r table small)) (all_weaker (IsSafe (reading new)) (λ l. IsHeld (reading new) (kept_for (reading new) l)) (kept_in (books_after b areas after r table small)) (λ l safe. safe.held) now_safe));
+    held = λ c may. subst (λ (i : Image). AllByRecursion (IsHeld i) (kept_of (disks.reading new) (books_after b areas after r table small))) (sym (only c may))
+        (map_holds (IsHeld (disks.reading new)) (kept_for (disks.reading new)) (kept_in (books_after b areas after r table small)) (all_weaker (IsSafe (disks.reading new)) (λ l. IsHeld (disks.reading new) (kept_for (disks.reading new) l)) (kept_in (books_after b areas after r table small)) (λ l safe. safe.held) now_safe));
   }
 
 -- true books stay true
-pub true_after : {D : Type 0} (reading : D → Image) (may_leave : D → Image → Type 0) → ((d : D) → may_leave d (reading d)) → TrueAfterLaw reading may_leave
-true_after reading may_leave reads_now b areas after old new r blob bytes table at can done =
+pub true_after : {D : Type 0} (disks : Ghosts D) → ((d : D) → disks.may_leave d (disks.reading d)) → TrueAfterLaw disks
+true_after disks reads_now b areas after old new r blob bytes table at can done =
     let same : logged_recs (roomy_logged (used_of areas) b ++ record { rec = r; table = table } ∷ []) ≡ roomy_log (used_of areas) (recs_in b) (logged_recs (kept_in b)) ++ r ∷ [] = roomy_recs (nat_lt (used_of areas) slot_count) b.logged (kept_in b) r table in
     record {
-      log = λ working. subst (λ (rs : List Rec). HasLog (place_of after) rs (reading new)) (sym same) done.stands.log;
-      left = λ working c may. subst (λ (rs : List Rec). HasLog (place_of after) rs c × SameAreas (reading new) c) (sym same) (done.stands.left c may);
+      log = λ working. subst (λ (rs : List Rec). HasLog (place_of after) rs (disks.reading new)) (sym same) done.stands.log;
+      left = λ working c may. subst (λ (rs : List Rec). HasLog (place_of after) rs c × SameAreas (disks.reading new) c) (sym same) (done.stands.left c may);
       stored = λ are_small working.
           let both = and_parts b.small (is_small r) are_small.recs in
           let low = are_small.epoch in
           let place : epoch_of areas ≡ b.place.epoch = ap (λ (p : Place). p.epoch) at.place in
           let before : AreSmall b = record { recs = both.0; epoch = (let le = done.epoch in omega (arith, low, le, place)) } in
-          stored_now reading may_leave reads_now b areas after old new r blob bytes table (is_small r) at before (done.stored (ready_law reading may_leave b areas old r blob bytes table at before (can both.1))) done.stable;
+          stored_now disks reads_now b areas after old new r blob bytes table (is_small r) at before (done.stored (ready_law disks b areas old r blob bytes table at before (can both.1))) done.stable;
     }

@@ -3,13 +3,13 @@ use Rattle.std.proofs.Common.{◌≡◌, ℕ, ◌≤◌, true, List, [], ◌∷�
 use Rattle.std.specs.Prelude.{filter}
 use Rattle.std.proofs.lemmas.Bool.{le-leb, leb-true}
 use Rattle.std.proofs.lemmas.List.Elements.{filter-append}
-use Rattle.hop_base.specs.declared.records.Rec.{Rec}
-use Rattle.store_model.specs.hop_model.Choices.{IsBelow, IsGreatest}
-use Rattle.store_model.specs.cut_laws.Agreeing.{nothing}
-use Rattle.store_model.specs.cut_laws.Records.{commits_of, is_rec_from, recs_from}
-use Rattle.store_model.proofs.cut_laws_lemmas.Filters.{filter_within}
-use Rattle.store_model.proofs.cut_laws_lemmas.Joins.{same_greatest}
-use Rattle.store_model.proofs.image_meaning_lemmas.Choosing.{from_commits}
+use Rattle.base_types.specs.declared.records.Rec.{Rec}
+use Rattle.store_books.specs.model_kernel.Choices.{IsBelow, IsGreatest}
+use Rattle.store_books.specs.model_cut_laws.Agreeing.{nothing}
+use Rattle.store_books.specs.model_cut_laws.Records.{commits_of, is_rec_from, recs_from}
+use Rattle.store_books.proofs.model_cut_laws_lemmas.Filters.{filter_within}
+use Rattle.store_books.proofs.model_cut_laws_lemmas.Joins.{same_greatest}
+use Rattle.store_books.proofs.image_meaning_lemmas.Choosing.{from_commits}
 use Rattle.store_commit.specs.Agreed.{AgreedLaw}
 
 raise : (cut p : ℕ → ℕ) → IsBelow cut p → (r : Rec) → is_rec_from p r ≡ true → is_rec_from cut r ≡ true

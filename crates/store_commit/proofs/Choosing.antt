@@ -1,12 +1,12 @@
 -- One record more doesn't lower the greatest closed choice.
 use Rattle.std.proofs.Common.{◌≡◌, ℕ, ◌⊎◌, inl, inr, List, [], ◌∷◌, ◌++◌, sym, subst}
 use Rattle.std.proofs.lemmas.List.{map-append}
-use Rattle.hop_base.specs.declared.records.Rec.{Rec}
-use Rattle.store_model.proofs.hop_model_lemmas.Lowering.{greatest_is}
-use Rattle.store_model.specs.hop_model.Choices.{Among, Commit, IsBelow, IsClosedChoice, IsNarrow}
-use Rattle.store_model.specs.cut_laws.Agreeing.{nothing}
-use Rattle.store_model.specs.cut_laws.Records.{commit_of, commits_of}
-use Rattle.store_model.specs.image_meaning.Parts.{cut_of}
+use Rattle.base_types.specs.declared.records.Rec.{Rec}
+use Rattle.store_books.proofs.model_kernel_lemmas.Lowering.{greatest_is}
+use Rattle.store_books.specs.model_kernel.Choices.{Among, Commit, IsBelow, IsClosedChoice, IsNarrow}
+use Rattle.store_books.specs.model_cut_laws.Agreeing.{nothing}
+use Rattle.store_books.specs.model_cut_laws.Records.{commit_of, commits_of}
+use Rattle.store_books.specs.image_meaning.Parts.{cut_of}
 
 among_more : (P : Commit → Type 0) (cs ds : List Commit) → Among cs P → Among (cs ++ ds) P
 among_more P [] ds h = elim h [ ]

@@ -7,7 +7,7 @@ use Rattle.std.proofs.lemmas.List.{append-nil, drop-replicate, drop_at, length-t
 use Rattle.std.proofs.lemmas.List.Elements.{All-replicate}
 use Rattle.std.proofs.lemmas.List.Folds.{concat-append}
 use Rattle.std.proofs.Math.Seq.{take-add}
-use Rattle.store_model.specs.image_form.Bodies.{blocks_for}
+use Rattle.store_books.specs.image_facts.Bodies.{blocks_for}
 use Rattle.store_commit.specs.BlobBytes.{HoldsBytes}
 
 -- the first blocks hold the bytes as far as they reach, and zeros behind

@@ -3,24 +3,25 @@ use Rattle.std.proofs.Common.{◌≡◌, ℕ, ◌≤◌, ◌<◌, ◌+◌, Bool,
 use Rattle.std.specs.List.{AllByRecursion}
 use Rattle.std.specs.Prelude.{Result, Ok, Err, OnOk}
 use Rattle.std.proofs.lemmas.List.{get_or-take, length-take}
-use Rattle.disk_trait.specs.Disk.{Only}
-use Rattle.disk_trait.specs.Image.{Image, SameOutside, block_at}
-use Rattle.disk_trait.specs.Moments.{LeavesOnly, Quiet}
-use Rattle.disk_trait.proofs.Images.{SameOutside-trans, SameOutside-weaker}
-use Rattle.disk_trait.proofs.Phases.{LeavesOnly-then, LeavesOnly-weaker, Moments}
-use Rattle.hop_base.specs.declared.records.Rec.{Rec}
-use Rattle.store_model.specs.cut_laws.Records.{AgreeInRecs}
-use Rattle.store_model.specs.image_form.Bodies.{blob_blocks, blocks_for}
-use Rattle.store_model.specs.image_form.Layout.{last_number, pool_at, slot_count}
-use Rattle.store_model.specs.image_blocks.Layout.{other}
-use Rattle.store_model.specs.image_form.Logs.{AreFitting}
-use Rattle.store_model.specs.image_blocks.Logs.{HasLog, IsNextSlot, IsTurned, Place}
-use Rattle.store_model.specs.image_blocks.declared.areas.Area.{Area}
-use Rattle.store_model.specs.image_meaning.Stores.{IsHeld, Kept, Page, recs_of}
-use Rattle.store_model.specs.log_laws.Stages.{IsLogging}
-use Rattle.store_model.specs.log_turn.Standing.{HasCounted, IsTurnedTo, Stands, area_of, epoch_of, place_of, used_of}
-use Rattle.store_model.specs.log_turn.declared.areas.Areas.{Areas}
-use Rattle.store_model.specs.Books.{AreStored, IsApart, IsBeforePool}
+use Rattle.edge_disk.specs.declared.disk.Disk.{Ghosts}
+use Rattle.edge_disk.specs.Disk.{Only}
+use Rattle.edge_disk.specs.Image.{Image, SameOutside, block_at}
+use Rattle.edge_disk.specs.Moments.{LeavesOnly, Quiet}
+use Rattle.edge_disk.proofs.Images.{SameOutside-trans, SameOutside-weaker}
+use Rattle.edge_disk.proofs.Phases.{LeavesOnly-then, LeavesOnly-weaker, Moments}
+use Rattle.base_types.specs.declared.records.Rec.{Rec}
+use Rattle.store_books.specs.model_cut_laws.Records.{AgreeInRecs}
+use Rattle.store_books.specs.image_facts.Bodies.{blob_blocks, blocks_for}
+use Rattle.store_books.specs.image_facts.Layout.{last_number, pool_at, slot_count}
+use Rattle.store_books.specs.image_blocks.Layout.{other}
+use Rattle.store_books.specs.image_facts.Logs.{AreFitting}
+use Rattle.store_books.specs.image_blocks.Logs.{HasLog, IsNextSlot, IsTurned, Place}
+use Rattle.store_books.specs.image_blocks.declared.areas.Area.{Area}
+use Rattle.store_books.specs.image_meaning.Stores.{IsHeld, Kept, Page, recs_of}
+use Rattle.store_books.specs.log_facts.Stages.{IsLogging}
+use Rattle.store_books.specs.log_turn.Standing.{HasCounted, IsTurnedTo, Stands, area_of, epoch_of, place_of, used_of}
+use Rattle.store_books.specs.log_turn.declared.areas.Areas.{Areas}
+use Rattle.store_books.specs.Books.{AreStored, IsApart, IsBeforePool}
 use Rattle.store_commit.specs.Storing.{HasBlob, HasLogged, HasPlaces, IsBehind, IsBlobBlock, IsBlobOf, IsCommitBlock, IsNext, StoresOneMore, roomy_log, roomy_used}
 use Rattle.store_commit.proofs.Stays.{all_by_index, all_weaker, found_all, next_low}
 use Rattle.store_commit.proofs.Phases.{AreFree, appended_stored, blob_stored, moments_append, moments_blob, turned_stored}
@@ -74,24 +75,24 @@ place_same : (a b : Area) (m n : ℕ) → a ≡ b → m ≡ n → ◌≡◌ {A =
 place_same a b m n e f = ap (λ (x : Area). record { active = x; epoch = m }) e ∙ ap (λ (k : ℕ). record { active = b; epoch = k }) f
 
 -- BEHIND THE TURN, which left the log of the areas as it was or turned it
-module _ {D : Type 0} {clock : D → ℕ} {may_leave : D → Image → Type 0} {left_since : D → ℕ → Image → Type 0} (laws : Moments clock may_leave left_since) (reading : D → Image) (reads_now : (d : D) → may_leave d (reading d)) where
+module _ {D : Type 0} {disks : Ghosts D} (laws : Moments disks) (reads_now : (d : D) → disks.may_leave d (disks.reading d)) where
   -- the turn and the blob, with what they left
   pub record Behind (count blocks : ℕ) (recs : List Rec) (ks : List Kept) (new : Kept) (blob : List (List ℕ)) (areas mid : Areas) (old one two : D) : Type 0 where
-    pub logged : HasLogged reading may_leave count areas recs ks one
+    pub logged : HasLogged disks count areas recs ks one
     pub behind : IsBehind count recs ks new
     pub is_blob : IsBlobOf new blob
     pub places : HasPlaces new.rec (length blob) blocks
     pub free : AreFree new.rec (length blob) ks
     pub pages_apart : AllByRecursion (λ (p : Page). IsCommitBlock new.rec (length blob) p.block → ⊥) new.pages
-    pub pages : AllByRecursion (λ (p : Page). block_at (reading old) p.block ≡ p.bytes) new.pages
-    pub outside : SameOutside IsBeforePool (reading old) (reading one)
+    pub pages : AllByRecursion (λ (p : Page). block_at (disks.reading old) p.block ≡ p.bytes) new.pages
+    pub outside : SameOutside IsBeforePool (disks.reading old) (disks.reading one)
     pub counted : HasCounted areas mid
-    pub quiet : Quiet clock may_leave left_since (IsBlobBlock new.rec (length blob)) one two
-    pub reads : SameOutside (IsBlobBlock new.rec (length blob)) (reading one) (reading two)
+    pub quiet : Quiet disks (IsBlobBlock new.rec (length blob)) one two
+    pub reads : SameOutside (IsBlobBlock new.rec (length blob)) (disks.reading one) (disks.reading two)
 
-  pub behind_next : (count blocks : ℕ) (recs kept : List Rec) (ks : List Kept) (new : Kept) (blob : List (List ℕ)) (before areas mid : Areas) (old one two : D) → IsNext count recs kept new blob ks (reading old)
-      → HasPlaces new.rec (length blob) blocks → HasLogged reading may_leave count areas (roomy_log (used_of before) recs kept) ks one → SameOutside IsBeforePool (reading old) (reading one) → HasCounted areas mid
-      → Quiet clock may_leave left_since (IsBlobBlock new.rec (length blob)) one two → SameOutside (IsBlobBlock new.rec (length blob)) (reading one) (reading two)
+  pub behind_next : (count blocks : ℕ) (recs kept : List Rec) (ks : List Kept) (new : Kept) (blob : List (List ℕ)) (before areas mid : Areas) (old one two : D) → IsNext count recs kept new blob ks (disks.reading old)
+      → HasPlaces new.rec (length blob) blocks → HasLogged disks count areas (roomy_log (used_of before) recs kept) ks one → SameOutside IsBeforePool (disks.reading old) (disks.reading one) → HasCounted areas mid
+      → Quiet disks (IsBlobBlock new.rec (length blob)) one two → SameOutside (IsBlobBlock new.rec (length blob)) (disks.reading one) (disks.reading two)
       → Behind count blocks (roomy_log (used_of before) recs kept) ks new blob areas mid old one two
   behind_next count blocks recs kept ks new blob before areas mid old one two next places logged outside counted quiet reads = record {
     logged = logged;
@@ -108,55 +109,55 @@ module _ {D : Type 0} {clock : D → ℕ} {may_leave : D → Image → Type 0} {
   }
 
   module _ (count blocks : ℕ) (recs : List Rec) (ks : List Kept) (new : Kept) (blob : List (List ℕ)) (areas mid : Areas) (old one two : D) (b : Behind count blocks recs ks new blob areas mid old one two) where
-    pub behind_blob : HasLogged reading may_leave count mid recs ks two
+    pub behind_blob : HasLogged disks count mid recs ks two
     behind_blob = record {
       used = b.logged.used ∙ sym b.counted.same_used;
-      stored = subst (λ (p : Place). AreStored reading may_leave count p recs ks two) (sym b.counted.same_place)
-          (blob_stored laws reading reads_now count (place_of areas) recs ks new.rec (length blob) one two b.logged.stored b.free b.quiet b.reads);
+      stored = subst (λ (p : Place). AreStored disks count p recs ks two) (sym b.counted.same_place)
+          (blob_stored laws reads_now count (place_of areas) recs ks new.rec (length blob) one two b.logged.stored b.free b.quiet b.reads);
     }
 
-    held_now : HasBlob new.rec blob (reading two) → IsHeld (reading two) new
+    held_now : HasBlob new.rec blob (disks.reading two) → IsHeld (disks.reading two) new
     held_now has =
-        let found_one = found_all IsBeforePool (reading old) (reading one) b.outside new.pages
+        let found_one = found_all IsBeforePool (disks.reading old) (disks.reading one) b.outside new.pages
         (all_weaker (λ (p : Page). IsCommitBlock new.rec (length blob) p.block → ⊥) (λ (p : Page). p.block < pool_at → ⊥) new.pages (λ p out low. out (inl low)) b.pages_apart) b.pages in
-        let found_two = found_all (IsBlobBlock new.rec (length blob)) (reading one) (reading two) b.reads new.pages
+        let found_two = found_all (IsBlobBlock new.rec (length blob)) (disks.reading one) (disks.reading two) b.reads new.pages
         (all_weaker (λ (p : Page). IsCommitBlock new.rec (length blob) p.block → ⊥) (λ (p : Page). IsBlobBlock new.rec (length blob) p.block → ⊥) new.pages (λ p out here. out (inr here)) b.pages_apart) found_one in
-        new_held new blob (reading two) b.is_blob has found_two
+        new_held new blob (disks.reading two) b.is_blob has found_two
 
-    pub moments_of_blob : LeavesOnly clock left_since one two (StoresOneMore count ks new)
+    pub moments_of_blob : LeavesOnly disks one two (StoresOneMore count ks new)
     moments_of_blob =
         LeavesOnly-weaker laws (StoresOneMore count ks new) (λ c s. inl s)
-        (moments_blob laws reading reads_now count (place_of areas) recs ks new.rec (length blob) one two b.logged.stored b.free b.quiet)
+        (moments_blob laws reads_now count (place_of areas) recs ks new.rec (length blob) one two b.logged.stored b.free b.quiet)
 
-    pub moments_of_append : used_of mid < slot_count → HasBlob new.rec blob (reading two) → (end : D) → LeavesOnly clock left_since two end (IsLogging may_leave reading (place_of mid) recs new.rec two)
-        → LeavesOnly clock left_since one end (StoresOneMore count ks new)
+    pub moments_of_append : used_of mid < slot_count → HasBlob new.rec blob (disks.reading two) → (end : D) → LeavesOnly disks two end (IsLogging disks (place_of mid) recs new.rec two)
+        → LeavesOnly disks one end (StoresOneMore count ks new)
     moments_of_append low has end so_far =
         LeavesOnly-then laws moments_of_blob
-        (moments_append laws reading reads_now count (place_of mid) recs ks new two behind_blob.stored (let u = behind_blob.used in omega (arith, low, u)) (held_now has) (new_apart new blob blocks b.is_blob b.places b.pages_apart) b.behind end so_far)
+        (moments_append laws reads_now count (place_of mid) recs ks new two behind_blob.stored (let u = behind_blob.used in omega (arith, low, u)) (held_now has) (new_apart new blob blocks b.is_blob b.places b.pages_apart) b.behind end so_far)
 
-    pub logged_end : used_of mid < slot_count → HasBlob new.rec blob (reading two) → (end : D) (after : Areas) → area_of after ≡ area_of mid → epoch_of after ≡ epoch_of mid
-        → Stands reading may_leave after (recs ++ new.rec ∷ []) end → SameOutside (IsNextSlot (area_of mid) (used_of mid)) (reading two) (reading end) → Only (reading end) (may_leave end)
-        → HasLogged reading may_leave count after (recs ++ new.rec ∷ []) (ks ++ new ∷ []) end
+    pub logged_end : used_of mid < slot_count → HasBlob new.rec blob (disks.reading two) → (end : D) (after : Areas) → area_of after ≡ area_of mid → epoch_of after ≡ epoch_of mid
+        → Stands disks after (recs ++ new.rec ∷ []) end → SameOutside (IsNextSlot (area_of mid) (used_of mid)) (disks.reading two) (disks.reading end) → Only (disks.reading end) (disks.may_leave end)
+        → HasLogged disks count after (recs ++ new.rec ∷ []) (ks ++ new ∷ []) end
     logged_end low has end after area epoch stands same only =
         let e = place_same (area_of after) (area_of mid) (epoch_of after) (epoch_of mid) area epoch in
         record {
           used = stands.used;
-          stored = subst (λ (p : Place). AreStored reading may_leave count p (recs ++ new.rec ∷ []) (ks ++ new ∷ []) end) (sym e)
-              (appended_stored laws reading reads_now count (place_of mid) recs ks new two behind_blob.stored (let u = behind_blob.used in omega (arith, low, u)) (held_now has) (new_apart new blob blocks b.is_blob b.places b.pages_apart) b.behind end
+          stored = subst (λ (p : Place). AreStored disks count p (recs ++ new.rec ∷ []) (ks ++ new ∷ []) end) (sym e)
+              (appended_stored laws reads_now count (place_of mid) recs ks new two behind_blob.stored (let u = behind_blob.used in omega (arith, low, u)) (held_now has) (new_apart new blob blocks b.is_blob b.places b.pages_apart) b.behind end
               (λ c may. (subst (λ (p : Place). HasLog p (recs ++ new.rec ∷ []) c) e (stands.left c may).0, (stands.left c may).1))
-              (subst (λ (k : ℕ). SameOutside (IsNextSlot (area_of mid) k) (reading two) (reading end)) (sym behind_blob.used) same) only);
+              (subst (λ (k : ℕ). SameOutside (IsNextSlot (area_of mid) k) (disks.reading two) (disks.reading end)) (sym behind_blob.used) same) only);
         }
 
   -- THE TURN, for the areas
-  pub turned_logged : (count : ℕ) (areas after : Areas) (recs kept : List Rec) (ks : List Kept) (old new : D) → HasLogged reading may_leave count areas recs ks old → AreFitting count kept → AgreeInRecs kept (recs_of ks)
-      → epoch_of areas < last_number → SameOutside (IsTurned (area_of areas)) (reading old) (reading new) → IsTurnedTo reading may_leave kept areas after new → Only (reading new) (may_leave new)
-      → area_of after ≡ other (area_of areas) → epoch_of after ≡ epoch_of areas + 1 → HasLogged reading may_leave count after kept ks new
+  pub turned_logged : (count : ℕ) (areas after : Areas) (recs kept : List Rec) (ks : List Kept) (old new : D) → HasLogged disks count areas recs ks old → AreFitting count kept → AgreeInRecs kept (recs_of ks)
+      → epoch_of areas < last_number → SameOutside (IsTurned (area_of areas)) (disks.reading old) (disks.reading new) → IsTurnedTo disks kept areas after new → Only (disks.reading new) (disks.may_leave new)
+      → area_of after ≡ other (area_of areas) → epoch_of after ≡ epoch_of areas + 1 → HasLogged disks count after kept ks new
   turned_logged count areas after recs kept ks old new has fit agree small same turned only area epoch =
       let e = place_same (area_of after) (other (area_of areas)) (epoch_of after) (epoch_of areas + 1) area epoch in
       record {
         used = turned.stands.used;
-        stored = subst (λ (p : Place). AreStored reading may_leave count p kept ks new) (sym e)
-            (turned_stored laws reading reads_now count (place_of areas) recs kept ks old new has.stored fit agree small
+        stored = subst (λ (p : Place). AreStored disks count p kept ks new) (sym e)
+            (turned_stored laws reads_now count (place_of areas) recs kept ks old new has.stored fit agree small
             (λ c may. (subst (λ (p : Place). HasLog p kept c) e (turned.stands.left c may).0, (turned.stands.left c may).1)) turned.header same only);
       }
 

@@ -4,25 +4,26 @@ use Rattle.std.specs.Prelude.{All, slice_index}
 use Rattle.std.specs.List.{AllByRecursion, concat}
 use Rattle.std.proofs.lemmas.Bool.{cases_eq}
 use Rattle.std.proofs.lemmas.List.{ext_get_or, get_or-map, get_or-set_same, get_or-take, length-map, length-take}
-use Rattle.disk_trait.specs.Disk.{Ticks}
-use Rattle.disk_trait.specs.Image.{Image, SameOutside, block_at}
-use Rattle.disk_trait.specs.Moments.{Quiet}
-use Rattle.disk_tally.specs.Counts.{Begins, CountsOn, shown}
-use Rattle.hop_base.specs.declared.records.Rec.{Rec}
-use Rattle.store_model.specs.image_form.Bodies.{blob_blocks, blob_room, blocks_for}
-use Rattle.store_model.specs.image_meaning.Stores.{IsFound, IsHeld, Kept}
-use Rattle.store_model.specs.log_turn.Standing.{HasCounted, begun_of}
-use Rattle.store_model.specs.log_turn.declared.areas.Areas.{Areas}
+use Rattle.edge_disk.specs.declared.disk.Disk.{Ghosts}
+use Rattle.edge_disk.specs.Disk.{Ticks}
+use Rattle.edge_disk.specs.Image.{Image, SameOutside, block_at}
+use Rattle.edge_disk.specs.Moments.{Quiet}
+use Rattle.edge_tally.specs.Counts.{Begins, CountsOn, shown}
+use Rattle.base_types.specs.declared.records.Rec.{Rec}
+use Rattle.store_books.specs.image_facts.Bodies.{blob_blocks, blob_room, blocks_for}
+use Rattle.store_books.specs.image_meaning.Stores.{IsFound, IsHeld, Kept}
+use Rattle.store_books.specs.log_turn.Standing.{HasCounted, begun_of}
+use Rattle.store_books.specs.log_turn.declared.areas.Areas.{Areas}
 use Rattle.store_commit.specs.Storing.{HasBlob, IsBlobBlock, IsBlobOf}
 
 -- as far as the blob is written
-pub record BlobSoFar {D : Type 0} (tells : Type 0) (block_count : D → ℕ) (reading : D → Image) (may_leave : D → Image → Type 0) (left_since : D → ℕ → Image → Type 0) (clock faults : D → ℕ)
+pub record BlobSoFar {D : Type 0} (disks : Ghosts D)
     (r : Rec) (blob : List (List ℕ)) (i : ℕ) (areas now : Areas) (old new : D) : Type 0 where
   pub counted : HasCounted areas now
-  pub begins : Begins i (shown block_count clock faults old (begun_of areas)) (shown block_count clock faults new (begun_of now))
-  pub first : tells → (k : ℕ) → k < i → block_at (reading new) (slice_index r.blocks k) ≡ block_at blob k
-  pub same : tells → SameOutside (IsBlobBlock r (length blob)) (reading old) (reading new)
-  pub quiet : tells → Quiet clock may_leave left_since (IsBlobBlock r (length blob)) old new
+  pub begins : Begins i (shown disks old (begun_of areas)) (shown disks new (begun_of now))
+  pub first : disks.tells → (k : ℕ) → k < i → block_at (disks.reading new) (slice_index r.blocks k) ≡ block_at blob k
+  pub same : disks.tells → SameOutside (IsBlobBlock r (length blob)) (disks.reading old) (disks.reading new)
+  pub quiet : disks.tells → Quiet disks (IsBlobBlock r (length blob)) old new
 
 -- one call
 pub one_begun : (blocks clock faults begun blocks_now clock_now faults_now begun_now : ℕ) → blocks_now ≡ blocks → Ticks begun begun_now → CountsOn clock clock_now begun begun_now → faults ≤ faults_now

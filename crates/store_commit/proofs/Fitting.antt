@@ -7,18 +7,18 @@ use Rattle.std.proofs.lemmas.Option.{none-some}
 use Rattle.std.proofs.lemmas.List.{append-nil}
 use Rattle.std.proofs.lemmas.List.Elements.{filter-append}
 use Rattle.std.proofs.lemmas.List.Folds.{list_any-append}
-use Rattle.hop_base.specs.declared.records.Rec.{Rec}
+use Rattle.base_types.specs.declared.records.Rec.{Rec}
 use Rattle.std.proofs.lemmas.Option.{get_or_from_slice_get, slice_get_within}
 use Rattle.std.proofs.lemmas.List.{get_or_past, length-map}
-use Rattle.hop_base.specs.Edges.{upto}
-use Rattle.store_model.specs.hop_model.Choices.{IsNarrow}
-use Rattle.store_model.specs.hop_model.Words.{first}
-use Rattle.store_model.proofs.hop_model_lemmas.Lists.{upto_len}
-use Rattle.store_model.specs.cut_laws.Records.{is_rec_from, commits_of, recs_from}
-use Rattle.store_model.specs.image_form.Bodies.{body_block, number_at, record_in}
-use Rattle.store_model.specs.image_form.Checks.{is_epoch, last_version, unless_at}
-use Rattle.store_model.specs.image_form.Logs.{IsFitting, AreFitting}
-use Rattle.store_model.proofs.image_form_lemmas.LastVersions.{last_version-more}
+use Rattle.base_types.specs.Edges.{upto}
+use Rattle.store_books.specs.model_kernel.Choices.{IsNarrow}
+use Rattle.store_books.specs.model_kernel.Words.{first}
+use Rattle.store_books.proofs.model_kernel_lemmas.Lists.{upto_len}
+use Rattle.store_books.specs.model_cut_laws.Records.{is_rec_from, commits_of, recs_from}
+use Rattle.store_books.specs.image_facts.Bodies.{body_block, number_at, record_in}
+use Rattle.store_books.specs.image_facts.Checks.{is_epoch, last_version, unless_at}
+use Rattle.store_books.specs.image_facts.Logs.{IsFitting, AreFitting}
+use Rattle.store_books.proofs.image_facts_lemmas.LastVersions.{last_version-more}
 use Rattle.store_commit.specs.Agreed.{KeptFitLaw}
 use Rattle.std.proofs.Math.Bool.{or-false}
 

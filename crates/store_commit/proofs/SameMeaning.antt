@@ -6,22 +6,22 @@ use Rattle.std.specs.Option.{ForSome}
 use Rattle.std.proofs.lemmas.Bool.{cases_lt}
 use Rattle.std.proofs.lemmas.List.{get_or-take, get_or_past, length-take}
 use Rattle.std.proofs.lemmas.Option.{slice_get-get_or}
-use Rattle.disk_trait.specs.Image.{Image, SameOutside, block_at}
-use Rattle.hop_base.specs.declared.records.Rec.{Rec}
-use Rattle.store_model.specs.hop_model.State.{KernelState, Supply}
-use Rattle.store_model.specs.image_form.Bodies.{blob_blocks, blob_in, blob_room, blocks_for}
-use Rattle.store_model.specs.image_form.Checks.{count_in}
-use Rattle.store_model.specs.image_blocks.Logs.{HasRecords}
-use Rattle.store_model.specs.image_form.Logs.{IsInRange}
-use Rattle.store_model.proofs.image_blocks_lemmas.Ranges.{in_range_law}
-use Rattle.store_model.specs.image_meaning.Fits.{AreNamedOnce, IsFit, IsNamedOnce}
-use Rattle.store_model.specs.image_meaning.Meaning.{Means, entity_of}
-use Rattle.store_model.specs.image_meaning.Parts.{IsSpelt, Part, Spells, cell_of, chosen, cut_of, table_in}
-use Rattle.store_model.proofs.image_meaning_lemmas.Finding.{slot_of}
-use Rattle.store_model.proofs.image_meaning_lemmas.Meaning.{cell_same}
-use Rattle.store_model.specs.image_meaning.Stores.{IsHeld, Kept}
+use Rattle.edge_disk.specs.Image.{Image, SameOutside, block_at}
+use Rattle.base_types.specs.declared.records.Rec.{Rec}
+use Rattle.store_books.specs.model_kernel.State.{KernelState, Supply}
+use Rattle.store_books.specs.image_facts.Bodies.{blob_blocks, blob_in, blob_room, blocks_for}
+use Rattle.store_books.specs.image_facts.Checks.{count_in}
+use Rattle.store_books.specs.image_blocks.Logs.{HasRecords}
+use Rattle.store_books.specs.image_facts.Logs.{IsInRange}
+use Rattle.store_books.proofs.image_blocks_lemmas.Ranges.{in_range_law}
+use Rattle.store_books.specs.image_meaning.Fits.{AreNamedOnce, IsFit, IsNamedOnce}
+use Rattle.store_books.specs.image_meaning.Meaning.{Means, entity_of}
+use Rattle.store_books.specs.image_meaning.Parts.{IsSpelt, Part, Spells, cell_of, chosen, cut_of, table_in}
+use Rattle.store_books.proofs.image_meaning_lemmas.Finding.{slot_of}
+use Rattle.store_books.proofs.image_meaning_lemmas.Meaning.{cell_same}
+use Rattle.store_books.specs.image_meaning.Stores.{IsHeld, Kept}
 use Rattle.store_commit.proofs.Stays.{all_by_index, held_same}
-use Rattle.store_model.specs.Books.{IsBeforePool}
+use Rattle.store_books.specs.Books.{IsBeforePool}
 
 -- the blocks of a record in range are of the pool
 blob_high : (count : ℕ) (before : List Rec) (r : Rec) → IsInRange count before r → AllByRecursion (λ n. IsBeforePool n → ⊥) (blob_blocks r)

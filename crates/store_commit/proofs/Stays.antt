@@ -4,20 +4,20 @@ use Rattle.std.specs.Prelude.{All}
 use Rattle.std.specs.List.{AllByRecursion, concat}
 use Rattle.std.proofs.lemmas.Option.{slice_get_within}
 use Rattle.byteorder.specs.Numbers.{little_number-reads_back}
-use Rattle.disk_trait.specs.Image.{Image, SameOutside, block_at}
-use Rattle.hop_base.specs.declared.records.Rec.{Rec}
-use Rattle.store_model.specs.hop_model.Words.{first}
-use Rattle.store_model.specs.image_form.Bodies.{blob_blocks, blob_room, number_at}
-use Rattle.store_model.specs.image_blocks.Checks.{Bad, check_1, in_block}
-use Rattle.store_model.specs.image_form.Checks.{header_fault, is_epoch, superblock_fault, unless_at}
-use Rattle.store_model.specs.image_blocks.Layout.{body_at, epoch_in, gate_at, header_at, other, slot_gate_at, slots_at}
-use Rattle.store_model.specs.image_form.Layout.{first_number, header_block, last_number, pool_at, slot_count}
-use Rattle.store_model.specs.image_blocks.Logs.{HasFront, HasLog, IsNextSlot, IsTurned, Place}
-use Rattle.store_model.specs.image_blocks.declared.areas.Area.{Area}
-use Rattle.store_model.specs.image_blocks.declared.areas.Area.TheVariants.{A, B}
-use Rattle.store_model.specs.image_meaning.Stores.{IsFound, IsHeld, Kept, Page}
-use Rattle.store_model.specs.Books.{AreApartFrom, IsApart, IsBeforePool}
-use Rattle.store_model.proofs.log_turn_lemmas.log_laws_lemmas.Through.{same_gate}
+use Rattle.edge_disk.specs.Image.{Image, SameOutside, block_at}
+use Rattle.base_types.specs.declared.records.Rec.{Rec}
+use Rattle.store_books.specs.model_kernel.Words.{first}
+use Rattle.store_books.specs.image_facts.Bodies.{blob_blocks, blob_room, number_at}
+use Rattle.store_books.specs.image_blocks.Checks.{Bad, check_1, in_block}
+use Rattle.store_books.specs.image_facts.Checks.{header_fault, is_epoch, superblock_fault, unless_at}
+use Rattle.store_books.specs.image_blocks.Layout.{body_at, epoch_in, gate_at, header_at, other, slot_gate_at, slots_at}
+use Rattle.store_books.specs.image_facts.Layout.{first_number, header_block, last_number, pool_at, slot_count}
+use Rattle.store_books.specs.image_blocks.Logs.{HasFront, HasLog, IsNextSlot, IsTurned, Place}
+use Rattle.store_books.specs.image_blocks.declared.areas.Area.{Area}
+use Rattle.store_books.specs.image_blocks.declared.areas.Area.TheVariants.{A, B}
+use Rattle.store_books.specs.image_meaning.Stores.{IsFound, IsHeld, Kept, Page}
+use Rattle.store_books.specs.Books.{AreApartFrom, IsApart, IsBeforePool}
+use Rattle.store_books.proofs.log_facts_lemmas.Through.{same_gate}
 
 -- WHAT IS HELD
 

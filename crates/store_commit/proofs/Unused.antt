@@ -1,11 +1,11 @@
 -- Blocks that no kept record names, and the pages of a table.
 use Rattle.std.proofs.Common.{◌≡◌, ◌≢◌, ℕ, zero, suc, Bool, true, false, not, ◌==◌, if◌then◌else◌, List, [], ◌∷◌, ◌++◌, map, Contains, refl, sym, ap, ◌∙◌, eq-eqb, arith}
 use Rattle.std.specs.List.{AllByRecursion, flat_map, list_any}
-use Rattle.disk_trait.specs.Image.{Image, block_at}
-use Rattle.store_model.specs.image_form.Bodies.{blob_blocks}
-use Rattle.store_model.proofs.image_form_lemmas.Firsts.{ne_test}
-use Rattle.store_model.specs.image_meaning.Stores.{Page}
-use Rattle.store_model.specs.Books.{AreApartFrom, Logged, kept_for, names, page_for}
+use Rattle.edge_disk.specs.Image.{Image, block_at}
+use Rattle.store_books.specs.image_facts.Bodies.{blob_blocks}
+use Rattle.store_books.proofs.image_facts_lemmas.Firsts.{ne_test}
+use Rattle.store_books.specs.image_meaning.Stores.{Page}
+use Rattle.store_books.specs.Books.{AreApartFrom, Logged, kept_for, names, page_for}
 use Rattle.std.proofs.lemmas.Bool.{and_from, or_left, or_right}
 
 -- what holds of each item

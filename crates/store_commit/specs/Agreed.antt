@@ -1,10 +1,10 @@
 -- How the records that are kept agree with those of a log, before a commit and behind it.
 use Rattle.std.specs.Prelude.{ℕ, List, [], ◌∷◌, ◌++◌}
-use Rattle.hop_base.specs.declared.records.Rec.{Rec}
-use Rattle.store_model.specs.hop_model.Choices.{IsBelow, IsGreatest}
-use Rattle.store_model.specs.cut_laws.Agreeing.{nothing}
-use Rattle.store_model.specs.cut_laws.Records.{AgreeInRecs, commits_of, recs_from}
-use Rattle.store_model.specs.image_form.Logs.{AreFitting}
+use Rattle.base_types.specs.declared.records.Rec.{Rec}
+use Rattle.store_books.specs.model_kernel.Choices.{IsBelow, IsGreatest}
+use Rattle.store_books.specs.model_cut_laws.Agreeing.{nothing}
+use Rattle.store_books.specs.model_cut_laws.Records.{AgreeInRecs, commits_of, recs_from}
+use Rattle.store_books.specs.image_facts.Logs.{AreFitting}
 
 -- the log agrees with the kept records, which agree with themselves, and so it goes on with one record more
 pub record AreAgreed (recs kept : List Rec) (r : Rec) : Type 0 where

@@ -1,16 +1,17 @@
 -- A log that stores kept records on a disk, and the record that comes next.
 use Rattle.std.specs.Prelude.{◌≡◌, ◌⊎◌, ℕ, ◌<◌, ◌≤◌, if◌then◌else◌, nat_lt, List, [], ◌∷◌, ◌++◌, length, drop, take, All, slice_index}
 use Rattle.std.specs.List.{AllByRecursion, concat}
-use Rattle.disk_trait.specs.Image.{Image, block_at}
-use Rattle.hop_base.specs.declared.records.Rec.{Rec}
-use Rattle.store_model.specs.cut_laws.Records.{AgreeInRecs}
-use Rattle.store_model.specs.image_form.Bodies.{blocks_for}
-use Rattle.store_model.specs.image_form.Layout.{last_number, pool_at, slot_count}
-use Rattle.store_model.specs.image_form.Logs.{AreFitting}
-use Rattle.store_model.specs.image_meaning.Stores.{IsFound, Kept, Page, Stores, recs_of}
-use Rattle.store_model.specs.log_turn.Standing.{epoch_of, place_of, used_of}
-use Rattle.store_model.specs.log_turn.declared.areas.Areas.{Areas}
-use Rattle.store_model.specs.Books.{AreApartFrom, AreStored, IsBeforePool}
+use Rattle.edge_disk.specs.declared.disk.Disk.{Ghosts}
+use Rattle.edge_disk.specs.Image.{Image, block_at}
+use Rattle.base_types.specs.declared.records.Rec.{Rec}
+use Rattle.store_books.specs.model_cut_laws.Records.{AgreeInRecs}
+use Rattle.store_books.specs.image_facts.Bodies.{blocks_for}
+use Rattle.store_books.specs.image_facts.Layout.{last_number, pool_at, slot_count}
+use Rattle.store_books.specs.image_facts.Logs.{AreFitting}
+use Rattle.store_books.specs.image_meaning.Stores.{IsFound, Kept, Page, Stores, recs_of}
+use Rattle.store_books.specs.log_turn.Standing.{epoch_of, place_of, used_of}
+use Rattle.store_books.specs.log_turn.declared.areas.Areas.{Areas}
+use Rattle.store_books.specs.Books.{AreApartFrom, AreStored, IsBeforePool}
 
 -- THE BLOCKS OF A COMMIT
 
@@ -43,9 +44,9 @@ roomy_used used kept = if nat_lt used slot_count then used else kept
 -- WHAT IS STORED
 
 -- the areas stand for a log of these records on a disk that stores the kept ones
-pub record HasLogged {D : Type 0} (reading : D → Image) (may_leave : D → Image → Type 0) (count : ℕ) (areas : Areas) (recs : List Rec) (ks : List Kept) (disk : D) : Type 0 where
+pub record HasLogged {D : Type 0} (disks : Ghosts D) (count : ℕ) (areas : Areas) (recs : List Rec) (ks : List Kept) (disk : D) : Type 0 where
   pub used : length recs ≡ used_of areas
-  pub stored : AreStored reading may_leave count (place_of areas) recs ks disk
+  pub stored : AreStored disks count (place_of areas) recs ks disk
 
 -- these blocks are the record's blob, its last one filled up with zeros
 pub record IsBlobOf (new : Kept) (blocks : List (List ℕ)) : Type 0 where
@@ -85,10 +86,10 @@ new_of n r = record { rec = r; blob = n.bytes; pages = n.pages }
 
 -- ALL IS READY for a commit that any stop survives: the kept records are stored, one more turn makes no epoch too large, and the new
 -- record can come next
-pub record IsReady {D : Type 0} (reading : D → Image) (may_leave : D → Image → Type 0) (n : Next) (areas : Areas) (kept : List Rec) (rec : Rec) (blob : List (List ℕ)) (disk : D) : Type 0 where
-  pub logged : HasLogged reading may_leave n.count areas n.recs n.ks disk
+pub record IsReady {D : Type 0} (disks : Ghosts D) (n : Next) (areas : Areas) (kept : List Rec) (rec : Rec) (blob : List (List ℕ)) (disk : D) : Type 0 where
+  pub logged : HasLogged disks n.count areas n.recs n.ks disk
   pub epoch : epoch_of areas < last_number
-  pub next : IsNext n.count n.recs kept (new_of n rec) blob n.ks (reading disk)
+  pub next : IsNext n.count n.recs kept (new_of n rec) blob n.ks (disks.reading disk)
 
 -- THE STAGES OF A COMMIT: the image stores what was kept, or that and the new record
 abbrev pub StoresOneMore : ℕ → List Kept → Kept → Image → Type 0

@@ -1,10 +1,10 @@
 // The bytes of a blob as its blocks.
 ghost use Rattle.std.specs.Prelude.{◌≡◌, ◌≤◌, ◌-◌, ◌++◌, length, replicate, take};
-ghost use Rattle.store_model.specs.image_form.Bodies.{blocks_for};
-ghost use Rattle.store_model.specs.image_form.Layout.{most_length};
+ghost use Rattle.store_books.specs.image_facts.Bodies.{blocks_for};
+ghost use Rattle.store_books.specs.image_facts.Layout.{most_length};
 ghost use Rattle.store_commit.specs.BlobBytes.{HoldsBytes};
 
-use disk_trait::BLOCK_BYTES;
+use edge_disk::BLOCK_BYTES;
 
 // The bytes as a block, filled up with zeros.
 fn filled_up(bytes: &[u8]) -> [u8; 1024]

@@ -1,17 +1,17 @@
 -- The atlas that the cells of a table have.
 use Rattle.std.proofs.Common.{◌≡◌, ℕ, List, slice_get, Option, Some, None, refl, ap, ◌∙◌}
-use Rattle.table_steps.specs.hop_model.State.{Supply}
-use Rattle.table_steps.specs.hop_model.Steps.{atlas_in}
-use Rattle.atlas_dir.specs.directory_form.Directory.{Directory}
-use Rattle.table_steps.specs.kernel_calls.Calls.{atlas_state}
-use Rattle.table_steps.specs.locus_machine.declared.loci.Head.{Head}
-use Rattle.table_steps.specs.locus_machine.declared.loci.Locus.{Locus}
-use Rattle.cell_births.specs.kernel_cells.declared.cells.Cell.{Cell}
-use Rattle.cell_births.specs.kernel_cells.declared.cells.Part.{Part}
-use Rattle.cell_births.specs.kernel_cells.declared.cells.Part.TheVariants as part
-use Rattle.cell_births.specs.kernel_cells.Cells.{container_cell, locus_cell, part_of}
-use Rattle.table_steps.specs.cell_table.Steps.{HasDirectory}
-use Rattle.table_steps.specs.cell_table.Tables.{entity_in, state_in}
+use Rattle.script_types.specs.model_kernel.State.{Supply}
+use Rattle.script_types.specs.model_kernel.Steps.{atlas_in}
+use Rattle.data_atlas.specs.data_atlas_facts.Directory.{Directory}
+use Rattle.cell_births.specs.act_calls.Calls.{atlas_state}
+use Rattle.cell_births.specs.act_alone.declared.loci.Head.{Head}
+use Rattle.cell_births.specs.act_alone.declared.loci.Locus.{Locus}
+use Rattle.cell_births.specs.cell_states.declared.cells.Cell.{Cell}
+use Rattle.cell_births.specs.cell_states.declared.cells.Part.{Part}
+use Rattle.cell_births.specs.cell_states.declared.cells.Part.TheVariants as part
+use Rattle.cell_births.specs.cell_states.Cells.{container_cell, locus_cell, part_of}
+use Rattle.table_steps.specs.table_laws.Steps.{HasDirectory}
+use Rattle.table_steps.specs.table_laws.Tables.{entity_in, state_in}
 use Rattle.table_births.specs.Births.{atlas_state_at, atlas_state_by, atlas_state_in}
 
 module _ (s : Supply) (words : ℕ → List ℕ) where

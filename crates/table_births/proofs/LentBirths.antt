@@ -1,36 +1,36 @@
 -- A birth over lent cells is one over the table, which it leaves in order.
 use Rattle.std.proofs.Common.{◌≡◌, inl, inr, ℕ, ◌+◌, ◌<◌, ◌≤◌, Bool, true, false, not, ◌&&◌, ◌||◌, MatchBool, List, [], slice_get, Option, Some, None, is_some, option_map, refl, sym, ap, subst, ◌∙◌, arith}
 use Rattle.std.specs.List.{All}
-use Rattle.hop_base.specs.declared.histories.Entry.{Entry}
-use Rattle.hop_base.specs.declared.histories.Event.TheVariants.{Birth}
-use Rattle.table_steps.specs.hop_model.Births.{next_birth}
-use Rattle.table_steps.specs.hop_model.Histories.{Run, births_owed, by_event, event_of, goes_on, never, writes}
-use Rattle.table_steps.specs.hop_model.Parts.{IsNext, after_entry, is_event}
-use Rattle.table_steps.specs.hop_model.Scripts.{ContainerTable, Script, locus_named, next_name}
-use Rattle.table_steps.specs.hop_model.State.{AtlasState, EntityState, KernelState, NotBorn, AtlasCell, Supply, Text}
-use Rattle.table_steps.specs.hop_model.Steps.{atlas_in}
-use Rattle.table_steps.specs.script_form.Rules.{IsScript}
-use Rattle.cell_births.proofs.run_laws_lemmas.Tellings.{written_rises}
-use Rattle.table_steps.specs.sound_states.States.{IsSoundState}
-use Rattle.table_steps.proofs.sound_states_lemmas.States.{birth_state}
-use Rattle.cell_births.specs.fitting_births.Fitting.{Fits}
-use Rattle.cell_births.proofs.fitting_births_lemmas.Ends.{born_state, next_bears}
-use Rattle.cell_births.specs.kernel_cells.declared.cells.Cell.{Cell}
-use Rattle.cell_births.specs.kernel_cells.declared.cells.Wish.{Wish}
-use Rattle.cell_births.specs.kernel_cells.Cells.{HasCell}
-use Rattle.cell_births.specs.kernel_cells.Wishes.{HasWish}
-use Rattle.cell_births.specs.wish_laws.Founded.{IsFoundedCell, TakesBirth}
-use Rattle.cell_births.proofs.wish_laws_lemmas.Recorded.{birth_wish}
-use Rattle.table_steps.specs.step_cells.Advances.{HasCells}
+use Rattle.base_types.specs.declared.histories.Entry.{Entry}
+use Rattle.base_types.specs.declared.histories.Event.TheVariants.{Birth}
+use Rattle.script_types.specs.model_kernel.Births.{next_birth}
+use Rattle.script_types.specs.model_kernel.Histories.{Run, births_owed, by_event, event_of, goes_on, never, writes}
+use Rattle.script_types.specs.model_kernel.Parts.{IsNext, after_entry, is_event}
+use Rattle.script_types.specs.model_kernel.Scripts.{ContainerTable, Script, locus_named, next_name}
+use Rattle.script_types.specs.model_kernel.State.{AtlasState, EntityState, KernelState, NotBorn, AtlasCell, Supply, Text}
+use Rattle.script_types.specs.model_kernel.Steps.{atlas_in}
+use Rattle.script_types.specs.Rules.{IsScript}
+use Rattle.cell_births.proofs.model_run_laws_lemmas.Tellings.{written_rises}
+use Rattle.table_steps.specs.model_sound_states.States.{IsSoundState}
+use Rattle.table_steps.proofs.model_sound_states_lemmas.States.{birth_state}
+use Rattle.cell_births.specs.model_births.Fitting.{Fits}
+use Rattle.cell_births.proofs.model_births_lemmas.Ends.{born_state, next_bears}
+use Rattle.cell_births.specs.cell_states.declared.cells.Cell.{Cell}
+use Rattle.cell_births.specs.cell_states.declared.cells.Wish.{Wish}
+use Rattle.cell_births.specs.cell_states.Cells.{HasCell}
+use Rattle.cell_births.specs.cell_states.Wishes.{HasWish}
+use Rattle.cell_births.specs.cell_wish_laws.Founded.{IsFoundedCell, TakesBirth}
+use Rattle.cell_births.proofs.cell_wish_laws_lemmas.Recorded.{birth_wish}
+use Rattle.table_steps.specs.cell_steps.Advances.{HasCells}
 use Rattle.cell_births.specs.Bearing.{Bears}
 use Rattle.cell_births.proofs.Readiness.{next_named}
-use Rattle.table_steps.specs.cell_table.Lending.{ForPairs, IsApart, Lends}
-use Rattle.table_steps.specs.cell_table.Quiet.{GoesQuietly}
-use Rattle.table_steps.specs.cell_table.Tables.{AreNumbered, HasKind, HasTableWishes, IsOrderly, entity_in, state_in}
-use Rattle.table_steps.proofs.cell_table_lemmas.Having.{each_has, is_entity, no_supply, no_words, state_has_all}
-use Rattle.table_steps.proofs.cell_table_lemmas.Kept.{clean_after, orderly_with, tables_same}
-use Rattle.table_steps.proofs.cell_table_lemmas.Lent.{spot}
-use Rattle.table_steps.proofs.cell_table_lemmas.PartKinds.{born_kind}
+use Rattle.table_steps.specs.table_laws.Lending.{ForPairs, IsApart, Lends}
+use Rattle.table_steps.specs.table_laws.Quiet.{GoesQuietly}
+use Rattle.table_steps.specs.table_laws.Tables.{AreNumbered, HasKind, HasTableWishes, IsOrderly, entity_in, state_in}
+use Rattle.table_steps.proofs.table_laws_lemmas.Having.{each_has, is_entity, no_supply, no_words, state_has_all}
+use Rattle.table_steps.proofs.table_laws_lemmas.Kept.{clean_after, orderly_with, tables_same}
+use Rattle.table_steps.proofs.table_laws_lemmas.Lent.{spot}
+use Rattle.table_steps.proofs.table_laws_lemmas.PartKinds.{born_kind}
 use Rattle.table_births.specs.Births.{BearsQuietly, atlas_state_in, count_born}
 use Rattle.table_births.proofs.AtlasStates.{same_atlas}
 use Rattle.std.proofs.lemmas.Option.{same_Some}

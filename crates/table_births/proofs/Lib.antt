@@ -2,4 +2,9 @@ pub mod AtlasStates
 pub mod LentBirths
 pub mod Newborns
 pub mod Nexts
-pub use Rattle.cell_births.proofs.script_against_lemmas
+pub use Rattle.cell_births.proofs.act_atlas_laws_lemmas
+pub use Rattle.cell_births.proofs.model_births_lemmas
+pub use Rattle.script_types.proofs.model_kernel_lemmas
+pub use Rattle.cell_births.proofs.model_run_laws_lemmas
+pub use Rattle.table_steps.proofs.model_sound_runs_lemmas
+pub use Rattle.table_steps.proofs.table_laws_lemmas

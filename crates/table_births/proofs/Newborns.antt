@@ -1,29 +1,29 @@
 -- The cells that are lent for a birth.
 use Rattle.std.proofs.Common.{◌≡◌, ◌≢◌, inl, ℕ, ◌<◌, ◌≤◌, ◌^◌, Bool, true, false, ◌||◌, ◌==◌, List, [], ◌∷◌, ◌++◌, length, get_or, slice_get, slice_set, Some, None, refl, sym, ap, subst, ◌∙◌, arith, ne_eqb}
 use Rattle.std.specs.List.{list_any}
-use Rattle.hop_base.specs.declared.histories.Entry.{Entry}
-use Rattle.table_steps.specs.hop_model.Histories.{writes}
-use Rattle.table_steps.specs.hop_model.Scripts.{ContainerTable, LocusTable, Script, container_table, locus_table}
-use Rattle.table_steps.specs.hop_model.State.{KernelState, Supply, Text}
-use Rattle.table_steps.specs.script_form.Rules.{IsScript}
-use Rattle.cell_births.specs.fitting_births.Fitting.{Fits}
-use Rattle.atlas_dir.specs.directory_form.Directory.{Directory}
-use Rattle.cell_births.specs.kernel_cells.declared.cells.Cell.{Cell}
-use Rattle.cell_births.specs.kernel_cells.declared.cells.Part.TheVariants as part
-use Rattle.cell_births.specs.kernel_cells.Cells.{HasCell}
-use Rattle.cell_births.specs.wish_laws.Founded.{TakesBirth}
-use Rattle.cell_births.specs.birth_steps.Bearing.{IsNewContainer, IsUnbornContainer}
-use Rattle.cell_births.specs.script_against.NextTables.{IsNextContainer, IsNextLocus}
+use Rattle.base_types.specs.declared.histories.Entry.{Entry}
+use Rattle.script_types.specs.model_kernel.Histories.{writes}
+use Rattle.script_types.specs.model_kernel.Scripts.{ContainerTable, LocusTable, Script, container_table, locus_table}
+use Rattle.script_types.specs.model_kernel.State.{KernelState, Supply, Text}
+use Rattle.script_types.specs.Rules.{IsScript}
+use Rattle.cell_births.specs.model_births.Fitting.{Fits}
+use Rattle.data_atlas.specs.data_atlas_facts.Directory.{Directory}
+use Rattle.cell_births.specs.cell_states.declared.cells.Cell.{Cell}
+use Rattle.cell_births.specs.cell_states.declared.cells.Part.TheVariants as part
+use Rattle.cell_births.specs.cell_states.Cells.{HasCell}
+use Rattle.cell_births.specs.cell_wish_laws.Founded.{TakesBirth}
+use Rattle.cell_births.specs.cell_newborns.Bearing.{IsNewContainer, IsUnbornContainer}
+use Rattle.cell_births.specs.script_fits.NextTables.{IsNextContainer, IsNextLocus}
 use Rattle.cell_births.specs.Bearing.{Bears, IsBirthEntry, MayBearContainer, MayBearLocus}
 use Rattle.cell_births.proofs.Bearing.{last_three}
-use Rattle.table_steps.specs.cell_table.Quiet.{GoesQuietly}
-use Rattle.table_steps.specs.cell_table.Steps.{HasDirectory}
-use Rattle.table_steps.specs.cell_table.Tables.{AreFewWrites, HasKind, IsOrderly}
-use Rattle.table_steps.proofs.cell_table_lemmas.PartKinds.{high_keeps}
-use Rattle.table_steps.proofs.cell_table_lemmas.FacingAtlas.{directory_is, newborn_unborn}
-use Rattle.table_steps.proofs.cell_table_lemmas.Pairs.{lends_low}
-use Rattle.table_steps.proofs.cell_table_lemmas.Places.{read_back, read_first, read_front, read_middle, set_three, set_two, write_three, write_two}
-use Rattle.table_steps.proofs.cell_table_lemmas.Triples.{lends_three, made_goes}
+use Rattle.table_steps.specs.table_laws.Quiet.{GoesQuietly}
+use Rattle.table_steps.specs.table_laws.Steps.{HasDirectory}
+use Rattle.table_steps.specs.table_laws.Tables.{AreFewWrites, HasKind, IsOrderly}
+use Rattle.table_steps.proofs.table_laws_lemmas.PartKinds.{high_keeps}
+use Rattle.table_steps.proofs.table_laws_lemmas.FacingAtlas.{directory_is, newborn_unborn}
+use Rattle.table_steps.proofs.table_laws_lemmas.Pairs.{lends_low}
+use Rattle.table_steps.proofs.table_laws_lemmas.Places.{read_back, read_first, read_front, read_middle, set_three, set_two, write_three, write_two}
+use Rattle.table_steps.proofs.table_laws_lemmas.Triples.{lends_three, made_goes}
 use Rattle.table_births.specs.Births.{BearsQuietly, atlas_state_in}
 use Rattle.table_births.proofs.LentBirths.{LentBirth, atlas_kind, bears_quietly, written_kind}
 
@@ -126,7 +126,7 @@ pub record LeavesLocus (t : LocusTable) (name : Text) (k h b k' h' b' : Cell) (e
 host_goes : (x : ℕ) (h h' : Cell) → h'.clock.entity ≡ x → h'.part ≡ h.part → HasKind x h.part → GoesQuietly h h'
 host_goes x h h' at same kind = record {
   kind = subst (λ n. HasKind n h'.part) (sym at) (subst (HasKind x) (sym same) kind);
-  memory = inl (subst (λ p. Rattle.table_steps.specs.beside_steps.Besides.KeepsMemory h.part p) (sym same) (record { memory = refl; tag = refl; pages = refl }));
+  memory = inl (subst (λ p. Rattle.table_steps.specs.cell_calls.Besides.KeepsMemory h.part p) (sym same) (record { memory = refl; tag = refl; pages = refl }));
 }
 
 module _ (held : ℕ → Bool) (cs : List Cell) (orderly : IsOrderly held cs) (few : AreFewWrites cs) (t : LocusTable) (m n : ℕ) (d : Directory) (has : HasDirectory cs d) (may : MayBearLocus d t m n)

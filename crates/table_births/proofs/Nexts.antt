@@ -1,30 +1,30 @@
 -- The table that is next over the cells, and what its birth leaves of the progress.
 use Rattle.std.proofs.Common.{◌≡◌, ℕ, ◌+◌, Bool, List, length, None, unwrap_or, is_some, option_map, option_and_then, sym, ap, subst, ◌∙◌}
-use Rattle.hop_base.specs.declared.histories.Entry.{Entry}
-use Rattle.hop_base.specs.declared.histories.Event.TheVariants.{Birth}
-use Rattle.table_steps.specs.hop_model.Births.{birth_named, next_birth, next_birth_change}
-use Rattle.table_steps.specs.hop_model.Changes.{Change, carried}
-use Rattle.table_steps.specs.hop_model.Scripts.{ContainerTable, LocusTable, Script, next_name}
-use Rattle.table_steps.specs.hop_model.State.{KernelState, Supply}
-use Rattle.table_steps.specs.hop_model.Steps.{atlas_in}
-use Rattle.table_steps.specs.script_form.Rules.{IsScript}
-use Rattle.cell_births.specs.fitting_births.Fitting.{Fits}
-use Rattle.atlas_dir.specs.directory_form.Directory.{Directory, IsDirectory, entity_named}
-use Rattle.table_steps.specs.kernel_calls.Calls.{atlas_state}
-use Rattle.table_steps.proofs.directory_laws_lemmas.NameLaws.{numbers_same}
-use Rattle.cell_births.specs.kernel_cells.declared.cells.Cell.{Cell}
-use Rattle.cell_births.specs.script_against.NextTables.{AreBornBefore, IsNextContainer, IsNextLocus, IsNextTable}
-use Rattle.cell_births.specs.script_against.declared.tables.NextTable.{NextTable}
-use Rattle.cell_births.specs.script_against.declared.tables.Progress.{Progress}
-use Rattle.table_steps.proofs.directory_laws_lemmas.ByKind.{container_number}
-use Rattle.cell_births.proofs.script_against_lemmas.Staying.{progress_stays}
+use Rattle.base_types.specs.declared.histories.Entry.{Entry}
+use Rattle.base_types.specs.declared.histories.Event.TheVariants.{Birth}
+use Rattle.script_types.specs.model_kernel.Births.{birth_named, next_birth, next_birth_change}
+use Rattle.script_types.specs.model_kernel.Changes.{Change, carried}
+use Rattle.script_types.specs.model_kernel.Scripts.{ContainerTable, LocusTable, Script, next_name}
+use Rattle.script_types.specs.model_kernel.State.{KernelState, Supply}
+use Rattle.script_types.specs.model_kernel.Steps.{atlas_in}
+use Rattle.script_types.specs.Rules.{IsScript}
+use Rattle.cell_births.specs.model_births.Fitting.{Fits}
+use Rattle.data_atlas.specs.data_atlas_facts.Directory.{Directory, IsDirectory, entity_named}
+use Rattle.cell_births.specs.act_calls.Calls.{atlas_state}
+use Rattle.cell_births.proofs.act_atlas_laws_lemmas.NameLaws.{numbers_same}
+use Rattle.cell_births.specs.cell_states.declared.cells.Cell.{Cell}
+use Rattle.cell_births.specs.script_fits.NextTables.{AreBornBefore, IsNextContainer, IsNextLocus, IsNextTable}
+use Rattle.cell_births.specs.script_fits.declared.tables.NextTable.{NextTable}
+use Rattle.cell_births.specs.script_fits.declared.tables.Progress.{Progress}
+use Rattle.cell_births.proofs.act_atlas_laws_lemmas.ByKind.{container_number}
+use Rattle.cell_births.proofs.script_fits_lemmas.Staying.{progress_stays}
 use Rattle.cell_births.specs.Bearing.{MayBearContainer, MayBearLocus}
 use Rattle.cell_births.proofs.Readiness.{may_bear_container, may_bear_locus}
-use Rattle.table_steps.specs.cell_table.Steps.{HasDirectory}
-use Rattle.table_steps.specs.cell_table.Tables.{IsOrderly, state_in}
-use Rattle.table_steps.proofs.cell_table_lemmas.Having.{no_supply, no_words}
-use Rattle.table_steps.proofs.cell_table_lemmas.Facing.{cells}
-use Rattle.table_steps.proofs.cell_table_lemmas.FacingAtlas.{directory_sound}
+use Rattle.table_steps.specs.table_laws.Steps.{HasDirectory}
+use Rattle.table_steps.specs.table_laws.Tables.{IsOrderly, state_in}
+use Rattle.table_steps.proofs.table_laws_lemmas.Having.{no_supply, no_words}
+use Rattle.table_steps.proofs.table_laws_lemmas.Facing.{cells}
+use Rattle.table_steps.proofs.table_laws_lemmas.FacingAtlas.{directory_sound}
 use Rattle.table_births.specs.Births.{BearsQuietly, NoBirthLeft, atlas_state_in}
 use Rattle.table_births.proofs.AtlasStates.{has_atlas, same_atlas}
 

@@ -1,20 +1,20 @@
 -- The next birth of a script over the table of cells.
 use Rattle.std.specs.Prelude.{◌≡◌, ℕ, ◌+◌, ◌≤◌, Bool, true, false, List, length, slice_get, slice_index, Option, Some, None}
-use Rattle.hop_base.specs.declared.histories.Entry.{Entry}
-use Rattle.hop_base.specs.declared.histories.Event.TheVariants.{Birth}
-use Rattle.table_steps.specs.hop_model.Births.{next_birth}
-use Rattle.table_steps.specs.hop_model.Histories.{Run, births_owed, goes_on, writes}
-use Rattle.table_steps.specs.hop_model.Scripts.{Script, next_name}
-use Rattle.table_steps.specs.hop_model.State.{AtlasState, Supply, no_atlas}
-use Rattle.cell_births.specs.fitting_births.Fitting.{Fits}
-use Rattle.table_steps.specs.kernel_calls.Calls.{atlas_state}
-use Rattle.cell_births.specs.kernel_cells.declared.cells.Cell.{Cell}
-use Rattle.cell_births.specs.kernel_cells.declared.cells.Part.{Part}
-use Rattle.cell_births.specs.kernel_cells.declared.cells.Part.TheVariants as part
-use Rattle.cell_births.specs.script_against.NextTables.{AreBornBefore}
-use Rattle.cell_births.specs.script_against.declared.tables.Progress.{Progress}
-use Rattle.cell_births.specs.wish_laws.Founded.{TakesBirth}
-use Rattle.table_steps.specs.cell_table.Tables.{AreClean, HasTableWishes, IsOrderly, state_in, tables_in}
+use Rattle.base_types.specs.declared.histories.Entry.{Entry}
+use Rattle.base_types.specs.declared.histories.Event.TheVariants.{Birth}
+use Rattle.script_types.specs.model_kernel.Births.{next_birth}
+use Rattle.script_types.specs.model_kernel.Histories.{Run, births_owed, goes_on, writes}
+use Rattle.script_types.specs.model_kernel.Scripts.{Script, next_name}
+use Rattle.script_types.specs.model_kernel.State.{AtlasState, Supply, no_atlas}
+use Rattle.cell_births.specs.model_births.Fitting.{Fits}
+use Rattle.cell_births.specs.act_calls.Calls.{atlas_state}
+use Rattle.cell_births.specs.cell_states.declared.cells.Cell.{Cell}
+use Rattle.cell_births.specs.cell_states.declared.cells.Part.{Part}
+use Rattle.cell_births.specs.cell_states.declared.cells.Part.TheVariants as part
+use Rattle.cell_births.specs.script_fits.NextTables.{AreBornBefore}
+use Rattle.cell_births.specs.script_fits.declared.tables.Progress.{Progress}
+use Rattle.cell_births.specs.cell_wish_laws.Founded.{TakesBirth}
+use Rattle.table_steps.specs.table_laws.Tables.{AreClean, HasTableWishes, IsOrderly, state_in, tables_in}
 
 -- the directory that the part of an atlas's cell is
 abbrev pub atlas_state_by : Part → AtlasState

@@ -1,19 +1,19 @@
 // The next birth of a script over the table.
 ghost use Rattle.std.specs.Prelude.{◌≡◌, ◌+◌, ℕ, Bool, List, IfNone, IfSome};
-ghost use Rattle.table_steps.specs.hop_model.Scripts.{Script as Tables};
-ghost use Rattle.table_steps.specs.hop_model.State.{Supply};
-ghost use Rattle.table_steps.specs.script_form.Rules.{IsScript};
-ghost use Rattle.table_steps.specs.script_form.Scripts.{tables_of};
-ghost use Rattle.cell_births.specs.fitting_births.Fitting.{Fits};
-ghost use Rattle.cell_births.specs.script_against.NextTables.{IsNextTable};
-ghost use Rattle.table_steps.specs.cell_table.Steps.{IsInOrder};
-ghost use Rattle.table_steps.specs.cell_table.Tables.{AreFewWrites, IsOrderly};
+ghost use Rattle.script_types.specs.model_kernel.Scripts.{Script as Tables};
+ghost use Rattle.script_types.specs.model_kernel.State.{Supply};
+ghost use Rattle.script_types.specs.Rules.{IsScript};
+ghost use Rattle.script_types.specs.Scripts.{tables_of};
+ghost use Rattle.cell_births.specs.model_births.Fitting.{Fits};
+ghost use Rattle.cell_births.specs.script_fits.NextTables.{IsNextTable};
+ghost use Rattle.table_steps.specs.table_laws.Steps.{IsInOrder};
+ghost use Rattle.table_steps.specs.table_laws.Tables.{AreFewWrites, IsOrderly};
 ghost use Rattle.table_births.specs.Births.{AreUnderWay, BearsOn, BearsQuietly, EntersBirth, NoBirthLeft, atlas_state_in, count_born};
 
 use crate::lending::{atlas_of, free_container, go_container, go_locus, locus_numbers};
+use base_types::Entry;
 use cell_births::{NextTable, Progress, next_table};
-use hop_base::Entry;
-use script_form::Script;
+use script_types::Script;
 use table_steps::Cell;
 
 /// The birth of the table that is next.

@@ -1,20 +1,20 @@
 // The births of one table of a script, over the cells that it touches.
 ghost use Rattle.std.specs.Prelude.{◌≡◌, ◌+◌, ℕ, length};
-ghost use Rattle.table_steps.specs.hop_model.Scripts.{Script as Tables};
-ghost use Rattle.table_steps.specs.script_form.Rules.{IsScript};
-ghost use Rattle.table_steps.specs.script_form.Scripts.{container_of, locus_of};
-ghost use Rattle.cell_births.specs.fitting_births.Fitting.{Fits};
-ghost use Rattle.atlas_dir.specs.directory_form.Directory.{Directory};
-ghost use Rattle.cell_births.specs.script_against.NextTables.{IsNextContainer, IsNextLocus};
+ghost use Rattle.script_types.specs.model_kernel.Scripts.{Script as Tables};
+ghost use Rattle.script_types.specs.Rules.{IsScript};
+ghost use Rattle.script_types.specs.Scripts.{container_of, locus_of};
+ghost use Rattle.cell_births.specs.model_births.Fitting.{Fits};
+ghost use Rattle.data_atlas.specs.data_atlas_facts.Directory.{Directory};
+ghost use Rattle.cell_births.specs.script_fits.NextTables.{IsNextContainer, IsNextLocus};
 ghost use Rattle.cell_births.specs.Bearing.{MayBearContainer, MayBearLocus};
-ghost use Rattle.table_steps.specs.cell_table.Steps.{HasDirectory, IsInOrder};
-ghost use Rattle.table_steps.specs.cell_table.Tables.{AreFewWrites};
+ghost use Rattle.table_steps.specs.table_laws.Steps.{HasDirectory, IsInOrder};
+ghost use Rattle.table_steps.specs.table_laws.Tables.{AreFewWrites};
 ghost use Rattle.table_births.specs.Births.{BearsQuietly, atlas_state_in};
 
-use atlas_dir::Atlas;
+use base_types::{Entity, Entry, FIRST_LOCUS, Kind};
 use cell_births::{Part, bear_container, bear_locus};
-use hop_base::{Entity, Entry, Kind};
-use script_form::{ScriptContainer, ScriptLocus};
+use data_atlas::Atlas;
+use script_types::{ScriptContainer, ScriptLocus};
 use table_steps::Cell;
 
 /// The atlas of a table of cells.
@@ -42,7 +42,7 @@ pub(crate) fn locus_numbers(atlas: &Atlas, table: &ScriptLocus) -> (usize, usize
 {
     let host = atlas.find(&table.host).unwrap_or(Entity::ATLAS);
     let born = atlas.named(Kind::Locus);
-    (host.number() as usize, born as usize + 41)
+    (host.number() as usize, born as usize + FIRST_LOCUS as usize)
 }
 
 /// The birth of a container from its table, under this number.

@@ -1,21 +1,21 @@
 -- What a table in order says of the container at which a step looks.
 use Rattle.std.proofs.Common.{◌≡◌, ℕ, ◌<◌, ◌^◌, Bool, List, slice_get, Some, sym, ap, ◌∙◌, subst, arith}
-use Rattle.cell_table.specs.hop_model.State.{Supply}
-use Rattle.cell_table.specs.hop_model.Steps.{step}
-use Rattle.cell_table.specs.locus_machine.Loci.{locus_of}
-use Rattle.cell_table.specs.kernel_cells.declared.cells.Cell.{Cell}
-use Rattle.cell_table.specs.beside_steps.Besides.{memory_of}
-use Rattle.cell_table.specs.cell_laws.Memories.{HasOwnMemory}
-use Rattle.cell_table.specs.look_steps.Looking.{LooksAtWord, MayLook}
-use Rattle.cell_table.proofs.plan_laws_lemmas.SoundParts.{look_part}
-use Rattle.cell_table.proofs.plan_laws_lemmas.SoundPlans.{look_here}
-use Rattle.cell_table.specs.step_plans.Plans.{IsPlanned}
-use Rattle.cell_table.specs.step_plans.declared.plans.Plan.TheVariants as plan
-use Rattle.cell_table.specs.Steps.{IsPlannedAt}
-use Rattle.cell_table.specs.Tables.{AreClean, AreFewWrites, IsOrderly, memory_at, state_in}
-use Rattle.cell_table.proofs.Having.{state_has}
+use Rattle.page_store.specs.model_kernel.State.{Supply}
+use Rattle.page_store.specs.model_kernel.Steps.{step}
+use Rattle.table_laws.specs.act_alone.Loci.{locus_of}
+use Rattle.table_laws.specs.cell_states.declared.cells.Cell.{Cell}
+use Rattle.table_laws.specs.cell_calls.Besides.{memory_of}
+use Rattle.table_laws.specs.cell_blob_laws.Memories.{HasOwnMemory}
+use Rattle.table_laws.specs.cell_looks.Looking.{LooksAtWord, MayLook}
+use Rattle.table_laws.proofs.cell_step_laws_lemmas.SoundParts.{look_part}
+use Rattle.table_laws.proofs.cell_step_laws_lemmas.SoundPlans.{look_here}
+use Rattle.table_laws.specs.cell_plans.Plans.{IsPlanned}
+use Rattle.table_laws.specs.cell_plans.declared.plans.Plan.TheVariants as plan
+use Rattle.table_laws.specs.Steps.{IsPlannedAt}
+use Rattle.table_laws.specs.Tables.{AreClean, AreFewWrites, IsOrderly, memory_at, state_in}
+use Rattle.table_laws.proofs.Having.{state_has}
 use Rattle.table_steps.specs.Wanting.{WantsWord}
-use Rattle.cell_table.proofs.Facing.{are_sound, atlas, cells, locus_at, no_supply, no_words, part_here, plan_of}
+use Rattle.table_laws.proofs.Facing.{are_sound, atlas, cells, locus_at, no_supply, no_words, part_here, plan_of}
 
 module _ (held : ℕ → Bool) (cs : List Cell) (orderly : IsOrderly held cs) where
   pub look_below : (me y : ℕ) → IsPlannedAt cs me (plan.Look y) → (0 < y) × (y < me)

@@ -1,9 +1,8 @@
 pub mod Planning
 pub mod FacingLook
-pub use Rattle.cell_table.proofs.cell_blobs_lemmas
-pub use Rattle.cell_table.proofs.cell_laws_lemmas
-pub use Rattle.cell_table.proofs as cell_table_lemmas
-pub use Rattle.cell_table.proofs.directory_laws_lemmas
-pub use Rattle.cell_table.proofs.history_model_lemmas
-pub use Rattle.cell_table.proofs.hop_model_lemmas
-pub use Rattle.cell_table.proofs.sound_states_lemmas
+pub use Rattle.table_laws.proofs.cell_blob_laws_lemmas
+pub use Rattle.table_laws.proofs.cell_blobs_lemmas
+pub use Rattle.table_laws.proofs.model_sound_runs_lemmas
+pub use Rattle.table_laws.proofs.model_sound_states_lemmas
+pub use Rattle.table_laws.proofs.plain_states_lemmas
+pub use Rattle.table_laws.proofs as table_laws_lemmas

@@ -1,13 +1,13 @@
 -- What a plan of one cell says of the table.
 use Rattle.std.proofs.Common.{◌≡◌, ℕ, List, slice_get, Some, None, Result, Ok, Err, IfErr, IfOk, ap, ◌∙◌}
-use Rattle.cell_table.specs.hop_model.State.{Supply}
-use Rattle.cell_table.specs.kernel_cells.declared.cells.Cell.{Cell}
-use Rattle.cell_table.specs.kernel_cells.Cells.{part_of}
-use Rattle.cell_table.specs.step_plans.Plans.{IsPlanned, idle_of}
-use Rattle.cell_table.specs.step_plans.declared.idle.Idle.{Idle}
-use Rattle.cell_table.specs.step_plans.declared.plans.Plan.{Plan}
-use Rattle.cell_table.specs.Steps.{IsPlannedAt}
-use Rattle.cell_table.specs.Tables.{entity_in, left_of, state_in}
+use Rattle.page_store.specs.model_kernel.State.{Supply}
+use Rattle.table_laws.specs.cell_states.declared.cells.Cell.{Cell}
+use Rattle.table_laws.specs.cell_states.Cells.{part_of}
+use Rattle.table_laws.specs.cell_plans.Plans.{IsPlanned, idle_of}
+use Rattle.table_laws.specs.cell_plans.declared.idle.Idle.{Idle}
+use Rattle.table_laws.specs.cell_plans.declared.plans.Plan.{Plan}
+use Rattle.table_laws.specs.Steps.{IsPlannedAt}
+use Rattle.table_laws.specs.Tables.{entity_in, left_of, state_in}
 
 module _ (s : Supply) (words : ℕ → List ℕ) (cs : List Cell) (me : ℕ) (cell : Cell) (here : slice_get cs me ≡ Some cell) where
   idle_here : idle_of (left_of (slice_get cs me)) (state_in s words cs me).cell ≡ idle_of cell.left (part_of s words cell.part)

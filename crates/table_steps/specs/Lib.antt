@@ -1,17 +1,15 @@
 pub mod Wanting
-pub use Rattle.cell_table.specs.beside_steps
-pub use Rattle.cell_table.specs.cell_blobs
-pub use Rattle.cell_table.specs.cell_laws
-pub use Rattle.cell_table.specs as cell_table
-pub use Rattle.cell_table.specs.event_clocks
-pub use Rattle.cell_table.specs.fault_paging
-pub use Rattle.cell_table.specs.hop_model
-pub use Rattle.cell_table.specs.kernel_calls
-pub use Rattle.cell_table.specs.kernel_cells
-pub use Rattle.cell_table.specs.locus_machine
-pub use Rattle.cell_table.specs.look_steps
-pub use Rattle.cell_table.specs.script_form
-pub use Rattle.cell_table.specs.sound_states
-pub use Rattle.cell_table.specs.step_cells
-pub use Rattle.cell_table.specs.step_plans
-pub use Rattle.cell_table.specs.wanted_act
+pub use Rattle.table_laws.specs.act_alone
+pub use Rattle.table_laws.specs.cell_blob_laws
+pub use Rattle.table_laws.specs.cell_blobs
+pub use Rattle.table_laws.specs.cell_calls
+pub use Rattle.table_laws.specs.cell_clocks
+pub use Rattle.table_laws.specs.cell_looks
+pub use Rattle.table_laws.specs.cell_plans
+pub use Rattle.table_laws.specs.cell_states
+pub use Rattle.table_laws.specs.cell_steps
+pub use Rattle.table_laws.specs.cell_wish_laws
+pub use Rattle.table_laws.specs.model_sound_states
+pub use Rattle.table_laws.specs.page_memory
+pub use Rattle.page_store.specs as page_store
+pub use Rattle.table_laws.specs as table_laws

@@ -1,11 +1,11 @@
 -- What the next step of a locus over the table wants.
 use Rattle.std.specs.Prelude.{◌≡◌, ℕ, List, Some}
-use Rattle.hop_base.specs.declared.histories.Entry.{Entry}
-use Rattle.cell_table.specs.hop_model.State.{KernelState, Supply}
-use Rattle.cell_table.specs.hop_model.Steps.{step}
-use Rattle.cell_table.specs.kernel_cells.declared.cells.Cell.{Cell}
-use Rattle.cell_table.specs.look_steps.Looking.{IsWordStep}
-use Rattle.cell_table.specs.Tables.{state_in}
+use Rattle.base_types.specs.declared.histories.Entry.{Entry}
+use Rattle.page_store.specs.model_kernel.State.{KernelState, Supply}
+use Rattle.page_store.specs.model_kernel.Steps.{step}
+use Rattle.table_laws.specs.cell_states.declared.cells.Cell.{Cell}
+use Rattle.table_laws.specs.cell_looks.Looking.{IsWordStep}
+use Rattle.table_laws.specs.Tables.{state_in}
 
 -- THE NEXT STEP of the locus reads or writes a word, whatever the blocks hold
 abbrev pub WantsWord : ℕ → List Cell → Type 0

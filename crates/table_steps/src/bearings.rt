@@ -1,12 +1,12 @@
 // Steps of a locus over the table that write the atlas.
 ghost use Rattle.std.specs.Prelude.{◌≡◌, ◌+◌, ◌<◌, ◌≤◌, ◌⊎◌, length};
-ghost use Rattle.atlas_dir.specs.directory_form.Directory.{Directory, number_born};
-ghost use Rattle.cell_table.specs.step_plans.declared.plans.Plan.TheVariants as plan;
-ghost use Rattle.cell_table.specs.Steps.{HasDirectory, IsInOrder, IsPlannedAt, StepsQuietly};
-ghost use Rattle.cell_table.specs.Tables.{AreFewWrites};
+ghost use Rattle.table_laws.specs.data_atlas_facts.Directory.{Directory, number_born};
+ghost use Rattle.table_laws.specs.cell_plans.declared.plans.Plan.TheVariants as plan;
+ghost use Rattle.table_laws.specs.Steps.{HasDirectory, IsInOrder, IsPlannedAt, StepsQuietly};
+ghost use Rattle.table_laws.specs.Tables.{AreFewWrites};
 
-use cell_table::{Cell, Part, advance_barren, advance_making, advance_mapping, advance_spawning};
-use hop_base::{Entity, Entry, Instr, Kind, MOST_CONTAINERS, MOST_LOCI};
+use base_types::{Entity, Entry, FIRST_LOCUS, Instr, Kind, MOST_CONTAINERS, MOST_LOCI};
+use table_laws::{Cell, Part, advance_barren, advance_making, advance_mapping, advance_spawning};
 
 /// A step that maps pages into a container, or unmaps them.
 pub(crate) fn go_mapping(cells: &mut [Cell], me: Entity, other: Entity, instr: Instr) -> Entry
@@ -92,7 +92,7 @@ pub(crate) fn go_spawning(cells: &mut [Cell], me: Entity) -> Entry
 {
     let born = born_of(cells, Kind::Locus) as usize;
     if born < MOST_LOCI {
-        return go_spawning_at(cells, me, born + 41);
+        return go_spawning_at(cells, me, born + FIRST_LOCUS as usize);
     }
     go_barren(cells, me)
 }

@@ -1,11 +1,11 @@
 // Steps of a locus over the table that touch it alone, or it and one other entity without a look.
 ghost use Rattle.std.specs.Prelude.{◌<◌};
-ghost use Rattle.cell_table.specs.step_plans.declared.plans.Plan.TheVariants as plan;
-ghost use Rattle.cell_table.specs.Steps.{IsInOrder, IsPlannedAt, StepsQuietly};
-ghost use Rattle.cell_table.specs.Tables.{AreFewWrites};
+ghost use Rattle.table_laws.specs.cell_plans.declared.plans.Plan.TheVariants as plan;
+ghost use Rattle.table_laws.specs.Steps.{IsInOrder, IsPlannedAt, StepsQuietly};
+ghost use Rattle.table_laws.specs.Tables.{AreFewWrites};
 
-use cell_table::{Cell, advance_alone, advance_beside};
-use hop_base::{Entity, Entry, Instr};
+use base_types::{Entity, Entry, Instr};
+use table_laws::{Cell, advance_alone, advance_beside};
 
 /// A step that touches the locus alone.
 pub(crate) fn go_alone(cells: &mut [Cell], me: Entity) -> Entry

@@ -1,4 +1,4 @@
-//! The step of a locus over the table of cells. It keeps the table in order (`IsOrderly` of `cell_table`) whatever the page store tells; where
+//! The step of a locus over the table of cells. It keeps the table in order (`IsOrderly` of `table_laws`) whatever the page store tells; where
 //! the store tells its content, it is the abstract kernel's step.
 #![tactic(auto)]
 
@@ -7,5 +7,5 @@ mod besides;
 mod looks;
 mod stepping;
 
-pub use cell_table::{Cell, is_recorded, need_cell};
 pub use stepping::{StepFault, advance};
+pub use table_laws::{Cell, is_recorded, need_cell};

@@ -1,15 +1,15 @@
 // The step of a locus over the table that looks at a container.
 ghost use Rattle.std.specs.Prelude.{◌≡◌, ◌≤◌, ◌+◌, IfErr, IfOk, OnErr, OnOk};
-ghost use Rattle.cell_table.specs.fault_paging.Calls.{IsCausedBy};
-ghost use Rattle.cell_table.specs.step_plans.declared.plans.Plan.TheVariants as plan;
-ghost use Rattle.cell_table.specs.Steps.{EntersStep, GoesOn, IsPlannedAt, StaysAtFault};
-ghost use Rattle.cell_table.specs.Tables.{tables_in, AreClean, AreFewWrites, HasNews, IsOrderly};
+ghost use Rattle.table_laws.specs.page_memory.Calls.{IsCausedIn};
+ghost use Rattle.table_laws.specs.cell_plans.declared.plans.Plan.TheVariants as plan;
+ghost use Rattle.table_laws.specs.Steps.{EntersStep, GoesOn, IsPlannedAt, StaysAtFault};
+ghost use Rattle.table_laws.specs.Tables.{tables_in, AreClean, AreFewWrites, HasNews, IsOrderly};
 ghost use Rattle.table_steps.specs.Wanting.{WantsWord};
 
-use cell_table::{Cell, advance_looking};
-use hop_base::{Entity, Entry};
-use manager_gate::{Gate, Policy, Supplier};
+use base_types::{Entity, Entry};
+use edge_managers::{Gate, Policy, Supplier};
 use page_store::{PageFault, PageStore};
+use table_laws::{Cell, advance_looking};
 
 /// A step that makes one look of a load or a store at a container.
 pub(crate) fn go_look<B: PageStore, S: Supplier, P: Policy>(
@@ -31,7 +31,7 @@ pub(crate) fn go_look<B: PageStore, S: Supplier, P: Policy>(
     ensures at_word { OnErr result (WantsWord me cells.old) }
     ensures kept { B.kept_names store.new ≡ B.kept_names store.old }
     ensures news { HasNews (B.kept_names store.old) (tables_in cells.old) (tables_in cells.new) }
-    ensures cause { IfErr result (IsCausedBy (B.free store.old) (B.faults store.old) (B.faults store.new) (B.is_shut store.old) (B.is_shut store.new)) }
+    ensures cause { IfErr result (IsCausedIn B.PageStore store.old store.new) }
     ensures same_shut { OnOk result (B.is_shut store.new ≡ B.is_shut store.old) }
     ensures one_write { B.written store.new ≤ B.written store.old + 1 }
     ensures between { B.Pages store.old store.new }

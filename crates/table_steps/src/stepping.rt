@@ -1,21 +1,21 @@
 // The step of a locus over the table.
 ghost use Rattle.std.specs.Prelude.{◌≡◌, ◌≤◌, ◌+◌, ◌↔◌, ℕ, List, None, Some, IfErr, IfOk, IsErrOf, OnErr, OnOk, slice_get};
-ghost use Rattle.cell_table.specs.hop_model.State.{Supply};
-ghost use Rattle.cell_table.specs.page_store.declared.faults.PageFault.{PageFault as AFault};
-ghost use Rattle.cell_table.specs.fault_paging.Calls.{IsCausedBy};
-ghost use Rattle.cell_table.specs.step_plans.Plans.{idle_of};
-ghost use Rattle.cell_table.specs.step_plans.declared.idle.Idle.{Idle as AnIdle};
-ghost use Rattle.cell_table.specs.Steps.{EntersStep, GoesOn, IsInOrder, IsPlannedAt, StaysAtFault};
-ghost use Rattle.cell_table.specs.Tables.{left_of, state_in, tables_in, AreClean, AreFewWrites, HasNews, IsOrderly};
+ghost use Rattle.page_store.specs.model_kernel.State.{Supply};
+ghost use Rattle.page_store.specs.declared.faults.PageFault.{PageFault as AFault};
+ghost use Rattle.table_laws.specs.page_memory.Calls.{IsCausedIn};
+ghost use Rattle.table_laws.specs.cell_plans.Plans.{idle_of};
+ghost use Rattle.table_laws.specs.cell_plans.declared.idle.Idle.{Idle as AnIdle};
+ghost use Rattle.table_laws.specs.Steps.{EntersStep, GoesOn, IsInOrder, IsPlannedAt, StaysAtFault};
+ghost use Rattle.table_laws.specs.Tables.{left_of, state_in, tables_in, AreClean, AreFewWrites, HasNews, IsOrderly};
 ghost use Rattle.table_steps.specs.Wanting.{WantsWord};
 
 use crate::bearings::{go_making, go_mapping, go_spawning};
 use crate::besides::{go_alone, go_beside};
 use crate::looks::go_look;
-use cell_table::{Cell, Idle, Plan, next_plan};
-use hop_base::{Entity, Entry};
-use manager_gate::{Gate, Policy, Supplier};
+use base_types::{Entity, Entry};
+use edge_managers::{Gate, Policy, Supplier};
 use page_store::{PageFault, PageStore};
+use table_laws::{Cell, Idle, Plan, next_plan};
 
 /// Why a locus made no step.
 #[derive(Clone, Copy, PartialEq, Eq, Debug)]
@@ -56,7 +56,7 @@ fn go<B: PageStore, S: Supplier, P: Policy>(
     ensures at_word { OnErr result (WantsWord me cells.old) }
     ensures kept { B.kept_names store.new ≡ B.kept_names store.old }
     ensures news { HasNews (B.kept_names store.old) (tables_in cells.old) (tables_in cells.new) }
-    ensures cause { IfErr result (IsCausedBy (B.free store.old) (B.faults store.old) (B.faults store.new) (B.is_shut store.old) (B.is_shut store.new)) }
+    ensures cause { IfErr result (IsCausedIn B.PageStore store.old store.new) }
     ensures same_shut { OnOk result (B.is_shut store.new ≡ B.is_shut store.old) }
     ensures one_write { B.written store.new ≤ B.written store.old + 1 }
     ensures between { B.Pages store.old store.new }
@@ -98,7 +98,7 @@ pub fn advance<B: PageStore, S: Supplier, P: Policy>(
     ensures kept { B.kept_names store.new ≡ B.kept_names store.old }
     ensures news { HasNews (B.kept_names store.old) (tables_in cells.old) (tables_in cells.new) }
     ensures cause { (f : AFault) → IsErrOf result (StepFault.Paging f)
-        → IsCausedBy (B.free store.old) (B.faults store.old) (B.faults store.new) (B.is_shut store.old) (B.is_shut store.new) f }
+        → IsCausedIn B.PageStore store.old store.new f }
     ensures same_shut { OnOk result (B.is_shut store.new ≡ B.is_shut store.old) }
     ensures one_write { B.written store.new ≤ B.written store.old + 1 }
     ensures between { B.Pages store.old store.new }

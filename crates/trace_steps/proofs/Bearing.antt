@@ -1,40 +1,40 @@
 -- A birth: the entry may follow, and the checker stands behind it.
 use Rattle.std.proofs.Common.{◌≡◌, ℕ, ◌<◌, Bool, true, false, not, ◌&&◌, ◌||◌, if◌then◌else◌, List, [], ◌∷◌, ◌++◌, Option, Some, None, is_some, option_map, option_and_then, sym, ap, subst, ◌∙◌}
-use Rattle.hop_base.specs.declared.histories.Entry.{Entry}
-use Rattle.hop_base.specs.declared.histories.Event.{Event}
-use Rattle.hop_base.specs.declared.histories.Event.TheVariants.{Birth}
-use Rattle.trace_rules.specs.plain_run.hop_model.Births.{birth, birth_named, next_birth, next_birth_change}
-use Rattle.trace_rules.specs.plain_run.hop_model.Changes.{Change, carried}
-use Rattle.trace_rules.specs.plain_run.hop_model.Histories.{May, Policy, Run, births_owed, by_event, event_of, may as may_be}
-use Rattle.trace_rules.specs.plain_run.hop_model.Parts.{after_entry, is_event, next_of}
-use Rattle.trace_rules.specs.plain_run.hop_model.Scripts.{Script, next_name}
-use Rattle.trace_rules.specs.plain_run.hop_model.Soundness.{IsSound}
-use Rattle.trace_rules.specs.plain_run.hop_model.State.{AtlasState, Cell, KernelState, Supply, Text}
-use Rattle.trace_rules.specs.plain_run.hop_model.Steps.{atlas_in}
-use Rattle.trace_rules.proofs.plain_run_lemmas.hop_model_lemmas.LegalRuns.{next_legal}
-use Rattle.trace_rules.specs.plain_run.history_model.Born.{AreEdges, AreOfOneKind, IsUndefined}
-use Rattle.trace_rules.specs.plain_run.history_model.Events.{Bears, Has}
-use Rattle.trace_rules.specs.plain_run.history_model.Plains.{atlas_of, cells_of}
-use Rattle.trace_rules.specs.plain_run.history_model.declared.plain.Plain.{Plain}
-use Rattle.trace_rules.proofs.plain_run_lemmas.plain_laws_lemmas.Goings.{state_is}
-use Rattle.trace_rules.proofs.plain_run_lemmas.plain_laws_lemmas.DefinedBirths.{born_atlas}
-use Rattle.trace_rules.proofs.plain_run_lemmas.plain_laws_lemmas.Openings.{birth_event, borne, goes_on_birth, next_is_birth}
-use Rattle.trace_rules.proofs.plain_run_lemmas.sound_runs_lemmas.Standing.{under_next}
-use Rattle.trace_rules.specs.trace_parts.Clocks.{clock_at, joined_in}
-use Rattle.trace_rules.specs.trace_parts.cut_searches.Searches.{mark_at}
-use Rattle.trace_rules.specs.trace_parts.Flags.{wrote_in}
-use Rattle.trace_rules.specs.trace_parts.declared.clocks.Clocks.{Clocks}
-use Rattle.trace_rules.specs.trace_parts.declared.wishes.Wishes.{Wishes}
+use Rattle.base_types.specs.declared.histories.Entry.{Entry}
+use Rattle.base_types.specs.declared.histories.Event.{Event}
+use Rattle.base_types.specs.declared.histories.Event.TheVariants.{Birth}
+use Rattle.plain_states.specs.model_kernel.Births.{birth, birth_named, next_birth, next_birth_change}
+use Rattle.plain_states.specs.model_kernel.Changes.{Change, carried}
+use Rattle.plain_states.specs.model_kernel.Histories.{May, Policy, Run, births_owed, by_event, event_of, may as may_be}
+use Rattle.plain_states.specs.model_kernel.Parts.{after_entry, is_event, next_of}
+use Rattle.plain_states.specs.model_kernel.Scripts.{Script, next_name}
+use Rattle.plain_states.specs.model_kernel.Soundness.{IsSound}
+use Rattle.plain_states.specs.model_kernel.State.{AtlasState, Cell, KernelState, Supply, Text}
+use Rattle.plain_states.specs.model_kernel.Steps.{atlas_in}
+use Rattle.plain_states.proofs.model_kernel_lemmas.LegalRuns.{next_legal}
+use Rattle.plain_states.specs.Born.{AreEdges, AreOfOneKind, IsUndefined}
+use Rattle.plain_states.specs.Events.{Bears, Has}
+use Rattle.plain_states.specs.Plains.{atlas_of, cells_of}
+use Rattle.plain_states.specs.declared.plain.Plain.{Plain}
+use Rattle.trace_step_facts.proofs.plain_facts_lemmas.Goings.{state_is}
+use Rattle.trace_step_facts.proofs.plain_facts_lemmas.DefinedBirths.{born_atlas}
+use Rattle.trace_step_facts.proofs.plain_facts_lemmas.Openings.{birth_event, borne, goes_on_birth, next_is_birth}
+use Rattle.plain_states.proofs.model_sound_runs_lemmas.Standing.{under_next}
+use Rattle.trace_state.specs.Clocks.{clock_at, joined_in}
+use Rattle.trace_step_facts.specs.data_cut_facts.Searches.{mark_at}
+use Rattle.trace_state.specs.Flags.{wrote_in}
+use Rattle.trace_state.specs.declared.clocks.Clocks.{Clocks}
+use Rattle.trace_state.specs.declared.wishes.Wishes.{Wishes}
 use Rattle.trace_steps.specs.Standing.{Keeps, Stands, owing}
-use Rattle.trace_rules.specs.Standing.{run_of}
+use Rattle.trace_step_facts.specs.Standing.{run_of}
 use Rattle.trace_steps.specs.declared.checker.Checker.{Checker}
-use Rattle.trace_rules.proofs.Clocking.{clocks_next}
+use Rattle.trace_step_facts.proofs.Clocking.{clocks_next}
 use Rattle.trace_steps.proofs.Marking.{none_of}
 use Rattle.trace_steps.proofs.Running.{stands_on}
 use Rattle.trace_steps.proofs.Stepping.{sound_standing}
-use Rattle.trace_rules.proofs.Wishing.{birth_wishes}
-use Rattle.trace_rules.proofs.plain_run_lemmas.fitting_births_lemmas.Growing.{kinds_after}
-use Rattle.trace_rules.proofs.plain_run_lemmas.fitting_births_lemmas.KnownNames.{next_name_is}
+use Rattle.trace_step_facts.proofs.Wishing.{birth_wishes}
+use Rattle.trace_step_facts.proofs.model_births_lemmas.Growing.{kinds_after}
+use Rattle.trace_step_facts.proofs.model_births_lemmas.KnownNames.{next_name_is}
 use Rattle.std.proofs.lemmas.Option.{none-some}
 
 module _ (s : Supply) (policy : Policy) (script : Script) (w : KernelState) (es : List Entry) (old : Checker) (h : Stands s policy script w old es) (untried : old.tried ≡ false) where

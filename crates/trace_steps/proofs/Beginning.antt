@@ -4,33 +4,33 @@ use Rattle.std.specs.List.{All}
 use Rattle.std.proofs.lemmas.Bool.{cases_lt}
 use Rattle.std.proofs.lemmas.Bool.Decides.{nat_tests}
 use Rattle.std.proofs.lemmas.List.{get_or_past}
-use Rattle.hop_base.specs.Edges.{upto}
-use Rattle.trace_rules.specs.plain_run.hop_model.Choices.{Commit}
-use Rattle.trace_rules.specs.plain_run.hop_model.Histories.{Policy, Run, chosen_commits, commits_of, start_run}
-use Rattle.trace_rules.specs.plain_run.hop_model.Scripts.{Script, next_name}
-use Rattle.trace_rules.specs.plain_run.hop_model.Soundness.{IsSound}
-use Rattle.trace_rules.specs.plain_run.hop_model.State.{KernelState, Supply}
-use Rattle.trace_rules.specs.trace_parts.cut_laws.Agreeing.{from_cut}
-use Rattle.trace_rules.specs.trace_parts.cut_laws.Records.{commits_of as rec_commits}
-use Rattle.trace_rules.specs.plain_run.history_model.Born.{AreEdges, AreOfOneKind}
-use Rattle.trace_rules.specs.plain_run.history_model.Plains.{atlas_of, cells_of}
-use Rattle.trace_rules.specs.plain_run.history_model.declared.plain.Plain.{Plain}
-use Rattle.trace_rules.proofs.plain_run_lemmas.Placing.{zeros_at}
-use Rattle.run_rules.proofs.run_laws_lemmas.Cuts.{chosen_same}
-use Rattle.trace_rules.specs.plain_run.script_form.Rules.{IsScript}
-use Rattle.trace_rules.proofs.plain_run_lemmas.sound_runs_lemmas.Counting.{upto_less}
-use Rattle.trace_rules.specs.trace_parts.Clocks.{clock_at}
-use Rattle.trace_rules.specs.trace_parts.Cuts.{records_of}
-use Rattle.trace_rules.specs.trace_parts.cut_searches.Searches.{mark_at}
-use Rattle.trace_rules.specs.trace_parts.declared.clocks.Clocks.{Clocks}
-use Rattle.trace_rules.specs.trace_parts.declared.cuts.Cuts.{Cuts}
-use Rattle.trace_rules.specs.trace_parts.declared.wishes.Wishes.{Wishes}
-use Rattle.trace_rules.specs.Keeping.{HasClocks, HasCuts}
-use Rattle.trace_rules.specs.Recording.{Opens, is_changed}
+use Rattle.base_types.specs.Edges.{upto}
+use Rattle.plain_states.specs.model_kernel.Choices.{Commit}
+use Rattle.plain_states.specs.model_kernel.Histories.{Policy, Run, chosen_commits, commits_of, start_run}
+use Rattle.plain_states.specs.model_kernel.Scripts.{Script, next_name}
+use Rattle.plain_states.specs.model_kernel.Soundness.{IsSound}
+use Rattle.plain_states.specs.model_kernel.State.{KernelState, Supply}
+use Rattle.model_run_rules.specs.model_cut_laws.Agreeing.{from_cut}
+use Rattle.model_run_rules.specs.model_cut_laws.Records.{commits_of as rec_commits}
+use Rattle.plain_states.specs.Born.{AreEdges, AreOfOneKind}
+use Rattle.plain_states.specs.Plains.{atlas_of, cells_of}
+use Rattle.plain_states.specs.declared.plain.Plain.{Plain}
+use Rattle.trace_step_facts.proofs.plain_runs_lemmas.Placing.{zeros_at}
+use Rattle.model_run_rules.proofs.model_run_laws_lemmas.Cuts.{chosen_same}
+use Rattle.script_types.specs.Rules.{IsScript}
+use Rattle.plain_states.proofs.model_sound_runs_lemmas.Counting.{upto_less}
+use Rattle.trace_state.specs.Clocks.{clock_at}
+use Rattle.trace_state.specs.Cuts.{records_of}
+use Rattle.trace_step_facts.specs.data_cut_facts.Searches.{mark_at}
+use Rattle.trace_state.specs.declared.clocks.Clocks.{Clocks}
+use Rattle.trace_state.specs.declared.cuts.Cuts.{Cuts}
+use Rattle.trace_state.specs.declared.wishes.Wishes.{Wishes}
+use Rattle.trace_step_facts.specs.Keeping.{HasClocks, HasCuts}
+use Rattle.trace_step_facts.specs.Recording.{Opens, is_changed}
 use Rattle.trace_steps.specs.Standing.{Stands}
-use Rattle.trace_rules.specs.Standing.{fresh}
-use Rattle.trace_rules.proofs.Recording.{filter_same, filtered_less, records_same}
-use Rattle.trace_rules.proofs.Running.{full_of}
+use Rattle.trace_step_facts.specs.Standing.{fresh}
+use Rattle.trace_step_facts.proofs.Recording.{filter_same, filtered_less, records_same}
+use Rattle.trace_step_facts.proofs.Running.{full_of}
 
 le_itself : (n : ℕ) → nat_le n n ≡ true
 le_itself n = grind (arith, nat_tests)

@@ -5,7 +5,7 @@ pub mod Stepping
 pub mod Stabling
 pub mod Bearing
 pub mod Beginning
-pub use Rattle.trace_rules.proofs.plain_run_lemmas
-pub use Rattle.run_rules.proofs.run_laws_lemmas
-pub use Rattle.run_rules.proofs as run_rules_lemmas
-pub use Rattle.trace_rules.proofs.plain_run_lemmas.plain_laws_lemmas
+pub use Rattle.model_run_rules.proofs.model_run_laws_lemmas
+pub use Rattle.model_run_rules.proofs as model_run_rules_lemmas
+pub use Rattle.trace_step_facts.proofs.plain_facts_lemmas
+pub use Rattle.trace_step_facts.proofs.plain_runs_lemmas

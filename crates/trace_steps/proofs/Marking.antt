@@ -1,30 +1,30 @@
 -- A record of one entity, done or tried: the entry may follow, and the checker stands behind it.
 use Rattle.std.proofs.Common.{◌≡◌, ℕ, ◌+◌, ◌<◌, ◌≤◌, Bool, true, false, ◌||◌, List, [], ◌∷◌, ◌++◌, length, Option, Some, None, is_some, nat_le, slice_index, refl, sym, ap, subst, ◌∙◌, arith}
 use Rattle.std.proofs.lemmas.Bool.{false≢true}
-use Rattle.hop_base.specs.declared.histories.Entry.{Entry}
-use Rattle.hop_base.specs.declared.histories.Event.TheVariants.{Snap as SnapEvent, Tried}
-use Rattle.hop_base.specs.declared.records.Rec.{Rec}
-use Rattle.trace_rules.specs.plain_run.hop_model.Choices.{Commit, IsGreatest}
-use Rattle.trace_rules.specs.plain_run.hop_model.Histories.{May, MayCommit, Policy, Run, after_snap, commit_of, goes_on, is_full, mark, may as may_be}
-use Rattle.trace_rules.specs.plain_run.hop_model.Scripts.{Script}
-use Rattle.trace_rules.specs.plain_run.hop_model.State.{KernelState, Supply}
-use Rattle.trace_rules.specs.plain_run.hop_model.Words.{put}
-use Rattle.trace_rules.specs.trace_parts.cut_searches.Records.{IsAscending, choice}
-use Rattle.trace_rules.specs.trace_parts.cut_laws.Records.{commits_of, recs_from}
-use Rattle.trace_rules.specs.trace_parts.Clocks.{clock_at}
-use Rattle.trace_rules.specs.trace_parts.Cuts.{records_of}
-use Rattle.trace_rules.specs.trace_parts.cut_searches.Searches.{mark_at}
-use Rattle.trace_rules.specs.trace_parts.declared.cuts.Cuts.{Cuts}
-use Rattle.trace_rules.specs.trace_parts.declared.wishes.Wishes.{Wishes}
-use Rattle.trace_rules.specs.Keeping.{HasCuts}
-use Rattle.trace_rules.specs.Recording.{IsRecordAt}
+use Rattle.base_types.specs.declared.histories.Entry.{Entry}
+use Rattle.base_types.specs.declared.histories.Event.TheVariants.{Snap as SnapEvent, Tried}
+use Rattle.base_types.specs.declared.records.Rec.{Rec}
+use Rattle.plain_states.specs.model_kernel.Choices.{Commit, IsGreatest}
+use Rattle.plain_states.specs.model_kernel.Histories.{May, MayCommit, Policy, Run, after_snap, commit_of, goes_on, is_full, mark, may as may_be}
+use Rattle.plain_states.specs.model_kernel.Scripts.{Script}
+use Rattle.plain_states.specs.model_kernel.State.{KernelState, Supply}
+use Rattle.plain_states.specs.model_kernel.Words.{put}
+use Rattle.trace_step_facts.specs.data_cut_facts.Records.{IsAscending, choice}
+use Rattle.model_run_rules.specs.model_cut_laws.Records.{commits_of, recs_from}
+use Rattle.trace_state.specs.Clocks.{clock_at}
+use Rattle.trace_state.specs.Cuts.{records_of}
+use Rattle.trace_step_facts.specs.data_cut_facts.Searches.{mark_at}
+use Rattle.trace_state.specs.declared.cuts.Cuts.{Cuts}
+use Rattle.trace_state.specs.declared.wishes.Wishes.{Wishes}
+use Rattle.trace_step_facts.specs.Keeping.{HasCuts}
+use Rattle.trace_step_facts.specs.Recording.{IsRecordAt}
 use Rattle.trace_steps.specs.Standing.{Keeps, Stands}
-use Rattle.trace_rules.specs.Standing.{run_of}
+use Rattle.trace_step_facts.specs.Standing.{run_of}
 use Rattle.trace_steps.specs.declared.checker.Checker.{Checker}
-use Rattle.trace_rules.proofs.Recording.{record_same}
-use Rattle.trace_rules.proofs.Running.{ascending_next, cuts_next, few_kept, full_of}
+use Rattle.trace_step_facts.proofs.Recording.{record_same}
+use Rattle.trace_step_facts.proofs.Running.{ascending_next, cuts_next, few_kept, full_of}
 use Rattle.trace_steps.proofs.Running.{stands_on}
-use Rattle.trace_rules.proofs.Wishing.{snap_wishes}
+use Rattle.trace_step_facts.proofs.Wishing.{snap_wishes}
 
 pub none_of : {A : Type 0} (o : Option A) → is_some o ≡ false → o ≡ None
 none_of None e = refl

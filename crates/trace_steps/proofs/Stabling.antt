@@ -1,30 +1,30 @@
 -- A Stable: the entry may follow, and the checker stands behind it.
 use Rattle.std.proofs.Common.{◌≡◌, ℕ, ◌<◌, ◌≤◌, Bool, false, ◌||◌, List, [], ◌∷◌, ◌++◌, length, filter, Some, None, nat_le, refl, sym, ap, subst, ◌∙◌, arith, length-append}
 use Rattle.std.proofs.lemmas.Bool.{false≢true}
-use Rattle.hop_base.specs.Edges.{upto}
-use Rattle.hop_base.specs.declared.histories.Entry.{Entry}
-use Rattle.hop_base.specs.declared.histories.Event.TheVariants.{Stable}
-use Rattle.hop_base.specs.declared.records.Rec.{Rec}
-use Rattle.trace_rules.specs.plain_run.hop_model.Choices.{IsGreatest}
-use Rattle.trace_rules.specs.plain_run.hop_model.Histories.{May, Policy, after_stable, commits_of, goes_on, has_changed, is_full, mark}
-use Rattle.trace_rules.specs.plain_run.hop_model.Scripts.{Script}
-use Rattle.trace_rules.specs.plain_run.hop_model.State.{KernelState, Supply}
-use Rattle.trace_rules.specs.trace_parts.cut_searches.Records.{IsAscending, choice}
-use Rattle.trace_rules.specs.trace_parts.cut_laws.Records.{commits_of as rec_commits, recs_from}
-use Rattle.trace_rules.specs.trace_parts.Clocks.{clock_at}
-use Rattle.trace_rules.specs.trace_parts.Cuts.{records_of}
-use Rattle.trace_rules.specs.trace_parts.cut_searches.Searches.{mark_at}
-use Rattle.trace_rules.specs.trace_parts.declared.cuts.Cuts.{Cuts}
-use Rattle.trace_rules.specs.trace_parts.declared.wishes.Wishes.{Wishes}
-use Rattle.trace_rules.specs.Recording.{Appends}
+use Rattle.base_types.specs.Edges.{upto}
+use Rattle.base_types.specs.declared.histories.Entry.{Entry}
+use Rattle.base_types.specs.declared.histories.Event.TheVariants.{Stable}
+use Rattle.base_types.specs.declared.records.Rec.{Rec}
+use Rattle.plain_states.specs.model_kernel.Choices.{IsGreatest}
+use Rattle.plain_states.specs.model_kernel.Histories.{May, Policy, after_stable, commits_of, goes_on, has_changed, is_full, mark}
+use Rattle.plain_states.specs.model_kernel.Scripts.{Script}
+use Rattle.plain_states.specs.model_kernel.State.{KernelState, Supply}
+use Rattle.trace_step_facts.specs.data_cut_facts.Records.{IsAscending, choice}
+use Rattle.model_run_rules.specs.model_cut_laws.Records.{commits_of as rec_commits, recs_from}
+use Rattle.trace_state.specs.Clocks.{clock_at}
+use Rattle.trace_state.specs.Cuts.{records_of}
+use Rattle.trace_step_facts.specs.data_cut_facts.Searches.{mark_at}
+use Rattle.trace_state.specs.declared.cuts.Cuts.{Cuts}
+use Rattle.trace_state.specs.declared.wishes.Wishes.{Wishes}
+use Rattle.trace_step_facts.specs.Recording.{Appends}
 use Rattle.trace_steps.specs.Standing.{Keeps, Stands}
-use Rattle.trace_rules.specs.Standing.{run_of}
+use Rattle.trace_step_facts.specs.Standing.{run_of}
 use Rattle.trace_steps.specs.declared.checker.Checker.{Checker}
 use Rattle.trace_steps.proofs.Marking.{none_of}
-use Rattle.trace_rules.proofs.Recording.{changed_same, few_new}
-use Rattle.trace_rules.proofs.Running.{ascending_next, cuts_next, few_kept, full_of}
+use Rattle.trace_step_facts.proofs.Recording.{changed_same, few_new}
+use Rattle.trace_step_facts.proofs.Running.{ascending_next, cuts_next, few_kept, full_of}
 use Rattle.trace_steps.proofs.Running.{stands_on}
-use Rattle.trace_rules.proofs.Wishing.{stable_wishes}
+use Rattle.trace_step_facts.proofs.Wishing.{stable_wishes}
 
 module _ (s : Supply) (policy : Policy) (script : Script) (w : KernelState) (es : List Entry) (old : Checker) (h : Stands s policy script w old es) (untried : old.tried ≡ false) (actor : ℕ) (owed : old.owed ≡ Some actor) (whole : old.short ≡ false) where
   abbrev stabled : Entry

@@ -4,46 +4,46 @@ use Rattle.std.specs.List.{list_any}
 use Rattle.std.proofs.lemmas.Bool.{false≢true}
 use Rattle.std.proofs.lemmas.List.{get_or_default}
 use Rattle.std.proofs.lemmas.List.Sums.{count_by-le-length}
-use Rattle.hop_base.specs.declared.histories.Answer.{Answer}
-use Rattle.hop_base.specs.declared.histories.Answer.TheVariants.{Quiet, Hop, Reply as Replied, Read, Print as Printed}
-use Rattle.hop_base.specs.declared.histories.Entry.{Entry}
-use Rattle.hop_base.specs.declared.histories.Event.{Event}
-use Rattle.hop_base.specs.declared.histories.Event.TheVariants.{Step}
-use Rattle.hop_base.specs.declared.histories.Touch.{Touch}
-use Rattle.hop_base.specs.declared.instructions.Reply.TheVariants.{Ok}
-use Rattle.trace_rules.specs.plain_run.hop_model.Changes.{Change, carried}
-use Rattle.trace_rules.specs.plain_run.hop_model.Histories.{May, Policy, Run, after_step, asked_by, by_event, event_of, every_of, goes_on, is_due, locus_in, may as may_be, noting, owed_by, start_run, went_on, with_asked, writes}
-use Rattle.trace_rules.specs.plain_run.hop_model.LocalEvents.{touch_at}
-use Rattle.trace_rules.specs.plain_run.hop_model.Parts.{after, after_entry, is_event, next_of}
-use Rattle.trace_rules.specs.plain_run.hop_model.Scripts.{Script, next_name}
-use Rattle.trace_rules.specs.plain_run.hop_model.State.{Cell, KernelState, LocusState, Supply}
-use Rattle.trace_rules.specs.plain_run.hop_model.Steps.{atlas_in, numbered_change, running, step, step_change}
-use Rattle.trace_rules.specs.plain_run.hop_model.Words.{put}
-use Rattle.trace_rules.proofs.plain_run_lemmas.hop_model_lemmas.LegalRuns.{next_legal, state_after}
-use Rattle.trace_rules.specs.plain_run.hop_model.Soundness.{IsSound}
-use Rattle.trace_rules.specs.plain_run.history_model.Born.{AreEdges}
-use Rattle.trace_rules.specs.plain_run.history_model.Events.{AreFewVersions, Has, StepsTo}
-use Rattle.trace_rules.specs.plain_run.history_model.sound_runs.Names.{KeepsNames}
-use Rattle.trace_rules.specs.plain_run.history_model.Plains.{atlas_of, cells_of}
-use Rattle.trace_rules.specs.plain_run.history_model.declared.plain.Plain.{Plain}
-use Rattle.trace_rules.proofs.plain_run_lemmas.plain_laws_lemmas.Goings.{state_is, step_entry}
-use Rattle.trace_rules.proofs.plain_run_lemmas.plain_laws_lemmas.Keeping.{next_kept}
-use Rattle.run_rules.proofs.run_laws_lemmas.Tellings.{versions_told}
-use Rattle.trace_rules.proofs.plain_run_lemmas.sound_runs_lemmas.Lengths.{length_bound}
-use Rattle.trace_rules.proofs.plain_run_lemmas.sound_runs_lemmas.Standing.{IsStanding, actor_range, standing_over, under_64}
-use Rattle.run_rules.proofs.run_laws_lemmas.Writing.{step_is}
-use Rattle.trace_rules.specs.trace_parts.Clocks.{clock_at, joined_in}
-use Rattle.trace_rules.specs.trace_parts.cut_searches.Searches.{mark_at}
-use Rattle.trace_rules.specs.trace_parts.Flags.{wrote_in}
-use Rattle.trace_rules.specs.trace_parts.declared.clocks.Clocks.{Clocks}
-use Rattle.trace_rules.specs.trace_parts.declared.wishes.Wishes.{Wishes}
+use Rattle.base_types.specs.declared.histories.Answer.{Answer}
+use Rattle.base_types.specs.declared.histories.Answer.TheVariants.{Quiet, Hop, Reply as Replied, Read, Print as Printed}
+use Rattle.base_types.specs.declared.histories.Entry.{Entry}
+use Rattle.base_types.specs.declared.histories.Event.{Event}
+use Rattle.base_types.specs.declared.histories.Event.TheVariants.{Step}
+use Rattle.base_types.specs.declared.histories.Touch.{Touch}
+use Rattle.base_types.specs.declared.instructions.Reply.TheVariants.{Ok}
+use Rattle.plain_states.specs.model_kernel.Changes.{Change, carried}
+use Rattle.plain_states.specs.model_kernel.Histories.{May, Policy, Run, after_step, asked_by, by_event, event_of, every_of, goes_on, is_due, locus_in, may as may_be, noting, owed_by, start_run, went_on, with_asked, writes}
+use Rattle.plain_states.specs.model_kernel.LocalEvents.{touch_at}
+use Rattle.plain_states.specs.model_kernel.Parts.{after, after_entry, is_event, next_of}
+use Rattle.plain_states.specs.model_kernel.Scripts.{Script, next_name}
+use Rattle.plain_states.specs.model_kernel.State.{Cell, KernelState, LocusState, Supply}
+use Rattle.plain_states.specs.model_kernel.Steps.{atlas_in, numbered_change, running, step, step_change}
+use Rattle.plain_states.specs.model_kernel.Words.{put}
+use Rattle.plain_states.proofs.model_kernel_lemmas.LegalRuns.{next_legal, state_after}
+use Rattle.plain_states.specs.model_kernel.Soundness.{IsSound}
+use Rattle.plain_states.specs.Born.{AreEdges}
+use Rattle.plain_states.specs.Events.{AreFewVersions, Has, StepsTo}
+use Rattle.plain_states.specs.model_sound_runs.Names.{KeepsNames}
+use Rattle.plain_states.specs.Plains.{atlas_of, cells_of}
+use Rattle.plain_states.specs.declared.plain.Plain.{Plain}
+use Rattle.trace_step_facts.proofs.plain_facts_lemmas.Goings.{state_is, step_entry}
+use Rattle.trace_step_facts.proofs.plain_facts_lemmas.Keeping.{next_kept}
+use Rattle.model_run_rules.proofs.model_run_laws_lemmas.Tellings.{versions_told}
+use Rattle.plain_states.proofs.model_sound_runs_lemmas.Lengths.{length_bound}
+use Rattle.plain_states.proofs.model_sound_runs_lemmas.Standing.{IsStanding, actor_range, standing_over, under_64}
+use Rattle.model_run_rules.proofs.model_run_laws_lemmas.Writing.{step_is}
+use Rattle.trace_state.specs.Clocks.{clock_at, joined_in}
+use Rattle.trace_step_facts.specs.data_cut_facts.Searches.{mark_at}
+use Rattle.trace_state.specs.Flags.{wrote_in}
+use Rattle.trace_state.specs.declared.clocks.Clocks.{Clocks}
+use Rattle.trace_state.specs.declared.wishes.Wishes.{Wishes}
 use Rattle.trace_steps.specs.Asking.{due_at, if_ok}
 use Rattle.trace_steps.specs.Standing.{CanStep, Keeps, Stands}
-use Rattle.trace_rules.specs.Standing.{IsRunFrom, run_of}
+use Rattle.trace_step_facts.specs.Standing.{IsRunFrom, run_of}
 use Rattle.trace_steps.specs.declared.checker.Checker.{Checker}
-use Rattle.trace_rules.proofs.Clocking.{clocks_next, rest_low, touch_low}
+use Rattle.trace_step_facts.proofs.Clocking.{clocks_next, rest_low, touch_low}
 use Rattle.trace_steps.proofs.Running.{stands_on}
-use Rattle.trace_rules.proofs.Wishing.{step_wishes}
+use Rattle.trace_step_facts.proofs.Wishing.{step_wishes}
 use Rattle.trace_steps.proofs.Marking.{none_of}
 
 -- ANSWERS

@@ -1,14 +1,14 @@
 -- What may be committed next, by what a checker keeps.
 use Rattle.std.proofs.Common.{◌≡◌, ℕ, ◌-◌, ◌<◌, Bool, true, false, not, ◌&&◌, ◌||◌, IsTrue, ◌↔◌, List, [], ◌∷◌, nat_lt, if◌then◌else◌, Some, None, is_some, slice_index, inl, inr, refl, sym, ap, subst, ◌∙◌, arith}
 use Rattle.std.specs.Prelude.{find}
-use Rattle.hop_base.specs.Edges.{upto}
-use Rattle.trace_rules.specs.plain_run.hop_model.Histories.{MayCommit, Policy, Run, every_of, has_changed, has_wish, is_full}
-use Rattle.trace_rules.specs.plain_run.hop_model.Scripts.{Script}
-use Rattle.trace_rules.specs.plain_run.hop_model.State.{Supply}
-use Rattle.trace_rules.specs.plain_run.history_model.Plains.{cells_of}
-use Rattle.trace_rules.proofs.plain_run_lemmas.sound_runs_lemmas.Counting.{AllLess, upto_less}
-use Rattle.trace_rules.specs.trace_parts.cut_searches.Searches.{mark_at}
-use Rattle.trace_rules.specs.Recording.{first_changed, is_changed}
+use Rattle.base_types.specs.Edges.{upto}
+use Rattle.plain_states.specs.model_kernel.Histories.{MayCommit, Policy, Run, every_of, has_changed, has_wish, is_full}
+use Rattle.plain_states.specs.model_kernel.Scripts.{Script}
+use Rattle.plain_states.specs.model_kernel.State.{Supply}
+use Rattle.plain_states.specs.Plains.{cells_of}
+use Rattle.plain_states.proofs.model_sound_runs_lemmas.Counting.{AllLess, upto_less}
+use Rattle.trace_step_facts.specs.data_cut_facts.Searches.{mark_at}
+use Rattle.trace_step_facts.specs.Recording.{first_changed, is_changed}
 use Rattle.trace_steps.specs.Standing.{Keeps}
 use Rattle.trace_steps.specs.declared.checker.Checker.{Checker}
 

@@ -1,11 +1,11 @@
 -- What a step asks for, and which wishes are due.
 use Rattle.std.specs.Prelude.{ℕ, ◌-◌, ◌&&◌, ◌||◌, Bool, not, List, Option, None, slice_index}
-use Rattle.hop_base.specs.declared.histories.Answer.{Answer}
-use Rattle.hop_base.specs.declared.histories.Answer.TheVariants.{Quiet, Hop, Reply as Replied, Read, Print}
-use Rattle.hop_base.specs.declared.instructions.Reply.TheVariants.{Ok}
-use Rattle.trace_rules.specs.plain_run.hop_model.Histories.{Policy}
-use Rattle.trace_rules.specs.trace_parts.cut_searches.Searches.{mark_at}
-use Rattle.trace_rules.specs.trace_parts.declared.wishes.Wishes.{Wishes}
+use Rattle.base_types.specs.declared.histories.Answer.{Answer}
+use Rattle.base_types.specs.declared.histories.Answer.TheVariants.{Quiet, Hop, Reply as Replied, Read, Print}
+use Rattle.base_types.specs.declared.instructions.Reply.TheVariants.{Ok}
+use Rattle.plain_states.specs.model_kernel.Histories.{Policy}
+use Rattle.trace_step_facts.specs.data_cut_facts.Searches.{mark_at}
+use Rattle.trace_state.specs.declared.wishes.Wishes.{Wishes}
 
 -- this, where the answer is Ok
 abbrev pub if_ok : Answer → Option ℕ → Option ℕ

@@ -1,4 +1,3 @@
 pub mod Standing
 pub mod Asking
-pub use Rattle.trace_rules.specs.plain_run
-pub use Rattle.trace_rules.specs as trace_rules
+pub use Rattle.trace_step_facts.specs as trace_step_facts

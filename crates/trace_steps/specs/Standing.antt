@@ -1,17 +1,17 @@
 -- Where a checker stands: behind a legal run, with all that the rules look at.
 use Rattle.std.specs.Prelude.{◌≡◌, ℕ, ◌<◌, ◌≤◌, true, false, Option, None, Some, List, [], ◌∷◌, ◌++◌, is_some, slice_index}
-use Rattle.hop_base.specs.declared.histories.Entry.{Entry}
-use Rattle.hop_base.specs.declared.histories.Event.{Event}
-use Rattle.trace_rules.specs.plain_run.history_model.Born.{AreEdges, AreOfOneKind}
-use Rattle.trace_rules.specs.plain_run.history_model.Events.{Has}
-use Rattle.trace_rules.specs.plain_run.history_model.Plains.{atlas_of, cells_of}
-use Rattle.trace_rules.specs.plain_run.hop_model.Histories.{May, MayCommit, Policy, Run, births_owed}
-use Rattle.trace_rules.specs.plain_run.hop_model.Scripts.{Script}
-use Rattle.trace_rules.specs.plain_run.hop_model.Soundness.{IsSound}
-use Rattle.trace_rules.specs.plain_run.hop_model.State.{KernelState, Supply, Text}
-use Rattle.trace_rules.specs.Keeping.{HasClocks, HasCuts, HasWishes}
+use Rattle.base_types.specs.declared.histories.Entry.{Entry}
+use Rattle.base_types.specs.declared.histories.Event.{Event}
+use Rattle.plain_states.specs.Born.{AreEdges, AreOfOneKind}
+use Rattle.plain_states.specs.Events.{Has}
+use Rattle.plain_states.specs.Plains.{atlas_of, cells_of}
+use Rattle.plain_states.specs.model_kernel.Histories.{May, MayCommit, Policy, Run, births_owed}
+use Rattle.plain_states.specs.model_kernel.Scripts.{Script}
+use Rattle.plain_states.specs.model_kernel.Soundness.{IsSound}
+use Rattle.plain_states.specs.model_kernel.State.{KernelState, Supply, Text}
+use Rattle.trace_step_facts.specs.Keeping.{HasClocks, HasCuts, HasWishes}
 use Rattle.trace_steps.specs.declared.checker.Checker.{Checker}
-use Rattle.trace_rules.specs.Standing.{IsRunFrom, run_of}
+use Rattle.trace_step_facts.specs.Standing.{IsRunFrom, run_of}
 
 -- what the rules look at beside the state
 pub record HasMarks (script : Script) (r : Run) (c : Checker) : Type 0 where

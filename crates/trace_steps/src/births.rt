@@ -1,19 +1,19 @@
 //! A birth of the script's next name.
 ghost use Rattle.std.specs.Prelude.{◌≡◌, ℕ, IfNone, IfOk, IfSome, Some, None, false};
-ghost use Rattle.hop_base.specs.declared.histories.Event.TheVariants.{Birth as BirthEvent};
-ghost use Rattle.trace_rules.specs.plain_run.hop_model.Scripts.{next_name as next_of};
-ghost use Rattle.trace_rules.specs.plain_run.history_model.Plains.{atlas_of};
-ghost use Rattle.trace_rules.specs.plain_run.script_form.Scripts.{tables_of};
+ghost use Rattle.base_types.specs.declared.histories.Event.TheVariants.{Birth as BirthEvent};
+ghost use Rattle.plain_states.specs.model_kernel.Scripts.{next_name as next_of};
+ghost use Rattle.plain_states.specs.Plains.{atlas_of};
+ghost use Rattle.script_types.specs.Scripts.{tables_of};
 ghost use Rattle.trace_steps.specs.Standing.{GoesOn, IsStanding, Refuses, owing};
-ghost use Rattle.trace_rules.specs.Standing.{Managers};
-ghost use Rattle.trace_rules.specs.plain_run.history_model.Born.{HasFewNames};
+ghost use Rattle.trace_step_facts.specs.Standing.{Managers};
+ghost use Rattle.plain_states.specs.Born.{HasFewNames};
 
 use crate::checker::Checker;
-use history_model::plain_birth;
-use hop_base::{Entity, Entry};
-use script_form::Script;
+use base_types::{Entity, Entry};
+use plain_states::plain_birth;
+use script_types::Script;
 use std::alloc::{AllocError, Global};
-use trace_rules::next_name;
+use trace_step_facts::next_name;
 
 /// Whether names are left to be born. After the last birth the Stable of the atlas is owed.
 fn owe_births(checker: &mut Checker, script: &Script)

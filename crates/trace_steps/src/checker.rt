@@ -1,7 +1,7 @@
 //! What a checker of histories keeps.
-use history_model::Plain;
-use hop_base::Entity;
-use trace_parts::{Clocks, Cuts, Wishes};
+use base_types::Entity;
+use plain_states::Plain;
+use trace_state::{Clocks, Cuts, Wishes};
 
 /// All that the rules of a legal run look at, behind the entries so far.
 #[derive(Drop)]

@@ -1,15 +1,15 @@
 //! Commits: of one entity, or of all that have changed.
 ghost use Rattle.std.specs.Prelude.{◌≡◌, ◌+◌, ◌≤◌, ◌++◌, ◌∷◌, [], ℕ, List, OnOk, length, slice_index};
-ghost use Rattle.hop_base.specs.declared.records.Rec.{Rec as ARec};
-ghost use Rattle.trace_rules.specs.plain_run.hop_model.Choices.{IsGreatest};
-ghost use Rattle.trace_rules.specs.trace_parts.cut_searches.Records.{choice, IsAscending};
-ghost use Rattle.trace_rules.specs.trace_parts.cut_laws.Records.{commits_of, recs_from};
-ghost use Rattle.trace_rules.specs.trace_parts.Clocks.{clock_at};
-ghost use Rattle.trace_rules.specs.Recording.{AreRecordsAt, IsRecordAt, all_changed};
+ghost use Rattle.base_types.specs.declared.records.Rec.{Rec as ARec};
+ghost use Rattle.plain_states.specs.model_kernel.Choices.{IsGreatest};
+ghost use Rattle.trace_step_facts.specs.data_cut_facts.Records.{choice, IsAscending};
+ghost use Rattle.model_run_rules.specs.model_cut_laws.Records.{commits_of, recs_from};
+ghost use Rattle.trace_state.specs.Clocks.{clock_at};
+ghost use Rattle.trace_step_facts.specs.Recording.{AreRecordsAt, IsRecordAt, all_changed};
 
-use hop_base::{Entity, Rec};
+use base_types::{Entity, Rec};
 use std::alloc::AllocError;
-use trace_parts::{Clocks, Cuts};
+use trace_state::{Clocks, Cuts};
 
 /// The record of an entity at its version and with its clock.
 pub fn record_of(clocks: &Clocks, versions: &[u64; 64], entity: Entity) -> Rec

@@ -1,17 +1,17 @@
 //! The entry that follows, by its event and actor.
 ghost use Rattle.std.specs.Prelude.{◌≡◌, ◌<◌, ◌^◌, ℕ, Bool, IfNone, IfOk, IfSome, false};
-ghost use Rattle.hop_base.specs.declared.histories.Event.TheVariants.{Birth as BirthEvent};
-ghost use Rattle.trace_rules.specs.plain_run.script_form.Scripts.{tables_of};
+ghost use Rattle.base_types.specs.declared.histories.Event.TheVariants.{Birth as BirthEvent};
+ghost use Rattle.script_types.specs.Scripts.{tables_of};
 ghost use Rattle.trace_steps.specs.Standing.{GoesOn, IsStanding, Refuses};
-ghost use Rattle.trace_rules.specs.Standing.{Managers};
+ghost use Rattle.trace_step_facts.specs.Standing.{Managers};
 
 use crate::births::birth;
 use crate::checker::Checker;
 use crate::snaps::{snap, try_record};
 use crate::stables::stable;
 use crate::steps::step;
-use hop_base::{Entity, Entry, Event};
-use script_form::Script;
+use base_types::{Entity, Entry, Event};
+use script_types::Script;
 use std::alloc::{AllocError, Global};
 
 /// The birth of this entity, if it is the next one.

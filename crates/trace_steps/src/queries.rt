@@ -1,15 +1,15 @@
 //! What may be committed next.
 ghost use Rattle.std.specs.Prelude.{◌≡◌, ◌<◌, ◌^◌, ◌↔◌, ℕ, Bool, IsTrue, Some};
-ghost use Rattle.trace_rules.specs.plain_run.hop_model.Histories.{Policy as AnyPolicy, MayCommit, Run, every_of, has_wish as model_wish};
-ghost use Rattle.trace_rules.specs.plain_run.hop_model.Scripts.{Script};
-ghost use Rattle.trace_rules.specs.plain_run.hop_model.State.{Supply};
-ghost use Rattle.trace_rules.specs.plain_run.history_model.Plains.{cells_of};
-ghost use Rattle.trace_rules.specs.Recording.{first_changed};
+ghost use Rattle.plain_states.specs.model_kernel.Histories.{Policy as AnyPolicy, MayCommit, Run, every_of, has_wish as model_wish};
+ghost use Rattle.plain_states.specs.model_kernel.Scripts.{Script};
+ghost use Rattle.plain_states.specs.model_kernel.State.{Supply};
+ghost use Rattle.plain_states.specs.Plains.{cells_of};
+ghost use Rattle.trace_step_facts.specs.Recording.{first_changed};
 ghost use Rattle.trace_steps.specs.Standing.{Keeps};
 
 use crate::checker::Checker;
-use history_model::Plain;
-use hop_base::{Entity, FIRST_CONTAINER, FIRST_LOCUS, Kind};
+use base_types::{Entity, FIRST_CONTAINER, FIRST_LOCUS, Kind};
+use plain_states::Plain;
 
 /// The interval of an entity's snapshots, 0 where it is not born. The atlas's is 1.
 pub fn every_at(state: &Plain, entity: Entity) -> u32

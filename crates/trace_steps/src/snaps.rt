@@ -1,17 +1,17 @@
 //! Entries that touch nothing: a record of one entity, and one that was tried.
 ghost use Rattle.std.specs.Prelude.{◌≡◌, ◌<◌, ◌^◌, ◌++◌, ◌∷◌, [], ℕ, Bool, false, List, IfNone, IfOk, IfSome, OnOk, slice_index};
-ghost use Rattle.hop_base.specs.declared.histories.Entry.{Entry as AnEntry};
-ghost use Rattle.hop_base.specs.declared.histories.Event.TheVariants.{Snap as SnapEvent, Tried as TriedEvent};
-ghost use Rattle.trace_rules.specs.plain_run.hop_model.Histories.{MayCommit, Policy as AnyPolicy, mark as model_mark};
-ghost use Rattle.trace_rules.specs.plain_run.hop_model.Scripts.{Script};
-ghost use Rattle.trace_rules.specs.plain_run.hop_model.State.{KernelState, Supply};
+ghost use Rattle.base_types.specs.declared.histories.Entry.{Entry as AnEntry};
+ghost use Rattle.base_types.specs.declared.histories.Event.TheVariants.{Snap as SnapEvent, Tried as TriedEvent};
+ghost use Rattle.plain_states.specs.model_kernel.Histories.{MayCommit, Policy as AnyPolicy, mark as model_mark};
+ghost use Rattle.plain_states.specs.model_kernel.Scripts.{Script};
+ghost use Rattle.plain_states.specs.model_kernel.State.{KernelState, Supply};
 ghost use Rattle.trace_steps.specs.Standing.{CanCommit, GoesOn, IsStanding, Refuses, Stands};
-ghost use Rattle.trace_rules.specs.Standing.{run_of};
+ghost use Rattle.trace_step_facts.specs.Standing.{run_of};
 
 use crate::checker::Checker;
 use crate::commits::{commit_one, record_of};
 use crate::queries::may_commit;
-use hop_base::{Answer, Entity, Entry, Event, Touched};
+use base_types::{Answer, Entity, Entry, Event, Touched};
 use std::alloc::AllocError;
 
 /// An entry that touches nothing.

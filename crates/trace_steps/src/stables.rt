@@ -1,20 +1,20 @@
 //! A Stable: a record of each entity that has changed.
 ghost use Rattle.std.specs.Prelude.{◌≡◌, ◌++◌, ◌∷◌, [], ◌↔◌, ℕ, List, IfNone, IfOk, IfSome, IsTrue, OnOk, Some, false};
-ghost use Rattle.hop_base.specs.declared.histories.Entry.{Entry as AnEntry};
-ghost use Rattle.hop_base.specs.declared.histories.Event.TheVariants.{Stable as StableEvent};
-ghost use Rattle.trace_rules.specs.plain_run.hop_model.Histories.{Policy as AnyPolicy, mark as model_mark};
-ghost use Rattle.trace_rules.specs.plain_run.hop_model.Scripts.{Script};
-ghost use Rattle.trace_rules.specs.plain_run.hop_model.State.{KernelState, Supply};
-ghost use Rattle.trace_rules.specs.trace_parts.Clocks.{clock_at};
-ghost use Rattle.trace_rules.specs.Recording.{Appends};
+ghost use Rattle.base_types.specs.declared.histories.Entry.{Entry as AnEntry};
+ghost use Rattle.base_types.specs.declared.histories.Event.TheVariants.{Stable as StableEvent};
+ghost use Rattle.plain_states.specs.model_kernel.Histories.{Policy as AnyPolicy, mark as model_mark};
+ghost use Rattle.plain_states.specs.model_kernel.Scripts.{Script};
+ghost use Rattle.plain_states.specs.model_kernel.State.{KernelState, Supply};
+ghost use Rattle.trace_state.specs.Clocks.{clock_at};
+ghost use Rattle.trace_step_facts.specs.Recording.{Appends};
 ghost use Rattle.trace_steps.specs.Standing.{GoesOn, IsStanding, OwesStable, Refuses, Stands};
 
 use crate::checker::Checker;
 use crate::commits::record_of;
 use crate::snaps::mark;
-use hop_base::{Entity, Entry, Event};
+use base_types::{Entity, Entry, Event};
 use std::alloc::AllocError;
-use trace_parts::{Clocks, Cuts};
+use trace_state::{Clocks, Cuts};
 
 /// Appends the record of each entity that has changed since its newest commit, ascending. The cut stays as it was.
 pub(crate) fn append_changed(

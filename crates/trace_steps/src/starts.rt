@@ -1,25 +1,25 @@
 //! A checker before the first entry.
 ghost use Rattle.std.specs.Prelude.{◌≡◌, ◌≤◌, ◌^◌, [], All, IfOk, false};
-ghost use Rattle.trace_rules.specs.plain_run.hop_model.Histories.{Policy as AnyPolicy};
-ghost use Rattle.trace_rules.specs.plain_run.hop_model.Soundness.{IsSound};
-ghost use Rattle.trace_rules.specs.plain_run.hop_model.State.{Supply};
-ghost use Rattle.trace_rules.specs.plain_run.history_model.Born.{AreEdges, AreOfOneKind};
-ghost use Rattle.trace_rules.specs.plain_run.history_model.Plains.{atlas_of, cells_of};
-ghost use Rattle.trace_rules.specs.plain_run.script_form.Rules.{IsScript};
-ghost use Rattle.trace_rules.specs.plain_run.script_form.Scripts.{tables_of};
-ghost use Rattle.trace_rules.specs.trace_parts.Clocks.{clock_at};
-ghost use Rattle.trace_rules.specs.Recording.{Opens};
+ghost use Rattle.plain_states.specs.model_kernel.Histories.{Policy as AnyPolicy};
+ghost use Rattle.plain_states.specs.model_kernel.Soundness.{IsSound};
+ghost use Rattle.plain_states.specs.model_kernel.State.{Supply};
+ghost use Rattle.plain_states.specs.Born.{AreEdges, AreOfOneKind};
+ghost use Rattle.plain_states.specs.Plains.{atlas_of, cells_of};
+ghost use Rattle.script_types.specs.Rules.{IsScript};
+ghost use Rattle.script_types.specs.Scripts.{tables_of};
+ghost use Rattle.trace_state.specs.Clocks.{clock_at};
+ghost use Rattle.trace_step_facts.specs.Recording.{Opens};
 ghost use Rattle.trace_steps.specs.Standing.{Stands};
-ghost use Rattle.trace_rules.specs.Standing.{fresh};
+ghost use Rattle.trace_step_facts.specs.Standing.{fresh};
 
 use crate::checker::Checker;
 use crate::stables::append_changed;
-use history_model::Plain;
-use hop_base::Cut;
-use script_form::Script;
+use base_types::Cut;
+use plain_states::Plain;
+use script_types::Script;
 use std::alloc::{AllocError, Global};
-use trace_parts::{Clocks, Cuts, Wishes};
-use trace_rules::next_name;
+use trace_state::{Clocks, Cuts, Wishes};
+use trace_step_facts::next_name;
 
 /// The cut at the start, and a record of each entity that has a version there.
 fn opened(alloc: Global, clocks: &Clocks, versions: &[u64; 64]) -> Result<Cuts, AllocError>

@@ -1,17 +1,17 @@
 //! A step of a locus.
 ghost use Rattle.std.specs.Prelude.{◌≡◌, ◌+◌, ◌<◌, ◌^◌, ◌↔◌, ℕ, Bool, IfNone, IfOk, IfSome, IsTrue, false, slice_index};
-ghost use Rattle.hop_base.specs.declared.histories.Event.TheVariants.{Step as StepEvent};
-ghost use Rattle.trace_rules.specs.plain_run.hop_model.Words.{put};
-ghost use Rattle.trace_rules.specs.plain_run.script_form.Scripts.{tables_of};
+ghost use Rattle.base_types.specs.declared.histories.Event.TheVariants.{Step as StepEvent};
+ghost use Rattle.plain_states.specs.model_kernel.Words.{put};
+ghost use Rattle.script_types.specs.Scripts.{tables_of};
 ghost use Rattle.trace_steps.specs.Standing.{CanStep, GoesOn, IsStanding, Refuses};
-ghost use Rattle.trace_rules.specs.Standing.{Managers};
+ghost use Rattle.trace_step_facts.specs.Standing.{Managers};
 
 use crate::checker::Checker;
 use crate::wants::{asked_at, intervals, is_any_due, owed_at, where_ok};
-use hop_base::{Entity, Entry, FIRST_LOCUS};
-use script_form::Script;
+use base_types::{Entity, Entry, FIRST_LOCUS};
+use script_types::Script;
 use std::alloc::AllocError;
-use trace_rules::plain_step;
+use trace_step_facts::plain_step;
 
 /// Counts one more step of the locus.
 fn count_step(made: &mut [u32; 64], x: usize)

@@ -1,18 +1,18 @@
 //! What the step of a locus asks for, and which wishes it has to wait for.
 ghost use Rattle.std.specs.Prelude.{◌≡◌, ◌<◌, ◌≤◌, ◌^◌, ℕ, Bool, slice_index};
 ghost use Rattle.std.specs.List.{list_any};
-ghost use Rattle.hop_base.specs.declared.histories.Answer.TheVariants.{Reply as Replied};
-ghost use Rattle.hop_base.specs.declared.instructions.Reply.TheVariants.{Ok as AnsweredOk};
-ghost use Rattle.trace_rules.specs.plain_run.hop_model.Histories.{Policy as AnyPolicy, asked_by as model_asked, asks, every_of, locus_in, owed_by as model_owed, stabilises};
-ghost use Rattle.trace_rules.specs.plain_run.hop_model.Refusals.{entity_of, instr_at};
-ghost use Rattle.trace_rules.specs.plain_run.hop_model.State.{Supply};
-ghost use Rattle.trace_rules.specs.plain_run.history_model.Plains.{cells_of, locus_of};
+ghost use Rattle.base_types.specs.declared.histories.Answer.TheVariants.{Reply as Replied};
+ghost use Rattle.base_types.specs.declared.instructions.Reply.TheVariants.{Ok as AnsweredOk};
+ghost use Rattle.plain_states.specs.model_kernel.Histories.{Policy as AnyPolicy, asked_by as model_asked, asks, every_of, locus_in, owed_by as model_owed, stabilises};
+ghost use Rattle.plain_states.specs.model_kernel.Refusals.{entity_of, instr_at};
+ghost use Rattle.plain_states.specs.model_kernel.State.{Supply};
+ghost use Rattle.plain_states.specs.Plains.{cells_of, locus_of};
 ghost use Rattle.trace_steps.specs.Asking.{due_at, if_ok};
 
 use crate::queries::every_at;
-use history_model::{Plain, PlainLocus};
-use hop_base::{Answer, Entity, FIRST_LOCUS, Instr, Kind, Reply, Touch};
-use trace_parts::Wishes;
+use base_types::{Answer, Entity, FIRST_LOCUS, Instr, Kind, Reply, Touch};
+use plain_states::{Plain, PlainLocus};
+use trace_state::Wishes;
 
 /// The instruction at the locus's place. Past the end of the code it halts.
 fn next_instr(locus: &PlainLocus) -> Instr

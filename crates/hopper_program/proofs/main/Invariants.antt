@@ -1,4 +1,4 @@
-use Rattle.manager_gate.specs.Managers.{counted_word, is_due}
+use Rattle.edge_managers.specs.Managers.{counted_word, is_due}
 use Rattle.hopper_program.proofs.main.Given as goal
 
 -- words that count up from the tag, and a snapshot after every so many versions

@@ -4,19 +4,19 @@ use Rattle.kernel_laws.proofs.going_law.Goals as goal
 
 pub returns-clause-event : goal.returns-clause-event
 returns-clause-event g c b old new disk after e r m =
-    event_runs b g.D.Disk.tells g.D.Disk.clock g.D.Disk.reading g.D.Disk.may_leave g.D.Disk.left_since g.met.D.Disk.counts_later g.met.D.Disk.only_now old new disk after r e m
+    event_runs b g.D.Disk g.met.D.Disk.counts_later g.met.D.Disk.only_now old new disk after r e m
 
 pub returns-clause-snap : goal.returns-clause-snap
 returns-clause-snap g c b old new disk after e r m =
-    snap_runs b g.D.Disk.tells g.D.Disk.clock g.D.Disk.reading g.D.Disk.may_leave g.D.Disk.left_since g.met.D.Disk.counts_later g.met.D.Disk.only_now old new disk after r e m
+    snap_runs b g.D.Disk g.met.D.Disk.counts_later g.met.D.Disk.only_now old new disk after r e m
 
 pub returns-clause-stop : goal.returns-clause-stop
 returns-clause-stop g c b old new disk after r m =
-    stop_lives b g.D.Disk.tells g.D.Disk.clock g.D.Disk.reading g.D.Disk.may_leave g.D.Disk.left_since g.met.D.Disk.counts_later g.met.D.Disk.only_now old new disk after r m
+    stop_lives b g.D.Disk g.met.D.Disk.counts_later g.met.D.Disk.only_now old new disk after r m
 
 pub returns-clause-tried : goal.returns-clause-tried
 returns-clause-tried g c b old new disk after e r m =
-    tried_lives b g.D.Disk.tells g.D.Disk.clock g.D.Disk.reading g.D.Disk.may_leave g.D.Disk.left_since g.met.D.Disk.counts_later g.met.D.Disk.only_now old new disk after r e m
+    tried_lives b g.D.Disk g.met.D.Disk.counts_later g.met.D.Disk.only_now old new disk after r e m
 
 pub returns-clause-stable : goal.returns-clause-stable
-returns-clause-stable g c b old new disk e r m = stable_runs b g.D.Disk.tells g.D.Disk.clock g.D.Disk.reading g.D.Disk.may_leave g.D.Disk.left_since old new disk e r m
+returns-clause-stable g c b old new disk e r m = stable_runs b g.D.Disk old new disk e r m

@@ -3,4 +3,4 @@ use Rattle.kernel_views.proofs.full_law.Goals as goal
 
 pub returns : goal.returns
 returns g c b cs st es marks x told k =
-    full_same g.D.Disk.tells g.D.Disk.clock g.D.Disk.faults g.D.Disk.reading g.D.Disk.may_leave g.D.Disk.left_since b cs st es marks x told k
+    full_same g.D.Disk b cs st es marks x told k

@@ -3,6 +3,6 @@ use Rattle.kernel_views.proofs.stepping_law.Goals as goal
 
 pub returns : goal.returns
 returns g c b me cs cs' old new es marks e told st calm k = (
-  made_event g.D.Disk.tells g.D.Disk.clock g.D.Disk.faults g.D.Disk.reading g.D.Disk.may_leave g.D.Disk.left_since b me cs cs' old new es marks e told st calm k,
-  clean_on g.D.Disk.tells g.D.Disk.clock g.D.Disk.faults g.D.Disk.reading g.D.Disk.may_leave g.D.Disk.left_since b me cs cs' old new es marks e told st calm k,
+  made_event g.D.Disk b me cs cs' old new es marks e told st calm k,
+  clean_on g.D.Disk b me cs cs' old new es marks e told st calm k,
 )

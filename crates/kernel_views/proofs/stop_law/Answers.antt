@@ -3,4 +3,4 @@ use Rattle.kernel_views.proofs.stop_law.Goals as goal
 
 pub returns : goal.returns
 returns g c b cs cs' old new es marks why st k =
-    stops g.D.Disk.tells g.D.Disk.clock g.D.Disk.faults g.D.Disk.reading g.D.Disk.may_leave g.D.Disk.left_since b cs cs' old new es marks why st k
+    stops g.D.Disk b cs cs' old new es marks why st k

@@ -1,8 +1,8 @@
 use Rattle.std.proofs.Common.{◌≡◌, ◌*◌, ◌<◌, length, subst, arith, ◌∙◌}
-use Rattle.block_code.specs.Fields.{number_at}
+use Rattle.base_bytes.specs.Fields.{number_at}
 use Rattle.page_words.proofs.Words.{put_more}
 use Rattle.page_words.proofs.block_with.Goals as goal
-use Rattle.store_model.proofs.image_form_lemmas.Spelling.{numbers_are}
+use Rattle.store_books.proofs.image_facts_lemmas.Spelling.{numbers_are}
 
 pub loop-i-preserved : goal.loop-i-preserved
 loop-i-preserved c = put_more c.args.words.now c.loop-i.i _ _ c.loop-i.invariant c.put_word.ensures.here c.put_word.ensures.others

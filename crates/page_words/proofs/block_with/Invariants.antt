@@ -1,5 +1,5 @@
 use Rattle.std.proofs.Common.{◌≡◌, ◌*◌, ◌<◌, ℕ, get_or}
-use Rattle.block_code.specs.Fields.{number_at}
+use Rattle.base_bytes.specs.Fields.{number_at}
 use Rattle.page_words.proofs.block_with.Given as goal
 
 abbrev pub invariant-loop-i : goal.invariant-loop-i

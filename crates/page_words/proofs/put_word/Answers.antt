@@ -1,4 +1,4 @@
-use Rattle.block_code.proofs.Filling.{ok_gives}
+use Rattle.base_bytes.proofs.Filling.{ok_gives}
 use Rattle.page_words.proofs.Words.{put_here, put_others}
 use Rattle.page_words.proofs.put_word.Goals as goal
 

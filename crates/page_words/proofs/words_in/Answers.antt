@@ -1,7 +1,7 @@
 use Rattle.std.proofs.Common.{◌≡◌, ◌*◌, ◌<◌, length, arith, ◌∙◌}
 use Rattle.std.proofs.lemmas.List.{length-set}
-use Rattle.block_code.specs.Fields.{number_at}
-use Rattle.store_model.proofs.image_form_lemmas.Spelling.{row_all, row_more}
+use Rattle.base_bytes.specs.Fields.{number_at}
+use Rattle.store_books.proofs.image_facts_lemmas.Spelling.{row_all, row_more}
 use Rattle.page_words.proofs.words_in.Goals as goal
 
 pub loop-i-preserved : goal.loop-i-preserved

@@ -1,6 +1,6 @@
 use Rattle.std.proofs.Common.{◌≡◌, ◌*◌, length, map, take}
-use Rattle.hop_base.specs.Edges.{upto}
-use Rattle.block_code.specs.Fields.{number_at}
+use Rattle.base_types.specs.Edges.{upto}
+use Rattle.base_bytes.specs.Fields.{number_at}
 use Rattle.page_words.proofs.words_in.Given as goal
 
 abbrev pub invariant-loop-i : goal.invariant-loop-i

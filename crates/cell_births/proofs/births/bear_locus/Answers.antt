@@ -1,9 +1,9 @@
 use Rattle.std.proofs.Common.{◌≡◌, ◌<◌, ◌∷◌, [], true, not, ◌&&◌, refl, sym, ap, ◌∙◌, arith}
-use Rattle.wish_laws.specs.hop_model.Histories.{writes}
-use Rattle.wish_laws.specs.hop_model.State.{AtlasCell}
-use Rattle.script_against.specs.script_form.Scripts.{locus_of}
-use Rattle.wish_laws.specs.kernel_calls.Calls.{atlas_state}
-use Rattle.wish_laws.specs.kernel_cells.Cells.{part_of}
+use Rattle.script_types.specs.model_kernel.Histories.{writes}
+use Rattle.script_types.specs.model_kernel.State.{AtlasCell}
+use Rattle.script_types.specs.Scripts.{locus_of}
+use Rattle.script_fits.specs.act_calls.Calls.{atlas_state}
+use Rattle.cell_wish_laws.specs.cell_states.Cells.{part_of}
 use Rattle.cell_births.specs.Bearing.{IsBirthEntry}
 use Rattle.cell_births.proofs.Bearing.{born_locus, entry_three, last_three, middle_three}
 use Rattle.cell_births.proofs.births.bear_locus.Goals as goal

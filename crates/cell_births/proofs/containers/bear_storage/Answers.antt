@@ -1,15 +1,15 @@
 use Rattle.std.proofs.Common.{◌≡◌, ◌≤◌, ℕ, ◌+◌, ◌++◌, ◌∷◌, [], if◌then◌else◌, ◌==◌, map, string_bytes, sym, ap, subst, ◌∙◌}
 use Rattle.std.specs.List.{All}
-use Rattle.hop_base.specs.declared.capabilities.Region.{Region}
-use Rattle.wish_laws.specs.hop_model.Births.{regions_from}
-use Rattle.wish_laws.specs.hop_model.Outcomes.{supplied}
-use Rattle.wish_laws.specs.hop_model.Scripts.{number_in}
-use Rattle.wish_laws.specs.hop_model.State.{ContainerCell}
-use Rattle.script_against.proofs.sound_steps_lemmas.RegionLists.{shown}
-use Rattle.script_against.specs.script_form.Scripts.{region_of}
-use Rattle.atlas_dir.specs.directory_form.Directory.{edges_of}
-use Rattle.wish_laws.specs.locus_machine.Loci.{container_with}
-use Rattle.wish_laws.specs.kernel_calls.Calls.{atlas_state}
+use Rattle.base_types.specs.declared.capabilities.Region.{Region}
+use Rattle.script_types.specs.model_kernel.Births.{regions_from}
+use Rattle.script_types.specs.model_kernel.Outcomes.{supplied}
+use Rattle.script_types.specs.model_kernel.Scripts.{number_in}
+use Rattle.script_types.specs.model_kernel.State.{ContainerCell}
+use Rattle.act_alone.proofs.model_sound_steps_lemmas.RegionLists.{shown}
+use Rattle.script_types.specs.Scripts.{region_of}
+use Rattle.data_atlas.specs.data_atlas_facts.Directory.{edges_of}
+use Rattle.act_alone.specs.Loci.{container_with}
+use Rattle.script_fits.specs.act_calls.Calls.{atlas_state}
 use Rattle.cell_births.proofs.Linking.{same_atlas, targets_small}
 use Rattle.cell_births.proofs.containers.bear_storage.Goals as goal
 

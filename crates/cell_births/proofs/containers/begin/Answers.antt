@@ -1,7 +1,7 @@
 use Rattle.std.proofs.Common.{ap, refl}
-use Rattle.wish_laws.specs.hop_model.State.{ContainerCell}
-use Rattle.wish_laws.specs.locus_machine.Loci.{container_with}
-use Rattle.birth_steps.proofs.Zeros.{zero_at, zero_held, zero_words}
+use Rattle.script_types.specs.model_kernel.State.{ContainerCell}
+use Rattle.act_alone.specs.Loci.{container_with}
+use Rattle.cell_newborns.proofs.Zeros.{zero_at, zero_held, zero_words}
 use Rattle.cell_births.proofs.containers.begin.Goals as goal
 
 pub begin-requires-clause-none_past : goal.begin-requires-clause-none_past

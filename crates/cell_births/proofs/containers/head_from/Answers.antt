@@ -1,12 +1,12 @@
 use Rattle.std.proofs.Common.{◌≡◌, map, string_bytes, sym, ap, subst, ◌∙◌}
 use Rattle.std.specs.List.{All}
-use Rattle.wish_laws.specs.hop_model.Births.{container_from, regions_from, caps_from}
-use Rattle.wish_laws.specs.hop_model.Outcomes.{supplied}
-use Rattle.wish_laws.specs.hop_model.Scripts.{number_in}
-use Rattle.wish_laws.specs.hop_model.State.{ContainerState}
-use Rattle.script_against.specs.script_form.Rules.{IsRegionTable}
-use Rattle.script_against.specs.script_form.Scripts.{container_of, region_of, cap_of}
-use Rattle.wish_laws.specs.kernel_calls.Calls.{atlas_state}
+use Rattle.script_types.specs.model_kernel.Births.{container_from, regions_from, caps_from}
+use Rattle.script_types.specs.model_kernel.Outcomes.{supplied}
+use Rattle.script_types.specs.model_kernel.Scripts.{number_in}
+use Rattle.script_types.specs.model_kernel.State.{ContainerState}
+use Rattle.script_types.specs.Rules.{IsRegionTable}
+use Rattle.script_types.specs.Scripts.{container_of, region_of, cap_of}
+use Rattle.script_fits.specs.act_calls.Calls.{atlas_state}
 use Rattle.cell_births.proofs.containers.head_from.Goals as goal
 
 pub regions_from-head-requires-clause-ranges : goal.regions_from-head-requires-clause-ranges

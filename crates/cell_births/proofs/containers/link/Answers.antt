@@ -1,6 +1,6 @@
 use Rattle.std.proofs.Common.{◌+◌, ap, ◌∙◌}
-use Rattle.atlas_dir.specs.directory_form.Directory.{edges_of}
-use Rattle.atlas_dir.specs.directory_form.Reached.{with_edge}
+use Rattle.data_atlas.specs.data_atlas_facts.Directory.{edges_of}
+use Rattle.data_atlas.specs.data_atlas_facts.Reached.{with_edge}
 use Rattle.cell_births.proofs.Linking.{linked}
 use Rattle.cell_births.proofs.containers.link.Goals as goal
 

@@ -1,6 +1,6 @@
 use Rattle.std.proofs.Common.{◌≡◌, ℕ, ◌+◌, ◌==◌, if◌then◌else◌, take}
-use Rattle.script_against.proofs.sound_steps_lemmas.RegionLists.{shown}
-use Rattle.atlas_dir.specs.directory_form.Directory.{edges_of}
+use Rattle.act_alone.proofs.model_sound_steps_lemmas.RegionLists.{shown}
+use Rattle.data_atlas.specs.data_atlas_facts.Directory.{edges_of}
 use Rattle.cell_births.proofs.containers.link.Given as goal
 
 -- the regions so far are counted

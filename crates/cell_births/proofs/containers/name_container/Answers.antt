@@ -1,7 +1,7 @@
 use Rattle.std.proofs.Common.{◌≡◌, List, ℕ, Bor, None, subst, ◌∙◌}
 use Rattle.std.proofs.lemmas.Option.{same_Some}
-use Rattle.atlas_dir.specs.directory_form.Directory.{IsName, entity_named}
-use Rattle.script_against.proofs.directory_laws_lemmas.NameLaws.{given_names_same, numbers_same}
+use Rattle.data_atlas.specs.data_atlas_facts.Directory.{IsName, entity_named}
+use Rattle.script_fits.proofs.act_atlas_laws_lemmas.NameLaws.{given_names_same, numbers_same}
 use Rattle.cell_births.proofs.containers.name_container.Goals as goal
 
 pub birth-requires-clause-name : goal.birth-requires-clause-name

@@ -1,7 +1,7 @@
 use Rattle.std.proofs.Common.{Some, unwrap_or, if◌then◌else◌, ap, ◌∙◌}
-use Rattle.wish_laws.specs.hop_model.Scripts.{number_of}
-use Rattle.wish_laws.specs.kernel_calls.Calls.{atlas_state}
-use Rattle.script_against.proofs.directory_laws_lemmas.NameLaws.{numbers_same}
+use Rattle.script_types.specs.model_kernel.Scripts.{number_of}
+use Rattle.script_fits.specs.act_calls.Calls.{atlas_state}
+use Rattle.script_fits.proofs.act_atlas_laws_lemmas.NameLaws.{numbers_same}
 use Rattle.cell_births.proofs.names.known_number.Goals as goal
 
 pub returns : goal.returns

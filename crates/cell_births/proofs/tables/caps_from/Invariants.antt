@@ -1,8 +1,8 @@
 use Rattle.std.proofs.Common.{◌≡◌, drop, map}
-use Rattle.wish_laws.specs.hop_model.Births.{caps_from}
-use Rattle.wish_laws.specs.hop_model.Scripts.{number_in}
-use Rattle.script_against.specs.script_form.Scripts.{cap_of}
-use Rattle.wish_laws.specs.kernel_calls.Calls.{atlas_state}
+use Rattle.script_types.specs.model_kernel.Births.{caps_from}
+use Rattle.script_types.specs.model_kernel.Scripts.{number_in}
+use Rattle.script_types.specs.Scripts.{cap_of}
+use Rattle.script_fits.specs.act_calls.Calls.{atlas_state}
 use Rattle.cell_births.proofs.tables.caps_from.Given as goal
 
 -- the slots from this one on are filled

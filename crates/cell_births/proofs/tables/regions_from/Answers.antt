@@ -1,11 +1,11 @@
 use Rattle.std.proofs.Common.{◌≡◌, ◌-◌, OnOk, string_bytes, map, drop, ap, subst, ◌∙◌, arith}
 use Rattle.std.proofs.lemmas.List.{length-map}
-use Rattle.hop_base.specs.declared.capabilities.Region.{Region}
-use Rattle.wish_laws.specs.hop_model.Births.{number_or_0, region_from, regions_from}
-use Rattle.wish_laws.specs.hop_model.Scripts.{number_in}
-use Rattle.script_against.specs.script_form.Scripts.{region_of}
-use Rattle.region_map.specs.Regions.{add_answer, insert_region}
-use Rattle.wish_laws.specs.kernel_calls.Calls.{atlas_state}
+use Rattle.base_types.specs.declared.capabilities.Region.{Region}
+use Rattle.script_types.specs.model_kernel.Births.{number_or_0, region_from, regions_from}
+use Rattle.script_types.specs.model_kernel.Scripts.{number_in}
+use Rattle.script_types.specs.Scripts.{region_of}
+use Rattle.data_regions.specs.Regions.{add_answer, insert_region}
+use Rattle.script_fits.specs.act_calls.Calls.{atlas_state}
 use Rattle.cell_births.proofs.TableLists.{AreRegionTables, in_range, range_at, regions_more}
 use Rattle.cell_births.proofs.tables.regions_from.Goals as goal
 

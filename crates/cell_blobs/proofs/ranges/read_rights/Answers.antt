@@ -2,7 +2,7 @@ use Rattle.std.proofs.Common.{◌≡◌, ◌<◌, Some, None, sym, subst, ◌∙
 use Rattle.std.specs.List.{All}
 use Rattle.std.proofs.lemmas.List.{take_all}
 use Rattle.std.proofs.lemmas.List.Elements.{All-more}
-use Rattle.hop_base.specs.declared.capabilities.Cap.{Cap}
+use Rattle.base_types.specs.declared.capabilities.Cap.{Cap}
 use Rattle.cell_blobs.specs.Ranges.{HasByteRights}
 use Rattle.cell_blobs.proofs.ranges.read_rights.Goals.{in-Some, in-None}
 use Rattle.cell_blobs.proofs.ranges.read_rights.Goals as goal

@@ -1,5 +1,5 @@
 use Rattle.std.proofs.Common.{◌<◌, ◌^◌, sym, subst, ◌∙◌}
-use Rattle.hop_base.specs.declared.instructions.Walk.{Walk}
+use Rattle.base_types.specs.declared.instructions.Walk.{Walk}
 use Rattle.cell_blobs.proofs.ranges.read_walk.Goals as goal
 use Rattle.std.proofs.lemmas.Option.{same_Some}
 

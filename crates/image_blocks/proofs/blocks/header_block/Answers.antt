@@ -1,5 +1,5 @@
-use Rattle.image_form.specs.Layout.{header_block}
-use Rattle.block_code.proofs.Filling.{ok_gives}
+use Rattle.image_facts.specs.Layout.{header_block}
+use Rattle.base_bytes.proofs.Filling.{ok_gives}
 use Rattle.image_blocks.proofs.blocks.header_block.Goals as goal
 
 pub returns : goal.returns

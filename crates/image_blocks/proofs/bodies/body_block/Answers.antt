@@ -1,6 +1,6 @@
 use Rattle.std.proofs.Common.{◌≡◌, refl, length, replicate, arith}
-use Rattle.image_form.proofs.Filling.{filled_block, filled_head, filled_middle, filled_stamp, filled_whole}
-use Rattle.block_code.proofs.Filling.{ok_gives}
+use Rattle.image_facts.proofs.Filling.{filled_block, filled_head, filled_middle, filled_stamp, filled_whole}
+use Rattle.base_bytes.proofs.Filling.{ok_gives}
 use Rattle.image_blocks.proofs.bodies.body_block.Goals as goal
 
 pub loop-y-init : goal.loop-y-init

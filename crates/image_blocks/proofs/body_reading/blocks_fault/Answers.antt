@@ -1,8 +1,8 @@
 use Rattle.std.proofs.Common.{◌≡◌, ◌+◌, ◌*◌, ℕ, Bool, true, false, map, sym, ap, arith, ◌∙◌}
-use Rattle.hop_base.specs.Edges.{upto}
-use Rattle.hop_model.specs.Words.{first}
-use Rattle.image_form.specs.Checks.{block_fault, blocks_fault, is_block_number, unless_at}
-use Rattle.image_form.proofs.Firsts.{first_at, first_more, unless_true}
+use Rattle.base_types.specs.Edges.{upto}
+use Rattle.image_facts.specs.model_kernel.Words.{first}
+use Rattle.image_facts.specs.Checks.{block_fault, blocks_fault, is_block_number, unless_at}
+use Rattle.image_facts.proofs.Firsts.{first_at, first_more, unless_true}
 use Rattle.image_blocks.proofs.body_reading.blocks_fault.Goals as goal
 
 pub returns-then-not-is_block_number : goal.returns-then-not-is_block_number

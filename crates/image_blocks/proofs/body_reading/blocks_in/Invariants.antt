@@ -1,6 +1,6 @@
 use Rattle.std.proofs.Common.{◌≡◌, ◌+◌, ◌*◌, length, map, take}
-use Rattle.hop_base.specs.Edges.{upto}
-use Rattle.image_form.specs.Bodies.{number_at}
+use Rattle.base_types.specs.Edges.{upto}
+use Rattle.image_facts.specs.Bodies.{number_at}
 use Rattle.image_blocks.proofs.body_reading.blocks_in.Given as goal
 
 abbrev pub invariant-loop-i : goal.invariant-loop-i

@@ -1,8 +1,8 @@
 use Rattle.std.proofs.Common.{◌≡◌, ◌+◌, ◌==◌, ◌++◌, ◌∷◌, [], ℕ, List, if◌then◌else◌, take, sym, ap, ◌∙◌}
 use Rattle.std.proofs.lemmas.List.{take_more}
-use Rattle.hop_base.specs.declared.records.Rec.{Rec}
-use Rattle.image_form.specs.Checks.{last_version}
-use Rattle.image_form.proofs.LastVersions.{last_version-more}
+use Rattle.base_types.specs.declared.records.Rec.{Rec}
+use Rattle.image_facts.specs.Checks.{last_version}
+use Rattle.image_facts.proofs.LastVersions.{last_version-more}
 use Rattle.image_blocks.proofs.body_reading.last_version.Goals as goal
 
 pub loop-rec-preserved : goal.loop-rec-preserved

@@ -1,5 +1,5 @@
 use Rattle.std.proofs.Common.{◌≡◌, take}
-use Rattle.image_form.specs.Checks.{last_version}
+use Rattle.image_facts.specs.Checks.{last_version}
 use Rattle.image_blocks.proofs.body_reading.last_version.Given as goal
 
 abbrev pub invariant-loop-rec : goal.invariant-loop-rec

@@ -1,7 +1,7 @@
 use Rattle.std.proofs.Common.{◌≡◌, arith}
-use Rattle.image_form.specs.Bodies.{number_at, record_in}
-use Rattle.block_code.proofs.Filling.{some_gives}
-use Rattle.image_form.proofs.Fits.{made_is}
+use Rattle.image_facts.specs.Bodies.{number_at, record_in}
+use Rattle.base_bytes.proofs.Filling.{some_gives}
+use Rattle.image_facts.proofs.Fits.{made_is}
 use Rattle.image_blocks.proofs.body_reading.record_of.Goals as goal
 
 pub returns : goal.returns

@@ -1,10 +1,10 @@
 use Rattle.std.proofs.Common.{◌≡◌, ◌+◌, ◌*◌, ◌==◌, ℕ, Bool, true, false, if◌then◌else◌, nat_le, map, sym, ap, arith, ◌∙◌}
-use Rattle.hop_base.specs.Edges.{upto}
-use Rattle.hop_model.specs.Words.{first}
-use Rattle.image_form.specs.Bodies.{number_at}
-use Rattle.image_form.specs.Checks.{stamp_fault, stamps_fault, unless_at}
-use Rattle.image_form.specs.Layout.{last_number}
-use Rattle.image_form.proofs.Firsts.{first_at, first_more, unless_true}
+use Rattle.base_types.specs.Edges.{upto}
+use Rattle.image_facts.specs.model_kernel.Words.{first}
+use Rattle.image_facts.specs.Bodies.{number_at}
+use Rattle.image_facts.specs.Checks.{stamp_fault, stamps_fault, unless_at}
+use Rattle.image_facts.specs.Layout.{last_number}
+use Rattle.image_facts.proofs.Firsts.{first_at, first_more, unless_true}
 use Rattle.image_blocks.proofs.body_reading.stamp_fault.Goals as goal
 
 pub returns-then-not-is_component : goal.returns-then-not-is_component

@@ -1,7 +1,7 @@
 use Rattle.std.proofs.Common.{◌≡◌, ◌+◌, ◌*◌, ◌<◌, length, arith, ◌∙◌}
 use Rattle.std.proofs.lemmas.List.{length-set}
-use Rattle.image_form.specs.Bodies.{number_at, record_in}
-use Rattle.image_form.proofs.Spelling.{row_all, row_more}
+use Rattle.image_facts.specs.Bodies.{number_at, record_in}
+use Rattle.image_facts.proofs.Spelling.{row_all, row_more}
 use Rattle.image_blocks.proofs.body_reading.stamp_in.Goals as goal
 
 pub loop-y-preserved : goal.loop-y-preserved

@@ -1,5 +1,5 @@
 use Rattle.std.proofs.Common.{◌≡◌, drop}
-use Rattle.hop_model.specs.Words.{first}
+use Rattle.image_facts.specs.model_kernel.Words.{first}
 use Rattle.image_blocks.proofs.faults.first_place.Given as goal
 
 abbrev pub invariant-loop-place : goal.invariant-loop-place

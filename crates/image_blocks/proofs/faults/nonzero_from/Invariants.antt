@@ -1,5 +1,5 @@
 use Rattle.std.proofs.Common.{◌≡◌, drop}
-use Rattle.image_form.specs.Checks.{first_not_zero}
+use Rattle.image_facts.specs.Checks.{first_not_zero}
 use Rattle.image_blocks.proofs.faults.nonzero_from.Given as goal
 
 abbrev pub invariant-loop-i : goal.invariant-loop-i

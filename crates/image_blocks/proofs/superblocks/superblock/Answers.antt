@@ -1,5 +1,5 @@
 use Rattle.std.proofs.Common.{refl}
-use Rattle.image_form.proofs.FirstBlock.{superblock-from}
+use Rattle.image_facts.proofs.FirstBlock.{superblock-from}
 use Rattle.image_blocks.proofs.superblocks.superblock.Goals as goal
 
 pub returns : goal.returns

@@ -1,8 +1,8 @@
 use Rattle.std.proofs.Common.{Some, sym, ap, ◌∙◌, arith, refl}
 use Rattle.std.proofs.lemmas.Option.{slice_get-get_or}
-use Rattle.commit_laws.specs.cell_books.store_laws.State.{books}
-use Rattle.commit_laws.specs.cell_books.store_model.Books.{kept_names}
-use Rattle.commit_laws.proofs.table_steps_lemmas.cell_table_lemmas.Needs.{formed_at, next_need}
+use Rattle.kernel_commit_facts.specs.store_facts.State.{books}
+use Rattle.kernel_commit_facts.specs.store_books.Books.{kept_names}
+use Rattle.kernel_commit_facts.proofs.table_laws_lemmas.Needs.{formed_at, next_need}
 use Rattle.kernel_commits.proofs.needing.all_needs.Goals as goal
 
 pub loop-cell-init : goal.loop-cell-init

@@ -1,7 +1,7 @@
 use Rattle.std.proofs.Common.{◌≡◌, ◌*◌, ◌≤◌, sum_by, take}
-use Rattle.commit_laws.specs.table_steps.cell_blobs.Blobs.{need_in}
-use Rattle.commit_laws.specs.cell_books.store_laws.State.{books}
-use Rattle.commit_laws.specs.cell_books.store_model.Books.{kept_names}
+use Rattle.kernel_commit_facts.specs.cell_blobs.Blobs.{need_in}
+use Rattle.kernel_commit_facts.specs.store_facts.State.{books}
+use Rattle.kernel_commit_facts.specs.store_books.Books.{kept_names}
 use Rattle.kernel_commits.proofs.needing.all_needs.Given as goal
 
 abbrev pub invariant-loop-cell : goal.invariant-loop-cell

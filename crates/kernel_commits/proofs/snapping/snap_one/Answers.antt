@@ -2,12 +2,12 @@ use Rattle.std.specs.Prelude.{⊤}
 use Rattle.kernel_commits.specs.declared.stopping.Stopped.TheVariants.{TooFew}
 use Rattle.std.proofs.Common.{◌≡◌, Bool, true, false, Ok, Err, sym, ap, ◌∙◌, subst, refl}
 use Rattle.std.proofs.lemmas.Bool.{false≢true}
-use Rattle.commit_laws.specs.Snapping.{Snaps}
-use Rattle.commit_laws.proofs.Committing.{clean_again}
-use Rattle.commit_laws.proofs.Steadying.{steady_again}
+use Rattle.kernel_commit_facts.specs.Snapping.{Snaps}
+use Rattle.kernel_commit_facts.proofs.Committing.{clean_again}
+use Rattle.kernel_commit_facts.proofs.Steadying.{steady_again}
 use Rattle.kernel_commits.proofs.Wishing.{err_over, may_record, none_made, one_answer, one_failed, one_lacks, one_made, one_part}
-use Rattle.commit_laws.proofs.cell_books_lemmas.kernel_room_lemmas.Enough.{calm_whole}
-use Rattle.commit_laws.proofs.Enough.{short_lacks}
+use Rattle.kernel_commit_facts.proofs.kernel_block_laws_lemmas.Enough.{calm_whole}
+use Rattle.kernel_commit_facts.proofs.Enough.{short_lacks}
 use Rattle.kernel_commits.proofs.snapping.snap_one.Goals as goal
 
 pub returns-then-not-wants_snap-clause-made : goal.returns-then-not-wants_snap-clause-made
@@ -20,7 +20,7 @@ returns-then-not-wants_snap-clause-too_few g c = λ n.
 
 pub returns-then-not-wants_snap-clause-run : goal.returns-then-not-wants_snap-clause-run
 returns-then-not-wants_snap-clause-run g c = λ told b free.
-    none_made g.D.Disk.tells g.D.Disk.clock g.D.Disk.faults g.D.Disk.reading g.D.Disk.may_leave g.D.Disk.left_since b (g.P.Policy.wish c.args.gate.now.policy) c.args.entity c.args.core.now told free c.wants_snap.ensures.there.0 c.wants_snap.ensures.there.1 (c.wants_snap.ensures.run told b free ∙ c.if-not-wants_snap.true) (Ok false) false refl
+    none_made g.D.Disk b (g.P.Policy.wish c.args.gate.now.policy) c.args.entity c.args.core.now told free c.wants_snap.ensures.there.0 c.wants_snap.ensures.there.1 (c.wants_snap.ensures.run told b free ∙ c.if-not-wants_snap.true) (Ok false) false refl
 
 pub returns-in-Err-clause-none : goal.returns-in-Err-clause-none
 returns-in-Err-clause-none g c = λ is.
@@ -34,14 +34,14 @@ returns-in-Err-clause-too_few g c = λ n.
 pub returns-in-Err-clause-run : goal.returns-in-Err-clause-run
 returns-in-Err-clause-run g c = λ told b free.
     let test = c.wants_snap.ensures.run told b free ∙ c.if-not-wants_snap.false in
-    one_failed g.D.Disk.tells g.D.Disk.clock g.D.Disk.faults g.D.Disk.reading g.D.Disk.may_leave g.D.Disk.left_since b (g.P.Policy.wish c.args.gate.now.policy) c.args.entity c.args.core.now told free c.wants_snap.ensures.there.0 c.wants_snap.ensures.there.1 c.record_one.new.core (Err c.in-Err.why) c.in-Err.why refl
-    (c.in-Err.ensures.run told b (may_record g.D.Disk.tells g.D.Disk.clock g.D.Disk.faults g.D.Disk.reading g.D.Disk.may_leave g.D.Disk.left_since b (g.P.Policy.wish c.args.gate.now.policy) c.args.entity c.args.core.now told free c.wants_snap.ensures.there.0 c.wants_snap.ensures.there.1 test)).lives
+    one_failed g.D.Disk b (g.P.Policy.wish c.args.gate.now.policy) c.args.entity c.args.core.now told free c.wants_snap.ensures.there.0 c.wants_snap.ensures.there.1 c.record_one.new.core (Err c.in-Err.why) c.in-Err.why refl
+    (c.in-Err.ensures.run told b (may_record g.D.Disk b (g.P.Policy.wish c.args.gate.now.policy) c.args.entity c.args.core.now told free c.wants_snap.ensures.there.0 c.wants_snap.ensures.there.1 test)).lives
 
 pub returns-in-Ok-clause-steady : goal.returns-in-Ok-clause-steady
 returns-in-Ok-clause-steady g c =
     let can = c.wants_snap.ensures.can c.if-not-wants_snap.false in
     let r = c.in-Ok.ensures.recorded in
-    steady_again g.D.Disk.tells g.D.Disk.clock g.D.Disk.faults g.D.Disk.reading g.D.Disk.may_leave g.D.Disk.left_since c.args.entity c.args.core.now c.record_one.new.core c.requires.steady r can.few
+    steady_again g.D.Disk c.args.entity c.args.core.now c.record_one.new.core c.requires.steady r can.few
     (can.noted r.made.before (ap (Rattle.std.proofs.Common.slice_get c.args.core.now.cells) (sym r.made.commits.number) ∙ r.made.commits.lends.stood.0)) r.made.true_books
 
 pub returns-in-Ok-clause-none : goal.returns-in-Ok-clause-none
@@ -55,18 +55,18 @@ returns-in-Ok-clause-too_few g c = λ n.
 pub returns-in-Ok-clause-run : goal.returns-in-Ok-clause-run
 returns-in-Ok-clause-run g c = λ told b free.
     let test = c.wants_snap.ensures.run told b free ∙ c.if-not-wants_snap.false in
-    one_made g.D.Disk.tells g.D.Disk.clock g.D.Disk.faults g.D.Disk.reading g.D.Disk.may_leave g.D.Disk.left_since b (g.P.Policy.wish c.args.gate.now.policy) c.args.entity c.args.core.now told free c.wants_snap.ensures.there.0 c.wants_snap.ensures.there.1 c.record_one.new.core test c.in-Ok.ensures.recorded
-    (c.in-Ok.ensures.run told b (may_record g.D.Disk.tells g.D.Disk.clock g.D.Disk.faults g.D.Disk.reading g.D.Disk.may_leave g.D.Disk.left_since b (g.P.Policy.wish c.args.gate.now.policy) c.args.entity c.args.core.now told free c.wants_snap.ensures.there.0 c.wants_snap.ensures.there.1 test)).stands (Ok true) true refl
+    one_made g.D.Disk b (g.P.Policy.wish c.args.gate.now.policy) c.args.entity c.args.core.now told free c.wants_snap.ensures.there.0 c.wants_snap.ensures.there.1 c.record_one.new.core test c.in-Ok.ensures.recorded
+    (c.in-Ok.ensures.run told b (may_record g.D.Disk b (g.P.Policy.wish c.args.gate.now.policy) c.args.entity c.args.core.now told free c.wants_snap.ensures.there.0 c.wants_snap.ensures.there.1 test)).stands (Ok true) true refl
 
 pub returns-in-Ok-clause-clean : goal.returns-in-Ok-clause-clean
 returns-in-Ok-clause-clean g c = λ told s clean.
-    clean_again g.D.Disk.tells g.D.Disk.clock g.D.Disk.faults g.D.Disk.reading g.D.Disk.may_leave g.D.Disk.left_since c.args.entity c.args.core.now c.record_one.new.core c.requires.steady.sound.matches.orderly c.in-Ok.ensures.recorded.made told s clean
+    clean_again g.D.Disk c.args.entity c.args.core.now c.record_one.new.core c.requires.steady.sound.matches.orderly c.in-Ok.ensures.recorded.made told s clean
 
 pub returns-in-Err-clause-part : goal.returns-in-Err-clause-part
 returns-in-Err-clause-part g c = λ told b free.
     let test = c.wants_snap.ensures.run told b free ∙ c.if-not-wants_snap.false in
     let s = c.record_one.ensures in
-    one_part g.D.Disk.tells g.D.Disk.clock g.D.Disk.faults g.D.Disk.reading g.D.Disk.may_leave g.D.Disk.left_since b (g.P.Policy.wish c.args.gate.now.policy) c.args.entity c.args.core.now told free c.wants_snap.ensures.there.0 c.wants_snap.ensures.there.1 test
+    one_part g.D.Disk b (g.P.Policy.wish c.args.gate.now.policy) c.args.entity c.args.core.now told free c.wants_snap.ensures.there.0 c.wants_snap.ensures.there.1 test
     c.record_one.new.core c.record_one.result s.tried s.untouched c.in-Err.why c.in-Err.is
 
 pub returns-in-Err-clause-enough : goal.returns-in-Err-clause-enough
@@ -75,7 +75,7 @@ returns-in-Err-clause-enough g c = λ told b free n is.
     let runs = free.stands.runs in
     let test = c.wants_snap.ensures.run told b free ∙ c.if-not-wants_snap.false in
     let short = err_over Bool ⊤ c.in-Err.why (TooFew n) is in
-    one_lacks d.tells d.clock d.faults d.reading d.may_leave d.left_since b (g.P.Policy.wish c.args.gate.now.policy) c.args.entity c.args.core.now told free c.wants_snap.ensures.there.0 c.wants_snap.ensures.there.1 test
+    one_lacks d b (g.P.Policy.wish c.args.gate.now.policy) c.args.entity c.args.core.now told free c.wants_snap.ensures.there.0 c.wants_snap.ensures.there.1 test
     c.record_one.new.core (c.in-Err.ensures.untouched n short)
-    (short_lacks d.tells d.clock d.faults d.reading d.may_leave d.left_since b c.args.core.now told free.stands (calm_whole b c.args.core.now.noted.entries runs.begins runs.legal free.owes_nothing)
+    (short_lacks d b c.args.core.now told free.stands (calm_whole b c.args.core.now.noted.entries runs.begins runs.legal free.owes_nothing)
     c.args.entity n ((c.in-Err.ensures.too_few n).0 short))

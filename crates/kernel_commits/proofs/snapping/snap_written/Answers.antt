@@ -1,10 +1,10 @@
 use Rattle.std.proofs.Common.{List, subst}
 use Rattle.std.specs.Prelude.{OnErr}
-use Rattle.hop_base.specs.declared.histories.Touch.{Touch}
-use Rattle.commit_laws.specs.serial_turns.serial_runs.Serial.{wished_snaps, written_in}
-use Rattle.commit_laws.specs.cell_books.kernel_model.Beginnings.{run_of}
-use Rattle.commit_laws.specs.Lacking.{LacksIn}
-use Rattle.commit_laws.specs.Pieces.{StopsIn}
+use Rattle.base_types.specs.declared.histories.Touch.{Touch}
+use Rattle.kernel_commit_facts.specs.model_serial.Serial.{wished_snaps, written_in}
+use Rattle.kernel_commit_facts.specs.kernel_invariant.Beginnings.{run_of}
+use Rattle.kernel_commit_facts.specs.Lacking.{LacksIn}
+use Rattle.kernel_commit_facts.specs.Pieces.{StopsIn}
 use Rattle.kernel_commits.proofs.snapping.snap_written.Goals as goal
 
 pub returns-clause-part : goal.returns-clause-part

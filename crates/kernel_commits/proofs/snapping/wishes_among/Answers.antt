@@ -1,9 +1,9 @@
 use Rattle.std.proofs.Common.{◌≡◌, sym, ap, ◌∙◌, subst, slice_get, length, Some, refl, arith}
 use Rattle.std.proofs.lemmas.Option.{same_Some, slice_get_read}
-use Rattle.commit_laws.specs.table_steps.kernel_cells.declared.cells.Cell.{Cell}
-use Rattle.commit_laws.specs.table_steps.kernel_cells.Cells.{HasCell, part_of}
-use Rattle.commit_laws.specs.table_steps.kernel_cells.Wishes.{HasWish, is_open}
-use Rattle.commit_laws.specs.table_steps.hop_model.Histories.{has_wish}
+use Rattle.kernel_commit_facts.specs.cell_states.declared.cells.Cell.{Cell}
+use Rattle.kernel_commit_facts.specs.cell_states.Cells.{HasCell, part_of}
+use Rattle.kernel_commit_facts.specs.cell_states.Wishes.{HasWish, is_open}
+use Rattle.kernel_commit_facts.specs.model_kernel.Histories.{has_wish}
 use Rattle.kernel_commits.proofs.snapping.wishes_among.Goals as goal
 
 pub is_wished-requires-clause-newest : goal.is_wished-requires-clause-newest

@@ -1,30 +1,30 @@
 use Rattle.std.proofs.Common.{◌*◌, [], ◌∷◌, refl, sym, subst}
-use Rattle.hop_base.specs.declared.histories.Event.TheVariants.{Stable}
-use Rattle.commit_laws.specs.table_steps.hop_model.Histories.{mark}
-use Rattle.commit_laws.specs.table_steps.cell_table.Tables.{AreClean}
-use Rattle.commit_laws.specs.cell_books.record_laws.Cells.{words_on}
-use Rattle.commit_laws.specs.Pieces.{CountsWithin}
-use Rattle.commit_laws.proofs.Settled.{entries_are, has_stabilised, marks_are, stable_steady}
-use Rattle.commit_laws.proofs.Settling.{stable_calm, stable_stands}
-use Rattle.commit_laws.proofs.Dues.{lacks_first}
-use Rattle.commit_laws.proofs.Enough.{lacks_blocks}
+use Rattle.base_types.specs.declared.histories.Event.TheVariants.{Stable}
+use Rattle.kernel_commit_facts.specs.model_kernel.Histories.{mark}
+use Rattle.kernel_commit_facts.specs.table_laws.Tables.{AreClean}
+use Rattle.kernel_commit_facts.specs.kernel_record_facts.Cells.{words_on}
+use Rattle.kernel_commit_facts.specs.Pieces.{CountsWithin}
+use Rattle.kernel_commit_facts.proofs.Settled.{entries_are, has_stabilised, marks_are, stable_steady}
+use Rattle.kernel_commit_facts.proofs.Settling.{stable_calm, stable_stands}
+use Rattle.kernel_commit_facts.proofs.Dues.{lacks_first}
+use Rattle.kernel_commit_facts.proofs.Enough.{lacks_blocks}
 use Rattle.kernel_commits.proofs.stabilising.settle.Goals as goal
 
 pub returns-in-Err-clause-run : goal.returns-in-Err-clause-run
 returns-in-Err-clause-run g c = λ told b owes. record { stands = tt; calm = tt; lives = c.in-Err.ensures.lives told b c.args.actor owes }
 
 pub returns-clause-stabilised : goal.returns-clause-stabilised
-returns-clause-stabilised g c = has_stabilised g.D.Disk.tells g.D.Disk.clock g.D.Disk.faults g.D.Disk.reading g.D.Disk.may_leave g.D.Disk.left_since c.args.actor c.args.core.now c.record_changed.new.core c.note_stable.new.core c.in_default.ensures.through c.noted_so_far-entries.result.0 c.noted_so_far-entries.result.1 c.noted_so_far-entries.ensures.entries c.noted_so_far-entries.ensures.marks c.note_stable.ensures.store c.note_stable.ensures.cells c.note_stable.ensures.entries c.note_stable.ensures.marks c.note_stable.ensures.room
+returns-clause-stabilised g c = has_stabilised g.D.Disk c.args.actor c.args.core.now c.record_changed.new.core c.note_stable.new.core c.in_default.ensures.through c.noted_so_far-entries.result.0 c.noted_so_far-entries.result.1 c.noted_so_far-entries.ensures.entries c.noted_so_far-entries.ensures.marks c.note_stable.ensures.store c.note_stable.ensures.cells c.note_stable.ensures.entries c.note_stable.ensures.marks c.note_stable.ensures.room
 
 pub returns-clause-steady : goal.returns-clause-steady
-returns-clause-steady g c = stable_steady g.D.Disk.tells g.D.Disk.clock g.D.Disk.faults g.D.Disk.reading g.D.Disk.may_leave g.D.Disk.left_since c.args.actor c.args.core.now c.record_changed.new.core c.note_stable.new.core c.in_default.ensures.through c.noted_so_far-entries.result.0 c.noted_so_far-entries.result.1 c.noted_so_far-entries.ensures.entries c.noted_so_far-entries.ensures.marks c.note_stable.ensures.store c.note_stable.ensures.cells c.note_stable.ensures.entries c.note_stable.ensures.marks c.note_stable.ensures.room c.requires.steady c.requires.spare
+returns-clause-steady g c = stable_steady g.D.Disk c.args.actor c.args.core.now c.record_changed.new.core c.note_stable.new.core c.in_default.ensures.through c.noted_so_far-entries.result.0 c.noted_so_far-entries.result.1 c.noted_so_far-entries.ensures.entries c.noted_so_far-entries.ensures.marks c.note_stable.ensures.store c.note_stable.ensures.cells c.note_stable.ensures.entries c.note_stable.ensures.marks c.note_stable.ensures.room c.requires.steady c.requires.spare
 
 pub returns-clause-run : goal.returns-clause-run
 returns-clause-run g c = λ told b owes.
     let u = c.in_default.ensures.run told b c.args.actor owes in
     record {
-      stands = stable_stands g.D.Disk.tells g.D.Disk.clock g.D.Disk.faults g.D.Disk.reading g.D.Disk.may_leave g.D.Disk.left_since b c.args.actor c.args.core.now c.record_changed.new.core c.note_stable.new.core owes c.in_default.ensures.through u c.note_stable.ensures.store c.note_stable.ensures.cells (entries_are g.D.Disk.tells g.D.Disk.clock g.D.Disk.faults g.D.Disk.reading g.D.Disk.may_leave g.D.Disk.left_since c.args.actor c.args.core.now c.record_changed.new.core c.note_stable.new.core c.in_default.ensures.through c.noted_so_far-entries.result.0 c.noted_so_far-entries.result.1 c.noted_so_far-entries.ensures.entries c.noted_so_far-entries.ensures.marks c.note_stable.ensures.store c.note_stable.ensures.cells c.note_stable.ensures.entries c.note_stable.ensures.marks c.note_stable.ensures.room) (marks_are g.D.Disk.tells g.D.Disk.clock g.D.Disk.faults g.D.Disk.reading g.D.Disk.may_leave g.D.Disk.left_since c.args.actor c.args.core.now c.record_changed.new.core c.note_stable.new.core c.in_default.ensures.through c.noted_so_far-entries.result.0 c.noted_so_far-entries.result.1 c.noted_so_far-entries.ensures.entries c.noted_so_far-entries.ensures.marks c.note_stable.ensures.store c.note_stable.ensures.cells c.note_stable.ensures.entries c.note_stable.ensures.marks c.note_stable.ensures.room);
-      calm = stable_calm g.D.Disk.tells g.D.Disk.clock g.D.Disk.faults g.D.Disk.reading g.D.Disk.may_leave g.D.Disk.left_since b c.args.actor c.args.core.now c.record_changed.new.core c.note_stable.new.core owes c.in_default.ensures.through u c.note_stable.ensures.store c.note_stable.ensures.cells (entries_are g.D.Disk.tells g.D.Disk.clock g.D.Disk.faults g.D.Disk.reading g.D.Disk.may_leave g.D.Disk.left_since c.args.actor c.args.core.now c.record_changed.new.core c.note_stable.new.core c.in_default.ensures.through c.noted_so_far-entries.result.0 c.noted_so_far-entries.result.1 c.noted_so_far-entries.ensures.entries c.noted_so_far-entries.ensures.marks c.note_stable.ensures.store c.note_stable.ensures.cells c.note_stable.ensures.entries c.note_stable.ensures.marks c.note_stable.ensures.room) (marks_are g.D.Disk.tells g.D.Disk.clock g.D.Disk.faults g.D.Disk.reading g.D.Disk.may_leave g.D.Disk.left_since c.args.actor c.args.core.now c.record_changed.new.core c.note_stable.new.core c.in_default.ensures.through c.noted_so_far-entries.result.0 c.noted_so_far-entries.result.1 c.noted_so_far-entries.ensures.entries c.noted_so_far-entries.ensures.marks c.note_stable.ensures.store c.note_stable.ensures.cells c.note_stable.ensures.entries c.note_stable.ensures.marks c.note_stable.ensures.room);
+      stands = stable_stands g.D.Disk b c.args.actor c.args.core.now c.record_changed.new.core c.note_stable.new.core owes c.in_default.ensures.through u c.note_stable.ensures.store c.note_stable.ensures.cells (entries_are g.D.Disk c.args.actor c.args.core.now c.record_changed.new.core c.note_stable.new.core c.in_default.ensures.through c.noted_so_far-entries.result.0 c.noted_so_far-entries.result.1 c.noted_so_far-entries.ensures.entries c.noted_so_far-entries.ensures.marks c.note_stable.ensures.store c.note_stable.ensures.cells c.note_stable.ensures.entries c.note_stable.ensures.marks c.note_stable.ensures.room) (marks_are g.D.Disk c.args.actor c.args.core.now c.record_changed.new.core c.note_stable.new.core c.in_default.ensures.through c.noted_so_far-entries.result.0 c.noted_so_far-entries.result.1 c.noted_so_far-entries.ensures.entries c.noted_so_far-entries.ensures.marks c.note_stable.ensures.store c.note_stable.ensures.cells c.note_stable.ensures.entries c.note_stable.ensures.marks c.note_stable.ensures.room);
+      calm = stable_calm g.D.Disk b c.args.actor c.args.core.now c.record_changed.new.core c.note_stable.new.core owes c.in_default.ensures.through u c.note_stable.ensures.store c.note_stable.ensures.cells (entries_are g.D.Disk c.args.actor c.args.core.now c.record_changed.new.core c.note_stable.new.core c.in_default.ensures.through c.noted_so_far-entries.result.0 c.noted_so_far-entries.result.1 c.noted_so_far-entries.ensures.entries c.noted_so_far-entries.ensures.marks c.note_stable.ensures.store c.note_stable.ensures.cells c.note_stable.ensures.entries c.note_stable.ensures.marks c.note_stable.ensures.room) (marks_are g.D.Disk c.args.actor c.args.core.now c.record_changed.new.core c.note_stable.new.core c.in_default.ensures.through c.noted_so_far-entries.result.0 c.noted_so_far-entries.result.1 c.noted_so_far-entries.ensures.entries c.noted_so_far-entries.ensures.marks c.note_stable.ensures.store c.note_stable.ensures.cells c.note_stable.ensures.entries c.note_stable.ensures.marks c.note_stable.ensures.room);
       lives = tt;
     }
 
@@ -38,10 +38,10 @@ returns-clause-clean g c = λ told s clean.
 
 pub returns-clause-counts : goal.returns-clause-counts
 returns-clause-counts g c =
-    subst (λ st. CountsWithin g.D.Disk.clock g.D.Disk.faults (64 * 1556) c.args.core.now.store st) (sym c.note_stable.ensures.store) c.record_changed.ensures.counts
+    subst (λ st. CountsWithin g.D.Disk (64 * 1556) c.args.core.now.store st) (sym c.note_stable.ensures.store) c.record_changed.ensures.counts
 
 pub returns-in-Err-clause-enough : goal.returns-in-Err-clause-enough
 returns-in-Err-clause-enough g c = λ told b owes n is.
     let d = g.D.Disk in
     lacks_first b (mark Stable c.args.actor 0) [] (mark Stable c.args.actor 0 ∷ []) c.args.core.now c.record_changed.new.core refl tt (c.in-Err.ensures.untouched n is)
-    (lacks_blocks d.tells d.clock d.faults d.reading d.may_leave d.left_since b c.args.core.now told owes.stands owes.whole ((c.in-Err.ensures.too_few n).0 is).fewer)
+    (lacks_blocks d b c.args.core.now told owes.stands owes.whole ((c.in-Err.ensures.too_few n).0 is).fewer)

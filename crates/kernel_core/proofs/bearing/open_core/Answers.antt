@@ -1,13 +1,13 @@
 use Rattle.std.proofs.Common.{◌*◌, sym, ◌∙◌, subst}
-use Rattle.core_laws.specs.birth_views.script_form.Scripts.{tables_of}
-use Rattle.core_laws.specs.birth_views.store_laws.State.{State}
-use Rattle.core_laws.specs.kernel_commits.commit_laws.Pieces.{CountsWithin}
-use Rattle.core_laws.proofs.Opened.{clean_births, counts_stay, none_noted, opened_empty, opened_stable, opens_empty, opens_settled, owes, short_empty, short_stable, some_noted, spare, stopped_births}
+use Rattle.script_types.specs.Scripts.{tables_of}
+use Rattle.kernel_core_facts.specs.store_facts.State.{State}
+use Rattle.kernel_core_facts.specs.kernel_commit_facts.Pieces.{CountsWithin}
+use Rattle.kernel_core_facts.proofs.Opened.{clean_births, counts_stay, none_noted, opened_empty, opened_stable, opens_empty, opens_settled, owes, short_empty, short_stable, some_noted, spare, stopped_births}
 use Rattle.kernel_core.proofs.bearing.open_core.Goals as goal
 
 pub settle-requires-clause-spare : goal.settle-requires-clause-spare
 settle-requires-clause-spare g c =
-    spare g.D.Disk.tells g.D.Disk.reading g.D.Disk.may_leave c.bear_all.new.core c.bear_all.ensures.in_births c.bear_all.ensures.few
+    spare g.D.Disk c.bear_all.new.core c.bear_all.ensures.in_births c.bear_all.ensures.few
     (some_noted c.bear_all.new.core.noted.entries (sym c.is_new.ensures ∙ c.if-is_new.false))
 
 -- where no birth was made
@@ -22,14 +22,14 @@ returns-then-is_new-clause-too_few g c =
 
 pub returns-then-is_new-clause-run : goal.returns-then-is_new-clause-run
 returns-then-is_new-clause-run g c = λ told b same r.
-    opens_empty g.D.Disk.tells g.D.Disk.clock g.D.Disk.faults g.D.Disk.reading g.D.Disk.may_leave g.D.Disk.left_since b (tables_of c.args.script.now) same c.bear_all.new.core (c.bear_all.ensures.run told b same r) c.bear_all.ensures.all.none
+    opens_empty g.D.Disk b (tables_of c.args.script.now) same c.bear_all.new.core (c.bear_all.ensures.run told b same r) c.bear_all.ensures.all.none
     (none_noted c.bear_all.new.core.noted.entries (sym c.is_new.ensures ∙ c.if-is_new.true))
 
 pub returns-then-is_new-clause-clean : goal.returns-then-is_new-clause-clean
 returns-then-is_new-clause-clean g c = λ told s clean. clean_births (tables_of c.args.script.now) c.args.core.now c.bear_all.new.core c.bear_all.ensures.all g.D.Disk.reading s clean
 
 pub returns-then-is_new-clause-counts : goal.returns-then-is_new-clause-counts
-returns-then-is_new-clause-counts g c = counts_stay g.D.Disk.clock g.D.Disk.faults (64 * 1556) c.args.core.now.store c.bear_all.new.core.store c.bear_all.ensures.all.made.store
+returns-then-is_new-clause-counts g c = counts_stay g.D.Disk (64 * 1556) c.args.core.now.store c.bear_all.new.core.store c.bear_all.ensures.all.made.store
 
 -- behind the Stable
 
@@ -50,12 +50,12 @@ pub returns-clause-run : goal.returns-clause-run
 returns-clause-run g c = λ told b same r.
     let along = c.bear_all.ensures.run told b same r in
     let some = some_noted c.bear_all.new.core.noted.entries (sym c.is_new.ensures ∙ c.if-is_new.false) in
-    let owed = owes g.D.Disk.tells g.D.Disk.clock g.D.Disk.faults g.D.Disk.reading g.D.Disk.may_leave g.D.Disk.left_since b (tables_of c.args.script.now) same c.bear_all.new.core along c.bear_all.ensures.all.none some in
-    opens_settled g.D.Disk.tells g.D.Disk.clock g.D.Disk.faults g.D.Disk.reading g.D.Disk.may_leave g.D.Disk.left_since b (tables_of c.args.script.now) same c.bear_all.new.core along c.bear_all.ensures.all.none some c.settle.result c.settle.new.core
+    let owed = owes g.D.Disk b (tables_of c.args.script.now) same c.bear_all.new.core along c.bear_all.ensures.all.none some in
+    opens_settled g.D.Disk b (tables_of c.args.script.now) same c.bear_all.new.core along c.bear_all.ensures.all.none some c.settle.result c.settle.new.core
     c.settle.ensures.stabilised (c.settle.ensures.run told b owed) (c.settle.ensures.part told b owed) (c.settle.ensures.enough told b owed)
 
 pub returns-clause-clean : goal.returns-clause-clean
 returns-clause-clean g c = λ told s clean. c.settle.ensures.clean told s (clean_births (tables_of c.args.script.now) c.args.core.now c.bear_all.new.core c.bear_all.ensures.all g.D.Disk.reading s clean)
 
 pub returns-clause-counts : goal.returns-clause-counts
-returns-clause-counts g c = subst (λ (st : State g.row.D.Denot). CountsWithin g.D.Disk.clock g.D.Disk.faults (64 * 1556) st c.settle.new.core.store) c.bear_all.ensures.all.made.store c.settle.ensures.counts
+returns-clause-counts g c = subst (λ (st : State g.row.D.Denot). CountsWithin g.D.Disk (64 * 1556) st c.settle.new.core.store) c.bear_all.ensures.all.made.store c.settle.ensures.counts

@@ -1,7 +1,7 @@
 use Rattle.std.proofs.Common.{Some, None, if◌then◌else◌, sym, subst}
-use Rattle.core_laws.specs.birth_views.serial_runs.Serial.{kept_behind, written_in}
-use Rattle.core_laws.specs.birth_views.kernel_model.Beginnings.{run_of}
-use Rattle.core_laws.specs.kernel_commits.commit_laws.Lacking.{LacksIn}
+use Rattle.kernel_core_facts.specs.model_serial.Serial.{kept_behind, written_in}
+use Rattle.kernel_core_facts.specs.kernel_invariant.Beginnings.{run_of}
+use Rattle.kernel_core_facts.specs.kernel_commit_facts.Lacking.{LacksIn}
 use Rattle.kernel_core.proofs.looking.keep_behind.Goals as goal
 
 pub returns-then-owes-clause-enough : goal.returns-then-owes-clause-enough

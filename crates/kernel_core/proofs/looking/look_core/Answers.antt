@@ -1,103 +1,103 @@
 use Rattle.std.proofs.Common.{◌≡◌, ◌*◌, inl, inr, ℕ, Bool, List, Some, None, Ok, Option, sym, ap, subst, refl, ◌∙◌, if◌then◌else◌}
 use Rattle.std.specs.Prelude.{⊤}
-use Rattle.hop_base.specs.declared.histories.Answer.TheVariants.{Reply as Replied}
-use Rattle.hop_base.specs.declared.histories.Entry.{Entry}
-use Rattle.hop_base.specs.declared.instructions.Reply.TheVariants.{Ok as AnsweredOk}
-use Rattle.core_laws.specs.kernel_commits.hop_model.Histories.{locus_in, owed_by}
-use Rattle.core_laws.specs.kernel_commits.hop_model.State.{Supply}
-use Rattle.core_laws.specs.birth_views.kernel_cells.declared.cells.Cell.{Cell}
-use Rattle.core_laws.specs.birth_views.cell_table.Tables.{state_in}
-use Rattle.core_laws.specs.Looking.{LooksInRun}
+use Rattle.base_types.specs.declared.histories.Answer.TheVariants.{Reply as Replied}
+use Rattle.base_types.specs.declared.histories.Entry.{Entry}
+use Rattle.base_types.specs.declared.instructions.Reply.TheVariants.{Ok as AnsweredOk}
+use Rattle.script_types.specs.model_kernel.Histories.{locus_in, owed_by}
+use Rattle.script_types.specs.model_kernel.State.{Supply}
+use Rattle.kernel_core_facts.specs.cell_states.declared.cells.Cell.{Cell}
+use Rattle.kernel_core_facts.specs.table_laws.Tables.{state_in}
+use Rattle.kernel_core_facts.specs.Looking.{LooksInRun}
 use Rattle.kernel_core.specs.declared.looking.Looked.{Looked as Look}
 use Rattle.kernel_core.specs.declared.looking.Looked.TheVariants.{Idle, Stepped}
 use Rattle.kernel_core.specs.declared.stepping.Stepping.{Stepping}
-use Rattle.core_laws.specs.kernel_commits.commit_laws.Parts.{Parts}
+use Rattle.kernel_core_facts.specs.kernel_commit_facts.Parts.{Parts}
 use Rattle.kernel_core.specs.Stepping.{StepsOnce}
-use Rattle.core_laws.specs.Stepping.{idle_at}
-use Rattle.core_laws.specs.kernel_commits.declared.stopping.Stopped.TheVariants.{TooFew}
-use Rattle.core_laws.proofs.kernel_commits_lemmas.Wishing.{err_over}
-use Rattle.core_laws.proofs.kernel_commits_lemmas.commit_laws_lemmas.Counting.{CountsWithin-then}
+use Rattle.kernel_core_facts.specs.Stepping.{idle_at}
+use Rattle.kernel_core_facts.specs.kernel_commits.declared.stopping.Stopped.TheVariants.{TooFew}
+use Rattle.kernel_core_facts.proofs.kernel_commits_lemmas.Wishing.{err_over}
+use Rattle.kernel_core_facts.proofs.kernel_commit_facts_lemmas.Counting.{CountsWithin-then}
 use Rattle.kernel_core.proofs.LookMade.{err_result, err_stepped, idle_behind, idle_failed, idle_told, ok_stepped, ok_look}
-use Rattle.core_laws.proofs.LookMade.{free_then, lacks_behind_step, look_behind_step, look_still, owes_is, owes_then, part_at_step, part_behind_step}
+use Rattle.kernel_core_facts.proofs.LookMade.{free_then, lacks_behind_step, look_behind_step, look_still, owes_is, owes_then, part_at_step, part_behind_step}
 use Rattle.kernel_core.proofs.looking.look_core.Goals as goal
 
 pub returns-in-Ok-clause-run : goal.returns-in-Ok-clause-run
 returns-in-Ok-clause-run g c = λ told b same policy stands calm.
     let d = g.D.Disk in
-    let once = subst (λ (o : Stepping). StepsOnce d.tells d.clock d.faults d.reading d.may_leave d.left_since (g.S.Supplier.word c.args.gate.now.supply) c.args.me c.args.core.now c.step_core.new.core (Ok o)) c.in-Ok-Made.field-0-is c.in-Ok-Made.ensures in
+    let once = subst (λ (o : Stepping). StepsOnce d (g.S.Supplier.word c.args.gate.now.supply) c.args.me c.args.core.now c.step_core.new.core (Ok o)) c.in-Ok-Made.field-0-is c.in-Ok-Made.ensures in
     let flag = subst (λ (cs : List Cell). (s : Supply) (ws : ℕ → List ℕ) → owed_by c.args.me (Replied AnsweredOk) (locus_in (state_in s ws cs c.args.me).cell) ≡ (if c.stabilises_at-stabilises.result then Some c.args.me else None))
     (c.deref.ensures.value ∙ ap (λ (p : Parts g.row.D.Denot). p.cells) c.core.view_is) c.stabilises_at-stabilises.ensures in
     let run = once.run told b same stands calm in
-    let owed = owes_is d.tells d.clock d.faults d.reading d.may_leave d.left_since b (g.P.Policy.wish c.args.gate.now.policy) policy c.args.me c.args.core.now stands calm c.step_core.new.core c.in-Ok-Made.entry once.made run c.stabilises_at-stabilises.result flag in
-    ok_stepped d.tells d.clock d.faults d.reading d.may_leave d.left_since b (g.P.Policy.wish c.args.gate.now.policy) policy c.args.me c.args.core.now stands calm c.keep_behind.result c.in-Ok.field-0 c.keep_behind.new.core c.in-Ok.is
-    (look_behind_step d.tells d.clock d.faults d.reading d.may_leave d.left_since b (g.P.Policy.wish c.args.gate.now.policy) policy c.args.me c.args.core.now stands calm c.step_core.new.core c.in-Ok-Made.entry once.made run
+    let owed = owes_is d b (g.P.Policy.wish c.args.gate.now.policy) policy c.args.me c.args.core.now stands calm c.step_core.new.core c.in-Ok-Made.entry once.made run c.stabilises_at-stabilises.result flag in
+    ok_stepped d b (g.P.Policy.wish c.args.gate.now.policy) policy c.args.me c.args.core.now stands calm c.keep_behind.result c.in-Ok.field-0 c.keep_behind.new.core c.in-Ok.is
+    (look_behind_step d b (g.P.Policy.wish c.args.gate.now.policy) policy c.args.me c.args.core.now stands calm c.step_core.new.core c.in-Ok-Made.entry once.made run
     c.owes_stable-owes.result (owed ∙ ap (λ t. if t then Some c.args.me else None) (sym c.owes_stable-owes.ensures)) c.keep_behind.result c.keep_behind.new.core
     c.keep_behind.ensures.stabilised (λ is. c.keep_behind.ensures.stable is told b) (λ is. c.keep_behind.ensures.snaps is told b))
 
 pub returns-in-Err-keep_behind-clause-run : goal.returns-in-Err-keep_behind-clause-run
 returns-in-Err-keep_behind-clause-run g c = λ told b same policy stands calm.
     let d = g.D.Disk in
-    let once = subst (λ (o : Stepping). StepsOnce d.tells d.clock d.faults d.reading d.may_leave d.left_since (g.S.Supplier.word c.args.gate.now.supply) c.args.me c.args.core.now c.step_core.new.core (Ok o)) c.in-Ok-Made.field-0-is c.in-Ok-Made.ensures in
+    let once = subst (λ (o : Stepping). StepsOnce d (g.S.Supplier.word c.args.gate.now.supply) c.args.me c.args.core.now c.step_core.new.core (Ok o)) c.in-Ok-Made.field-0-is c.in-Ok-Made.ensures in
     let flag = subst (λ (cs : List Cell). (s : Supply) (ws : ℕ → List ℕ) → owed_by c.args.me (Replied AnsweredOk) (locus_in (state_in s ws cs c.args.me).cell) ≡ (if c.stabilises_at-stabilises.result then Some c.args.me else None))
     (c.deref.ensures.value ∙ ap (λ (p : Parts g.row.D.Denot). p.cells) c.core.view_is) c.stabilises_at-stabilises.ensures in
     let run = once.run told b same stands calm in
-    let owed = owes_is d.tells d.clock d.faults d.reading d.may_leave d.left_since b (g.P.Policy.wish c.args.gate.now.policy) policy c.args.me c.args.core.now stands calm c.step_core.new.core c.in-Ok-Made.entry once.made run c.stabilises_at-stabilises.result flag in
-    err_stepped d.tells d.clock d.faults d.reading d.may_leave d.left_since b (g.P.Policy.wish c.args.gate.now.policy) policy c.args.me c.args.core.now stands calm c.keep_behind.result c.in-Err-keep_behind.why c.keep_behind.new.core c.in-Err-keep_behind.is
-    (look_behind_step d.tells d.clock d.faults d.reading d.may_leave d.left_since b (g.P.Policy.wish c.args.gate.now.policy) policy c.args.me c.args.core.now stands calm c.step_core.new.core c.in-Ok-Made.entry once.made run
+    let owed = owes_is d b (g.P.Policy.wish c.args.gate.now.policy) policy c.args.me c.args.core.now stands calm c.step_core.new.core c.in-Ok-Made.entry once.made run c.stabilises_at-stabilises.result flag in
+    err_stepped d b (g.P.Policy.wish c.args.gate.now.policy) policy c.args.me c.args.core.now stands calm c.keep_behind.result c.in-Err-keep_behind.why c.keep_behind.new.core c.in-Err-keep_behind.is
+    (look_behind_step d b (g.P.Policy.wish c.args.gate.now.policy) policy c.args.me c.args.core.now stands calm c.step_core.new.core c.in-Ok-Made.entry once.made run
     c.owes_stable-owes.result (owed ∙ ap (λ t. if t then Some c.args.me else None) (sym c.owes_stable-owes.ensures)) c.keep_behind.result c.keep_behind.new.core
     c.keep_behind.ensures.stabilised (λ is. c.keep_behind.ensures.stable is told b) (λ is. c.keep_behind.ensures.snaps is told b))
 
 pub returns-in-Ok-Idle-clause-run : goal.returns-in-Ok-Idle-clause-run
 returns-in-Ok-Idle-clause-run g c = λ told b same policy stands calm.
     let d = g.D.Disk in
-    let once = subst (λ (o : Stepping). StepsOnce d.tells d.clock d.faults d.reading d.may_leave d.left_since (g.S.Supplier.word c.args.gate.now.supply) c.args.me c.args.core.now c.step_core.new.core (Ok o)) c.in-Ok-Idle.field-0-is c.in-Ok-Idle.ensures in
-    subst (λ (p : Parts g.row.D.Denot). LooksInRun d.tells d.clock d.faults d.reading d.may_leave d.left_since b (g.P.Policy.wish c.args.gate.now.policy) c.args.me (ok_look (Idle c.in-Ok-Idle.why)) c.args.core.now p) (sym (once.still c.in-Ok-Idle.why refl))
-    (look_still d.tells d.clock d.faults d.reading d.may_leave d.left_since b (g.P.Policy.wish c.args.gate.now.policy) policy c.args.me c.args.core.now stands calm (once.run told b same stands calm) (ok_look (Idle c.in-Ok-Idle.why)) (Idle c.in-Ok-Idle.why) refl)
+    let once = subst (λ (o : Stepping). StepsOnce d (g.S.Supplier.word c.args.gate.now.supply) c.args.me c.args.core.now c.step_core.new.core (Ok o)) c.in-Ok-Idle.field-0-is c.in-Ok-Idle.ensures in
+    subst (λ (p : Parts g.row.D.Denot). LooksInRun d b (g.P.Policy.wish c.args.gate.now.policy) c.args.me (ok_look (Idle c.in-Ok-Idle.why)) c.args.core.now p) (sym (once.still c.in-Ok-Idle.why refl))
+    (look_still d b (g.P.Policy.wish c.args.gate.now.policy) policy c.args.me c.args.core.now stands calm (once.run told b same stands calm) (ok_look (Idle c.in-Ok-Idle.why)) (Idle c.in-Ok-Idle.why) refl)
 
 pub returns-in-Err-keep_behind-clause-stopped : goal.returns-in-Err-keep_behind-clause-stopped
 returns-in-Err-keep_behind-clause-stopped g c =
     let d = g.D.Disk in
-    let once = subst (λ (o : Stepping). StepsOnce d.tells d.clock d.faults d.reading d.may_leave d.left_since (g.S.Supplier.word c.args.gate.now.supply) c.args.me c.args.core.now c.step_core.new.core (Ok o)) c.in-Ok-Made.field-0-is c.in-Ok-Made.ensures in
+    let once = subst (λ (o : Stepping). StepsOnce d (g.S.Supplier.word c.args.gate.now.supply) c.args.me c.args.core.now c.step_core.new.core (Ok o)) c.in-Ok-Made.field-0-is c.in-Ok-Made.ensures in
     inr (record { mid = c.step_core.new.core; entry = c.in-Ok-Made.entry; stepped = once.made; leaves = c.in-Err-keep_behind.ensures.stopped })
 
 pub returns-in-Err-keep_behind-clause-part : goal.returns-in-Err-keep_behind-clause-part
 returns-in-Err-keep_behind-clause-part g c = λ told b same policy stands calm.
     let d = g.D.Disk in
-    let once = subst (λ (o : Stepping). StepsOnce d.tells d.clock d.faults d.reading d.may_leave d.left_since (g.S.Supplier.word c.args.gate.now.supply) c.args.me c.args.core.now c.step_core.new.core (Ok o)) c.in-Ok-Made.field-0-is c.in-Ok-Made.ensures in
+    let once = subst (λ (o : Stepping). StepsOnce d (g.S.Supplier.word c.args.gate.now.supply) c.args.me c.args.core.now c.step_core.new.core (Ok o)) c.in-Ok-Made.field-0-is c.in-Ok-Made.ensures in
     let flag = subst (λ (cs : List Cell). (s : Supply) (ws : ℕ → List ℕ) → owed_by c.args.me (Replied AnsweredOk) (locus_in (state_in s ws cs c.args.me).cell) ≡ (if c.stabilises_at-stabilises.result then Some c.args.me else None))
     (c.deref.ensures.value ∙ ap (λ (p : Parts g.row.D.Denot). p.cells) c.core.view_is) c.stabilises_at-stabilises.ensures in
     let run = once.run told b same stands calm in
-    let owed = owes_is d.tells d.clock d.faults d.reading d.may_leave d.left_since b (g.P.Policy.wish c.args.gate.now.policy) policy c.args.me c.args.core.now stands calm c.step_core.new.core c.in-Ok-Made.entry once.made run c.stabilises_at-stabilises.result flag in
-    part_behind_step d.tells d.clock d.faults d.reading d.may_leave d.left_since b (g.P.Policy.wish c.args.gate.now.policy) policy c.args.me c.args.core.now stands calm c.step_core.new.core c.in-Ok-Made.entry once.made run
+    let owed = owes_is d b (g.P.Policy.wish c.args.gate.now.policy) policy c.args.me c.args.core.now stands calm c.step_core.new.core c.in-Ok-Made.entry once.made run c.stabilises_at-stabilises.result flag in
+    part_behind_step d b (g.P.Policy.wish c.args.gate.now.policy) policy c.args.me c.args.core.now stands calm c.step_core.new.core c.in-Ok-Made.entry once.made run
     c.owes_stable-owes.result (owed ∙ ap (λ t. if t then Some c.args.me else None) (sym c.owes_stable-owes.ensures)) c.keep_behind.new.core.noted.entries
     (λ is. c.in-Err-keep_behind.ensures.stable_part is told b) (λ is. c.in-Err-keep_behind.ensures.snaps_part is told b)
 
 pub returns-in-Err-clause-part : goal.returns-in-Err-clause-part
 returns-in-Err-clause-part g c = λ told b same policy stands calm.
     let d = g.D.Disk in
-    part_at_step d.tells d.clock d.faults d.reading d.may_leave d.left_since b (g.P.Policy.wish c.args.gate.now.policy) policy c.args.me c.args.core.now stands calm c.step_core.new.core c.in-Err.ensures.failed.noted
+    part_at_step d b (g.P.Policy.wish c.args.gate.now.policy) policy c.args.me c.args.core.now stands calm c.step_core.new.core c.in-Err.ensures.failed.noted
 
 pub returns-in-Ok-clause-counts : goal.returns-in-Ok-clause-counts
 returns-in-Ok-clause-counts g c =
-    CountsWithin-then g.D.Disk.clock g.D.Disk.faults 1 (64 * 1556) c.args.core.now.store c.step_core.new.core.store c.keep_behind.new.core.store c.step_core.ensures.counts c.keep_behind.ensures.counts
+    CountsWithin-then g.D.Disk 1 (64 * 1556) c.args.core.now.store c.step_core.new.core.store c.keep_behind.new.core.store c.step_core.ensures.counts c.keep_behind.ensures.counts
 
 pub returns-in-Err-keep_behind-clause-counts : goal.returns-in-Err-keep_behind-clause-counts
 returns-in-Err-keep_behind-clause-counts g c =
-    CountsWithin-then g.D.Disk.clock g.D.Disk.faults 1 (64 * 1556) c.args.core.now.store c.step_core.new.core.store c.keep_behind.new.core.store c.step_core.ensures.counts c.keep_behind.ensures.counts
+    CountsWithin-then g.D.Disk 1 (64 * 1556) c.args.core.now.store c.step_core.new.core.store c.keep_behind.new.core.store c.step_core.ensures.counts c.keep_behind.ensures.counts
 
 pub returns-in-Err-keep_behind-clause-enough : goal.returns-in-Err-keep_behind-clause-enough
 returns-in-Err-keep_behind-clause-enough g c = λ told b same policy stands calm n is.
     let d = g.D.Disk in
-    let once = subst (λ (o : Stepping). StepsOnce d.tells d.clock d.faults d.reading d.may_leave d.left_since (g.S.Supplier.word c.args.gate.now.supply) c.args.me c.args.core.now c.step_core.new.core (Ok o)) c.in-Ok-Made.field-0-is c.in-Ok-Made.ensures in
+    let once = subst (λ (o : Stepping). StepsOnce d (g.S.Supplier.word c.args.gate.now.supply) c.args.me c.args.core.now c.step_core.new.core (Ok o)) c.in-Ok-Made.field-0-is c.in-Ok-Made.ensures in
     let flag = subst (λ (cs : List Cell). (s : Supply) (ws : ℕ → List ℕ) → owed_by c.args.me (Replied AnsweredOk) (locus_in (state_in s ws cs c.args.me).cell) ≡ (if c.stabilises_at-stabilises.result then Some c.args.me else None))
     (c.deref.ensures.value ∙ ap (λ (p : Parts g.row.D.Denot). p.cells) c.core.view_is) c.stabilises_at-stabilises.ensures in
     let run = once.run told b same stands calm in
-    let owed = owes_is d.tells d.clock d.faults d.reading d.may_leave d.left_since b (g.P.Policy.wish c.args.gate.now.policy) policy c.args.me c.args.core.now stands calm c.step_core.new.core c.in-Ok-Made.entry once.made run c.stabilises_at-stabilises.result flag in
+    let owed = owes_is d b (g.P.Policy.wish c.args.gate.now.policy) policy c.args.me c.args.core.now stands calm c.step_core.new.core c.in-Ok-Made.entry once.made run c.stabilises_at-stabilises.result flag in
     let owes = owed ∙ ap (λ t. if t then Some c.args.me else None) (sym c.owes_stable-owes.ensures) in
-    lacks_behind_step d.tells d.clock d.faults d.reading d.may_leave d.left_since b (g.P.Policy.wish c.args.gate.now.policy) policy c.args.me c.args.core.now stands calm c.step_core.new.core c.in-Ok-Made.entry once.made run c.owes_stable-owes.result owes c.keep_behind.new.core
+    lacks_behind_step d b (g.P.Policy.wish c.args.gate.now.policy) policy c.args.me c.args.core.now stands calm c.step_core.new.core c.in-Ok-Made.entry once.made run c.owes_stable-owes.result owes c.keep_behind.new.core
     (c.in-Err-keep_behind.ensures.enough told b
-    (owes_then d.tells d.clock d.faults d.reading d.may_leave d.left_since b (g.P.Policy.wish c.args.gate.now.policy) policy c.args.me c.args.core.now stands calm c.step_core.new.core c.in-Ok-Made.entry once.made run c.owes_stable-owes.result owes)
-    (free_then d.tells d.clock d.faults d.reading d.may_leave d.left_since b (g.P.Policy.wish c.args.gate.now.policy) policy c.args.me c.args.core.now stands calm c.step_core.new.core c.in-Ok-Made.entry once.made run c.owes_stable-owes.result owes)
+    (owes_then d b (g.P.Policy.wish c.args.gate.now.policy) policy c.args.me c.args.core.now stands calm c.step_core.new.core c.in-Ok-Made.entry once.made run c.owes_stable-owes.result owes)
+    (free_then d b (g.P.Policy.wish c.args.gate.now.policy) policy c.args.me c.args.core.now stands calm c.step_core.new.core c.in-Ok-Made.entry once.made run c.owes_stable-owes.result owes)
     n (err_over Look ⊤ c.in-Err-keep_behind.why (TooFew n) is))
 
 pub returns-in-Err-clause-enough : goal.returns-in-Err-clause-enough
@@ -109,19 +109,19 @@ returns-in-Err-clause-enough g c = λ told b same policy stands calm n is.
 pub returns-in-Ok-clause-idle : goal.returns-in-Ok-clause-idle
 returns-in-Ok-clause-idle g c = λ s words why.
     let d = g.D.Disk in
-    let once = subst (λ (o : Stepping). StepsOnce d.tells d.clock d.faults d.reading d.may_leave d.left_since (g.S.Supplier.word c.args.gate.now.supply) c.args.me c.args.core.now c.step_core.new.core (Ok o)) c.in-Ok-Made.field-0-is c.in-Ok-Made.ensures in
+    let once = subst (λ (o : Stepping). StepsOnce d (g.S.Supplier.word c.args.gate.now.supply) c.args.me c.args.core.now c.step_core.new.core (Ok o)) c.in-Ok-Made.field-0-is c.in-Ok-Made.ensures in
     idle_behind c.in-Ok-Made.entry why (ok_look Stepped) (idle_at s words c.args.me c.args.core.now.cells ≡ Some why) (λ is. cc is) (once.idle s words why)
 
 pub returns-in-Err-keep_behind-clause-idle : goal.returns-in-Err-keep_behind-clause-idle
 returns-in-Err-keep_behind-clause-idle g c = λ s words why.
     let d = g.D.Disk in
-    let once = subst (λ (o : Stepping). StepsOnce d.tells d.clock d.faults d.reading d.may_leave d.left_since (g.S.Supplier.word c.args.gate.now.supply) c.args.me c.args.core.now c.step_core.new.core (Ok o)) c.in-Ok-Made.field-0-is c.in-Ok-Made.ensures in
+    let once = subst (λ (o : Stepping). StepsOnce d (g.S.Supplier.word c.args.gate.now.supply) c.args.me c.args.core.now c.step_core.new.core (Ok o)) c.in-Ok-Made.field-0-is c.in-Ok-Made.ensures in
     idle_behind c.in-Ok-Made.entry why (err_result c.in-Err-keep_behind.why) (idle_at s words c.args.me c.args.core.now.cells ≡ Some why) (λ is. cc is) (once.idle s words why)
 
 pub returns-in-Ok-Idle-clause-idle : goal.returns-in-Ok-Idle-clause-idle
 returns-in-Ok-Idle-clause-idle g c = λ s words why.
     let d = g.D.Disk in
-    let once = subst (λ (o : Stepping). StepsOnce d.tells d.clock d.faults d.reading d.may_leave d.left_since (g.S.Supplier.word c.args.gate.now.supply) c.args.me c.args.core.now c.step_core.new.core (Ok o)) c.in-Ok-Idle.field-0-is c.in-Ok-Idle.ensures in
+    let once = subst (λ (o : Stepping). StepsOnce d (g.S.Supplier.word c.args.gate.now.supply) c.args.me c.args.core.now c.step_core.new.core (Ok o)) c.in-Ok-Idle.field-0-is c.in-Ok-Idle.ensures in
     idle_told c.in-Ok-Idle.why why (idle_at s words c.args.me c.args.core.now.cells ≡ Some why) (once.idle s words why)
 
 pub returns-in-Err-clause-idle : goal.returns-in-Err-clause-idle

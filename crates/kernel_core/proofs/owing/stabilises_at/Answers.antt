@@ -1,10 +1,10 @@
 use Rattle.std.proofs.Common.{◌≡◌, slice_get, get_or, Some, sym, ap, ◌∙◌, arith}
 use Rattle.std.proofs.lemmas.Option.{slice_get-get_or}
-use Rattle.hop_base.specs.declared.histories.Answer.TheVariants.{Reply as Replied}
-use Rattle.hop_base.specs.declared.instructions.Reply.TheVariants.{Ok as OkReply}
-use Rattle.core_laws.specs.kernel_commits.hop_model.Histories.{owed_by}
-use Rattle.store_steps.proofs.cell_table_lemmas.Facing.{ready_at}
-use Rattle.core_laws.proofs.StableOwed.{cell_at_is}
+use Rattle.base_types.specs.declared.histories.Answer.TheVariants.{Reply as Replied}
+use Rattle.base_types.specs.declared.instructions.Reply.TheVariants.{Ok as OkReply}
+use Rattle.script_types.specs.model_kernel.Histories.{owed_by}
+use Rattle.kernel_core_facts.proofs.table_laws_lemmas.Facing.{ready_at}
+use Rattle.kernel_core_facts.proofs.StableOwed.{cell_at_is}
 use Rattle.kernel_core.proofs.owing.stabilises_at.Goals as goal
 
 pub stabilises_in-requires : goal.stabilises_in-requires

@@ -1,5 +1,5 @@
 use Rattle.std.proofs.Common.{ap, ◌∙◌}
-use Rattle.core_laws.specs.birth_views.kernel_cells.declared.cells.Part.TheVariants as part
+use Rattle.kernel_core_facts.specs.cell_states.declared.cells.Part.TheVariants as part
 use Rattle.kernel_core.proofs.owing.stabilises_in.Goals as goal
 
 pub stabilises_there-requires : goal.stabilises_there-requires

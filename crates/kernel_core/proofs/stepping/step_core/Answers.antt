@@ -1,7 +1,7 @@
 use Rattle.std.proofs.Common.{sym, subst}
-use Rattle.core_laws.specs.birth_views.cell_table.Tables.{AreClean}
-use Rattle.core_laws.specs.birth_views.record_laws.Cells.{words_on}
-use Rattle.core_laws.specs.kernel_commits.commit_laws.Parts.{Parts}
+use Rattle.kernel_core_facts.specs.table_laws.Tables.{AreClean}
+use Rattle.kernel_core_facts.specs.kernel_record_facts.Cells.{words_on}
+use Rattle.kernel_core_facts.specs.kernel_commit_facts.Parts.{Parts}
 use Rattle.kernel_core.proofs.stepping.step_core.Goals as goal
 
 pub step_among-requires-clause-clean : goal.step_among-requires-clause-clean

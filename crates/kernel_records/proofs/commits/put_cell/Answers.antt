@@ -3,17 +3,17 @@ use Rattle.std.specs.Prelude.{IfErr, OnOk, Result, Ok, Err}
 use Rattle.std.specs.Result.{is_err}
 use Rattle.std.proofs.lemmas.Result.{err_from_is_err_and}
 use Rattle.std.proofs.lemmas.Bool.{cases_lt}
-use Rattle.disk_trait.specs.Counts.{Rose}
-use Rattle.disk_tally.proofs.Counting.{CountsOn-then}
-use Rattle.record_laws.specs.store_model.Books.{free_in, kept_names}
-use Rattle.snapshot_store.specs.store_laws.State.{State, books}
-use Rattle.snapshot_store.specs.declared.faults.StoreFault.TheVariants.{WriteFault}
-use Rattle.snapshot_store.specs.page_store.Pages.{IsWriteFault}
-use Rattle.snapshot_store.specs.page_store.declared.faults.PageFault.{PageFault}
-use Rattle.wish_laws.specs.fault_paging.Calls.{IsCausedBy}
-use Rattle.wish_laws.specs.kernel_cells.declared.cells.Cell.{Cell}
-use Rattle.record_laws.specs.cell_blobs.Blobs.{blob_need, page_need}
-use Rattle.record_laws.specs.Cells.{IsSettled, words_on}
+use Rattle.edge_disk.specs.Counts.{Rose}
+use Rattle.edge_tally.proofs.Counting.{CountsOn-then}
+use Rattle.kernel_block_laws.specs.store_books.Books.{free_in, kept_names}
+use Rattle.store_snapshots.specs.store_facts.State.{State, books}
+use Rattle.store_snapshots.specs.declared.faults.StoreFault.TheVariants.{WriteFault}
+use Rattle.page_store.specs.Pages.{IsWriteFault}
+use Rattle.page_store.specs.declared.faults.PageFault.{PageFault}
+use Rattle.cell_wish_laws.specs.page_memory.Calls.{IsCausedBy}
+use Rattle.cell_wish_laws.specs.cell_states.declared.cells.Cell.{Cell}
+use Rattle.kernel_record_facts.specs.cell_blobs.Blobs.{blob_need, page_need}
+use Rattle.kernel_record_facts.specs.Cells.{IsSettled, words_on}
 use Rattle.kernel_records.proofs.Joining.{failed_by, may_again, moments_pages, moments_then, small_on}
 use Rattle.kernel_records.proofs.Leaving.{failed_commit, failed_pages, made_commit}
 use Rattle.kernel_records.proofs.Spelling.{same_need}
@@ -58,7 +58,7 @@ record_cell-requires-clause-free g c =
 pub returns-then-is_err-clause-unmade : goal.returns-then-is_err-clause-unmade
 returns-then-is_err-clause-unmade g c =
     let f = c.flush_part-flushed.ensures in
-    failed_pages g.D.Disk.tells g.D.Disk.clock g.D.Disk.reading g.D.Disk.may_leave g.D.Disk.left_since c.args.cell.now c.flush_part-flushed.new.part c.args.store.now c.flush_part-flushed.new.store
+    failed_pages g.D.Disk c.args.cell.now c.flush_part-flushed.new.part c.args.store.now c.flush_part-flushed.new.store
     (record { flushes = f.flushes; only = f.between.only; table = f.table; means = f.means }) c.held_law.ensures
 
 pub returns-then-is_err-clause-failed : goal.returns-then-is_err-clause-failed
@@ -71,7 +71,7 @@ returns-then-is_err-clause-failed g c = λ e is.
 pub returns-then-is_err-clause-any_moment : goal.returns-then-is_err-clause-any_moment
 returns-then-is_err-clause-any_moment g c = λ t small own.
     let d : Cell = record c.args.cell.now { part = c.flush_part-flushed.new.part } in
-    moments_pages g.D.Disk.tells g.D.Disk.clock g.D.Disk.reading g.D.Disk.may_leave g.D.Disk.left_since c.args.cell.now d c.args.store.now c.flush_part-flushed.new.store t
+    moments_pages g.D.Disk c.args.cell.now d c.args.store.now c.flush_part-flushed.new.store t
     c.flush_part-flushed.ensures.between.only (c.requires.true_books t) small c.requires.working
 
 -- A WRITE OF THE RECORD FAILED
@@ -81,7 +81,7 @@ returns-in_err-record_cell-clause-unmade g c =
     let f = c.flush_part-flushed.ensures in
     let p = err_from_is_err_and c.from_residual.result c.from_residual.ensures.1 in
     let failed = c.record_cell.ensures.failed c.in_err-record_cell.field-0.0 c.in_err-record_cell.was in
-    rw p.1 (failed_commit g.D.Disk.tells g.D.Disk.clock g.D.Disk.reading g.D.Disk.may_leave g.D.Disk.left_since c.args.cell.now c.flush_part-flushed.new.part c.args.store.now c.flush_part-flushed.new.store c.record_cell.new.store
+    rw p.1 (failed_commit g.D.Disk c.args.cell.now c.flush_part-flushed.new.part c.args.store.now c.flush_part-flushed.new.store c.record_cell.new.store
     (record { flushes = f.flushes; only = f.between.only; table = f.table; means = f.means }) c.held_law.ensures c.record_cell.ensures.same_used failed.2)
 
 pub returns-in_err-record_cell-clause-failed : goal.returns-in_err-record_cell-clause-failed
@@ -98,7 +98,7 @@ pub returns-in_err-record_cell-clause-any_moment : goal.returns-in_err-record_ce
 returns-in_err-record_cell-clause-any_moment g c = λ t small own.
     let f = c.flush_part-flushed.ensures in
     let d : Cell = record c.args.cell.now { part = c.flush_part-flushed.new.part } in
-    moments_then g.D.Disk.tells g.D.Disk.clock g.D.Disk.reading g.D.Disk.may_leave g.D.Disk.left_since c.args.cell.now d c.args.store.now c.flush_part-flushed.new.store t c.record_cell.new.store.disk
+    moments_then g.D.Disk c.args.cell.now d c.args.store.now c.flush_part-flushed.new.store t c.record_cell.new.store.disk
     (record { flushes = f.flushes; only = f.between.only; table = f.table; means = f.means }) c.record_cell.ensures.spelt (worked c.flush_part-flushed.result (sym c.is_err.ensures.value ∙ c.if-is_err.false) f.settled) (c.requires.true_books t) small c.requires.working
     (c.record_cell.ensures.any_moment t (small_on (books c.args.store.now) (books c.flush_part-flushed.new.store) f.between.only.same_small f.between.only.same_place small) own)
 
@@ -120,7 +120,7 @@ returns-clause-made g c =
     let f = c.flush_part-flushed.ensures in
     let settled : IsSettled c.flush_part-flushed.new.part = worked c.flush_part-flushed.result (sym c.is_err.ensures.value ∙ c.if-is_err.false) f.settled in
     let free = worked c.flush_part-flushed.result (sym c.is_err.ensures.value ∙ c.if-is_err.false) f.free in
-    made_commit g.D.Disk.tells g.D.Disk.clock g.D.Disk.reading g.D.Disk.may_leave g.D.Disk.left_since c.args.cell.now c.flush_part-flushed.new.part c.args.store.now c.flush_part-flushed.new.store c.record_cell.new.store
+    made_commit g.D.Disk c.args.cell.now c.flush_part-flushed.new.part c.args.store.now c.flush_part-flushed.new.store c.record_cell.new.store
     (record { flushes = f.flushes; only = f.between.only; table = f.table; means = f.means }) c.held_law.ensures c.record_cell.ensures.same_used c.in_ok-record_cell.ensures.made c.record_cell.ensures.spelt settled
     free c.requires.may.spellable.formed
 
@@ -128,7 +128,7 @@ pub returns-clause-any_moment : goal.returns-clause-any_moment
 returns-clause-any_moment g c = λ t small own.
     let f = c.flush_part-flushed.ensures in
     let d : Cell = record c.args.cell.now { part = c.flush_part-flushed.new.part; wish = record { by_step = false; asked = false; newest = c.args.cell.now.clock.version } } in
-    moments_then g.D.Disk.tells g.D.Disk.clock g.D.Disk.reading g.D.Disk.may_leave g.D.Disk.left_since c.args.cell.now d c.args.store.now c.flush_part-flushed.new.store t c.record_cell.new.store.disk
+    moments_then g.D.Disk c.args.cell.now d c.args.store.now c.flush_part-flushed.new.store t c.record_cell.new.store.disk
     (record { flushes = f.flushes; only = f.between.only; table = f.table; means = f.means }) (record { spells = c.record_cell.ensures.spelt.spells; components = c.record_cell.ensures.spelt.components }) (worked c.flush_part-flushed.result (sym c.is_err.ensures.value ∙ c.if-is_err.false) f.settled) (c.requires.true_books t) small c.requires.working
     (c.record_cell.ensures.any_moment t (small_on (books c.args.store.now) (books c.flush_part-flushed.new.store) f.between.only.same_small f.between.only.same_place small) own)
 

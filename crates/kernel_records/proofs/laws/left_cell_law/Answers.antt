@@ -2,4 +2,4 @@ use Rattle.kernel_records.proofs.Telling.{left_cell}
 use Rattle.kernel_records.proofs.laws.left_cell_law.Goals as goal
 
 pub returns : goal.returns
-returns g c = left_cell g.D.Disk.tells g.D.Disk.clock g.D.Disk.reading g.D.Disk.may_leave g.D.Disk.left_since
+returns g c = left_cell g.D.Disk

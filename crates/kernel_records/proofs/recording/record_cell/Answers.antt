@@ -1,11 +1,11 @@
 use Rattle.std.proofs.Common.{◌≡◌, ℕ, ◌≤◌, List, length, sym, ap, subst}
 use Rattle.std.specs.Prelude.{IfSome}
-use Rattle.snapshot_store.specs.image_form.Bodies.{blocks_for}
-use Rattle.record_laws.specs.image_meaning.Parts.{Spells}
-use Rattle.record_laws.specs.cell_blobs.Blobs.{blob_need, spelt_in}
-use Rattle.record_laws.specs.store_model.Books.{free_in}
-use Rattle.snapshot_store.specs.store_laws.State.{books}
-use Rattle.snapshot_store.specs.page_shadow.Ledger.{is_held}
+use Rattle.kernel_block_laws.specs.image_facts.Bodies.{blocks_for}
+use Rattle.kernel_record_facts.specs.image_meaning.Parts.{Spells}
+use Rattle.kernel_record_facts.specs.cell_blobs.Blobs.{blob_need, spelt_in}
+use Rattle.kernel_block_laws.specs.store_books.Books.{free_in}
+use Rattle.store_snapshots.specs.store_facts.State.{books}
+use Rattle.data_blocks.specs.Ledger.{is_held}
 use Rattle.kernel_records.proofs.Rests.{held_pages, only_write, record_made}
 use Rattle.kernel_records.proofs.Spelling.{bytes_some}
 use Rattle.kernel_records.proofs.recording.record_cell.Goals as goal
@@ -28,7 +28,7 @@ returns-clause-spelt g c =
 
 pub returns-clause-made : goal.returns-clause-made
 returns-clause-made g c =
-    record_made g.D.Disk.tells g.D.Disk.clock g.D.Disk.reading g.D.Disk.may_leave g.D.Disk.left_since c.args.cell.now c.args.store.now c.commit.new.self c.commit.result c.write_part.new.blob c.table_of-table.result.0
+    record_made g.D.Disk c.args.cell.now c.args.store.now c.commit.new.self c.commit.result c.write_part.new.blob c.table_of-table.result.0
     c.write_part.ensures.bytes c.table_of-table.ensures c.commit.ensures.in_memory c.commit.ensures.committed c.commit.ensures.small
 
 pub returns-clause-failed : goal.returns-clause-failed

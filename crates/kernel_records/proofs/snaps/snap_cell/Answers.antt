@@ -1,10 +1,10 @@
 use Rattle.std.proofs.Common.{◌≡◌, ℕ, true, false, List, [], Ok, Err, Some, sym, ap, ◌∙◌, arith}
 use Rattle.std.proofs.lemmas.Bool.{false≢true}
 use Rattle.std.proofs.lemmas.Result.{err_from_is_err_and}
-use Rattle.hop_base.specs.declared.histories.Entry.{Entry}
-use Rattle.snapshot_store.specs.hop_model.State.{Supply}
-use Rattle.snapshot_store.specs.store_laws.State.{books}
-use Rattle.record_laws.specs.cell_blobs.Blobs.{is_recorded}
+use Rattle.base_types.specs.declared.histories.Entry.{Entry}
+use Rattle.page_store.specs.model_kernel.State.{Supply}
+use Rattle.store_snapshots.specs.store_facts.State.{books}
+use Rattle.kernel_record_facts.specs.cell_blobs.Blobs.{is_recorded}
 use Rattle.kernel_records.specs.Snapping.{is_snapped}
 use Rattle.kernel_records.proofs.Faulting.{handed_on, is_changed, is_few, is_wished, snapped}
 use Rattle.kernel_records.proofs.snaps.snap_cell.Goals as goal

@@ -1,12 +1,12 @@
 use Rattle.std.proofs.Common.{◌≡◌, [], ◌∷◌, ◌++◌, Some}
-use Rattle.disk_trait.specs.declared.disk.NoBlocks.{NoBlocks as TooFewBlocks}
+use Rattle.edge_disk.specs.declared.disk.NoBlocks.{NoBlocks as TooFewBlocks}
 use Rattle.kernel_core.specs.kernel_commits.declared.stopping.Stopped.TheVariants.{TooFew}
 use Rattle.kernel_core.specs.declared.looking.Looked.{Looked}
-use Rattle.kernel_core.proofs.serial_turns_lemmas.Whereabouts.{looked_more}
-use Rattle.kernel_core.specs.serial_runs.Serial.{look}
-use Rattle.kernel_core.specs.kernel_model.Beginnings.{run_of}
-use Rattle.kernel_core.specs.commit_laws.Lacking.{LacksIn}
-use Rattle.kernel_core.proofs.commit_laws_lemmas.Dues.{due_looks}
+use Rattle.kernel_core.proofs.model_serial_turns_lemmas.Whereabouts.{looked_more}
+use Rattle.kernel_core.specs.model_serial.Serial.{look}
+use Rattle.kernel_core.specs.kernel_invariant.Beginnings.{run_of}
+use Rattle.kernel_core.specs.kernel_commit_facts.Lacking.{LacksIn}
+use Rattle.kernel_core.proofs.kernel_commit_facts_lemmas.Dues.{due_looks}
 use Rattle.kernel_runs.proofs.Alongs.{told_stop}
 use Rattle.kernel_runs.proofs.Caused.{look_cause}
 use Rattle.kernel_runs.proofs.Course.{one_look, part_of_look}
@@ -47,4 +47,4 @@ returns-in-Err-clause-run g c = λ told b looked given first along.
 pub returns-in-Err-clause-caused : goal.returns-in-Err-clause-caused
 returns-in-Err-clause-caused g c =
     let d = g.D.Disk in
-    look_cause d.tells d.clock d.faults d.reading d.may_leave d.left_since c.args.locus c.args.kernel.now.parts c.step.new.self.parts Looked c.in-Err.why (c.in-Err.ensures.stopped c.requires.going) (c.in-Err.ensures.failed c.requires.going)
+    look_cause d c.args.locus c.args.kernel.now.parts c.step.new.self.parts Looked c.in-Err.why (c.in-Err.ensures.stopped c.requires.going) (c.in-Err.ensures.failed c.requires.going)

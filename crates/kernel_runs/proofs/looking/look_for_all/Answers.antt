@@ -3,10 +3,10 @@ use Rattle.std.specs.Option.{option_map}
 use Rattle.std.specs.Prelude.{string_bytes}
 use Rattle.std.proofs.lemmas.List.{length-map}
 use Rattle.std.proofs.lemmas.Option.{slice_get-map, slice_get_read}
-use Rattle.kernel_core.specs.serial_turns.Turns.{before_pick}
-use Rattle.kernel_core.proofs.serial_turns_lemmas.Course.{all_picked}
+use Rattle.kernel_core.specs.model_serial_turns.Turns.{before_pick}
+use Rattle.kernel_core.proofs.model_serial_turns_lemmas.Course.{all_picked}
 use Rattle.kernel_runs.specs.Running.{RunsAlong, look_most, opened_in}
-use Rattle.kernel_core.proofs.commit_laws_lemmas.Counting.{CountsWithin-fewer, CountsWithin-stay, CountsWithin-then}
+use Rattle.kernel_core.proofs.kernel_commit_facts_lemmas.Counting.{CountsWithin-fewer, CountsWithin-stay, CountsWithin-then}
 use Rattle.kernel_runs.proofs.Caused.{cause_from}
 use Rattle.kernel_runs.proofs.looking.look_for_all.Goals as goal
 
@@ -14,7 +14,7 @@ pub loop-i-init : goal.loop-i-init
 loop-i-init g c = record {
   going = c.requires.going;
   clean = c.requires.clean;
-  counts = CountsWithin-stay g.D.Disk.clock g.D.Disk.faults 0 c.args.kernel.now.parts.store;
+  counts = CountsWithin-stay g.D.Disk 0 c.args.kernel.now.parts.store;
   run = λ told b given order along. along;
 }
 
@@ -28,8 +28,8 @@ loop-i-preserved g c =
       going = c.in_default.ensures.goes;
       clean = c.look_for.ensures.clean;
       counts =
-          CountsWithin-fewer d.clock d.faults (i * look_most + look_most) ((i + 1) * look_most) c.args.kernel.now.parts.store c.look_for.new.kernel.parts.store (omega arith)
-          (CountsWithin-then d.clock d.faults (i * look_most) look_most c.args.kernel.now.parts.store c.loop-i.kernel.parts.store c.look_for.new.kernel.parts.store c.loop-i.invariant.counts c.look_for.ensures.counts);
+          CountsWithin-fewer d (i * look_most + look_most) ((i + 1) * look_most) c.args.kernel.now.parts.store c.look_for.new.kernel.parts.store (omega arith)
+          (CountsWithin-then d (i * look_most) look_most c.args.kernel.now.parts.store c.loop-i.kernel.parts.store c.look_for.new.kernel.parts.store c.loop-i.invariant.counts c.look_for.ensures.counts);
       run = λ told b given order along.
           let here : slice_get b.script.order i ≡ Some c.as_str.result.now =
           ap (λ ns. slice_get ns i) order ∙ slice_get-map string_bytes xs i ∙ ap (option_map string_bytes) (slice_get_read xs (length xs) i c.index-order-i.result refl low c.index-order-i.is) ∙ ap Some (sym c.as_str.ensures.value) in
@@ -45,14 +45,14 @@ returns-in-Err-clause-counts g c =
     let d = g.D.Disk in
     let i = c.loop-i.i in
     let low : i < length c.args.order.now = omega (arith, c.loop-i-test.true) in
-    CountsWithin-fewer d.clock d.faults (i * look_most + look_most) (length c.args.order.now * look_most) c.args.kernel.now.parts.store c.look_for.new.kernel.parts.store (omega (arith, low))
-    (CountsWithin-then d.clock d.faults (i * look_most) look_most c.args.kernel.now.parts.store c.loop-i.kernel.parts.store c.look_for.new.kernel.parts.store c.loop-i.invariant.counts c.look_for.ensures.counts)
+    CountsWithin-fewer d (i * look_most + look_most) (length c.args.order.now * look_most) c.args.kernel.now.parts.store c.look_for.new.kernel.parts.store (omega (arith, low))
+    (CountsWithin-then d (i * look_most) look_most c.args.kernel.now.parts.store c.loop-i.kernel.parts.store c.look_for.new.kernel.parts.store c.loop-i.invariant.counts c.look_for.ensures.counts)
 
 pub returns-clause-counts : goal.returns-clause-counts
 returns-clause-counts g c =
     let d = g.D.Disk in
     let end : c.loop-i.i ≤ length c.args.order.now = omega (arith, c.loop-i.auto.i-end) in
-    CountsWithin-fewer d.clock d.faults (c.loop-i.i * look_most) (length c.args.order.now * look_most) c.args.kernel.now.parts.store c.loop-i.kernel.parts.store (omega (arith, end)) c.loop-i.invariant.counts
+    CountsWithin-fewer d (c.loop-i.i * look_most) (length c.args.order.now * look_most) c.args.kernel.now.parts.store c.loop-i.kernel.parts.store (omega (arith, end)) c.loop-i.invariant.counts
 
 pub returns-in-Err-clause-run : goal.returns-in-Err-clause-run
 returns-in-Err-clause-run g c = λ told b given order along.
@@ -70,6 +70,6 @@ returns-clause-run g c = λ told b given order along.
     let done : c.loop-i.i ≡ length b.script.order = (let e = c.loop-i.auto.i-end in let f = c.loop-i-test.false in let same : c.loop-i.i ≡ length xs = omega (arith, e, f) in same ∙ sym (length-map xs string_bytes) ∙ sym (ap length order)) in
     let all = ap (before_pick b.script (opened_in b)) done ∙ all_picked b.script (opened_in b) in
     record {
-      along = subst (λ ls. RunsAlong d.tells d.clock d.faults d.reading d.may_leave d.left_since b ls c.loop-i.kernel) all (c.loop-i.invariant.run told b given order along);
+      along = subst (λ ls. RunsAlong d b ls c.loop-i.kernel) all (c.loop-i.invariant.run told b given order along);
       stopped = tt;
     }

@@ -2,14 +2,14 @@ use Rattle.std.proofs.Common.{◌≤◌, ◌+◌, ◌*◌, ◌^◌, length, arit
 use Rattle.kernel_runs.specs.Running.{look_most}
 use Rattle.kernel_runs.proofs.Caused.{cause_from}
 use Rattle.kernel_runs.proofs.Alongs.{ends}
-use Rattle.kernel_core.proofs.commit_laws_lemmas.Counting.{CountsWithin-fewer, CountsWithin-stay, CountsWithin-then}
+use Rattle.kernel_core.proofs.kernel_commit_facts_lemmas.Counting.{CountsWithin-fewer, CountsWithin-stay, CountsWithin-then}
 use Rattle.kernel_runs.proofs.rounds.go_round.Goals as goal
 
 pub loop-why-init : goal.loop-why-init
 loop-why-init g c = record {
   going = c.requires.going;
   clean = c.requires.clean;
-  counts = CountsWithin-stay g.D.Disk.clock g.D.Disk.faults (length c.args.kernel.now.parts.noted.entries * (23 * look_most)) c.args.kernel.now.parts.store;
+  counts = CountsWithin-stay g.D.Disk (length c.args.kernel.now.parts.noted.entries * (23 * look_most)) c.args.kernel.now.parts.store;
   run = λ told b made given along. (made, along);
 }
 
@@ -23,8 +23,8 @@ loop-why-preserved g c =
       going = c.in_default.ensures.goes;
       clean = c.round.ensures.clean;
       counts =
-          CountsWithin-fewer d.clock d.faults (n * (23 * look_most) + 23 * look_most) (m * (23 * look_most)) c.args.kernel.now.parts.store c.round.new.kernel.parts.store (omega (arith, more))
-          (CountsWithin-then d.clock d.faults (n * (23 * look_most)) (23 * look_most) c.args.kernel.now.parts.store c.loop-why.kernel.parts.store c.round.new.kernel.parts.store c.loop-why.invariant.counts c.round.ensures.counts);
+          CountsWithin-fewer d (n * (23 * look_most) + 23 * look_most) (m * (23 * look_most)) c.args.kernel.now.parts.store c.round.new.kernel.parts.store (omega (arith, more))
+          (CountsWithin-then d (n * (23 * look_most)) (23 * look_most) c.args.kernel.now.parts.store c.loop-why.kernel.parts.store c.round.new.kernel.parts.store c.loop-why.invariant.counts c.round.ensures.counts);
       run = λ told b made given along.
           let at = c.loop-why.invariant.run told b made given along in
           (at.0 + 1, (c.in_default.ensures.run told b at.0 given at.1).along);
@@ -47,8 +47,8 @@ returns-in-Err-clause-counts g c =
     let d = g.D.Disk in
     let n = length c.loop-why.kernel.parts.noted.entries in
     let few : n ≤ 2 ^ 22 = (let was = c.entries_noted-noted.ensures.count in let most = c.entries_noted-noted.ensures.few c.loop-why.invariant.going in omega (arith, was, most)) in
-    CountsWithin-fewer d.clock d.faults (n * (23 * look_most) + 23 * look_most) ((2 ^ 22 + 1) * (23 * look_most)) c.args.kernel.now.parts.store c.round.new.kernel.parts.store (omega (arith, few))
-    (CountsWithin-then d.clock d.faults (n * (23 * look_most)) (23 * look_most) c.args.kernel.now.parts.store c.loop-why.kernel.parts.store c.round.new.kernel.parts.store c.loop-why.invariant.counts c.round.ensures.counts)
+    CountsWithin-fewer d (n * (23 * look_most) + 23 * look_most) ((2 ^ 22 + 1) * (23 * look_most)) c.args.kernel.now.parts.store c.round.new.kernel.parts.store (omega (arith, few))
+    (CountsWithin-then d (n * (23 * look_most)) (23 * look_most) c.args.kernel.now.parts.store c.loop-why.kernel.parts.store c.round.new.kernel.parts.store c.loop-why.invariant.counts c.round.ensures.counts)
 
 pub returns-in-Err-clause-run : goal.returns-in-Err-clause-run
 returns-in-Err-clause-run g c = λ told b made given along.
@@ -60,8 +60,8 @@ returns-then-entries_noted-noted-clause-counts g c =
     let d = g.D.Disk in
     let n = length c.loop-why.kernel.parts.noted.entries in
     let few : n ≤ 2 ^ 22 = (let was = c.entries_noted-noted.ensures.count in let most = c.entries_noted-noted.ensures.few c.loop-why.invariant.going in omega (arith, was, most)) in
-    CountsWithin-fewer d.clock d.faults (n * (23 * look_most) + 23 * look_most) ((2 ^ 22 + 1) * (23 * look_most)) c.args.kernel.now.parts.store c.round.new.kernel.parts.store (omega (arith, few))
-    (CountsWithin-then d.clock d.faults (n * (23 * look_most)) (23 * look_most) c.args.kernel.now.parts.store c.loop-why.kernel.parts.store c.round.new.kernel.parts.store c.loop-why.invariant.counts c.round.ensures.counts)
+    CountsWithin-fewer d (n * (23 * look_most) + 23 * look_most) ((2 ^ 22 + 1) * (23 * look_most)) c.args.kernel.now.parts.store c.round.new.kernel.parts.store (omega (arith, few))
+    (CountsWithin-then d (n * (23 * look_most)) (23 * look_most) c.args.kernel.now.parts.store c.loop-why.kernel.parts.store c.round.new.kernel.parts.store c.loop-why.invariant.counts c.round.ensures.counts)
 
 pub returns-then-entries_noted-noted-clause-run : goal.returns-then-entries_noted-noted-clause-run
 returns-then-entries_noted-noted-clause-run g c = λ told b made given along.
@@ -70,6 +70,6 @@ returns-then-entries_noted-noted-clause-run g c = λ told b made given along.
     let few : length c.round.new.kernel.parts.noted.entries ≤ length c.loop-why.kernel.parts.noted.entries =
     (let was = c.entries_noted-noted.ensures.count in let is = c.entries_noted.ensures.count in let le = c.if-entries_noted-noted.true in omega (arith, was, is, le)) in
     record {
-      over = ends d.tells d.clock d.faults d.reading d.may_leave d.left_since (g.S.Supplier.word c.args.gate.now.supply) (g.P.Policy.wish c.args.gate.now.policy) b at.0 c.loop-why.kernel c.round.new.kernel given at.1 (c.in_default.ensures.run told b at.0 given at.1).along few;
+      over = ends d (g.S.Supplier.word c.args.gate.now.supply) (g.P.Policy.wish c.args.gate.now.policy) b at.0 c.loop-why.kernel c.round.new.kernel given at.1 (c.in_default.ensures.run told b at.0 given at.1).along few;
       stopped = tt;
     }

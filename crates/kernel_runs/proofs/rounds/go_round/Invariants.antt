@@ -1,19 +1,19 @@
 use Rattle.std.proofs.Common.{◌≡◌, ◌-◌, ◌*◌, ◌^◌, None, ℕ, length}
-use Rattle.kernel_core.specs.hop_model.Serial.{looks_of}
-use Rattle.kernel_core.specs.commit_laws.Pieces.{CountsWithin}
-use Rattle.kernel_core.specs.core_laws.Kernels.{StaysClean}
-use Rattle.kernel_core.specs.kernel_model.Beginnings.{Beginning}
+use Rattle.script_types.specs.model_kernel.Serial.{looks_of}
+use Rattle.kernel_core.specs.kernel_commit_facts.Pieces.{CountsWithin}
+use Rattle.kernel_core.specs.kernel_core_facts.Kernels.{StaysClean}
+use Rattle.kernel_core.specs.kernel_invariant.Beginnings.{Beginning}
 use Rattle.kernel_runs.specs.Running.{IsRunBy, RunsAlong, look_most, opened_in}
 use Rattle.kernel_runs.proofs.rounds.go_round.Given as goal
 
 abbrev pub invariant-loop-why : goal.invariant-loop-why
 invariant-loop-why g l = record {
   going : l.kernel.stop ≡ None;
-  clean : StaysClean g.D.Disk.tells g.D.Disk.reading (g.S.Supplier.word l.gate.supply) l.kernel;
-  counts : CountsWithin g.D.Disk.clock g.D.Disk.faults (length l.kernel.parts.noted.entries * (23 * look_most)) l.fn.kernel.parts.store l.kernel.parts.store;
+  clean : StaysClean g.D.Disk (g.S.Supplier.word l.gate.supply) l.kernel;
+  counts : CountsWithin g.D.Disk (length l.kernel.parts.noted.entries * (23 * look_most)) l.fn.kernel.parts.store l.kernel.parts.store;
   run : g.D.Disk.tells → (b : Beginning) (made : ℕ) → IsRunBy (g.S.Supplier.word l.gate.supply) (g.P.Policy.wish l.gate.policy) b
-      → RunsAlong g.D.Disk.tells g.D.Disk.clock g.D.Disk.faults g.D.Disk.reading g.D.Disk.may_leave g.D.Disk.left_since b (looks_of b.script (opened_in b) made) l.fn.kernel
-      → (n : ℕ) × RunsAlong g.D.Disk.tells g.D.Disk.clock g.D.Disk.faults g.D.Disk.reading g.D.Disk.may_leave g.D.Disk.left_since b (looks_of b.script (opened_in b) n) l.kernel;
+      → RunsAlong g.D.Disk b (looks_of b.script (opened_in b) made) l.fn.kernel
+      → (n : ℕ) × RunsAlong g.D.Disk b (looks_of b.script (opened_in b) n) l.kernel;
 }
 
 -- each round but the last notes an entry

@@ -1,12 +1,12 @@
 use Rattle.std.proofs.Common.{◌≤◌, ◌<◌, ◌+◌, ◌-◌, ◌*◌, ◌++◌, ◌∷◌, [], sym, ap, subst, ◌∙◌, arith}
 use Rattle.std.proofs.lemmas.List.{append-nil}
-use Rattle.kernel_core.specs.hop_model.Serial.{looks_of}
-use Rattle.kernel_core.specs.serial_turns.Turns.{ComeFirst, before_locus}
+use Rattle.script_types.specs.model_kernel.Serial.{looks_of}
+use Rattle.kernel_core.specs.model_serial_turns.Turns.{ComeFirst, before_locus}
 use Rattle.kernel_runs.specs.Running.{RunsAlong, look_most, opened_in}
 use Rattle.kernel_runs.proofs.Caused.{cause_from}
 use Rattle.kernel_runs.proofs.Alongs.{locus_first, locus_next}
 use Rattle.kernel_runs.proofs.Born.{round_over}
-use Rattle.kernel_core.proofs.commit_laws_lemmas.Counting.{CountsWithin-fewer, CountsWithin-stay, CountsWithin-then}
+use Rattle.kernel_core.proofs.kernel_commit_facts_lemmas.Counting.{CountsWithin-fewer, CountsWithin-stay, CountsWithin-then}
 use Rattle.kernel_runs.proofs.rounds.round.Goals as goal
 
 pub loop-number-init : goal.loop-number-init
@@ -15,8 +15,8 @@ loop-number-init g c = record {
   high = omega arith;
   going = c.requires.going;
   clean = c.requires.clean;
-  counts = CountsWithin-stay g.D.Disk.clock g.D.Disk.faults 0 c.args.kernel.now.parts.store;
-  run = λ told b made given along. subst (λ ls. RunsAlong g.D.Disk.tells g.D.Disk.clock g.D.Disk.faults g.D.Disk.reading g.D.Disk.may_leave g.D.Disk.left_since b ls c.args.kernel.now) (sym (append-nil (looks_of b.script (opened_in b) made))) along;
+  counts = CountsWithin-stay g.D.Disk 0 c.args.kernel.now.parts.store;
+  run = λ told b made given along. subst (λ ls. RunsAlong g.D.Disk b ls c.args.kernel.now) (sym (append-nil (looks_of b.script (opened_in b) made))) along;
 }
 
 pub loop-number-preserved : goal.loop-number-preserved
@@ -31,12 +31,12 @@ loop-number-preserved g c =
       going = c.in_default.ensures.goes;
       clean = c.look_at.ensures.clean;
       counts =
-          CountsWithin-fewer d.clock d.faults ((n - 41) * look_most + look_most) ((n + 1 - 41) * look_most) c.args.kernel.now.parts.store c.look_at.new.kernel.parts.store (omega (arith, low))
-          (CountsWithin-then d.clock d.faults ((n - 41) * look_most) look_most c.args.kernel.now.parts.store c.loop-number.kernel.parts.store c.look_at.new.kernel.parts.store c.loop-number.invariant.counts c.look_at.ensures.counts);
+          CountsWithin-fewer d ((n - 41) * look_most + look_most) ((n + 1 - 41) * look_most) c.args.kernel.now.parts.store c.look_at.new.kernel.parts.store (omega (arith, low))
+          (CountsWithin-then d ((n - 41) * look_most) look_most c.args.kernel.now.parts.store c.loop-number.kernel.parts.store c.look_at.new.kernel.parts.store c.loop-number.invariant.counts c.look_at.ensures.counts);
       run = λ told b made given along.
           let first = subst (λ x. ComeFirst b.script (opened_in b) (before_locus b.script (opened_in b) made n ++ x ∷ [])) (sym c.of.ensures) (locus_first b made n low high) in
           let next = ap (λ x. before_locus b.script (opened_in b) made n ++ x ∷ []) c.of.ensures ∙ sym (locus_next b made n low high) in
-          subst (λ ls. RunsAlong d.tells d.clock d.faults d.reading d.may_leave d.left_since b ls c.look_at.new.kernel) next
+          subst (λ ls. RunsAlong d b ls c.look_at.new.kernel) next
           (c.in_default.ensures.run told b (before_locus b.script (opened_in b) made n) given first (c.loop-number.invariant.run told b made given along)).along;
     }
 
@@ -49,8 +49,8 @@ returns-in-Err-clause-counts g c =
     let d = g.D.Disk in
     let n = c.loop-number.number in
     let high : n < 64 = (let few = c.loci_end.ensures.few in let lt = c.loop-number-test.true in omega (arith, few, lt)) in
-    CountsWithin-fewer d.clock d.faults ((n - 41) * look_most + look_most) (23 * look_most) c.args.kernel.now.parts.store c.look_at.new.kernel.parts.store (omega (arith, high))
-    (CountsWithin-then d.clock d.faults ((n - 41) * look_most) look_most c.args.kernel.now.parts.store c.loop-number.kernel.parts.store c.look_at.new.kernel.parts.store c.loop-number.invariant.counts c.look_at.ensures.counts)
+    CountsWithin-fewer d ((n - 41) * look_most + look_most) (23 * look_most) c.args.kernel.now.parts.store c.look_at.new.kernel.parts.store (omega (arith, high))
+    (CountsWithin-then d ((n - 41) * look_most) look_most c.args.kernel.now.parts.store c.loop-number.kernel.parts.store c.look_at.new.kernel.parts.store c.loop-number.invariant.counts c.look_at.ensures.counts)
 
 pub returns-in-Err-clause-run : goal.returns-in-Err-clause-run
 returns-in-Err-clause-run g c = λ told b made given along.
@@ -66,7 +66,7 @@ pub returns-clause-counts : goal.returns-clause-counts
 returns-clause-counts g c =
     let d = g.D.Disk in
     let high = c.loop-number.invariant.high in
-    CountsWithin-fewer d.clock d.faults ((c.loop-number.number - 41) * look_most) (23 * look_most) c.args.kernel.now.parts.store c.loop-number.kernel.parts.store (omega (arith, high)) c.loop-number.invariant.counts
+    CountsWithin-fewer d ((c.loop-number.number - 41) * look_most) (23 * look_most) c.args.kernel.now.parts.store c.loop-number.kernel.parts.store (omega (arith, high)) c.loop-number.invariant.counts
 
 pub returns-clause-run : goal.returns-clause-run
 returns-clause-run g c = λ told b made given along.

@@ -1,15 +1,15 @@
 use Rattle.std.proofs.Common.{◌+◌, ◌*◌, ◌^◌, ◌≤◌, ℕ, length, map, sym, ap, ◌∙◌, arith}
 use Rattle.std.specs.Prelude.{Err, IfErr, Ok, Result, string_bytes, ⊤}
-use Rattle.kernel_core.specs.hop_model.Scripts.{Script}
-use Rattle.kernel_core.specs.script_form.Scripts.{tables_of}
-use Rattle.kernel_core.specs.commit_laws.Parts.{Parts}
+use Rattle.script_types.specs.model_kernel.Scripts.{Script}
+use Rattle.script_types.specs.Scripts.{tables_of}
+use Rattle.kernel_core.specs.kernel_commit_facts.Parts.{Parts}
 use Rattle.kernel_core.specs.kernel_commits.Stops.{IsCause}
 use Rattle.kernel_core.specs.kernel_commits.declared.stopping.Stopped.{Stopped}
 use Rattle.kernel_core.specs.kernel_commits.declared.stopping.Stopped.TheVariants.{TooFew}
 use Rattle.kernel_runs.specs.Running.{look_most}
 use Rattle.kernel_runs.proofs.Alongs.{opens, run_by, stops_opening, told_stop}
 use Rattle.kernel_runs.proofs.Caused.{births_cause, cause_from}
-use Rattle.kernel_core.proofs.commit_laws_lemmas.Counting.{CountsWithin-fewer, CountsWithin-then}
+use Rattle.kernel_core.proofs.kernel_commit_facts_lemmas.Counting.{CountsWithin-fewer, CountsWithin-then}
 use Rattle.kernel_runs.proofs.running.run.Goals as goal
 
 pub play-requires-clause-clean : goal.play-requires-clause-clean
@@ -20,7 +20,7 @@ returns-in-Err-clause-run g c = λ told going b supply policy script lives.
     let d = g.D.Disk in
     record {
       over = tt;
-      stopped = stops_opening d.tells d.clock d.faults d.reading d.may_leave d.left_since (g.S.Supplier.word c.args.gate.now.supply) (g.P.Policy.wish c.args.gate.now.policy) b c.births.new.self (c.births.ensures.run told b script lives) (c.in-Err.ensures.part told b script lives going)
+      stopped = stops_opening d (g.S.Supplier.word c.args.gate.now.supply) (g.P.Policy.wish c.args.gate.now.policy) b c.births.new.self (c.births.ensures.run told b script lives) (c.in-Err.ensures.part told b script lives going)
           (λ n is. c.in-Err.ensures.enough told b script lives going n (told_stop ⊤ c.births.new.self.stop c.in-Err.why (TooFew n) c.in-Err.ensures.stops is));
     }
 
@@ -29,15 +29,15 @@ returns-in-Err-play-clause-counts g c =
     let d = g.D.Disk in
     let n = length c.args.script.now.order.items in
     let few = ap length c.deref.ensures.value in
-    let played = CountsWithin-fewer d.clock d.faults (length c.deref.result.now * look_most) (n * look_most) c.births.new.self.parts.store c.play.new.kernel.parts.store (omega (arith, few)) c.play.ensures.counts in
-    CountsWithin-fewer d.clock d.faults (64 * 1556 + n * look_most) (64 * 1556 + n * look_most + (2 ^ 22 + 1) * (23 * look_most)) c.args.kernel.now.parts.store c.play.new.kernel.parts.store (omega arith)
-    (CountsWithin-then d.clock d.faults (64 * 1556) (n * look_most) c.args.kernel.now.parts.store c.births.new.self.parts.store c.play.new.kernel.parts.store c.births.ensures.counts played)
+    let played = CountsWithin-fewer d (length c.deref.result.now * look_most) (n * look_most) c.births.new.self.parts.store c.play.new.kernel.parts.store (omega (arith, few)) c.play.ensures.counts in
+    CountsWithin-fewer d (64 * 1556 + n * look_most) (64 * 1556 + n * look_most + (2 ^ 22 + 1) * (23 * look_most)) c.args.kernel.now.parts.store c.play.new.kernel.parts.store (omega arith)
+    (CountsWithin-then d (64 * 1556) (n * look_most) c.args.kernel.now.parts.store c.births.new.self.parts.store c.play.new.kernel.parts.store c.births.ensures.counts played)
 
 pub returns-in-Err-play-clause-run : goal.returns-in-Err-play-clause-run
 returns-in-Err-play-clause-run g c = λ told going b supply policy script lives.
     let d = g.D.Disk in
-    let given = run_by d.tells d.clock d.faults d.reading d.may_leave d.left_since (g.S.Supplier.word c.args.gate.now.supply) (g.P.Policy.wish c.args.gate.now.policy) b _ c.args.kernel.now supply policy script c.requires.first c.requires.fits lives in
-    let along = opens d.tells d.clock d.faults d.reading d.may_leave d.left_since (g.S.Supplier.word c.args.gate.now.supply) (g.P.Policy.wish c.args.gate.now.policy) b c.births.new.self (c.births.ensures.run told b script lives) (c.in_default.ensures.opening told b script lives going) in
+    let given = run_by d (g.S.Supplier.word c.args.gate.now.supply) (g.P.Policy.wish c.args.gate.now.policy) b _ c.args.kernel.now supply policy script c.requires.first c.requires.fits lives in
+    let along = opens d (g.S.Supplier.word c.args.gate.now.supply) (g.P.Policy.wish c.args.gate.now.policy) b c.births.new.self (c.births.ensures.run told b script lives) (c.in_default.ensures.opening told b script lives going) in
     let order = ap (λ (t : Script). t.order) script ∙ ap (map string_bytes) (sym c.deref.ensures.value) in
     record { over = tt; stopped = (c.in-Err-play.ensures.run told c.in_default.ensures.goes b given order along).stopped }
 
@@ -46,15 +46,15 @@ returns-clause-counts g c =
     let d = g.D.Disk in
     let n = length c.args.script.now.order.items in
     let few = ap length c.deref.ensures.value in
-    let played = CountsWithin-fewer d.clock d.faults (length c.deref.result.now * look_most) (n * look_most) c.births.new.self.parts.store c.play.new.kernel.parts.store (omega (arith, few)) c.play.ensures.counts in
-    CountsWithin-then d.clock d.faults (64 * 1556 + n * look_most) ((2 ^ 22 + 1) * (23 * look_most)) c.args.kernel.now.parts.store c.play.new.kernel.parts.store c.finish.new.kernel.parts.store
-    (CountsWithin-then d.clock d.faults (64 * 1556) (n * look_most) c.args.kernel.now.parts.store c.births.new.self.parts.store c.play.new.kernel.parts.store c.births.ensures.counts played) c.finish.ensures.counts
+    let played = CountsWithin-fewer d (length c.deref.result.now * look_most) (n * look_most) c.births.new.self.parts.store c.play.new.kernel.parts.store (omega (arith, few)) c.play.ensures.counts in
+    CountsWithin-then d (64 * 1556 + n * look_most) ((2 ^ 22 + 1) * (23 * look_most)) c.args.kernel.now.parts.store c.play.new.kernel.parts.store c.finish.new.kernel.parts.store
+    (CountsWithin-then d (64 * 1556) (n * look_most) c.args.kernel.now.parts.store c.births.new.self.parts.store c.play.new.kernel.parts.store c.births.ensures.counts played) c.finish.ensures.counts
 
 pub returns-clause-run : goal.returns-clause-run
 returns-clause-run g c = λ told going b supply policy script lives.
     let d = g.D.Disk in
-    let given = run_by d.tells d.clock d.faults d.reading d.may_leave d.left_since (g.S.Supplier.word c.args.gate.now.supply) (g.P.Policy.wish c.args.gate.now.policy) b _ c.args.kernel.now supply policy script c.requires.first c.requires.fits lives in
-    let along = opens d.tells d.clock d.faults d.reading d.may_leave d.left_since (g.S.Supplier.word c.args.gate.now.supply) (g.P.Policy.wish c.args.gate.now.policy) b c.births.new.self (c.births.ensures.run told b script lives) (c.in_default.ensures.opening told b script lives going) in
+    let given = run_by d (g.S.Supplier.word c.args.gate.now.supply) (g.P.Policy.wish c.args.gate.now.policy) b _ c.args.kernel.now supply policy script c.requires.first c.requires.fits lives in
+    let along = opens d (g.S.Supplier.word c.args.gate.now.supply) (g.P.Policy.wish c.args.gate.now.policy) b c.births.new.self (c.births.ensures.run told b script lives) (c.in_default.ensures.opening told b script lives going) in
     let order = ap (λ (t : Script). t.order) script ∙ ap (map string_bytes) (sym c.deref.ensures.value) in
     c.finish.ensures.run told c.in_default-play.ensures.goes b 0 given (c.in_default-play.ensures.run told c.in_default.ensures.goes b given order along).along
 

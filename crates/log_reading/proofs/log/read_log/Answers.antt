@@ -1,9 +1,9 @@
 use Rattle.std.proofs.Common.{◌≡◌, ℕ, Some, None, refl, sym, ap, ◌∙◌}
-use Rattle.disk_trait.specs.Image.{Image}
+use Rattle.edge_disk.specs.Image.{Image}
 use Rattle.image_blocks.specs.Checks.{active_area, check_1, check_2, check_3, log_fault, log_in}
-use Rattle.image_blocks.specs.image_form.Checks.{count_in}
+use Rattle.image_blocks.specs.image_facts.Checks.{count_in}
 use Rattle.image_blocks.specs.Layout.{epoch_in}
-use Rattle.log_laws.proofs.ReadSoFar.{ReadsOnly-trans}
+use Rattle.log_facts.proofs.ReadSoFar.{ReadsOnly-trans}
 use Rattle.log_reading.proofs.Verdicts.{err_other, first_bad, match_err, match_ok, second_bad, third_is, told_bad}
 use Rattle.log_reading.proofs.log.read_log.Goals as goal
 

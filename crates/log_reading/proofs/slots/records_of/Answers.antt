@@ -2,19 +2,19 @@ use Rattle.std.proofs.Common.{◌≡◌, ◌≤◌, ◌<◌, ◌+◌, ◌++◌, 
 use Rattle.std.proofs.lemmas.Bool.{cases_lt}
 use Rattle.std.proofs.lemmas.List.{length-append}
 use Rattle.std.specs.List.{AllPairs}
-use Rattle.disk_trait.specs.Image.{Image}
-use Rattle.hop_base.specs.declared.records.Rec.{Rec}
-use Rattle.image_blocks.specs.image_form.Bodies.{record_in}
-use Rattle.image_blocks.specs.image_form.Checks.{body_fault, count_in}
+use Rattle.edge_disk.specs.Image.{Image}
+use Rattle.base_types.specs.declared.records.Rec.{Rec}
+use Rattle.image_blocks.specs.image_facts.Bodies.{record_in}
+use Rattle.image_blocks.specs.image_facts.Checks.{body_fault, count_in}
 use Rattle.image_blocks.specs.Checks.{body_in, log_fault}
 use Rattle.image_blocks.specs.Layout.{body_at, slot_gate_at}
-use Rattle.image_blocks.specs.image_form.Layout.{is_open, slot_count}
-use Rattle.image_blocks.specs.image_form.Logs.{IsInRange}
-use Rattle.log_laws.specs.Logs.{AreInRange, IsOlder}
-use Rattle.log_laws.proofs.Ascending.{ascending_more}
-use Rattle.log_laws.proofs.InRange.{in_range_more, read_in_range}
-use Rattle.log_laws.proofs.ReadSoFar.{ReadsOnly-trans}
-use Rattle.log_laws.proofs.Reached.{fault_moved, log_bad, log_read, reads, reads_more, read_at}
+use Rattle.image_blocks.specs.image_facts.Layout.{is_open, slot_count}
+use Rattle.image_blocks.specs.image_facts.Logs.{IsInRange}
+use Rattle.log_facts.specs.Logs.{AreInRange, IsOlder}
+use Rattle.log_facts.proofs.Ascending.{ascending_more}
+use Rattle.log_facts.proofs.InRange.{in_range_more, read_in_range}
+use Rattle.log_facts.proofs.ReadSoFar.{ReadsOnly-trans}
+use Rattle.log_facts.proofs.Reached.{fault_moved, log_bad, log_read, reads, reads_more, read_at}
 use Rattle.log_reading.proofs.Verdicts.{bad_at, match_none, match_some, told_bad}
 use Rattle.log_reading.proofs.slots.records_of.Goals as goal
 

@@ -1,9 +1,9 @@
 -- At a fault the lines before it are put, and a front of the word's own.
 use Rattle.std.proofs.Common.{◌*◌, ◌<◌, ℕ, Option, subst, arith}
-use Rattle.history_model.specs.Plains.{container_of}
-use Rattle.stream_edge.specs.Streams.{AppendsPart}
+use Rattle.plain_states.specs.Plains.{container_of}
+use Rattle.edge_streams.specs.Streams.{AppendsPart}
 use Rattle.plain_show.specs.Show.{word_line, word_line_by}
-use Rattle.text_lines.proofs.Puts.{AppendsPart-upto, Puts-cut}
+use Rattle.line_text.proofs.Puts.{AppendsPart-upto, Puts-cut}
 use Rattle.plain_show.proofs.containers.put_words.Goals as goal
 
 pub returns-in_err-put_word_line-clause-bytes : goal.returns-in_err-put_word_line-clause-bytes

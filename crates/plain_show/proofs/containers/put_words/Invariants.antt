@@ -2,8 +2,8 @@
 use Rattle.std.proofs.Common.{◌≤◌}
 use Rattle.std.specs.Io.KnownBytes.{Appends}
 use Rattle.std.specs.List.{flat_map}
-use Rattle.hop_base.specs.Edges.{upto}
-use Rattle.history_model.specs.Plains.{container_of}
+use Rattle.base_types.specs.Edges.{upto}
+use Rattle.plain_states.specs.Plains.{container_of}
 use Rattle.plain_show.specs.Show.{word_line}
 use Rattle.plain_show.proofs.containers.put_words.Given as goal
 

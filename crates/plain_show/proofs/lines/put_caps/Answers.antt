@@ -1,12 +1,12 @@
 -- What stands in the slot is what the clause looks up there.
 use Rattle.std.proofs.Common.{◌≡◌, ℕ, ◌<◌, List, length, Option, get_or, refl, sym, ap, subst, arith}
 use Rattle.std.proofs.lemmas.Option.{slice_get_read}
-use Rattle.hop_base.specs.declared.capabilities.Cap.{Cap}
-use Rattle.history_model.specs.hop_model.Words.{cap_at, flat}
-use Rattle.stream_edge.specs.Streams.{AppendsPart}
+use Rattle.base_types.specs.declared.capabilities.Cap.{Cap}
+use Rattle.plain_states.specs.model_kernel.Words.{cap_at, flat}
+use Rattle.edge_streams.specs.Streams.{AppendsPart}
 use Rattle.std.specs.Io.KnownBytes.{Appends}
 use Rattle.plain_show.specs.Show.{cap_line}
-use Rattle.text_lines.proofs.Puts.{Appends-upto, AppendsPart-upto, Puts-cut}
+use Rattle.line_text.proofs.Puts.{Appends-upto, AppendsPart-upto, Puts-cut}
 use Rattle.plain_show.proofs.lines.put_caps.Goals as goal
 
 slot_at : (caps : List (Option Cap)) (i : ℕ) (cap : Option Cap) → i < length caps → cap ≡ get_or caps i cap → cap ≡ cap_at caps i

@@ -2,8 +2,8 @@
 use Rattle.std.proofs.Common.{◌≤◌}
 use Rattle.std.specs.Io.KnownBytes.{Appends}
 use Rattle.std.specs.List.{flat_map}
-use Rattle.hop_base.specs.Edges.{upto}
-use Rattle.history_model.specs.hop_model.Words.{cap_at}
+use Rattle.base_types.specs.Edges.{upto}
+use Rattle.plain_states.specs.model_kernel.Words.{cap_at}
 use Rattle.plain_show.specs.Show.{cap_line}
 use Rattle.plain_show.proofs.lines.put_caps.Given as goal
 

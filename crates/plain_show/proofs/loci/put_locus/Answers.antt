@@ -1,7 +1,7 @@
 -- At each fault the pieces before it are put, and a front of its own; at the end all of them.
 use Rattle.std.proofs.KnownBytes.{Appends-trans}
-use Rattle.stream_edge.proofs.Streams.{AppendsPart-after, AppendsPart-more}
-use Rattle.text_lines.proofs.Puts.{Puts-cut, Puts-then}
+use Rattle.edge_streams.proofs.Streams.{AppendsPart-after, AppendsPart-more}
+use Rattle.line_text.proofs.Puts.{Puts-cut, Puts-then}
 use Rattle.plain_show.proofs.loci.put_locus.Goals as goal
 
 pub returns-in_err-put_head-clause-bytes : goal.returns-in_err-put_head-clause-bytes

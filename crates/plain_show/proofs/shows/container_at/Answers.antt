@@ -1,9 +1,9 @@
 -- The named container is in the list.
 use Rattle.std.proofs.Common.{rules, ◌≡◌, ◌<◌, ◌≤◌, length, Some, slice_get, refl, sym, subst, ◌∙◌}
 use Rattle.std.proofs.lemmas.Option.{slice_get_read, slice_get_within}
-use Rattle.history_model.specs.Plains.{atlas_of}
-use Rattle.history_model.specs.declared.plain.PlainContainer.{PlainContainer}
-use Rattle.history_model.proofs.CellLemmas.{cell_at_container}
+use Rattle.plain_states.specs.Plains.{atlas_of}
+use Rattle.plain_states.specs.declared.plain.PlainContainer.{PlainContainer}
+use Rattle.plain_states.proofs.CellLemmas.{cell_at_container}
 use Rattle.plain_show.proofs.Places.{container_there}
 use Rattle.plain_show.proofs.shows.container_at.Goals as goal
 

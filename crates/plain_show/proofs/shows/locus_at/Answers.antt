@@ -1,8 +1,8 @@
 -- The named locus is in the list.
 use Rattle.std.proofs.Common.{rules, ◌≡◌, ◌<◌, length, Some, slice_get, refl}
 use Rattle.std.proofs.lemmas.Option.{slice_get_read, slice_get_within}
-use Rattle.history_model.specs.Plains.{atlas_of}
-use Rattle.history_model.proofs.CellLemmas.{cell_at_locus}
+use Rattle.plain_states.specs.Plains.{atlas_of}
+use Rattle.plain_states.proofs.CellLemmas.{cell_at_locus}
 use Rattle.plain_show.proofs.Places.{locus_there}
 use Rattle.plain_show.proofs.shows.locus_at.Goals as goal
 

@@ -1,7 +1,7 @@
 use Rattle.std.proofs.Common.{◌≡◌, subst}
-use Rattle.stream_edge.specs.Streams.{Puts}
-use Rattle.history_model.specs.Plains.{atlas_of, cells_of, container_of}
-use Rattle.history_model.specs.declared.plain.PlainAtlas.{PlainAtlas}
+use Rattle.edge_streams.specs.Streams.{Puts}
+use Rattle.plain_states.specs.Plains.{atlas_of, cells_of, container_of}
+use Rattle.plain_states.specs.declared.plain.PlainAtlas.{PlainAtlas}
 use Rattle.plain_show.specs.Show.{container_lines}
 use Rattle.plain_show.proofs.Places.{container_shown}
 use Rattle.plain_show.proofs.shows.put_container_at.Goals as goal

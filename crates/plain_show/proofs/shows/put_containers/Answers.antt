@@ -1,7 +1,7 @@
 use Rattle.std.proofs.Common.{◌+◌, ◌<◌, length, refl, arith}
-use Rattle.history_model.specs.Plains.{atlas_of, cells_of}
+use Rattle.plain_states.specs.Plains.{atlas_of, cells_of}
 use Rattle.plain_show.specs.Show.{entity_lines}
-use Rattle.text_lines.proofs.Puts.{Appends-upto, AppendsPart-upto, Puts-cut}
+use Rattle.line_text.proofs.Puts.{Appends-upto, AppendsPart-upto, Puts-cut}
 use Rattle.plain_show.proofs.shows.put_containers.Goals as goal
 
 pub returns-in_err-put_container_at-clause-bytes : goal.returns-in_err-put_container_at-clause-bytes

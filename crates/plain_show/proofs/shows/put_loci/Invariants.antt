@@ -2,8 +2,8 @@
 use Rattle.std.proofs.Common.{◌≤◌, ◌+◌}
 use Rattle.std.specs.Io.KnownBytes.{Appends}
 use Rattle.std.specs.List.{flat_map}
-use Rattle.hop_base.specs.Edges.{upto}
-use Rattle.history_model.specs.Plains.{atlas_of, cells_of}
+use Rattle.base_types.specs.Edges.{upto}
+use Rattle.plain_states.specs.Plains.{atlas_of, cells_of}
 use Rattle.plain_show.specs.Show.{entity_lines}
 use Rattle.plain_show.proofs.shows.put_loci.Given as goal
 

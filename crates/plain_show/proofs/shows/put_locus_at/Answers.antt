@@ -1,7 +1,7 @@
 use Rattle.std.proofs.Common.{◌≡◌, subst}
-use Rattle.stream_edge.specs.Streams.{Puts}
-use Rattle.history_model.specs.Plains.{atlas_of, cells_of, locus_of}
-use Rattle.history_model.specs.declared.plain.PlainAtlas.{PlainAtlas}
+use Rattle.edge_streams.specs.Streams.{Puts}
+use Rattle.plain_states.specs.Plains.{atlas_of, cells_of, locus_of}
+use Rattle.plain_states.specs.declared.plain.PlainAtlas.{PlainAtlas}
 use Rattle.plain_show.specs.Show.{locus_lines}
 use Rattle.plain_show.proofs.Places.{locus_shown}
 use Rattle.plain_show.proofs.shows.put_locus_at.Goals as goal

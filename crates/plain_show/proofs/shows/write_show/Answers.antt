@@ -1,8 +1,8 @@
 -- The names are as many as the model's.
 use Rattle.std.proofs.Common.{string_bytes}
 use Rattle.std.proofs.lemmas.List.{length-map}
-use Rattle.stream_edge.proofs.Streams.{AppendsPart-more}
-use Rattle.text_lines.proofs.Puts.{Puts-cut, Puts-then}
+use Rattle.edge_streams.proofs.Streams.{AppendsPart-more}
+use Rattle.line_text.proofs.Puts.{Puts-cut, Puts-then}
 use Rattle.plain_show.proofs.shows.write_show.Goals as goal
 
 pub returns-in_err-put_containers-clause-bytes : goal.returns-in_err-put_containers-clause-bytes

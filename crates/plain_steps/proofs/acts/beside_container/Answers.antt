@@ -1,12 +1,12 @@
 use Rattle.std.proofs.Common.{◌≡◌, refl, sym, subst, ◌∙◌}
-use Rattle.hop_base.specs.declared.instructions.Reply.TheVariants.{Ok as OkReply, WrongKind}
-use Rattle.hop_model.specs.Outcomes.{Outcome, give, invoke, leave, load, on_cell, take_cap, with_other}
-use Rattle.hop_model.specs.State.{ContainerCell, no_atlas}
-use Rattle.plain_laws.specs.history_model.Plains.{container_of, locus_of}
-use Rattle.plain_laws.proofs.history_model_lemmas.ActLemmas.{err_by, ok_by}
-use Rattle.plain_laws.specs.Acts.{Acted}
-use Rattle.plain_laws.proofs.BesideLemmas.{acted_reading, acted_writing, give_bears, invoke_writes, leave_writes, on_give, on_invoke, on_leave, on_load, on_other, on_return, on_snap, on_store, on_take, take_writes}
-use Rattle.plain_laws.proofs.LookLemmas.{load_reads}
+use Rattle.base_types.specs.declared.instructions.Reply.TheVariants.{Ok as OkReply, WrongKind}
+use Rattle.model_kernel.specs.Outcomes.{Outcome, give, invoke, leave, load, on_cell, take_cap, with_other}
+use Rattle.model_kernel.specs.State.{ContainerCell, no_atlas}
+use Rattle.plain_states.specs.Plains.{container_of, locus_of}
+use Rattle.plain_states.proofs.ActLemmas.{err_by, ok_by}
+use Rattle.plain_facts.specs.Acts.{Acted}
+use Rattle.plain_facts.proofs.BesideLemmas.{acted_reading, acted_writing, give_bears, invoke_writes, leave_writes, on_give, on_invoke, on_leave, on_load, on_other, on_return, on_snap, on_store, on_take, take_writes}
+use Rattle.plain_facts.proofs.LookLemmas.{load_reads}
 use Rattle.plain_steps.proofs.acts.beside_container.Goals as goal
 
 pub returns-in-Load-clause-made : goal.returns-in-Load-clause-made

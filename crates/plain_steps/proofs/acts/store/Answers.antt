@@ -1,12 +1,12 @@
 use Rattle.std.proofs.Common.{refl, ap, sym, ◌∙◌}
 use Rattle.std.proofs.lemmas.Result.{err_from_is_err_and}
-use Rattle.hop_base.specs.declared.instructions.Reply.TheVariants.{Ok, NoPage}
-use Rattle.hop_model.specs.State.{ContainerState, ContainerCell}
-use Rattle.hop_model.specs.Words.{denied}
-use Rattle.hop_model.specs.Outcomes.{own_reply, through, with_other}
-use Rattle.plain_laws.specs.history_model.Plains.{container_of, locus_of}
-use Rattle.plain_laws.proofs.BesideLemmas.{acted_reading, acted_writing}
-use Rattle.plain_laws.proofs.LookLemmas.{through_reads, store_past, store_through, store_word}
+use Rattle.base_types.specs.declared.instructions.Reply.TheVariants.{Ok, NoPage}
+use Rattle.model_kernel.specs.State.{ContainerState, ContainerCell}
+use Rattle.model_kernel.specs.Words.{denied}
+use Rattle.model_kernel.specs.Outcomes.{own_reply, through, with_other}
+use Rattle.plain_states.specs.Plains.{container_of, locus_of}
+use Rattle.plain_facts.proofs.BesideLemmas.{acted_reading, acted_writing}
+use Rattle.plain_facts.proofs.LookLemmas.{through_reads, store_past, store_through, store_word}
 use Rattle.plain_steps.proofs.acts.store.Goals as goal
 
 pub returns-then-address-c-clause-made : goal.returns-then-address-c-clause-made

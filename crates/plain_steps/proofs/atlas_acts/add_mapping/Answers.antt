@@ -1,8 +1,8 @@
 use Rattle.std.proofs.Common.{ℕ, ap, ◌∙◌}
-use Rattle.hop_model.specs.State.{AtlasState}
-use Rattle.plain_laws.specs.history_model.EdgeLists.{edge_more}
-use Rattle.plain_laws.specs.history_model.Plains.{atlas_of}
-use Rattle.plain_laws.proofs.history_model_lemmas.CountLemmas.{counted_up}
+use Rattle.model_kernel.specs.State.{AtlasState}
+use Rattle.plain_states.specs.EdgeLists.{edge_more}
+use Rattle.plain_states.specs.Plains.{atlas_of}
+use Rattle.plain_states.proofs.CountLemmas.{counted_up}
 use Rattle.plain_steps.proofs.atlas_acts.add_mapping.Goals as goal
 
 pub returns-clause-atlas : goal.returns-clause-atlas

@@ -1,7 +1,7 @@
 use Rattle.std.proofs.Common.{◌≡◌, None, sym, ◌∙◌}
-use Rattle.plain_laws.specs.history_model.Plains.{atlas_of, container_of, locus_of}
-use Rattle.plain_laws.proofs.history_model_lemmas.MarkLemmas.{none_by}
-use Rattle.plain_laws.proofs.MapLemmas.{map_makes, refused_makes}
+use Rattle.plain_states.specs.Plains.{atlas_of, container_of, locus_of}
+use Rattle.plain_states.proofs.MarkLemmas.{none_by}
+use Rattle.plain_facts.proofs.MapLemmas.{map_makes, refused_makes}
 use Rattle.plain_steps.proofs.atlas_acts.map.Goals as goal
 
 pub returns-in-Some-clause-made : goal.returns-in-Some-clause-made

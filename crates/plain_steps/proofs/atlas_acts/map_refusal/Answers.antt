@@ -1,9 +1,9 @@
 use Rattle.std.proofs.Common.{◌≡◌, ◌+◌, nat_lt, nat_le, true, false, length, sym, ap, ◌∙◌, arith}
 use Rattle.std.specs.List.{list_any}
-use Rattle.hop_base.specs.Edges.{leads}
-use Rattle.hop_model.specs.Words.{overlaps}
-use Rattle.plain_laws.specs.history_model.Plains.{edges_of}
-use Rattle.plain_laws.proofs.MapLemmas.{circular, is_below, is_past, is_within, list_full, no_page, none_fails, not_below, overlapping}
+use Rattle.base_types.specs.Edges.{leads}
+use Rattle.model_kernel.specs.Words.{overlaps}
+use Rattle.plain_states.specs.Plains.{edges_of}
+use Rattle.plain_facts.proofs.MapLemmas.{circular, is_below, is_past, is_within, list_full, no_page, none_fails, not_below, overlapping}
 use Rattle.plain_steps.proofs.atlas_acts.map_refusal.Goals as goal
 
 pub returns-then-region-c : goal.returns-then-region-c

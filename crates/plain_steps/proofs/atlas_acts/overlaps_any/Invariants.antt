@@ -1,6 +1,6 @@
 use Rattle.std.proofs.Common.{◌≡◌, drop}
 use Rattle.std.specs.List.{list_any}
-use Rattle.hop_model.specs.Words.{overlaps}
+use Rattle.model_kernel.specs.Words.{overlaps}
 use Rattle.plain_steps.proofs.atlas_acts.overlaps_any.Given as goal
 
 abbrev pub invariant-loop-other : goal.invariant-loop-other

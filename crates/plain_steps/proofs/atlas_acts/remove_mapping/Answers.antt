@@ -1,7 +1,7 @@
 use Rattle.std.proofs.Common.{ℕ, ap}
-use Rattle.hop_model.specs.State.{AtlasState}
-use Rattle.plain_laws.specs.history_model.Plains.{atlas_of}
-use Rattle.plain_laws.proofs.history_model_lemmas.CountLemmas.{counted_down}
+use Rattle.model_kernel.specs.State.{AtlasState}
+use Rattle.plain_states.specs.Plains.{atlas_of}
+use Rattle.plain_states.proofs.CountLemmas.{counted_down}
 use Rattle.plain_steps.proofs.atlas_acts.remove_mapping.Goals as goal
 
 pub returns-clause-atlas : goal.returns-clause-atlas

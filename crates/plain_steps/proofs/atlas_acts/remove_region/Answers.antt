@@ -1,6 +1,6 @@
 use Rattle.std.proofs.Common.{rules, not, ◌==◌}
 use Rattle.std.proofs.lemmas.Fn.{filter_same}
-use Rattle.hop_base.specs.declared.capabilities.Region.{Region}
+use Rattle.base_types.specs.declared.capabilities.Region.{Region}
 use Rattle.plain_steps.proofs.atlas_acts.remove_region.Goals as goal
 
 pub returns : goal.returns

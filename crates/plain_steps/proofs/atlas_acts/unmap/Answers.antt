@@ -1,7 +1,7 @@
 use Rattle.std.proofs.Common.{◌≡◌, Some, ◌==◌, find, sym, ap, ◌∙◌}
-use Rattle.hop_base.specs.declared.capabilities.Region.{Region}
-use Rattle.plain_laws.specs.history_model.Plains.{atlas_of, container_of, locus_of}
-use Rattle.plain_laws.proofs.MapLemmas.{unmap_makes}
+use Rattle.base_types.specs.declared.capabilities.Region.{Region}
+use Rattle.plain_states.specs.Plains.{atlas_of, container_of, locus_of}
+use Rattle.plain_facts.proofs.MapLemmas.{unmap_makes}
 use Rattle.plain_steps.proofs.atlas_acts.unmap.Goals as goal
 
 pub returns-clause-made : goal.returns-clause-made

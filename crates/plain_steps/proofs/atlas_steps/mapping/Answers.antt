@@ -1,12 +1,12 @@
 use Rattle.std.proofs.Common.{◌<◌, sym, subst}
-use Rattle.hop_base.specs.declared.capabilities.Region.{Region}
-use Rattle.hop_model.specs.Outcomes.{Outcome}
-use Rattle.hop_model.specs.State.{ContainerCell}
-use Rattle.plain_laws.specs.history_model.Plains.{atlas_of, container_of, locus_of}
-use Rattle.plain_laws.proofs.history_model_lemmas.ActLemmas.{ok_by}
-use Rattle.plain_laws.proofs.history_model_lemmas.wanted_laws_lemmas.WantLemmas.{map_pages, map_target}
-use Rattle.plain_laws.specs.AtlasActs.{ActedOnBoth}
-use Rattle.plain_laws.proofs.AtlasSteps.{on_map, on_unmap}
+use Rattle.base_types.specs.declared.capabilities.Region.{Region}
+use Rattle.model_kernel.specs.Outcomes.{Outcome}
+use Rattle.model_kernel.specs.State.{ContainerCell}
+use Rattle.plain_states.specs.Plains.{atlas_of, container_of, locus_of}
+use Rattle.plain_states.proofs.ActLemmas.{ok_by}
+use Rattle.plain_states.proofs.model_act_facts_lemmas.WantLemmas.{map_pages, map_target}
+use Rattle.plain_facts.specs.AtlasActs.{ActedOnBoth}
+use Rattle.plain_facts.proofs.AtlasSteps.{on_map, on_unmap}
 use Rattle.plain_steps.proofs.atlas_steps.mapping.Goals as goal
 
 pub new_region-region-requires-clause-page : goal.new_region-region-requires-clause-page

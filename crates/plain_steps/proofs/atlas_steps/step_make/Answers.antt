@@ -1,21 +1,21 @@
 use Rattle.std.proofs.Common.{◌≡◌, ◌+◌, ◌<◌, ◌++◌, List, [], ◌∷◌, Some, None, length, string_bytes, rules, arith, refl, ap, sym, subst, ◌∙◌}
 use Rattle.std.proofs.lemmas.List.{length-map}
-use Rattle.hop_base.specs.Instructions.{IsInstruction}
-use Rattle.hop_base.specs.declared.entities.Kind.TheVariants.{Container}
-use Rattle.hop_model.specs.Acts.{bearing}
-use Rattle.hop_model.specs.Outcomes.{make}
-use Rattle.hop_model.specs.State.{AtlasState, ContainerCell}
-use Rattle.plain_laws.specs.history_model.Entries.{step_entry, versions_after}
-use Rattle.plain_laws.specs.history_model.sound_runs.Names.{KeepsNames}
-use Rattle.plain_laws.specs.history_model.Plains.{atlas_of, container_of, locus_of}
-use Rattle.plain_laws.specs.history_model.declared.entries.Mark.{Mark}
-use Rattle.plain_laws.specs.history_model.declared.plain.PlainContainer.{PlainContainer}
-use Rattle.plain_laws.proofs.history_model_lemmas.PlainBirths.{containers_named}
-use Rattle.plain_laws.proofs.history_model_lemmas.wanted_laws_lemmas.WantLemmas.{allowed_by, bears_by, make_pages}
-use Rattle.plain_laws.specs.AtlasActs.{ActedOnAtlas}
-use Rattle.plain_laws.proofs.history_model_lemmas.sound_runs_lemmas.Naming.{make_keeps}
-use Rattle.plain_laws.proofs.AtlasSteps.{bears_make, made_free, made_none, made_some, stepped_full, stepped_made}
-use Rattle.plain_laws.proofs.PlainSteps.{acting_here, here_read, listed, operands, written_mark}
+use Rattle.base_types.specs.Instructions.{IsInstruction}
+use Rattle.base_types.specs.declared.entities.Kind.TheVariants.{Container}
+use Rattle.model_kernel.specs.Acts.{bearing}
+use Rattle.model_kernel.specs.Outcomes.{make}
+use Rattle.model_kernel.specs.State.{AtlasState, ContainerCell}
+use Rattle.plain_states.specs.Entries.{step_entry, versions_after}
+use Rattle.plain_states.specs.model_sound_runs.Names.{KeepsNames}
+use Rattle.plain_states.specs.Plains.{atlas_of, container_of, locus_of}
+use Rattle.plain_states.specs.declared.entries.Mark.{Mark}
+use Rattle.plain_states.specs.declared.plain.PlainContainer.{PlainContainer}
+use Rattle.plain_states.proofs.PlainBirths.{containers_named}
+use Rattle.plain_states.proofs.model_act_facts_lemmas.WantLemmas.{allowed_by, bears_by, make_pages}
+use Rattle.plain_facts.specs.AtlasActs.{ActedOnAtlas}
+use Rattle.plain_states.proofs.model_sound_runs_lemmas.Naming.{make_keeps}
+use Rattle.plain_facts.proofs.AtlasSteps.{bears_make, made_free, made_none, made_some, stepped_full, stepped_made}
+use Rattle.plain_facts.proofs.PlainSteps.{acting_here, here_read, listed, operands, written_mark}
 use Rattle.plain_steps.proofs.atlas_steps.step_make.Goals as goal
 
 pub unreachable-requires : goal.unreachable-requires

@@ -1,16 +1,16 @@
 use Rattle.std.proofs.Common.{◌≡◌, ◌-◌, ◌<◌, length, rules, arith, refl, ap, sym, subst, ◌∙◌}
 use Rattle.std.proofs.lemmas.Option.{slice_get_within}
 use Rattle.std.proofs.lemmas.Result.{err_from_is_err_and}
-use Rattle.hop_model.specs.Acts.{beside_and_atlas}
-use Rattle.hop_model.specs.State.{AtlasState}
-use Rattle.plain_laws.specs.history_model.sound_runs.Names.{KeepsNames}
-use Rattle.plain_laws.specs.history_model.Plains.{atlas_of, cells_by, container_of, locus_of}
-use Rattle.plain_laws.proofs.history_model_lemmas.ReadyLemmas.{few_edges, ready_edges}
-use Rattle.plain_laws.proofs.history_model_lemmas.SoundLemmas.{sound_container}
-use Rattle.plain_laws.proofs.history_model_lemmas.wanted_laws_lemmas.WantLemmas.{allowed_by, mapped_container, mapping_maps}
-use Rattle.plain_laws.proofs.history_model_lemmas.sound_runs_lemmas.Naming.{keeps_same}
-use Rattle.plain_laws.proofs.AtlasSteps.{atlas_same, mapping_keeps, stepped_mapping}
-use Rattle.plain_laws.proofs.PlainSteps.{acting_here, both_kept, container_at, here_read, listed, operands}
+use Rattle.model_kernel.specs.Acts.{beside_and_atlas}
+use Rattle.model_kernel.specs.State.{AtlasState}
+use Rattle.plain_states.specs.model_sound_runs.Names.{KeepsNames}
+use Rattle.plain_states.specs.Plains.{atlas_of, cells_by, container_of, locus_of}
+use Rattle.plain_states.proofs.ReadyLemmas.{few_edges, ready_edges}
+use Rattle.plain_states.proofs.SoundLemmas.{sound_container}
+use Rattle.plain_states.proofs.model_act_facts_lemmas.WantLemmas.{allowed_by, mapped_container, mapping_maps}
+use Rattle.plain_states.proofs.model_sound_runs_lemmas.Naming.{keeps_same}
+use Rattle.plain_facts.proofs.AtlasSteps.{atlas_same, mapping_keeps, stepped_mapping}
+use Rattle.plain_facts.proofs.PlainSteps.{acting_here, both_kept, container_at, here_read, listed, operands}
 use Rattle.plain_steps.proofs.atlas_steps.step_mapping.Goals as goal
 
 pub overflow_sub-at : goal.overflow_sub-at

@@ -1,12 +1,12 @@
 use Rattle.std.proofs.Common.{◌≡◌, ◌++◌, [], ◌∷◌, List, Option, refl, ap, ◌∙◌}
 use Rattle.std.specs.Option.{option_to_list}
-use Rattle.hop_base.specs.declared.instructions.Call.{Call}
-use Rattle.hop_base.specs.declared.instructions.Instr.{Instr}
-use Rattle.hop_model.specs.State.{ContainerCell}
-use Rattle.hop_model.specs.Outcomes.{enter, entered}
-use Rattle.plain_laws.specs.history_model.Plains.{container_of, locus_of}
-use Rattle.plain_laws.specs.Acts.{going_on_in}
-use Rattle.plain_laws.proofs.BesideLemmas.{acted_writing, back_last}
+use Rattle.base_types.specs.declared.instructions.Call.{Call}
+use Rattle.base_types.specs.declared.instructions.Instr.{Instr}
+use Rattle.model_kernel.specs.State.{ContainerCell}
+use Rattle.model_kernel.specs.Outcomes.{enter, entered}
+use Rattle.plain_states.specs.Plains.{container_of, locus_of}
+use Rattle.plain_facts.specs.Acts.{going_on_in}
+use Rattle.plain_facts.proofs.BesideLemmas.{acted_writing, back_last}
 use Rattle.plain_steps.proofs.beside_acts.back.Goals as goal
 
 pub returns-clause-made : goal.returns-clause-made

@@ -1,9 +1,9 @@
 use Rattle.std.proofs.Common.{◌≡◌, ◌<◌, true, ◌∷◌, [], List, length, rules, ap, ◌∙◌}
-use Rattle.hop_model.specs.Acts.{beside}
-use Rattle.plain_laws.specs.history_model.Entries.{step_entry, versions_after}
-use Rattle.plain_laws.specs.history_model.Plains.{atlas_of}
-use Rattle.plain_laws.specs.history_model.declared.entries.Mark.{Mark}
-use Rattle.plain_laws.proofs.PlainSteps.{here_read, stepped_atlas}
+use Rattle.model_kernel.specs.Acts.{beside}
+use Rattle.plain_states.specs.Entries.{step_entry, versions_after}
+use Rattle.plain_states.specs.Plains.{atlas_of}
+use Rattle.plain_states.specs.declared.entries.Mark.{Mark}
+use Rattle.plain_facts.proofs.PlainSteps.{here_read, stepped_atlas}
 use Rattle.plain_steps.proofs.carry.step_atlas.Goals as goal
 
 pub finish-answer-requires : goal.finish-answer-requires

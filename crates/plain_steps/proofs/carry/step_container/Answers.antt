@@ -1,11 +1,11 @@
 use Rattle.std.proofs.Common.{◌≡◌, ◌-◌, ◌<◌, List, [], ◌∷◌, length, true, rules, arith, refl, ap, ◌∙◌}
 use Rattle.std.proofs.lemmas.Result.{err_from_is_err_and}
-use Rattle.hop_model.specs.Acts.{beside}
-use Rattle.plain_laws.specs.history_model.Entries.{step_entry, versions_after}
-use Rattle.plain_laws.specs.history_model.Plains.{atlas_of, locus_of}
-use Rattle.plain_laws.specs.history_model.declared.entries.Mark.{Mark}
-use Rattle.plain_laws.proofs.history_model_lemmas.wanted_laws_lemmas.WantLemmas.{allowed_by, beside_leaves}
-use Rattle.plain_laws.proofs.PlainSteps.{both_kept, container_at, here_read, operands, place_beside, stepped_container}
+use Rattle.model_kernel.specs.Acts.{beside}
+use Rattle.plain_states.specs.Entries.{step_entry, versions_after}
+use Rattle.plain_states.specs.Plains.{atlas_of, locus_of}
+use Rattle.plain_states.specs.declared.entries.Mark.{Mark}
+use Rattle.plain_states.proofs.model_act_facts_lemmas.WantLemmas.{allowed_by, beside_leaves}
+use Rattle.plain_facts.proofs.PlainSteps.{both_kept, container_at, here_read, operands, place_beside, stepped_container}
 use Rattle.plain_steps.proofs.carry.step_container.Goals as goal
 
 pub index_mut-requires : goal.index_mut-requires

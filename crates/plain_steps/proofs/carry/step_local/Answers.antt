@@ -1,9 +1,9 @@
 use Rattle.std.proofs.Common.{◌<◌, length, None, rules, refl}
 use Rattle.std.proofs.lemmas.Result.{err_from_is_err_and}
-use Rattle.hop_model.specs.Acts.{alone}
-use Rattle.plain_laws.specs.history_model.Plains.{atlas_of, locus_of}
-use Rattle.plain_laws.proofs.history_model_lemmas.wanted_laws_lemmas.WantLemmas.{allowed_by}
-use Rattle.plain_laws.proofs.PlainSteps.{here_read, operands, own_same, stepped_local}
+use Rattle.model_kernel.specs.Acts.{alone}
+use Rattle.plain_states.specs.Plains.{atlas_of, locus_of}
+use Rattle.plain_states.proofs.model_act_facts_lemmas.WantLemmas.{allowed_by}
+use Rattle.plain_facts.proofs.PlainSteps.{here_read, operands, own_same, stepped_local}
 use Rattle.plain_steps.proofs.carry.step_local.Goals as goal
 
 pub local-requires-clause-ready : goal.local-requires-clause-ready

@@ -1,10 +1,10 @@
 use Rattle.std.proofs.Common.{◌≡◌, ◌-◌, ◌<◌, ◌≤◌, length, rules, arith, ap, sym, subst, ◌∙◌}
-use Rattle.hop_base.specs.declared.instructions.Reply.TheVariants.{Ok as OkReply}
-use Rattle.hop_model.specs.Acts.{beside}
-use Rattle.hop_model.specs.Outcomes.{finish}
-use Rattle.plain_laws.specs.history_model.Plains.{atlas_of, locus_of}
-use Rattle.plain_laws.specs.history_model.declared.plain.PlainLocus.{PlainLocus}
-use Rattle.plain_laws.proofs.PlainSteps.{acting_here, listed, other_at, place_other, still_here, stepped_locus}
+use Rattle.base_types.specs.declared.instructions.Reply.TheVariants.{Ok as OkReply}
+use Rattle.model_kernel.specs.Acts.{beside}
+use Rattle.model_kernel.specs.Outcomes.{finish}
+use Rattle.plain_states.specs.Plains.{atlas_of, locus_of}
+use Rattle.plain_states.specs.declared.plain.PlainLocus.{PlainLocus}
+use Rattle.plain_facts.proofs.PlainSteps.{acting_here, listed, other_at, place_other, still_here, stepped_locus}
 use Rattle.plain_steps.proofs.carry.step_locus.Goals as goal
 
 pub index_mut-requires : goal.index_mut-requires

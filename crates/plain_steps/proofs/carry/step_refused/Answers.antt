@@ -1,7 +1,7 @@
 use Rattle.std.proofs.Common.{◌<◌, length, Some, rules}
-use Rattle.hop_model.specs.Acts.{alone}
-use Rattle.plain_laws.specs.history_model.Plains.{atlas_of}
-use Rattle.plain_laws.proofs.PlainSteps.{here_read, stepped_refused}
+use Rattle.model_kernel.specs.Acts.{alone}
+use Rattle.plain_states.specs.Plains.{atlas_of}
+use Rattle.plain_facts.proofs.PlainSteps.{here_read, stepped_refused}
 use Rattle.plain_steps.proofs.carry.step_refused.Goals as goal
 
 pub finish-answer-requires : goal.finish-answer-requires

@@ -1,7 +1,7 @@
 use Rattle.std.proofs.Common.{ap, ◌∙◌}
 use Rattle.std.specs.List.{insert, position_or_len}
-use Rattle.plain_laws.specs.Acts.{stands_before}
-use Rattle.plain_laws.proofs.PrivateLemmas.{private_at_place}
+use Rattle.plain_facts.specs.Acts.{stands_before}
+use Rattle.plain_facts.proofs.PrivateLemmas.{private_at_place}
 use Rattle.plain_steps.proofs.local_acts.insert_private.Goals as goal
 
 pub returns-clause-ok : goal.returns-clause-ok

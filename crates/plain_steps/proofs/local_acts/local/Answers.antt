@@ -1,12 +1,12 @@
 use Rattle.std.proofs.Common.{◌≡◌, refl, ap, sym, ◌∙◌}
-use Rattle.hop_base.specs.declared.capabilities.Region.{Region}
-use Rattle.hop_base.specs.declared.histories.Answer.{Answer}
-use Rattle.hop_base.specs.declared.instructions.Instr.TheVariants.{Set, Copy, Add, Sub, Jump, Jz, Load, Store, Invoke, Leave, Return, Map, Unmap, Lmap, Lunmap, Take, Give, Drop, Make, Spawn, Stop, Go, Snap, Stabilise, Print, Halt}
-use Rattle.hop_base.specs.declared.instructions.Reply.TheVariants.{Ok as OkReply}
-use Rattle.hop_model.specs.Outcomes.{Outcome, local_act, own_reply, with_private}
-use Rattle.plain_laws.specs.history_model.Plains.{locus_of}
-use Rattle.plain_laws.proofs.history_model_lemmas.ActLemmas.{ok_by, on_ok_by}
-use Rattle.plain_laws.proofs.history_model_lemmas.wanted_laws_lemmas.LocalLemmas.{lmap_pages, local_go, local_lmap, local_snap, local_stabilise}
+use Rattle.base_types.specs.declared.capabilities.Region.{Region}
+use Rattle.base_types.specs.declared.histories.Answer.{Answer}
+use Rattle.base_types.specs.declared.instructions.Instr.TheVariants.{Set, Copy, Add, Sub, Jump, Jz, Load, Store, Invoke, Leave, Return, Map, Unmap, Lmap, Lunmap, Take, Give, Drop, Make, Spawn, Stop, Go, Snap, Stabilise, Print, Halt}
+use Rattle.base_types.specs.declared.instructions.Reply.TheVariants.{Ok as OkReply}
+use Rattle.model_kernel.specs.Outcomes.{Outcome, local_act, own_reply, with_private}
+use Rattle.plain_states.specs.Plains.{locus_of}
+use Rattle.plain_states.proofs.ActLemmas.{ok_by, on_ok_by}
+use Rattle.plain_states.proofs.model_act_facts_lemmas.LocalLemmas.{lmap_pages, local_go, local_lmap, local_snap, local_stabilise}
 use Rattle.plain_steps.proofs.local_acts.local.Goals as goal
 
 pub new_region-region-requires-clause-page : goal.new_region-region-requires-clause-page

@@ -1,6 +1,6 @@
 use Rattle.std.proofs.Common.{rules, not, ◌&&◌, ◌==◌}
 use Rattle.std.proofs.lemmas.Fn.{filter_same}
-use Rattle.hop_base.specs.declared.capabilities.Private.{Private}
+use Rattle.base_types.specs.declared.capabilities.Private.{Private}
 use Rattle.plain_steps.proofs.local_acts.remove_private.Goals as goal
 
 pub returns : goal.returns

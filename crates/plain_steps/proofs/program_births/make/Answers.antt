@@ -1,10 +1,10 @@
 use Rattle.std.proofs.Common.{◌≡◌, List, [], ◌∷◌, ◌++◌, map, string_bytes, sym, ap, ◌∙◌}
 use Rattle.std.proofs.lemmas.List.{map_push}
-use Rattle.hop_model.specs.Outcomes.{finish, made_name}
-use Rattle.hop_model.specs.State.{Text, AtlasState, LocusState}
-use Rattle.hop_base.specs.declared.instructions.Reply.TheVariants.{Ok}
-use Rattle.plain_laws.specs.history_model.Plains.{atlas_of, container_of, locus_of}
-use Rattle.plain_laws.proofs.MadeLemmas.{make_makes}
+use Rattle.model_kernel.specs.Outcomes.{finish, made_name}
+use Rattle.model_kernel.specs.State.{Text, AtlasState, LocusState}
+use Rattle.base_types.specs.declared.instructions.Reply.TheVariants.{Ok}
+use Rattle.plain_states.specs.Plains.{atlas_of, container_of, locus_of}
+use Rattle.plain_facts.proofs.MadeLemmas.{make_makes}
 use Rattle.plain_steps.proofs.program_births.make.Goals as goal
 
 pub returns-clause-made : goal.returns-clause-made

@@ -1,10 +1,10 @@
 use Rattle.std.proofs.Common.{None, Some, refl, ap, ◌∙◌}
-use Rattle.hop_base.specs.declared.entities.Kind.TheVariants.{Atlas, Container, Locus}
-use Rattle.hop_model.specs.Acts.{alone, bearing, beside, beside_and_atlas}
-use Rattle.plain_laws.specs.history_model.Plains.{locus_of}
-use Rattle.wanted_act.specs.Views.{act_of}
-use Rattle.plain_laws.proofs.history_model_lemmas.WantLemmas.{acting_as}
-use Rattle.plain_laws.proofs.history_model_lemmas.wanted_laws_lemmas.WantLemmas.{allowed_by, bears_by, wants_alone, wants_beside, wants_birth, wants_mapping, wants_refusal}
+use Rattle.base_types.specs.declared.entities.Kind.TheVariants.{Atlas, Container, Locus}
+use Rattle.model_kernel.specs.Acts.{alone, bearing, beside, beside_and_atlas}
+use Rattle.plain_states.specs.Plains.{locus_of}
+use Rattle.model_acts.specs.Views.{act_of}
+use Rattle.plain_states.proofs.WantLemmas.{acting_as}
+use Rattle.plain_states.proofs.model_act_facts_lemmas.WantLemmas.{allowed_by, bears_by, wants_alone, wants_beside, wants_birth, wants_mapping, wants_refusal}
 use Rattle.plain_steps.proofs.steps.carry_out.Goals as goal
 
 pub step_refused-requires : goal.step_refused-requires

@@ -1,14 +1,14 @@
 use Rattle.std.proofs.Common.{◌≡◌, List, length, Some, slice_get, refl, sym, ap, subst, ◌∙◌}
 use Rattle.std.proofs.lemmas.Option.{slice_get_read, slice_get_within}
-use Rattle.hop_base.specs.declared.instructions.Condition.TheVariants.{Running}
-use Rattle.hop_model.specs.Acts.{wanted}
-use Rattle.wanted_act.specs.Views.{IsReadyLocus, act_of}
-use Rattle.wanted_act.proofs.Ready.{ready}
-use Rattle.plain_laws.specs.history_model.Lists.{IsActingAt, IsRunningAt}
-use Rattle.plain_laws.specs.history_model.Plains.{atlas_of, cells_of, locus_of}
-use Rattle.plain_laws.specs.history_model.declared.plain.PlainLocus.{PlainLocus}
-use Rattle.plain_laws.proofs.history_model_lemmas.SoundLemmas.{sound_here, sound_locus}
-use Rattle.plain_laws.proofs.PlainSteps.{same_sound, stepped_sound}
+use Rattle.base_types.specs.declared.instructions.Condition.TheVariants.{Running}
+use Rattle.model_kernel.specs.Acts.{wanted}
+use Rattle.model_acts.specs.Views.{IsReadyLocus, act_of}
+use Rattle.model_acts.proofs.Ready.{ready}
+use Rattle.plain_states.specs.Lists.{IsActingAt, IsRunningAt}
+use Rattle.plain_states.specs.Plains.{atlas_of, cells_of, locus_of}
+use Rattle.plain_states.specs.declared.plain.PlainLocus.{PlainLocus}
+use Rattle.plain_states.proofs.SoundLemmas.{sound_here, sound_locus}
+use Rattle.plain_facts.proofs.PlainSteps.{same_sound, stepped_sound}
 use Rattle.plain_steps.proofs.steps.plain_step.Goals as goal
 
 pub wants-requires : goal.wants-requires

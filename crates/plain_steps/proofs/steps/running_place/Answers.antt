@@ -1,6 +1,6 @@
 use Rattle.std.proofs.Common.{◌≡◌, ◌-◌, ◌+◌, ◌<◌, arith, refl, length}
 use Rattle.std.proofs.lemmas.Option.{slice_get_read}
-use Rattle.plain_laws.proofs.history_model_lemmas.CellLemmas.{idle_at}
+use Rattle.plain_states.proofs.CellLemmas.{idle_at}
 use Rattle.plain_steps.proofs.steps.running_place.Goals as goal
 
 pub returns-in-Running-clause-found : goal.returns-in-Running-clause-found

@@ -1,7 +1,7 @@
 use Rattle.std.proofs.Common.{ℕ, sym, subst, ◌∙◌}
-use Rattle.hop_model.specs.Acts.{beside}
-use Rattle.plain_laws.specs.history_model.Lists.{IsActingAt}
-use Rattle.plain_laws.proofs.history_model_lemmas.wanted_laws_lemmas.WantLemmas.{kind_atlas}
+use Rattle.model_kernel.specs.Acts.{beside}
+use Rattle.plain_states.specs.Lists.{IsActingAt}
+use Rattle.plain_states.proofs.model_act_facts_lemmas.WantLemmas.{kind_atlas}
 use Rattle.plain_steps.proofs.steps.step_beside.Goals as goal
 
 pub step_atlas-requires : goal.step_atlas-requires

@@ -4,4 +4,4 @@ use Rattle.store_commit.proofs.blobs.write_blob.Given as goal
 abbrev pub invariant-loop-i : goal.invariant-loop-i
 invariant-loop-i g l =
     let disk = g.D.Disk in
-    BlobSoFar disk.tells disk.block_count disk.reading disk.may_leave disk.left_since disk.clock disk.faults l.rec l.blob l.i l.fn.areas l.areas l.fn.disk l.disk
+    BlobSoFar disk l.rec l.blob l.i l.fn.areas l.areas l.fn.disk l.disk

@@ -1,6 +1,6 @@
 use Rattle.std.proofs.Common.{refl, ◌+◌, ◌/◌, length, ◌≡◌, ◌∙◌, arith}
 use Rattle.std.proofs.lemmas.List.{length-set}
-use Rattle.store_model.specs.image_form.Bodies.{blocks_for}
+use Rattle.store_books.specs.image_facts.Bodies.{blocks_for}
 use Rattle.store_commit.proofs.Chunks.{chunk_more, chunks_all}
 use Rattle.store_commit.proofs.spelled.spelled_blocks.Goals as goal
 

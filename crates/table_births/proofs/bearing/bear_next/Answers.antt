@@ -1,7 +1,7 @@
 use Rattle.std.proofs.Common.{Option, Some, None, IfNone, sym, ap, subst, ◌∙◌}
-use Rattle.table_steps.specs.hop_model.Scripts.{next_name}
-use Rattle.table_steps.specs.script_form.Scripts.{tables_of}
-use Rattle.cell_births.specs.script_against.NextTables.{AreBornBefore}
+use Rattle.script_types.specs.model_kernel.Scripts.{next_name}
+use Rattle.script_types.specs.Scripts.{tables_of}
+use Rattle.cell_births.specs.script_fits.NextTables.{AreBornBefore}
 use Rattle.table_births.proofs.AtlasStates.{has_atlas}
 use Rattle.table_births.proofs.Nexts.{next_here, none_left, progress_after}
 use Rattle.table_births.proofs.bearing.bear_next.Goals as goal

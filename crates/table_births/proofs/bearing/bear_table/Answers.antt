@@ -1,6 +1,6 @@
 use Rattle.std.proofs.Common.{◌+◌, length, sym, subst}
-use Rattle.table_steps.specs.script_form.Scripts.{container_of, locus_of}
-use Rattle.cell_births.specs.script_against.NextTables.{IsNextTable}
+use Rattle.script_types.specs.Scripts.{container_of, locus_of}
+use Rattle.cell_births.specs.script_fits.NextTables.{IsNextTable}
 use Rattle.cell_births.specs.Bearing.{MayBearContainer}
 use Rattle.table_births.specs.Births.{atlas_state_in}
 use Rattle.table_births.proofs.Nexts.{next_container, next_locus}

@@ -1,4 +1,4 @@
-use Rattle.table_steps.specs.script_form.Scripts.{container_of}
+use Rattle.script_types.specs.Scripts.{container_of}
 use Rattle.table_births.proofs.Newborns.{container_bears, faces_container}
 use Rattle.table_births.proofs.lending.go_container.Goals as goal
 

@@ -1,4 +1,4 @@
-use Rattle.table_steps.specs.script_form.Scripts.{locus_of}
+use Rattle.script_types.specs.Scripts.{locus_of}
 use Rattle.table_births.proofs.Newborns.{faces_locus, locus_bears}
 use Rattle.table_births.proofs.lending.go_locus.Goals as goal
 

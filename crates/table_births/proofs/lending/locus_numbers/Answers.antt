@@ -1,6 +1,6 @@
 use Rattle.std.proofs.Common.{◌≡◌, ◌+◌, unwrap_or, sym, ap, subst, ◌∙◌}
-use Rattle.atlas_dir.specs.directory_form.Directory.{entity_named}
-use Rattle.table_steps.specs.script_form.Scripts.{locus_of}
+use Rattle.data_atlas.specs.data_atlas_facts.Directory.{entity_named}
+use Rattle.script_types.specs.Scripts.{locus_of}
 use Rattle.cell_births.specs.Bearing.{MayBearLocus}
 use Rattle.table_births.proofs.Nexts.{host_found}
 use Rattle.table_births.proofs.lending.locus_numbers.Goals as goal

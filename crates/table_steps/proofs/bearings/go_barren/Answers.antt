@@ -1,9 +1,9 @@
 use Rattle.std.proofs.Common.{◌≡◌, ◌++◌, ◌<◌, slice_get, slice_set, get_or, Some, sym, ap, ◌∙◌, arith}
-use Rattle.cell_table.proofs.Barren.{faces_barren, planned_barren}
-use Rattle.cell_table.proofs.Facing.{high_at}
-use Rattle.cell_table.proofs.Pairs.{lends_high}
-use Rattle.cell_table.proofs.Places.{read_back, read_front, set_two, write_two}
-use Rattle.cell_table.proofs.Triples.{two_quiet}
+use Rattle.table_laws.proofs.Barren.{faces_barren, planned_barren}
+use Rattle.table_laws.proofs.Facing.{high_at}
+use Rattle.table_laws.proofs.Pairs.{lends_high}
+use Rattle.table_laws.proofs.Places.{read_back, read_front, set_two, write_two}
+use Rattle.table_laws.proofs.Triples.{two_quiet}
 use Rattle.table_steps.proofs.bearings.go_barren.Goals as goal
 
 pub advance_barren-requires : goal.advance_barren-requires

@@ -1,9 +1,9 @@
 use Rattle.std.proofs.Common.{◌≡◌, ◌++◌, slice_get, slice_set, get_or, Some, sym, ap, ◌∙◌, arith}
-use Rattle.cell_table.specs.step_plans.declared.plans.Plan.TheVariants as plan
-use Rattle.cell_table.proofs.Facing.{plan_of}
-use Rattle.cell_table.proofs.FacingAtlas.{directory_is, making_below, newborn_unborn}
-use Rattle.cell_table.proofs.Places.{read_back, read_first, read_middle, set_three, write_three}
-use Rattle.cell_table.proofs.Triples.{StandAt, lends_three, made_goes, three_quiet}
+use Rattle.table_laws.specs.cell_plans.declared.plans.Plan.TheVariants as plan
+use Rattle.table_laws.proofs.Facing.{plan_of}
+use Rattle.table_laws.proofs.FacingAtlas.{directory_is, making_below, newborn_unborn}
+use Rattle.table_laws.proofs.Places.{read_back, read_first, read_middle, set_three, write_three}
+use Rattle.table_laws.proofs.Triples.{StandAt, lends_three, made_goes, three_quiet}
 use Rattle.table_steps.proofs.bearings.go_making_at.Goals as goal
 
 pub split_at_mut-first-requires : goal.split_at_mut-first-requires

@@ -1,11 +1,11 @@
 use Rattle.std.proofs.Common.{◌≡◌, [], ◌∷◌, ◌++◌, slice_get, slice_set, get_or, Some, sym, ap, ◌∙◌, arith}
 use Rattle.std.proofs.lemmas.Option.{slice_get-get_or}
-use Rattle.cell_table.specs.step_plans.declared.plans.Plan.TheVariants as plan
-use Rattle.cell_table.proofs.Facing.{cells}
-use Rattle.cell_table.proofs.FacingAtlas.{faces_mapping, mapping_between}
-use Rattle.cell_table.proofs.Pairs.{kept_goes}
-use Rattle.cell_table.proofs.Places.{read_back, read_first, read_middle, set_three, write_three}
-use Rattle.cell_table.proofs.Triples.{StandAt, lends_three, three_quiet}
+use Rattle.table_laws.specs.cell_plans.declared.plans.Plan.TheVariants as plan
+use Rattle.table_laws.proofs.Facing.{cells}
+use Rattle.table_laws.proofs.FacingAtlas.{faces_mapping, mapping_between}
+use Rattle.table_laws.proofs.Pairs.{kept_goes}
+use Rattle.table_laws.proofs.Places.{read_back, read_first, read_middle, set_three, write_three}
+use Rattle.table_laws.proofs.Triples.{StandAt, lends_three, three_quiet}
 use Rattle.table_steps.proofs.bearings.go_mapping.Goals as goal
 
 pub split_at_mut-first-requires : goal.split_at_mut-first-requires

@@ -1,9 +1,9 @@
 use Rattle.std.proofs.Common.{◌≡◌, sym, ap, ◌∙◌, subst, slice_get, slice_set, get_or, Some, arith}
 use Rattle.std.proofs.lemmas.Option.{slice_get-get_or}
-use Rattle.cell_table.specs.Steps.{StepsQuietly}
-use Rattle.cell_table.proofs.Facing.{plan_of}
-use Rattle.cell_table.proofs.Pairs.{alone_quiet}
-use Rattle.cell_table.specs.step_plans.declared.plans.Plan.TheVariants as plan
+use Rattle.table_laws.specs.Steps.{StepsQuietly}
+use Rattle.table_laws.proofs.Facing.{plan_of}
+use Rattle.table_laws.proofs.Pairs.{alone_quiet}
+use Rattle.table_laws.specs.cell_plans.declared.plans.Plan.TheVariants as plan
 use Rattle.table_steps.proofs.besides.go_alone.Goals as goal
 
 pub advance_alone-requires : goal.advance_alone-requires

@@ -1,7 +1,7 @@
 use Rattle.std.proofs.Common.{arith}
 use Rattle.std.proofs.lemmas.Option.{slice_get-get_or}
 use Rattle.std.proofs.Common.{get_or}
-use Rattle.cell_table.proofs.Facing.{other_apart}
+use Rattle.table_laws.proofs.Facing.{other_apart}
 use Rattle.table_steps.proofs.besides.go_beside.Goals as goal
 
 pub go_beside_higher-requires-clause-higher : goal.go_beside_higher-requires-clause-higher

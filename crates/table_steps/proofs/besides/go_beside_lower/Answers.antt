@@ -1,7 +1,7 @@
 use Rattle.std.proofs.Common.{◌≡◌, ◌++◌, slice_get, slice_set, get_or, Some, sym, ap, ◌∙◌, arith}
-use Rattle.cell_table.proofs.Facing.{faces_other}
-use Rattle.cell_table.proofs.Pairs.{beside_quiet, lends_high}
-use Rattle.cell_table.proofs.Places.{read_back, read_front, set_two, write_two}
+use Rattle.table_laws.proofs.Facing.{faces_other}
+use Rattle.table_laws.proofs.Pairs.{beside_quiet, lends_high}
+use Rattle.table_laws.proofs.Places.{read_back, read_front, set_two, write_two}
 use Rattle.table_steps.proofs.besides.go_beside_lower.Goals as goal
 
 pub advance_beside-requires : goal.advance_beside-requires

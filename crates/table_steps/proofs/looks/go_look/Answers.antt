@@ -1,12 +1,12 @@
 use Rattle.std.proofs.Common.{◌≡◌, ◌++◌, slice_get, slice_set, get_or, Some, sym, ap, ◌∙◌, arith}
 use Rattle.std.proofs.lemmas.Result.{on_err_weaker}
-use Rattle.cell_table.specs.step_plans.declared.plans.Plan.TheVariants as plan
-use Rattle.cell_table.proofs.Blocks.{ChangesTwo}
-use Rattle.cell_table.proofs.Facing.{high_at, plan_of}
+use Rattle.table_laws.specs.cell_plans.declared.plans.Plan.TheVariants as plan
+use Rattle.table_laws.proofs.Blocks.{ChangesTwo}
+use Rattle.table_laws.proofs.Facing.{high_at, plan_of}
 use Rattle.table_steps.proofs.FacingLook.{faces_look, look_below, wants_word}
-use Rattle.cell_table.proofs.LookDone.{look_leaves}
-use Rattle.cell_table.proofs.Pairs.{lends_high}
-use Rattle.cell_table.proofs.Places.{read_back, read_front, set_two, write_two}
+use Rattle.table_laws.proofs.LookDone.{look_leaves}
+use Rattle.table_laws.proofs.Pairs.{lends_high}
+use Rattle.table_laws.proofs.Places.{read_back, read_front, set_two, write_two}
 use Rattle.table_steps.proofs.looks.go_look.Goals as goal
 
 pub bounds-front-number : goal.bounds-front-number

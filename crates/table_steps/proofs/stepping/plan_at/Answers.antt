@@ -1,6 +1,6 @@
 use Rattle.std.proofs.Common.{◌≡◌, slice_get, Some, sym, ap, ◌∙◌, arith}
 use Rattle.std.proofs.lemmas.Option.{slice_get-get_or}
-use Rattle.cell_table.proofs.Facing.{ready_at}
+use Rattle.table_laws.proofs.Facing.{ready_at}
 use Rattle.table_steps.proofs.Planning.{err_along, ok_idle, planned_here}
 use Rattle.table_steps.proofs.stepping.plan_at.Goals as goal
 

@@ -1,16 +1,16 @@
 use Rattle.std.proofs.Common.{◌∷◌, [], ◌++◌, refl, sym, subst}
-use Rattle.trace_rules.specs.plain_run.hop_model.Scripts.{next_name as next_of}
-use Rattle.trace_rules.specs.plain_run.history_model.Plains.{atlas_of, cells_of}
-use Rattle.trace_rules.proofs.plain_run_lemmas.Answering.{few_names_of}
-use Rattle.trace_rules.proofs.plain_run_lemmas.KnownNames.{next_known}
-use Rattle.trace_rules.proofs.plain_run_lemmas.plain_laws_lemmas.Suppliers.{sound_any}
-use Rattle.trace_rules.specs.plain_run.script_form.Scripts.{tables_of}
+use Rattle.plain_states.specs.model_kernel.Scripts.{next_name as next_of}
+use Rattle.plain_states.specs.Plains.{atlas_of, cells_of}
+use Rattle.trace_step_facts.proofs.plain_runs_lemmas.Answering.{few_names_of}
+use Rattle.trace_step_facts.proofs.plain_runs_lemmas.KnownNames.{next_known}
+use Rattle.trace_step_facts.proofs.plain_facts_lemmas.Suppliers.{sound_any}
+use Rattle.script_types.specs.Scripts.{tables_of}
 use Rattle.trace_steps.specs.Standing.{Stands}
 use Rattle.trace_steps.specs.declared.checker.Checker.{Checker}
 use Rattle.trace_steps.proofs.Bearing.{all_born_refuses, birth_may, birth_stands, is_birth, unbearable_refuses}
 use Rattle.trace_steps.proofs.Stepping.{few_versions}
 use Rattle.trace_steps.proofs.births.birth.Goals as goal
-use Rattle.trace_rules.proofs.plain_run_lemmas.fitting_births_lemmas.KnownNames.{next_name_is}
+use Rattle.trace_step_facts.proofs.model_births_lemmas.KnownNames.{next_name_is}
 
 pub returns-in_default-clause-none : goal.returns-in_default-clause-none
 returns-in_default-clause-none g c = λ actor w es h e ev by may.

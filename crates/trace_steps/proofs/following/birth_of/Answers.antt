@@ -1,8 +1,8 @@
 use Rattle.std.proofs.Common.{◌∙◌, ap, sym}
-use Rattle.hop_base.specs.declared.histories.Entry.{Entry}
-use Rattle.trace_rules.specs.plain_run.script_form.Scripts.{tables_of}
-use Rattle.trace_rules.specs.Standing.{run_of}
-use Rattle.run_rules.proofs.Single.{one_birth, where_none}
+use Rattle.base_types.specs.declared.histories.Entry.{Entry}
+use Rattle.script_types.specs.Scripts.{tables_of}
+use Rattle.trace_step_facts.specs.Standing.{run_of}
+use Rattle.model_run_rules.proofs.Single.{one_birth, where_none}
 use Rattle.trace_steps.proofs.following.birth_of.Goals as goal
 
 pub returns-then-number-clause-none : goal.returns-then-number-clause-none

@@ -1,8 +1,8 @@
 use Rattle.std.proofs.Common.{IfOk, IfSome, IfNone, sym, subst}
-use Rattle.hop_base.specs.declared.histories.Event.{Event}
-use Rattle.trace_rules.specs.plain_run.script_form.Scripts.{tables_of}
+use Rattle.base_types.specs.declared.histories.Event.{Event}
+use Rattle.script_types.specs.Scripts.{tables_of}
 use Rattle.trace_steps.specs.Standing.{GoesOn, Refuses}
-use Rattle.run_rules.proofs.Single.{map_none, map_some, none_of_it, some_of}
+use Rattle.model_run_rules.proofs.Single.{map_none, map_some, none_of_it, some_of}
 use Rattle.trace_steps.proofs.following.next.Goals as goal
 
 pub returns-in-Birth-clause-some : goal.returns-in-Birth-clause-some

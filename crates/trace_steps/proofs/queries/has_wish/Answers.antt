@@ -1,5 +1,5 @@
 use Rattle.std.proofs.Common.{◌-◌, ◌&&◌, ◌||◌, ap, sym, ◌∙◌, arith, slice_index}
-use Rattle.trace_rules.specs.trace_parts.cut_searches.Searches.{mark_at}
+use Rattle.trace_step_facts.specs.data_cut_facts.Searches.{mark_at}
 use Rattle.trace_steps.proofs.Wanting.{wish_same}
 use Rattle.trace_steps.proofs.queries.has_wish.Goals as goal
 

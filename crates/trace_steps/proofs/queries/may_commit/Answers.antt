@@ -1,5 +1,5 @@
 use Rattle.std.proofs.Common.{true, ap, ◌∙◌, arith}
-use Rattle.trace_rules.specs.trace_parts.cut_searches.Searches.{mark_at}
+use Rattle.trace_step_facts.specs.data_cut_facts.Searches.{mark_at}
 use Rattle.trace_steps.proofs.Wanting.{may_by_stable, may_by_wish}
 use Rattle.trace_steps.proofs.queries.may_commit.Goals as goal
 

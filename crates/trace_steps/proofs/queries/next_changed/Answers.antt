@@ -2,9 +2,9 @@
 use Rattle.std.proofs.Common.{◌≡◌, ℕ, ◌<◌, ◌≤◌, Some, ap, sym, ◌∙◌, arith, nat_lt, true, false, subst, None}
 use Rattle.std.proofs.lemmas.Bool.Decides.{nat_tests}
 use Rattle.std.specs.Prelude.{find}
-use Rattle.hop_base.specs.Edges.{upto}
-use Rattle.trace_rules.specs.Recording.{first_changed, is_changed}
-use Rattle.trace_rules.proofs.trace_parts_lemmas.Finding.{first_here, none_more}
+use Rattle.base_types.specs.Edges.{upto}
+use Rattle.trace_step_facts.specs.Recording.{first_changed, is_changed}
+use Rattle.trace_state.proofs.Finding.{first_here, none_more}
 use Rattle.trace_steps.proofs.queries.next_changed.Goals as goal
 
 less : (a b : ℕ) → a < b → nat_lt a b ≡ true

@@ -1,7 +1,7 @@
 use Rattle.std.proofs.Common.{◌≡◌, None}
 use Rattle.std.specs.Prelude.{find}
-use Rattle.hop_base.specs.Edges.{upto}
-use Rattle.trace_rules.specs.Recording.{is_changed}
+use Rattle.base_types.specs.Edges.{upto}
+use Rattle.trace_step_facts.specs.Recording.{is_changed}
 use Rattle.trace_steps.proofs.queries.next_changed.Given as goal
 
 abbrev pub invariant-loop-x : goal.invariant-loop-x

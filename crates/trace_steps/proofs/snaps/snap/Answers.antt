@@ -1,10 +1,10 @@
 use Rattle.std.proofs.Common.{ap, sym, subst, ◌∙◌, slice_index, refl}
 use Rattle.std.proofs.lemmas.Bool.{false≢true}
-use Rattle.hop_base.specs.declared.histories.Entry.{Entry}
-use Rattle.hop_base.specs.declared.histories.Event.TheVariants.{Snap as SnapEvent}
-use Rattle.trace_rules.specs.plain_run.hop_model.Histories.{mark}
+use Rattle.base_types.specs.declared.histories.Entry.{Entry}
+use Rattle.base_types.specs.declared.histories.Event.TheVariants.{Snap as SnapEvent}
+use Rattle.plain_states.specs.model_kernel.Histories.{mark}
 use Rattle.trace_steps.specs.Standing.{Follows}
-use Rattle.trace_rules.specs.Standing.{run_of}
+use Rattle.trace_step_facts.specs.Standing.{run_of}
 use Rattle.trace_steps.proofs.Marking.{snap_commits, snap_may}
 use Rattle.trace_steps.proofs.snaps.snap.Goals as goal
 

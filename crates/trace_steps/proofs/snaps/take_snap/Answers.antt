@@ -1,7 +1,7 @@
 use Rattle.std.proofs.Common.{ℕ, ◌<◌, ◌≡◌, ◌++◌, ◌∷◌, [], Bool, false, ap, sym, subst, ◌∙◌, arith, slice_index}
-use Rattle.hop_base.specs.declared.histories.Event.TheVariants.{Snap as SnapEvent}
-use Rattle.trace_rules.specs.plain_run.hop_model.Histories.{mark}
-use Rattle.trace_rules.specs.plain_run.hop_model.Words.{put}
+use Rattle.base_types.specs.declared.histories.Event.TheVariants.{Snap as SnapEvent}
+use Rattle.plain_states.specs.model_kernel.Histories.{mark}
+use Rattle.plain_states.specs.model_kernel.Words.{put}
 use Rattle.trace_steps.specs.Standing.{Stands}
 use Rattle.trace_steps.proofs.Marking.{snap_ascending, snap_few, snap_stands}
 use Rattle.trace_steps.proofs.snaps.take_snap.Goals as goal

@@ -1,10 +1,10 @@
 use Rattle.std.proofs.Common.{true, ap, sym, subst, ◌∙◌, slice_index, refl}
 use Rattle.std.proofs.lemmas.Bool.{false≢true}
-use Rattle.hop_base.specs.declared.histories.Entry.{Entry}
-use Rattle.hop_base.specs.declared.histories.Event.TheVariants.{Tried as TriedEvent}
-use Rattle.trace_rules.specs.plain_run.hop_model.Histories.{mark}
+use Rattle.base_types.specs.declared.histories.Entry.{Entry}
+use Rattle.base_types.specs.declared.histories.Event.TheVariants.{Tried as TriedEvent}
+use Rattle.plain_states.specs.model_kernel.Histories.{mark}
 use Rattle.trace_steps.specs.Standing.{Follows}
-use Rattle.trace_rules.specs.Standing.{run_of}
+use Rattle.trace_step_facts.specs.Standing.{run_of}
 use Rattle.trace_steps.proofs.Marking.{try_commits, try_may, try_stands}
 use Rattle.trace_steps.proofs.snaps.try_record.Goals as goal
 

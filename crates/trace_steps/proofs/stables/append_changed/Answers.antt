@@ -1,9 +1,9 @@
 use Rattle.std.proofs.Common.{ℕ, ◌≡◌, ◌+◌, ◌<◌, ◌≤◌, ◌∙◌, nat_lt, refl, true, false, ap, sym, subst, arith, slice_index}
 use Rattle.std.proofs.lemmas.Bool.Decides.{nat_tests}
-use Rattle.trace_rules.specs.trace_parts.Clocks.{clock_at}
-use Rattle.trace_rules.specs.trace_parts.declared.cuts.Cuts.{Cuts}
-use Rattle.trace_rules.specs.Recording.{Appends, IsRecordAt}
-use Rattle.trace_rules.proofs.Recording.{appends_more, appends_none, appends_skip}
+use Rattle.trace_state.specs.Clocks.{clock_at}
+use Rattle.trace_state.specs.declared.cuts.Cuts.{Cuts}
+use Rattle.trace_step_facts.specs.Recording.{Appends, IsRecordAt}
+use Rattle.trace_step_facts.proofs.Recording.{appends_more, appends_none, appends_skip}
 use Rattle.trace_steps.proofs.stables.append_changed.Goals as goal
 use Rattle.trace_steps.proofs.stables.append_changed.Goals.{then-newest-x+in_ok-append, else-newest-x}
 

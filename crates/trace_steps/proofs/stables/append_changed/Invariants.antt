@@ -1,7 +1,7 @@
 -- The records of the entities so far are appended.
 use Rattle.std.proofs.Common.{◌≡◌}
-use Rattle.trace_rules.specs.trace_parts.Clocks.{clock_at}
-use Rattle.trace_rules.specs.Recording.{Appends}
+use Rattle.trace_state.specs.Clocks.{clock_at}
+use Rattle.trace_step_facts.specs.Recording.{Appends}
 use Rattle.trace_steps.proofs.stables.append_changed.Given as goal
 
 abbrev pub invariant-loop-x : goal.invariant-loop-x

@@ -1,6 +1,6 @@
 use Rattle.std.proofs.Common.{sym, subst, refl}
-use Rattle.hop_base.specs.declared.histories.Entry.{Entry}
-use Rattle.hop_base.specs.declared.histories.Event.TheVariants.{Stable as StableEvent}
+use Rattle.base_types.specs.declared.histories.Entry.{Entry}
+use Rattle.base_types.specs.declared.histories.Event.TheVariants.{Stable as StableEvent}
 use Rattle.trace_steps.specs.Standing.{Follows}
 use Rattle.trace_steps.proofs.Stabling.{stable_may}
 use Rattle.trace_steps.proofs.stables.stable.Goals as goal

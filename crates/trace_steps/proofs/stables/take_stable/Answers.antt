@@ -1,8 +1,8 @@
 use Rattle.std.proofs.Common.{◌∙◌, subst}
-use Rattle.hop_base.specs.declared.records.Cut.{Cut}
-use Rattle.trace_rules.specs.plain_run.hop_model.Choices.{IsGreatest}
-use Rattle.trace_rules.specs.trace_parts.cut_searches.Records.{choice}
-use Rattle.trace_rules.specs.trace_parts.cut_laws.Records.{commits_of}
+use Rattle.base_types.specs.declared.records.Cut.{Cut}
+use Rattle.plain_states.specs.model_kernel.Choices.{IsGreatest}
+use Rattle.trace_step_facts.specs.data_cut_facts.Records.{choice}
+use Rattle.model_run_rules.specs.model_cut_laws.Records.{commits_of}
 use Rattle.trace_steps.proofs.Stabling.{stable_ascending, stable_few, stable_stands}
 use Rattle.trace_steps.proofs.stables.take_stable.Goals as goal
 

@@ -1,8 +1,8 @@
 use Rattle.std.proofs.Common.{◌≡◌, length, sym, ◌∙◌, rules}
-use Rattle.trace_rules.proofs.plain_run_lemmas.history_model_lemmas.PlainBirths.{few_names}
-use Rattle.trace_rules.specs.plain_run.hop_model.Scripts.{next_name as next_of}
-use Rattle.trace_rules.specs.plain_run.history_model.Plains.{atlas_of}
-use Rattle.trace_rules.specs.plain_run.script_form.Scripts.{tables_of}
+use Rattle.plain_states.proofs.PlainBirths.{few_names}
+use Rattle.plain_states.specs.model_kernel.Scripts.{next_name as next_of}
+use Rattle.plain_states.specs.Plains.{atlas_of}
+use Rattle.script_types.specs.Scripts.{tables_of}
 use Rattle.trace_steps.proofs.Beginning.{begin_stands, left_same, low_at, none_past}
 use Rattle.trace_steps.proofs.starts.begin.Goals as goal
 

@@ -1,11 +1,11 @@
 use Rattle.std.proofs.Common.{◌≡◌, ℕ, ◌+◌, ◌<◌, ap, sym, refl, ◌∙◌, arith, slice_index}
 use Rattle.std.specs.List.{list_any}
 use Rattle.std.proofs.lemmas.Bool.{false≢true}
-use Rattle.hop_base.specs.declared.histories.Touch.{Touch}
-use Rattle.trace_rules.specs.plain_run.hop_model.Histories.{locus_in}
-use Rattle.trace_rules.specs.plain_run.hop_model.Words.{put}
-use Rattle.trace_rules.specs.plain_run.history_model.Plains.{cells_of}
-use Rattle.trace_rules.specs.plain_run.script_form.Scripts.{tables_of}
+use Rattle.base_types.specs.declared.histories.Touch.{Touch}
+use Rattle.plain_states.specs.model_kernel.Histories.{locus_in}
+use Rattle.plain_states.specs.model_kernel.Words.{put}
+use Rattle.plain_states.specs.Plains.{cells_of}
+use Rattle.script_types.specs.Scripts.{tables_of}
 use Rattle.trace_steps.specs.Asking.{due_at, if_ok}
 use Rattle.trace_steps.proofs.Stepping.{asked_ok, can_of, due_refuses, few_versions, idle_refuses, named, owed_ok, step_may, step_stands}
 use Rattle.trace_steps.proofs.steps.step.Goals as goal

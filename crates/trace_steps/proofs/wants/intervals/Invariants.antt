@@ -1,7 +1,7 @@
 use Rattle.std.proofs.Common.{◌≡◌, ℕ, ◌<◌, slice_index}
-use Rattle.trace_rules.specs.plain_run.hop_model.Histories.{every_of}
-use Rattle.trace_rules.specs.plain_run.hop_model.State.{Supply}
-use Rattle.trace_rules.specs.plain_run.history_model.Plains.{cells_of}
+use Rattle.plain_states.specs.model_kernel.Histories.{every_of}
+use Rattle.plain_states.specs.model_kernel.State.{Supply}
+use Rattle.plain_states.specs.Plains.{cells_of}
 use Rattle.trace_steps.proofs.wants.intervals.Given as goal
 
 abbrev pub invariant-loop-x : goal.invariant-loop-x

@@ -1,6 +1,6 @@
-use Rattle.core_laws.specs.kernel_commits.commit_laws.Parts.{parts_of}
-use Rattle.core_laws.proofs.kernel_commits_lemmas.commit_laws_lemmas.Room.{begun_few}
-use Rattle.core_laws.proofs.kernel_commits_lemmas.commit_laws_lemmas.Steadying.{few_at_start}
+use Rattle.kernel_core_facts.specs.kernel_commit_facts.Parts.{parts_of}
+use Rattle.kernel_core_facts.proofs.kernel_commit_facts_lemmas.Room.{begun_few}
+use Rattle.kernel_core_facts.proofs.kernel_commit_facts_lemmas.Steadying.{few_at_start}
 use Rattle.kernel_core.proofs.kernels.Kernel.begin.Goals as goal
 
 pub invariant_of-result : goal.invariant_of-result

@@ -1,6 +1,0 @@
-use Rattle.std.proofs.Common.{◌≡◌, ◌≤◌, ◌==◌, take}
-use Rattle.std.specs.Prelude.{count_by}
-use Rattle.act_checks.proofs.edges.shown.Given as goal
-
-abbrev pub invariant-loop-place : goal.invariant-loop-place
-invariant-loop-place l = (l.count ≡ count_by (λ r. r.target == l.target) (take l.place l.regions)) × (l.count ≤ l.place)

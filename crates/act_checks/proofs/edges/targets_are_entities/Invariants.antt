@@ -1,7 +1,0 @@
-use Rattle.std.proofs.Common.{◌<◌, take}
-use Rattle.std.specs.Prelude.{All}
-use Rattle.hop_base.specs.declared.capabilities.Region.{Region}
-use Rattle.act_checks.proofs.edges.targets_are_entities.Given as goal
-
-abbrev pub invariant-loop-place : goal.invariant-loop-place
-invariant-loop-place l = All (λ (r : Region). r.target < 64) (take l.place l.regions)

@@ -1,9 +1,0 @@
-use Rattle.fitting_births.specs.script_form.Scripts.{tables_of}
-use Rattle.directory_laws.specs.kernel_calls.Calls.{atlas_state}
-use Rattle.act_checks.proofs.script_against_tests.a_container_is_next_and_then_its_locus.Goals as goal
-
-pub next_table-first-requires : goal.next_table-first-requires
-next_table-first-requires g c = c.new.ensures (atlas_state c.new-atlas.result) (tables_of c.in_ok-script.script)
-
-pub next_table-second-requires : goal.next_table-second-requires
-next_table-second-requires g c = c.new-2.ensures (atlas_state c.birth.new.self) (tables_of c.in_ok-script.script)

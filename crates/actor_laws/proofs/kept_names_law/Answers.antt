@@ -1,5 +1,0 @@
-use Rattle.history_model.proofs.sound_runs_lemmas.Naming.{step_keeps}
-use Rattle.actor_laws.proofs.kept_names_law.Goals as goal
-
-pub returns : goal.returns
-returns c s l w r sound is = step_keeps s l w r sound is

@@ -1,6 +1,0 @@
-use Rattle.std.proofs.Common.{◌≡◌, ◌+◌, drop}
-use Rattle.directory_form.specs.Directory.{number_from}
-use Rattle.atlas_dir.proofs.names.number_of.Given as goal
-
-abbrev pub invariant-loop-place : goal.invariant-loop-place
-invariant-loop-place l = number_from (l.first + l.place) l.text (drop l.place l.names) ≡ number_from l.first l.text l.names

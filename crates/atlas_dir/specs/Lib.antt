@@ -1,1 +1,0 @@
-pub use Rattle.directory_form.specs as directory_form

@@ -1,1 +1,0 @@
-pub use Rattle.snapshot_reading.proofs.blob_fields_lemmas

@@ -1,5 +1,0 @@
-use Rattle.snapshot_reading.proofs.blob_fields_lemmas.NamesRead.{SoFar}
-use Rattle.atlas_reading.proofs.names.read_names.Given as goal
-
-abbrev pub invariant-loop-place : goal.invariant-loop-place
-invariant-loop-place l = SoFar l.kind l.count l.initial.atlas l.initial.rest l._place l.atlas l.rest

@@ -1,5 +1,0 @@
-use Rattle.snapshot_reading.proofs.blob_fields_lemmas.TextsRead.{SoFar}
-use Rattle.atlas_reading.proofs.names.read_text.Given as goal
-
-abbrev pub invariant-loop-place : goal.invariant-loop-place
-invariant-loop-place l = SoFar l.atlas l.number l.size l.initial.rest l._place l.text.bytes l.rest

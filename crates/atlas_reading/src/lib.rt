@@ -1,9 +1,0 @@
-//! Blobs of atlases, read.
-#![tactic(auto)]
-
-mod atlases;
-mod edges;
-mod names;
-
-pub use atlases::read_atlas;
-pub use snapshot_reading::{BadBlob, ContainerBlob, read_container, read_locus};

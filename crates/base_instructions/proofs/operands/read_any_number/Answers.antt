@@ -1,0 +1,8 @@
+use Rattle.base_instructions.proofs.Tokens.{reads_number}
+use Rattle.base_instructions.proofs.operands.read_any_number.Goals as goal
+
+pub returns-in_default-Some : goal.returns-in_default-Some
+returns-in_default-Some c = reads_number c.args.bytes.now c.read_number.result.0 _ (rw c.in_default-Some.is-1 at c.read_number.ensures)
+
+pub returns-in_default-None : goal.returns-in_default-None
+returns-in_default-None c = reads_number c.args.bytes.now c.read_number.result.0 _ (rw c.in_default-None.is-1 at c.read_number.ensures)

@@ -1,5 +1,0 @@
-use Rattle.before_law.proofs.ClosedParts.{before_within}
-use Rattle.before_law.proofs.closed_part_law.Goals as goal
-
-pub returns : goal.returns
-returns c s policy script w es p i j cause effect legal closed at there before inside = before_within s policy script w es p i j cause effect legal closed at there before inside

@@ -1,0 +1,10 @@
+pub mod Atlases
+pub mod Edges
+pub mod Names
+pub mod Pieces
+pub mod Fields
+pub mod Instrs
+pub mod Loci
+pub mod Parts
+pub use Rattle.act_atlas_laws.specs.act_alone
+pub use Rattle.act_atlas_laws.specs.act_calls

@@ -1,9 +1,0 @@
--- The blob of an atlas, as it is read.
-use Rattle.std.specs.Prelude.{ℕ, List}
-use Rattle.directory_form.specs.Directory.{Directory}
-use Rattle.blob_grammar.specs.Forms.{SpellsAtlas}
-use Rattle.directory_laws.specs.kernel_calls.Calls.{atlas_state}
-
--- the bytes spell the names and edges of this directory
-abbrev pub IsAtlasSpelled : Directory → List ℕ → Type 0
-IsAtlasSpelled a bytes = SpellsAtlas (atlas_state a) bytes

@@ -1,3 +1,0 @@
-pub use Rattle.byteorder.specs.Endian
-pub mod Fields
-pub mod Blobs

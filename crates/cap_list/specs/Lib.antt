@@ -1,1 +1,0 @@
-pub use Rattle.hop_base.specs.Slots

@@ -1,5 +1,0 @@
-use Rattle.cell_laws.proofs.Formed.{cell_formed}
-use Rattle.cell_laws.proofs.formed_cell_law.Goals as goal
-
-pub returns : goal.returns
-returns c held s words w cell sound has own = cell_formed held s words w cell sound has own

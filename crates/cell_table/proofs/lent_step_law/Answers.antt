@@ -1,5 +1,0 @@
-use Rattle.cell_table.proofs.Quiet.{steps_quietly}
-use Rattle.cell_table.proofs.lent_step_law.Goals as goal
-
-pub returns : goal.returns
-returns c me cs cs' old new e steps lends few numbers pairs = steps_quietly me cs cs' old new e steps lends numbers few pairs

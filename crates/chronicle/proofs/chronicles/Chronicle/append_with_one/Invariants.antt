@@ -1,5 +1,0 @@
-use Rattle.std.specs.Prelude.{Some}
-use Rattle.chronicle.proofs.chronicles.Chronicle.append_with_one.Given as goal
-
-abbrev pub ghosts-append_one : goal.ghosts-append_one
-ghosts-append_one g a = record { item = Some a.item.now }

@@ -1,5 +1,0 @@
-use Rattle.std.specs.Prelude.{Some}
-use Rattle.chronicle.proofs.chronicles.Chronicle.append_with_three.Given as goal
-
-abbrev pub ghosts-append_three : goal.ghosts-append_three
-ghosts-append_three g a = record { item = Some a.item.now }

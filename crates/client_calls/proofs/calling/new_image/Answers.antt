@@ -1,9 +1,0 @@
-use Rattle.std.proofs.Common.{◌≡◌, [], ◌∷◌, map, rules}
-use Rattle.std.specs.Prelude.{codes, string_bytes}
-use Rattle.client_calls.proofs.Fresh.{fresh_called}
-use Rattle.client_calls.proofs.calling.new_image.Goals as goal
-
-pub returns : goal.returns
-returns c =
-    let words : map string_bytes c.deref.result.now ≡ codes "format" ∷ codes "4096" ∷ [] = search rules in
-    fresh_called _ _ c.in_ok-new.new c.call.result words c.call.ensures

@@ -1,4 +1,0 @@
-use Rattle.command_checks.proofs.reading_commands_tests.show.Given as goal
-
-abbrev pub ghost-show_image : goal.ghost-show_image
-ghost-show_image a = λ tag page place. tag

@@ -1,6 +1,0 @@
-use Rattle.manager_gate.specs.Managers.{counted_word, is_due}
-use Rattle.command_checks.proofs.run_command_tests.run_for.Given as goal
-
--- the managers of the program
-abbrev pub ghost-run_script : goal.ghost-run_script
-ghost-run_script a = record { supply = counted_word; policy = is_due }

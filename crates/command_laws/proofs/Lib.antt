@@ -1,9 +1,0 @@
-pub mod Complete
-pub mod Drilled
-pub mod Leavings
-pub mod Played
-pub mod Kept
-pub mod Readied
-pub mod Unmade
-pub mod Traced
-pub mod TracedMeaning

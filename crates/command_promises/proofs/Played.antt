@@ -1,0 +1,119 @@
+-- What a kernel leaves of a run, from what it made and what was put.
+use Rattle.std.proofs.Common.{◌≡◌, ◌++◌, ◌<◌, ℕ, List, Some, Result, Ok, Err, refl, sym, ap, subst, ◌∙◌}
+use Rattle.std.specs.Option.{option_map}
+use Rattle.std.specs.Prelude.{IfErr, IsErrOf, ⊤}
+use Rattle.edge_disk.specs.declared.disk.Disk.{Ghosts}
+use Rattle.edge_disk.specs.declared.disk.NoBlocks.{NoBlocks}
+use Rattle.base_types.specs.declared.histories.Entry.{Entry}
+use Rattle.image_facts.specs.model_kernel.State.{AtlasState, KernelState, Text}
+use Rattle.image_facts.specs.model_kernel.Steps.{atlas_in}
+use Rattle.kernel_runs.specs.kernel_commit_facts.Lacking.{IsDue}
+use Rattle.kernel_runs.specs.kernel_commits.Parts.{stop_of}
+use Rattle.kernel_runs.specs.kernel_commits.declared.stopping.Stopped.{Stopped}
+use Rattle.kernel_runs.specs.kernel_commits.declared.stopping.Stopped.TheVariants.{Failed, TooFew}
+use Rattle.kernel_runs.specs.kernel_core_facts.Kernels.{Held, Lives}
+use Rattle.open_kernel.specs.kernel_invariant.Beginnings.{Beginning, state_after}
+use Rattle.open_kernel.specs.kernel_invariant.Live.{IsRunning, KernelView}
+use Rattle.open_kernel.specs.kernel_block_laws.Room.{enough_blocks}
+use Rattle.kernel_runs.specs.Running.{EndsRun, HasStopped, IsOver}
+use Rattle.open_kernel.specs.kernel_views.Views.{view_of}
+use Rattle.open_kernel.specs.kernel_record_facts.Cells.{words_on}
+use Rattle.model_serial.specs.Serial.{IsStopped, IsWhole}
+use Rattle.open_kernel.specs.store_facts.State.{books}
+use Rattle.kernel_runs.specs.table_births.Births.{atlas_state_in}
+use Rattle.kernel_runs.proofs.table_births_lemmas.AtlasStates.{same_atlas}
+use Rattle.command_source.specs.command_outcomes.Ends.{Gains}
+use Rattle.command_source.specs.command_outcomes.Faults.{fault_line}
+use Rattle.command_source.specs.command_outcomes.Seen.{Gave, SeenSink}
+use Rattle.command_source.specs.command_outcomes.Statuses.{ending, status_by}
+use Rattle.command_source.specs.command_outcomes.declared.faults.Fault.{Fault}
+use Rattle.command_source.specs.command_outcomes.declared.faults.Fault.TheVariants.{Blocks, Disk}
+use Rattle.command_source.specs.command_outcomes.declared.statuses.Status.{Status}
+use Rattle.command_source.proofs.command_outcomes_lemmas.Endings.{fault_ends, put_ends}
+use Rattle.command_promises.specs.Runs.{Telling, told}
+use Rattle.command_promises.specs.Playing.{HasRun, HasServed, InEach, IsPutBy, PlayLeaves, StopsPlay, WasCutForBlocks, WasCutShort, fault_of_stop}
+
+-- what holds of why a call failed holds of this reason
+pub of_err : (r : Result ⊤ Stopped) (P : Stopped → Type 0) (why : Stopped) → IfErr r P → IsErrOf r why → P why
+of_err (Ok x) P why h is = absurd (cc is)
+of_err (Err e) P why h is = (let same : e ≡ why = cc in subst P same h)
+
+-- a run that was stopped was told so
+pub put_stopped : (ended : Result ⊤ Stopped) (why : Stopped) (fault : Fault) (sink : SeenSink) (bytes : Text) (status : Status) → ended ≡ Err why → fault ≡ fault_of_stop why → status ≡ status_by fault
+    → Gains sink (bytes ++ fault_line fault) → IsPutBy ended sink bytes status
+put_stopped ended why fault sink bytes status is same by put =
+    subst (λ (r : Result ⊤ Stopped). IsPutBy r sink bytes status) (sym is) (by ∙ ap status_by same, subst (λ (f : Fault). Gains sink (bytes ++ fault_line f)) same put)
+
+module _ {D : Type 0} (disks : Ghosts D) (telling : Telling) (new : Held D) (sink : SeenSink) (gave : Gave) (disk : D)
+    (history : gave.history ≡ new.parts.noted.entries) (marks : gave.marks ≡ new.parts.noted.marks) (same : disk ≡ new.parts.store.disk) where
+  -- the lines by the names that are left
+  abbrev lines : Text
+  lines = telling (atlas_state_in new.parts.cells) new.parts.noted.entries
+
+  -- IN ONE RUN
+  module _ (b : Beginning) where
+    abbrev LivesNow : Type 0
+    LivesNow = Lives disks b new
+
+    has_run : LivesNow → HasRun disks b gave disk
+    has_run lives =
+        let view : KernelView = view_of disks.reading b new.parts.cells new.parts.store new.parts.noted.entries new.parts.noted.marks (option_map stop_of new.stop) in
+        record { view = view; running = subst (λ (d : D). IsRunning b disks view d) (sym same) lives.live.running; history = sym history; marks = sym marks }
+
+    -- they are the run's own
+    lines_same : LivesNow → lines ≡ told telling b gave.history
+    lines_same lives =
+        let names : atlas_state_in new.parts.cells ≡ atlas_in (state_after b new.parts.noted.entries 0).cell = sym (same_atlas b.supply (words_on (disks.reading new.parts.store.disk)) new.parts.cells) ∙ ap (λ (w : KernelState). atlas_in (w 0).cell) lives.live.running.follows.state in
+        ap (λ (a : AtlasState). telling a new.parts.noted.entries) names ∙ ap (told telling b) (sym history)
+
+    served : IsOver disks b new → (Puts : Text → Type 0) → Puts (lines) → HasServed disks telling b gave disk Puts
+    served over Puts put = record {
+      run = has_run over.lives;
+      whole = subst (λ (es : List Entry). IsWhole b.supply b.policy b.script b.state es) (sym history) over.whole;
+      output = subst Puts (lines_same over.lives) put;
+    }
+
+    cut : HasStopped disks b new → (f : Fault) → Gains sink (lines ++ fault_line f) → WasCutShort disks telling b sink gave disk f
+    cut stopped f put = record {
+      run = has_run stopped.lives;
+      part = subst (λ (es : List Entry). IsStopped b.supply b.policy b.script b.state es) (sym history) stopped.part;
+      output = subst (λ (text : Text). Gains sink (text ++ fault_line f)) (lines_same stopped.lives) put;
+    }
+
+    -- for want of blocks
+    cut_for : (count : ℕ) (n : NoBlocks) → HasStopped disks b new → new.stop ≡ Some (TooFew n) → n.free < n.need → (books new.parts.store).count ≡ count
+        → Gains sink (lines ++ fault_line (Blocks n)) → WasCutForBlocks disks telling b count sink gave disk n
+    cut_for count n stopped at fewer same_count put = record {
+      cut = cut stopped (Blocks n) put;
+      short = record {
+        few =
+            subst (λ (blocks : ℕ). blocks < enough_blocks (state_after b gave.history)) same_count
+            (subst (λ (es : List Entry). (books new.parts.store).count < enough_blocks (state_after b es)) (sym history) (stopped.enough n at));
+        fewer = fewer;
+        due = subst (IsDue b) (sym history) (stopped.due n at);
+      };
+    }
+
+  -- WHAT IT LEAVES
+  module _ (starts : Beginning → Type 0) (rose : Type 0) (count : ℕ) (same_count : (books new.parts.store).count ≡ count) where
+    abbrev Ends : Result ⊤ Stopped → Type 0
+    Ends result = disks.tells → (b : Beginning) → starts b → EndsRun disks b result new
+
+    abbrev Each : (Beginning → Type 0) → Type 0
+    Each P = InEach disks telling starts rose count sink gave disk P
+
+    abbrev Whole : (Text → Type 0) → Type 0
+    Whole Puts = Each (λ b. HasServed disks telling b gave disk Puts)
+
+    abbrev Stops : Fault → Type 0
+    Stops f = StopsPlay disks telling starts rose count sink gave disk f
+
+    pub play_leaves : (result : Result ⊤ Stopped) → Ends result → (IsErrOf result Failed → rose) → ((n : NoBlocks) → IsErrOf result (TooFew n) → (new.stop ≡ Some (TooFew n)) × (n.free < n.need))
+        → IsPutBy result sink (lines) gave.status → PlayLeaves disks telling starts rose count sink gave disk (ending gave.status)
+    play_leaves (Ok x) ends failed short put =
+        put_ends sink Whole Stops gave.status (lines) put (λ Puts all told b start. served b (ends told b start).over Puts all)
+    play_leaves (Err Failed) ends failed short put =
+        fault_ends sink Whole Stops gave.status Disk put.0 (failed refl, λ told b start. cut b (ends told b start).stopped Disk put.1)
+    play_leaves (Err (TooFew n)) ends failed short put =
+        let why = short n refl in
+        fault_ends sink Whole Stops gave.status (Blocks n) put.0 (λ told b start. cut_for b count n (ends told b start).stopped why.0 why.1 same_count put.1)

@@ -1,0 +1,3 @@
+pub mod Directory
+pub mod Reached
+pub use Rattle.model_circles.specs as model_circles

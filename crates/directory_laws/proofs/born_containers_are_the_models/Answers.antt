@@ -1,5 +1,0 @@
-use Rattle.directory_laws.proofs.BirthLaws.{births_same}
-use Rattle.directory_laws.proofs.born_containers_are_the_models.Goals as goal
-
-pub returns : goal.returns
-returns c = births_same

@@ -1,5 +1,0 @@
-use Rattle.directory_laws.proofs.NameLaws.{numbers_same}
-use Rattle.directory_laws.proofs.numbers_of_names_are_the_models.Goals as goal
-
-pub returns : goal.returns
-returns c = numbers_same

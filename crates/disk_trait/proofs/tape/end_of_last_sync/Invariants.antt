@@ -1,6 +1,0 @@
-use Rattle.std.proofs.Common.{take}
-use Rattle.disk_trait.specs.Kept.{EndsWithSync}
-use Rattle.disk_trait.proofs.tape.end_of_last_sync.Given as goal
-
-abbrev pub invariant-loop-i : goal.invariant-loop-i
-invariant-loop-i l = EndsWithSync (take l.i l.calls) l.end

@@ -1,0 +1,3 @@
+pub mod Counting
+mod RunSoFar
+pub use Rattle.edge_disk.proofs as edge_disk_lemmas

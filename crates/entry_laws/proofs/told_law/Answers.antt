@@ -1,6 +1,0 @@
--- The line tells the entry.
-use Rattle.entry_laws.proofs.Told.{TellsSame-text}
-use Rattle.entry_laws.proofs.told_law.Goals as goal
-
-pub returns : goal.returns
-returns c = TellsSame-text

@@ -1,2 +1,0 @@
-pub mod Telling
-pub use Rattle.entry_lines.specs as entry_lines

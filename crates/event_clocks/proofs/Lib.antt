@@ -1,2 +1,0 @@
-pub mod Changing
-pub use Rattle.hop_model.proofs as hop_model_lemmas

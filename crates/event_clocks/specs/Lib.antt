@@ -1,2 +1,0 @@
-pub mod Clocks
-pub use Rattle.hop_model.specs as hop_model

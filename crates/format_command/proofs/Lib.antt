@@ -1,2 +1,0 @@
-pub mod Formatted
-pub use Rattle.restart.proofs.image_meaning_lemmas

@@ -1,2 +1,0 @@
-pub mod Formats
-pub use Rattle.restart.specs.image_meaning

@@ -1,7 +1,0 @@
-use Rattle.std.proofs.Common.{◌≡◌, ◌+◌, drop}
-use Rattle.std.specs.List.{position_or_len}
-use Rattle.history_model.specs.EdgeLists.{is_edge}
-use Rattle.history_model.proofs.edges.place_of_this.Given as goal
-
-abbrev pub invariant-loop-place : goal.invariant-loop-place
-invariant-loop-place l = l.place + position_or_len (is_edge l.from l.to) (drop l.place l.edges) ≡ position_or_len (is_edge l.from l.to) l.edges

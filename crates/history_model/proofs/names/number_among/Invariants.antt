@@ -1,6 +1,0 @@
-use Rattle.std.proofs.Common.{◌≡◌, ◌+◌, drop, map, string_bytes}
-use Rattle.hop_model.specs.Scripts.{place_of}
-use Rattle.history_model.proofs.names.number_among.Given as goal
-
-abbrev pub invariant-loop-i : goal.invariant-loop-i
-invariant-loop-i l = place_of l.name (drop l.i (map string_bytes l.names)) (l.first + l.i) ≡ place_of l.name (map string_bytes l.names) l.first

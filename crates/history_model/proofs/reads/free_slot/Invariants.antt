@@ -1,6 +1,0 @@
-use Rattle.std.proofs.Common.{◌≡◌, drop}
-use Rattle.hop_model.specs.Words.{free_slot_from, free_slot}
-use Rattle.history_model.proofs.reads.free_slot.Given as goal
-
-abbrev pub invariant-loop-slot : goal.invariant-loop-slot
-invariant-loop-slot l = free_slot_from l.slot (drop l.slot l.caps) ≡ free_slot l.caps

@@ -1,8 +1,0 @@
-use Rattle.hop_model.proofs.CommitStamps.{legal_choice, legal_greatest}
-use Rattle.hop_model.proofs.laws.cut_law.Goals as goal
-
-pub returns-clause-closed : goal.returns-clause-closed
-returns-clause-closed c = legal_choice
-
-pub returns-clause-greatest : goal.returns-clause-greatest
-returns-clause-greatest c = legal_greatest

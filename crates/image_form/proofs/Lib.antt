@@ -1,7 +1,0 @@
-pub mod Filling
-pub mod FirstBlock
-pub mod Firsts
-pub mod Fits
-pub mod LastVersions
-pub mod Spelling
-pub mod Worked

@@ -1,5 +1,0 @@
-pub mod Bodies
-pub mod Checks
-pub mod Examples
-pub mod Layout
-pub mod Logs

@@ -1,5 +1,0 @@
-pub use Rattle.opening_laws.proofs.kernel_views_lemmas.kernel_laws_lemmas
-pub use Rattle.opening_laws.proofs.opened_cells_lemmas.meant_states_lemmas
-pub use Rattle.opening_laws.proofs.kernel_views_lemmas.snapshot_store_lemmas
-pub use Rattle.opening_laws.proofs as opening_laws_lemmas
-pub use Rattle.opening_laws.proofs.kernel_views_lemmas.store_laws_lemmas

@@ -1,0 +1,2 @@
+pub use Rattle.image_shown_facts.proofs.image_meaning_lemmas
+pub use Rattle.image_shown_facts.proofs.image_state_laws_lemmas

@@ -1,2 +1,0 @@
-pub use Rattle.shown_states.proofs.meant_states_lemmas.image_meaning_lemmas
-pub use Rattle.shown_states.proofs.meant_states_lemmas

@@ -1,4 +1,0 @@
-use Rattle.image_tools.proofs.containers.container_at.Given as goal
-
-abbrev pub ghost-container_with : goal.ghost-container_with
-ghost-container_with g a = g.s

@@ -1,4 +1,0 @@
-use Rattle.image_tools.proofs.image.read_image.Given as goal
-
-abbrev pub ghost-state_of : goal.ghost-state_of
-ghost-state_of g a = g.s

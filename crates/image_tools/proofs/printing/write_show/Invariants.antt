@@ -1,4 +1,0 @@
-use Rattle.image_tools.proofs.printing.write_show.Given as goal
-
-abbrev pub ghost-write_show : goal.ghost-write_show
-ghost-write_show g a = g.s

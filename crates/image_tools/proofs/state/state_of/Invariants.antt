@@ -1,4 +1,0 @@
-use Rattle.image_tools.proofs.state.state_of.Given as goal
-
-abbrev pub ghost-containers_of : goal.ghost-containers_of
-ghost-containers_of g a = g.s

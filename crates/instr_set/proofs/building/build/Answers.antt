@@ -1,4 +1,0 @@
-use Rattle.instr_set.proofs.building.build.Goals as goal
-
-pub returns-in-2 : goal.returns-in-2
-returns-in-2 c = rw (c.in-2.is, c.register_at-a.ensures, c.register_at-b.ensures)

@@ -1,5 +1,0 @@
-use Rattle.std.proofs.Common.{length}
-use Rattle.instr_set.proofs.writing.+push_letters.Given as goal
-
-abbrev pub decreases-push_letters : goal.decreases-push_letters
-decreases-push_letters l = length l.letters.now

@@ -1,0 +1,9 @@
+pub mod Counting
+pub mod Used
+pub mod Widths
+pub mod Rooms
+pub mod Sums
+pub mod Kept
+pub mod Enough
+pub mod Owned
+pub use Rattle.kernel_invariant.proofs.store_books_lemmas

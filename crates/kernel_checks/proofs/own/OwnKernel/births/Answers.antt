@@ -1,5 +1,0 @@
-use Rattle.manager_gate.specs.Managers.{counted_word}
-use Rattle.kernel_checks.proofs.own.OwnKernel.births.Goals as goal
-
-pub invariant_of-self : goal.invariant_of-self
-invariant_of-self g c = c.births.ensures.clean counted_word c.self.invariant

@@ -1,7 +1,0 @@
-use Rattle.kernel_checks.proofs.own.OwnKernel.step.Goals as goal
-
-pub step-requires-clause-clean : goal.step-requires-clause-clean
-step-requires-clause-clean g c = c.self.invariant
-
-pub invariant_of-self : goal.invariant_of-self
-invariant_of-self g c = c.step.ensures.clean

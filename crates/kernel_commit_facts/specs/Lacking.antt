@@ -1,0 +1,44 @@
+-- When an image has too few blocks for its kernel, and what was due then.
+use Rattle.std.specs.Prelude.{◌≡◌, ◌<◌, ℕ, List, ◌∷◌, ◌++◌}
+use Rattle.base_types.specs.declared.histories.Entry.{Entry}
+use Rattle.base_types.specs.declared.histories.Event.{Event}
+use Rattle.base_types.specs.declared.histories.Event.TheVariants.{Snap, Stable, Step}
+use Rattle.table_steps.specs.cell_looks.Looking.{IsWordStep}
+use Rattle.model_serial_turns.specs.model_serial.Serial.{serial_history}
+use Rattle.kernel_book_laws.specs.store_facts.State.{books}
+use Rattle.kernel_book_laws.specs.kernel_invariant.Beginnings.{Beginning, state_after}
+use Rattle.kernel_book_laws.specs.kernel_block_laws.Room.{enough_blocks}
+use Rattle.kernel_commit_facts.specs.Parts.{Parts}
+
+-- THE IMAGE LACKS BLOCKS: it has fewer than the pages and the born entities of the state may need
+abbrev pub LacksBlocks : {D : Type 0} → Beginning → Parts D → Type 0
+LacksBlocks b p = (books p.store).count < enough_blocks (state_after b p.noted.entries)
+
+-- an entry behind this history that may want blocks: a record, or a step that reads or writes a word, for which a page may have to come in
+abbrev pub MayWant : Beginning → List Entry → Entry → Event → Type 0
+MayWant b es e Snap = Unit {0}
+MayWant b es e Stable = Unit {0}
+MayWant b es e Step = IsWordStep (state_after b es) e
+MayWant b es e event = ⊥
+
+-- WHAT WAS DUE in a piece: behind the old history `all` was to come in the run, a front of it came, and the next entry may want blocks
+pub record IsDueIn (b : Beginning) (all old new : List Entry) : Type 0 where
+  pub made : List Entry
+  pub entries : new ≡ old ++ made
+  pub next : Entry
+  pub rest : List Entry
+  pub is : made ++ next ∷ rest ≡ all
+  pub wants : MayWant b new next next.event
+
+-- WHAT WAS DUE in the run: the history is a front of the serial one, and the next entry may want blocks
+pub record IsDue (b : Beginning) (es : List Entry) : Type 0 where
+  pub rounds_made : ℕ
+  pub next : Entry
+  pub rest : List Entry
+  pub is : es ++ next ∷ rest ≡ serial_history b.supply b.policy b.script b.state rounds_made
+  pub wants : MayWant b es next next.event
+
+-- A PIECE LACKS BLOCKS: the image does, behind the front of it that came, and the next entry may want some
+pub record LacksIn {D : Type 0} (b : Beginning) (all old : List Entry) (new : Parts D) : Type 0 where
+  pub lacks : LacksBlocks b new
+  pub due : IsDueIn b all old new.noted.entries

@@ -1,5 +1,0 @@
-use Rattle.kernel_model.proofs.Cutting.{cut_meant}
-use Rattle.kernel_model.proofs.cut_image_law.Goals as goal
-
-pub returns : goal.returns
-returns c b es count k image right legal enough stores = cut_meant b es count k image right legal enough stores

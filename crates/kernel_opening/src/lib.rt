@@ -1,8 +1,0 @@
-//! An image opened into a kernel, which takes no memory from then on.
-#![tactic(auto)]
-
-mod opening;
-
-pub use image_opening::{OpenFault, OpenWhy};
-pub use kernel_core::{Ended, Kernel, Stopped};
-pub use opening::open_image;

@@ -1,5 +1,0 @@
-use Rattle.manager_gate.specs.Managers.{counted_word, is_due}
-use Rattle.leaf_checks.proofs.manager_gate_tests.through_closures.Given as goal
-
-abbrev pub ghost-top_word : goal.ghost-top_word
-ghost-top_word a = (counted_word, is_due)

@@ -1,4 +1,0 @@
-use Rattle.leaf_checks.proofs.manager_gate_tests.top_word.Given as goal
-
-abbrev pub ghosts-word_by : goal.ghosts-word_by
-ghosts-word_by g a = record { word = g.s.0; wish = g.s.1 }

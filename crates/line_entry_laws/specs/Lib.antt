@@ -1,0 +1,2 @@
+pub mod Telling
+pub use Rattle.line_entries.specs as line_entries

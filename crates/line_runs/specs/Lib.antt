@@ -1,0 +1,1 @@
+pub use Rattle.act_calls.specs as act_calls

@@ -1,0 +1,2 @@
+pub mod Lines
+pub use Rattle.model_kernel.specs as model_kernel

@@ -1,0 +1,1 @@
+pub use Rattle.log_facts.proofs as log_facts_lemmas

@@ -1,9 +1,0 @@
--- What a stop leaves of an append and a turn behind it.
-use Rattle.std.specs.Prelude.{◌⊎◌, List, [], ◌∷◌, ◌++◌}
-use Rattle.disk_trait.specs.Image.{Image}
-use Rattle.hop_base.specs.declared.records.Rec.{Rec}
-use Rattle.log_reading.specs.image_blocks.Logs.{HasLog, Place, next_place}
-
--- the log as it was, or with the record; or the kept records at the next place
-abbrev pub IsOneOf : Place → List Rec → Rec → List Rec → Image → Type 0
-IsOneOf p recs rec kept c = HasLog p recs c ⊎ HasLog p (recs ++ rec ∷ []) c ⊎ HasLog (next_place p) kept c

@@ -1,8 +1,0 @@
-//! The step of a locus that makes one look of a load or a store, over the cells of the locus and the container.
-#![tactic(auto)]
-
-mod looks;
-mod parts;
-
-pub use kernel_cells::{Cell, Part, step_alone};
-pub use looks::step_look;

@@ -1,2 +1,0 @@
-pub mod Answering
-pub use Rattle.locus_machine.specs.hop_model

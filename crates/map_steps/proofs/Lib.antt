@@ -1,2 +1,0 @@
-pub mod MapSteps
-pub use Rattle.beside_steps.proofs as beside_steps_lemmas

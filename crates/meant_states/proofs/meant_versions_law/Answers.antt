@@ -1,8 +1,0 @@
-use Rattle.meant_states.proofs.Meant.{meant_greatest, meant_versions}
-use Rattle.meant_states.proofs.meant_versions_law.Goals as goal
-
-pub returns-clause-computed : goal.returns-clause-computed
-returns-clause-computed c = meant_versions
-
-pub returns-clause-greatest : goal.returns-clause-greatest
-returns-clause-greatest c = meant_greatest

@@ -1,8 +1,0 @@
--- The versions that an image gives its entities.
-use Rattle.std.specs.Prelude.{◌≡◌, ℕ, List}
-use Rattle.hop_base.specs.declared.records.Rec.{Rec}
-use Rattle.image_meaning.specs.hop_model.State.{KernelState}
-use Rattle.image_meaning.specs.Parts.{cut_of}
-
-abbrev pub AreCutVersions : List Rec → KernelState → Type 0
-AreCutVersions recs v = (x : ℕ) → (v x).version ≡ cut_of recs x

@@ -1,0 +1,2 @@
+pub mod Views
+pub use Rattle.base_types.specs as base_types

@@ -1,0 +1,3 @@
+pub mod Containers
+pub mod Marks
+pub use Rattle.base_types.specs as base_types

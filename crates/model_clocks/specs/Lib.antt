@@ -1,0 +1,2 @@
+pub mod Alike
+pub use Rattle.model_kernel.specs as model_kernel

@@ -1,0 +1,22 @@
+pub mod State
+pub mod Words
+pub mod Refusals
+pub mod Acts
+pub mod Outcomes
+pub mod Changes
+pub mod Steps
+pub mod Scripts
+pub mod Births
+pub mod LocalEvents
+pub mod Parts
+pub mod Pasts
+pub mod Vectors
+pub mod Choices
+pub mod Histories
+pub mod Serial
+pub mod Soundness
+pub mod Output
+pub mod Examples
+pub mod Fronts
+pub mod Printing
+pub use Rattle.base_types.specs as base_types

@@ -1,0 +1,3 @@
+pub mod Turns
+pub use Rattle.model_serial.specs.model_births
+pub use Rattle.model_serial.specs as model_serial

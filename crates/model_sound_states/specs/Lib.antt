@@ -1,0 +1,5 @@
+pub mod States
+pub use Rattle.model_sound_runs.specs.model_kernel
+pub use Rattle.model_sound_runs.specs.model_run_laws
+pub use Rattle.model_sound_runs.specs as model_sound_runs
+pub use Rattle.model_sound_runs.specs.script_types

@@ -1,0 +1,10 @@
+pub mod Clauses
+pub mod Moments
+pub mod Newest
+pub mod Owned
+pub mod Starting
+pub mod Stored
+pub use Rattle.table_opened.proofs.image_state_laws_lemmas
+pub use Rattle.kernel_views.proofs.kernel_laws_lemmas
+pub use Rattle.kernel_views.proofs.store_facts_lemmas
+pub use Rattle.kernel_views.proofs.store_snapshots_lemmas

@@ -1,0 +1,11 @@
+pub mod Starts
+pub use Rattle.open_image.specs.kernel_block_laws
+pub use Rattle.kernel_core.specs.kernel_core_facts
+pub use Rattle.open_image.specs.kernel_invariant
+pub use Rattle.open_image.specs.kernel_laws
+pub use Rattle.open_image.specs.kernel_record_facts
+pub use Rattle.open_image.specs.kernel_views
+pub use Rattle.open_image.specs.open_facts
+pub use Rattle.open_image.specs.store_facts
+pub use Rattle.open_image.specs.store_snapshots
+pub use Rattle.open_image.specs.table_laws

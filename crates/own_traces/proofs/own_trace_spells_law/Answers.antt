@@ -1,5 +1,0 @@
-use Rattle.own_traces.proofs.Lasting.{own_trace_spells}
-use Rattle.own_traces.proofs.own_trace_spells_law.Goals as goal
-
-pub returns : goal.returns
-returns c = own_trace_spells

@@ -1,1 +1,0 @@
-pub use Rattle.trace_check.specs as trace_check

@@ -1,5 +1,0 @@
-use Rattle.page_shadow.proofs.BitLemmas.{ordered}
-use Rattle.page_shadow.proofs.Pool.free.Goals as goal
-
-pub returns-clause-ordered : goal.returns-clause-ordered
-returns-clause-ordered c = rw (← c.self.view_is) (ordered _ _ _ _ _ c.self.invariant)

@@ -1,8 +1,0 @@
-use Rattle.std.proofs.Common.{w64, arith}
-use Rattle.std.proofs.lemmas.Nat.Bits.{bit_at_clear_same, bit_at_clear_other}
-use Rattle.page_shadow.proofs.BitLemmas.{writes_bit}
-use Rattle.page_shadow.proofs.bits.clear_bit.Goals as goal
-
-pub returns : goal.returns
-returns c =
-    writes_bit _ _ _ _ c.requires (bit_at_clear_same w64 _ _ (omega arith)) (λ i within differs. bit_at_clear_other w64 _ _ (omega arith) i within differs)

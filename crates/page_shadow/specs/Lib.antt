@@ -1,4 +1,0 @@
-pub mod Pool
-pub mod Ledger
-pub mod Bits
-pub mod ShadowTable

@@ -1,6 +1,0 @@
-use Rattle.std.proofs.Common.{ap, ◌∙◌, take}
-use Rattle.std.proofs.lemmas.List.{take_min}
-use Rattle.part_checks.proofs.names.front_of.Goals as goal
-
-pub returns : goal.returns
-returns c = ap (λ n. take n c.args.blocks.now) c.min.ensures ∙ take_min c.args.most c.args.blocks.now

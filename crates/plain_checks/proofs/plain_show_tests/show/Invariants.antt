@@ -1,5 +1,0 @@
-use Rattle.plain_checks.proofs.plain_show_tests.show.Given as goal
-
--- a supplier of tags
-abbrev pub ghost-write_show : goal.ghost-write_show
-ghost-write_show a = λ tag page place. tag

@@ -1,0 +1,19 @@
+pub mod Coding
+pub mod Goings
+pub mod DefinedBirths
+pub mod Keeping
+pub mod NextNames
+pub mod Openings
+pub mod ShortNames
+pub mod Stepping
+pub mod Suppliers
+pub mod AtlasSteps
+pub mod BesideLemmas
+pub mod LookLemmas
+pub mod MadeLemmas
+pub mod MapLemmas
+pub mod PlainSteps
+pub mod PrivateLemmas
+pub mod StepLemmas
+pub use Rattle.model_serial_turns.proofs.model_births_lemmas
+pub use Rattle.model_serial_turns.proofs as model_serial_turns_lemmas

@@ -1,9 +1,0 @@
-pub mod KnownNames
-pub mod Placing
-pub mod Answering
-pub mod Beginning
-pub use Rattle.plain_steps.proofs.history_model_lemmas
-pub use Rattle.plain_steps.proofs.history_model_lemmas.hop_model_lemmas
-pub use Rattle.plain_steps.proofs.history_model_lemmas.sound_runs_lemmas
-pub use Rattle.plain_steps.proofs.serial_turns_lemmas.fitting_births_lemmas
-pub use Rattle.plain_steps.proofs.plain_laws_lemmas

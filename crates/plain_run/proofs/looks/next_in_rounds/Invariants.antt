@@ -1,4 +1,0 @@
-use Rattle.plain_run.proofs.looks.next_in_rounds.Given as goal
-
-abbrev pub ghost-round_from : goal.ghost-round_from
-ghost-round_from g a = g.s

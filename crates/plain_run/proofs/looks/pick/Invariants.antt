@@ -1,4 +1,0 @@
-use Rattle.plain_run.proofs.looks.pick.Given as goal
-
-abbrev pub ghost-look_then : goal.ghost-look_then
-ghost-look_then g a = g.s

@@ -1,4 +1,0 @@
-use Rattle.plain_run.proofs.plays.record_next.Given as goal
-
-abbrev pub ghost-next : goal.ghost-next
-ghost-next g a = g.s

@@ -1,9 +1,0 @@
-pub mod Standing
-pub mod Looking
-pub mod Plays
-pub use Rattle.plain_steps.specs.history_model
-pub use Rattle.plain_steps.specs.history_model.hop_model
-pub use Rattle.plain_steps.specs.history_model.script_form
-pub use Rattle.plain_steps.specs.history_model.sound_runs
-pub use Rattle.plain_steps.specs.serial_turns.fitting_births
-pub use Rattle.plain_steps.specs.plain_laws

@@ -1,9 +1,0 @@
-use Rattle.plan_laws.proofs.SoundParts.{look_part}
-use Rattle.plan_laws.proofs.SoundPlans.{look_here}
-use Rattle.plan_laws.proofs.sound_states_show_containers.Goals as goal
-
-pub returns-clause-born : goal.returns-clause-born
-returns-clause-born c a cells me x l sound is wants = look_here a cells me l sound is x wants
-
-pub returns-clause-part : goal.returns-clause-part
-returns-clause-part c = look_part

@@ -1,1 +1,0 @@
-pub use Rattle.kernel_calls.specs as kernel_calls

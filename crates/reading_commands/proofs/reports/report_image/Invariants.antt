@@ -1,4 +1,0 @@
-use Rattle.reading_commands.proofs.reports.report_image.Given as goal
-
-abbrev pub ghost-read_image : goal.ghost-read_image
-ghost-read_image g a = g.s

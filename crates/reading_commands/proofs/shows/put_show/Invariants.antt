@@ -1,4 +1,0 @@
-use Rattle.reading_commands.proofs.shows.put_show.Given as goal
-
-abbrev pub ghost-write_show : goal.ghost-write_show
-ghost-write_show g a = g.s

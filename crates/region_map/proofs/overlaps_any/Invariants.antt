@@ -1,7 +1,0 @@
-use Rattle.std.proofs.Common.{◌≡◌, drop}
-use Rattle.std.specs.List.{list_any}
-use Rattle.region_map.specs.Regions.{overlaps}
-use Rattle.region_map.proofs.overlaps_any.Given as goal
-
-abbrev pub invariant-loop-kept : goal.invariant-loop-kept
-invariant-loop-kept l = list_any (overlaps l.region) (drop l.kept-index l.regions) ≡ list_any (overlaps l.region) l.regions

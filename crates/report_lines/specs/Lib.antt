@@ -1,3 +1,0 @@
-pub mod Reports
-pub use Rattle.image_blocks.specs as image_blocks
-pub use Rattle.image_blocks.specs.image_form

@@ -1,5 +1,0 @@
-use Rattle.run_rules.proofs.Fullness.{due_told}
-use Rattle.run_rules.proofs.due_law.Goals as goal
-
-pub returns : goal.returns
-returns c s policy script w es x legal low = due_told s policy script x w es legal low

@@ -1,9 +1,0 @@
-use Rattle.std.proofs.Common.{◌≡◌, drop, map}
-use Rattle.directory_laws.specs.kernel_calls.Calls.{atlas_state}
-use Rattle.fitting_births.specs.script_form.Scripts.{container_of}
-use Rattle.fitting_births.specs.Misfits.{container_clash}
-use Rattle.script_against.proofs.fitting.container_clash.Given as goal
-
--- no name before this table's clashes
-abbrev pub invariant-loop-i : goal.invariant-loop-i
-invariant-loop-i l = container_clash (atlas_state l.atlas) (map container_of (drop l.i l.tables)) l.i ≡ container_clash (atlas_state l.atlas) (map container_of l.tables) 0

@@ -1,0 +1,3 @@
+pub mod Draws
+pub mod Drill
+pub use Rattle.script_types.specs as script_types

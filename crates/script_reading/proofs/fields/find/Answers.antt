@@ -1,0 +1,13 @@
+-- What the map of a table finds is the member of its data.
+use Rattle.toml.proofs.Views.{table_get}
+use Rattle.script_reading.proofs.fields.find.Goals as goal
+
+pub returns-in-Some : goal.returns-in-Some
+returns-in-Some c =
+    let found = table_get c.get.result c.args.name.now c.args.table.now.entries c.get.ensures.value in
+    rw c.in-Some.is at found
+
+pub returns-in-None : goal.returns-in-None
+returns-in-None c =
+    let found = table_get c.get.result c.args.name.now c.args.table.now.entries c.get.ensures.value in
+    rw c.in-None.is at found

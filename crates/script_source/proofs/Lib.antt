@@ -1,2 +1,0 @@
-pub mod Whole
-pub use Rattle.command_parts.proofs as command_parts_lemmas

@@ -1,0 +1,2 @@
+pub mod Tables
+pub use Rattle.model_kernel.proofs as model_kernel_lemmas

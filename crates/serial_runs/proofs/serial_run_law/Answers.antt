@@ -1,9 +1,0 @@
-use Rattle.fitting_births.proofs.Ends.{all_births_done}
-use Rattle.serial_runs.proofs.Histories.{serial_leaves}
-use Rattle.serial_runs.proofs.serial_run_law.Goals as goal
-
-pub returns-clause-legal : goal.returns-clause-legal
-returns-clause-legal c = λ s policy script w n rules fits sound. (serial_leaves s policy script w n rules fits.kinds.containers sound (all_births_done s script rules w sound fits)).legal
-
-pub returns-clause-calm : goal.returns-clause-calm
-returns-clause-calm c = λ s policy script w n rules fits sound. (serial_leaves s policy script w n rules fits.kinds.containers sound (all_births_done s script rules w sound fits)).calm

@@ -1,6 +1,0 @@
-use Rattle.fitting_births.proofs.Ends.{all_births_done}
-use Rattle.serial_runs.proofs.Histories.{stopped_legal}
-use Rattle.serial_runs.proofs.stopped_run_law.Goals as goal
-
-pub returns : goal.returns
-returns c = λ s policy script w es rules fits sound stopped. stopped_legal s policy script w rules fits.kinds.containers sound (all_births_done s script rules w sound fits) es stopped

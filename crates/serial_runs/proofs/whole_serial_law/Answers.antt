@@ -1,6 +1,0 @@
-use Rattle.fitting_births.proofs.Ends.{all_births_done}
-use Rattle.serial_runs.proofs.Rounds.{whole_exists}
-use Rattle.serial_runs.proofs.whole_serial_law.Goals as goal
-
-pub returns : goal.returns
-returns c = λ s policy script w rules fits sound. whole_exists s policy script w rules fits.kinds.containers sound (all_births_done s script rules w sound fits)

@@ -1,5 +1,0 @@
-use Rattle.blob_fields.proofs.RegionsRead.{SoFar}
-use Rattle.snapshot_reading.proofs.regions.read_regions.Given as goal
-
-abbrev pub invariant-loop-place : goal.invariant-loop-place
-invariant-loop-place l = SoFar l.fn.pages l.count l.initial.rest l.place l.least l.regions l.rest

@@ -1,7 +1,0 @@
-use Rattle.std.proofs.Common.{◌≡◌, drop}
-use Rattle.std.specs.Prelude.{slice_index}
-use Rattle.store_laws.specs.page_words.image_meaning.Parts.{chosen_by}
-use Rattle.snapshot_store.proofs.choosing.chosen_one.Given as goal
-
-abbrev pub invariant-loop-rec : goal.invariant-loop-rec
-invariant-loop-rec l = chosen_by (slice_index l.cut.0) (drop l.rec-index l.recs) l.entity ≡ chosen_by (slice_index l.cut.0) l.recs l.entity

@@ -1,6 +1,0 @@
-use Rattle.std.specs.Prelude.{take}
-use Rattle.store_laws.specs.Naming.{HasNamed}
-use Rattle.snapshot_store.proofs.naming.name_all.Given as goal
-
-abbrev pub invariant-loop-block : goal.invariant-loop-block
-invariant-loop-block l = HasNamed (take l.block-index l.blocks) l.fn.ledger l.ledger

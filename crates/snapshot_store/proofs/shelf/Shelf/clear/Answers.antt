@@ -1,6 +1,0 @@
-use Rattle.std.proofs.Common.{arith}
-use Rattle.store_laws.proofs.Tallies.{none_tallied}
-use Rattle.snapshot_store.proofs.shelf.Shelf.clear.Goals as goal
-
-pub invariant_of-self : goal.invariant_of-self
-invariant_of-self c = (c.self.invariant.0, c.self.invariant.1, omega arith, none_tallied)

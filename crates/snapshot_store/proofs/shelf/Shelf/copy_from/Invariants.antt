@@ -1,5 +1,0 @@
-use Rattle.store_laws.proofs.Shelving.{CopiedSoFar}
-use Rattle.snapshot_store.proofs.shelf.Shelf.copy_from.Given as goal
-
-abbrev pub invariant-loop-i : goal.invariant-loop-i
-invariant-loop-i l = CopiedSoFar l.other-inside.recs.items l.other-inside.tables.items l.self-inside.recs.items l.self-inside.tables.items l.i

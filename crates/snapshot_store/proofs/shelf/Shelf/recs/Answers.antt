@@ -1,9 +1,0 @@
-use Rattle.std.proofs.Common.{sym, ap, ◌∙◌, List, take}
-use Rattle.hop_base.specs.declared.records.Rec.{Rec}
-use Rattle.store_laws.proofs.Shelving.{first_recs}
-use Rattle.snapshot_store.proofs.shelf.Shelf.recs.Goals as goal
-
-pub returns : goal.returns
-returns c =
-    let inv = c.self.invariant in
-    rw (← c.self.view_is) (ap (λ (rs : List Rec). take c.self.inside.used rs) c.deref.ensures.value ∙ first_recs c.self.inside.recs.items c.self.inside.tables.items c.self.inside.used (inv.1 ∙ sym inv.0))

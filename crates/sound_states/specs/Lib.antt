@@ -1,4 +1,0 @@
-pub mod States
-pub use Rattle.sound_runs.specs.hop_model
-pub use Rattle.sound_runs.specs.script_form
-pub use Rattle.sound_runs.specs as sound_runs

@@ -1,5 +1,0 @@
-use Rattle.sound_steps.proofs.Steps.{step_sound}
-use Rattle.sound_steps.proofs.sound_law.Goals as goal
-
-pub returns : goal.returns
-returns c = record { step = step_sound }

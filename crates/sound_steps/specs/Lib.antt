@@ -1,1 +1,0 @@
-pub use Rattle.hop_model.specs as hop_model

@@ -1,8 +1,0 @@
-use Rattle.store_model.specs.Between.{Between-join, Between-stay}
-use Rattle.store_model.proofs.pages_only_law.Goals as goal
-
-pub returns-clause-stay : goal.returns-clause-stay
-returns-clause-stay g c = λ a books n. Between-stay g.D.Disk.tells g.D.Disk.clock g.D.Disk.reading g.D.Disk.may_leave g.D.Disk.left_since a books n (λ c told left. g.met.D.Disk.only_now a c told left)
-
-pub returns-clause-join : goal.returns-clause-join
-returns-clause-join g c = Between-join g.D.Disk.tells g.D.Disk.clock g.D.Disk.reading g.D.Disk.may_leave g.D.Disk.left_since

@@ -1,6 +1,0 @@
--- Interrupted reads take nothing.
-use Rattle.std.specs.Io.KnownBytes.{Keeps}
-use Rattle.stream_edge.proofs.standard.read_some.Given as goal
-
-abbrev pub invariant-loop : goal.invariant-loop
-invariant-loop g l = Keeps (g.R.Read.remaining l.initial.reader) (g.R.Read.remaining l.reader)

@@ -1,6 +1,0 @@
-use Rattle.manager_gate.specs.Managers.{counted_word, is_due}
-use Rattle.system_calls.proofs.calls.call.Given as goal
-
--- words that count up from the tag, and a snapshot after every so many versions
-abbrev pub ghost-hopper : goal.ghost-hopper
-ghost-hopper a = record { supply = λ tag page place. counted_word tag page place; policy = λ every since. is_due every since }

@@ -1,2 +1,0 @@
-pub mod Lines
-pub use Rattle.hop_model.specs as hop_model

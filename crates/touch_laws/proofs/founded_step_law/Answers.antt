@@ -1,8 +1,0 @@
-use Rattle.touch_laws.proofs.Noted.{founded_after, founded_left}
-use Rattle.touch_laws.proofs.founded_step_law.Goals as goal
-
-pub returns-clause-runs : goal.returns-clause-runs
-returns-clause-runs c = founded_after
-
-pub returns-clause-cells : goal.returns-clause-cells
-returns-clause-cells c = founded_left

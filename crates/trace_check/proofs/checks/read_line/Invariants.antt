@@ -1,4 +1,0 @@
-use Rattle.trace_check.proofs.checks.read_line.Given as goal
-
-abbrev pub ghost-wanted : goal.ghost-wanted
-ghost-wanted g a = g.gate

@@ -1,4 +1,0 @@
-use Rattle.trace_check.proofs.reading.birth_named.Given as goal
-
-abbrev pub ghost-birth : goal.ghost-birth
-ghost-birth g a = g.gate

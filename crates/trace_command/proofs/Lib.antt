@@ -1,4 +1,0 @@
-pub mod Ending
-pub mod Ruling
-pub mod Verdicts
-pub use Rattle.command_laws.proofs as command_laws_lemmas

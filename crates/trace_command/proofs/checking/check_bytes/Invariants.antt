@@ -1,9 +1,0 @@
-use Rattle.manager_form.specs.Managing.{managers_of}
-use Rattle.command_laws.specs.TraceBooked.{over}
-use Rattle.trace_command.proofs.checking.check_bytes.Given as goal
-
-abbrev pub ghosts-check_read-N-Answers : goal.ghosts-check_read-N-Answers
-ghosts-check_read-N-Answers g a = record { word = g.m.word; wish = g.m.wish }
-
-abbrev pub ghosts-check_read-B-Answers : goal.ghosts-check_read-B-Answers
-ghosts-check_read-B-Answers g a = record { word = (over (managers_of a.traced.now.read.managers) g.m).word; wish = (over (managers_of a.traced.now.read.managers) g.m).wish }

@@ -1,4 +1,0 @@
-use Rattle.trace_command.proofs.checking.check_trace.Given as goal
-
-abbrev pub ghost-check_bytes : goal.ghost-check_bytes
-ghost-check_bytes g a = g.m

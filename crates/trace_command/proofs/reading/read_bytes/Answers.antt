@@ -1,8 +1,0 @@
-use Rattle.std.proofs.Common.{Err, ap}
-use Rattle.script_source.specs.command_parts.Seen.{seen_source}
-use Rattle.command_laws.proofs.TracedMeaning.{stop_fault}
-use Rattle.trace_command.proofs.reading.read_bytes.Goals as goal
-
-pub returns-in-Err-clause-fault : goal.returns-in-Err-clause-fault
-returns-in-Err-clause-fault g c =
-    stop_fault (seen_source g.R.Source.left g.R.Source.faults c.args.source.now c.read_all.new.source) c.in-Err.stop c.fault_of_stop.result c.fault_of_stop.ensures (λ is. c.in-Err.ensures.long (ap Err is)) c.in-Err.ensures.fault

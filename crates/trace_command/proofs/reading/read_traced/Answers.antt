@@ -1,6 +1,0 @@
-use Rattle.std.proofs.Common.{sym}
-use Rattle.command_laws.proofs.TracedMeaning.{none_fault}
-use Rattle.trace_command.proofs.reading.read_traced.Goals as goal
-
-pub returns-in-None-clause-fault : goal.returns-in-None-clause-fault
-returns-in-None-clause-fault c = none_fault c.args.bytes.now c.requires.short (sym c.in-None.ensures.place) c.no_rule.result c.no_rule.ensures

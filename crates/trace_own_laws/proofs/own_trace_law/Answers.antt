@@ -1,0 +1,5 @@
+use Rattle.trace_own_laws.proofs.Lasting.{own_trace}
+use Rattle.trace_own_laws.proofs.own_trace_law.Goals as goal
+
+pub returns : goal.returns
+returns c = own_trace

@@ -1,0 +1,1 @@
+pub use Rattle.trace_checker.specs.trace_facts

@@ -1,8 +1,0 @@
--- The touches so far and those that are left join to all.
-use Rattle.std.proofs.Common.{◌≡◌, ℕ, max, drop}
-use Rattle.vector_stamps.specs.Stamps.{component}
-use Rattle.trace_parts.specs.Clocks.{clock_at, joined_in}
-use Rattle.trace_parts.proofs.clocks.Clocks.joined.Given as goal
-
-abbrev pub invariant-loop-touch : goal.invariant-loop-touch
-invariant-loop-touch l = (y : ℕ) → max (component l.stamp y) (joined_in (clock_at l.self) (drop l.touch-index l.touched) y) ≡ joined_in (clock_at l.self) l.touched y

@@ -1,2 +1,0 @@
-pub mod Traces
-pub use Rattle.entry_lines.specs as entry_lines

@@ -1,5 +1,0 @@
-use Rattle.traced_lines.proofs.Shorts.{directory_short}
-use Rattle.traced_lines.proofs.tracing.put_traced.Goals as goal
-
-pub put_trace-requires : goal.put_trace-requires
-put_trace-requires g c = record { short = directory_short c.args.atlas.now c.named.ensures.names }

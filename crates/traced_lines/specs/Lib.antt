@@ -1,1 +1,0 @@
-pub use Rattle.entry_lines.specs as entry_lines

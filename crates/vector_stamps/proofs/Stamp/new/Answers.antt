@@ -1,5 +1,0 @@
-use Rattle.vector_stamps.proofs.Blanks.{get_or-replicate_all}
-use Rattle.vector_stamps.proofs.Stamp.new.Goals as goal
-
-pub returns : goal.returns
-returns c y = get_or-replicate_all 64 y 0

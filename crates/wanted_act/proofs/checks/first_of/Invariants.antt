@@ -1,6 +1,0 @@
-use Rattle.std.proofs.Common.{◌≡◌, drop}
-use Rattle.hop_model.specs.Words.{first}
-use Rattle.wanted_act.proofs.checks.first_of.Given as goal
-
-abbrev pub invariant-loop-check : goal.invariant-loop-check
-invariant-loop-check l = first (drop l.check-index l.checks) ≡ first l.checks

@@ -1,9 +1,0 @@
-pub mod LocalLemmas
-pub mod ReadLemmas
-pub mod SoundLemmas
-pub mod TableLemmas
-pub mod WantLemmas
-pub mod Itself
-pub mod Allowed
-pub mod Alone
-pub mod Kept

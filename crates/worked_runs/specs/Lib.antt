@@ -1,5 +1,0 @@
-pub mod Snapshots
-pub mod Places
-pub mod CutShort
-pub mod FullContainer
-pub mod SecondRun
