@@ -4,7 +4,7 @@ ghost use Rattle.std.specs.Option.{ForSome};
 ghost use Rattle.base_types.specs.Instructions.{IsPlace};
 ghost use Rattle.act_invoke.specs.model_kernel.Acts.{wanted};
 ghost use Rattle.act_invoke.specs.model_kernel.Outcomes.{outcome, holding, code_for, spawned, make as making, spawn as spawning};
-ghost use Rattle.act_invoke.specs.model_kernel.Refusals.{reg};
+ghost use Rattle.act_invoke.specs.model_kernel.Refusals.{instr_at, reg};
 ghost use Rattle.act_invoke.specs.model_kernel.State.{Supply, Cell};
 ghost use Rattle.act_invoke.specs.model_kernel.Words.{free_slot};
 ghost use Rattle.act_invoke.specs.model_acts.Views.{IsReadyLocus};
@@ -12,7 +12,7 @@ ghost use Rattle.act_invoke.specs.act_alone.Loci.{locus_of, container_with};
 ghost use Rattle.act_calls.specs.Calls.{is_make, is_spawn, atlas_state, born_head, born_locus, WantsBirth, AtlasCallMade};
 
 use crate::replies::reply_with;
-use act_invoke::{Chain, Code, Head, Locus, Privates, fetch};
+use act_invoke::{Chain, Code, Head, Locus, Privates};
 use base_types::{Cap, Condition, Entity, Instr, Kind, Reply, Rights};
 use data_atlas::Atlas;
 
@@ -76,14 +76,15 @@ fn make_one(
 }
 
 /// Gives birth to a container, and the locus gets a capability on it. NoNumber where no number is free.
-pub fn make(locus: &mut Locus, atlas: &mut Atlas, newborn: &mut Option<Head>) -> Reply
+#[tactic(auto, using(act_invoke::proofs::Entered::operands))]
+pub fn make(locus: &mut Locus, atlas: &mut Atlas, newborn: &mut Option<Head>, instr: Instr) -> Reply
     requires ready { IsReadyLocus (locus_of locus.old) }
+    requires instr { instr ≡ instr_at (locus_of locus.old) }
     requires wants { WantsBirth is_make (locus_of locus.old) }
     ensures { (me : ℕ) → (s : Supply) → (cell : Cell)
         → AtlasCallMade (outcome s (locus_of locus.old) (wanted me (locus_of locus.old)) (atlas_state atlas.old) cell)
         (locus_of locus.new) result (atlas_state atlas.new) None (born_head s (atlas_state atlas.old) newborn.new) }
 {
-    let instr = fetch(&locus.view());
     match instr {
         Instr::Make(d, n, t, entry) => make_one(locus, atlas, newborn, d, n, t, entry),
         _ => unreachable!(),
@@ -132,14 +133,20 @@ fn spawn_one(
 }
 
 /// Gives birth to a locus like this one, and the locus gets a capability on it. NoNumber where no number is free.
-pub fn spawn(locus: &mut Locus, atlas: &mut Atlas, newborn: &mut Option<Locus>) -> Reply
+#[tactic(auto, using(act_invoke::proofs::Entered::operands))]
+pub fn spawn(
+    locus: &mut Locus,
+    atlas: &mut Atlas,
+    newborn: &mut Option<Locus>,
+    instr: Instr,
+) -> Reply
     requires ready { IsReadyLocus (locus_of locus.old) }
+    requires instr { instr ≡ instr_at (locus_of locus.old) }
     requires wants { WantsBirth is_spawn (locus_of locus.old) }
     ensures { (me : ℕ) → (s : Supply) → (cell : Cell)
         → AtlasCallMade (outcome s (locus_of locus.old) (wanted me (locus_of locus.old)) (atlas_state atlas.old) cell)
         (locus_of locus.new) result (atlas_state atlas.new) None (born_locus (atlas_state atlas.old) newborn.new) }
 {
-    let instr = fetch(&locus.view());
     match instr {
         Instr::Spawn(d, p) => spawn_one(locus, atlas, newborn, d, p),
         _ => unreachable!(),

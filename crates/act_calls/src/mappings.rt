@@ -2,6 +2,7 @@
 ghost use Rattle.std.specs.Prelude.{◌≡◌, ℕ, ◌+◌, ◌<◌, ◌≤◌, ◌==◌, Some, None, count_by};
 ghost use Rattle.act_invoke.specs.model_kernel.Acts.{wanted};
 ghost use Rattle.act_invoke.specs.model_kernel.Outcomes.{outcome, map_region, unmap as unmapping};
+ghost use Rattle.act_invoke.specs.model_kernel.Refusals.{instr_at};
 ghost use Rattle.act_invoke.specs.model_kernel.State.{Supply, ContainerCell};
 ghost use Rattle.data_atlas.specs.data_atlas_facts.Directory.{edges_of, IsBornContainer};
 ghost use Rattle.act_invoke.specs.model_acts.Views.{IsReadyLocus};
@@ -10,7 +11,7 @@ ghost use Rattle.act_invoke.specs.Entries.{WantsBeside};
 ghost use Rattle.act_calls.specs.Calls.{is_map, is_unmap, atlas_state, NamesBorn, AtlasCallMade};
 
 use crate::replies::reply_with;
-use act_invoke::{Head, Locus, fetch, new_region};
+use act_invoke::{Head, Locus, new_region};
 use base_types::{Entity, Instr, Region, Reply};
 use data_atlas::Atlas;
 
@@ -50,8 +51,16 @@ fn map_into(
 
 /// Makes a region in the container with this number, and counts its edge. NoPage where the region goes past the
 /// container's pages, then Overlap, Circle, and ListFull where there are 16 regions.
-pub fn map(locus: &mut Locus, atlas: &mut Atlas, number: Entity, into: &mut Head) -> Reply
+#[tactic(auto, using(act_invoke::proofs::Entered::operands))]
+pub fn map(
+    locus: &mut Locus,
+    atlas: &mut Atlas,
+    number: Entity,
+    into: &mut Head,
+    instr: Instr,
+) -> Reply
     requires ready { IsReadyLocus (locus_of locus.old) }
+    requires instr { instr ≡ instr_at (locus_of locus.old) }
     requires wants { WantsBeside is_map (locus_of locus.old) number }
     requires number { IsBornContainer atlas.old number }
     requires caps { NamesBorn atlas.old locus.old.caps }
@@ -60,7 +69,6 @@ pub fn map(locus: &mut Locus, atlas: &mut Atlas, number: Entity, into: &mut Head
         → AtlasCallMade (outcome s (locus_of locus.old) (wanted me (locus_of locus.old)) (atlas_state atlas.old) (ContainerCell (container_with words into.old)))
         (locus_of locus.new) result (atlas_state atlas.new) (Some (ContainerCell (container_with words into.new))) None }
 {
-    let instr = fetch(&locus.view());
     match instr {
         Instr::Map(_, a, c, b, n, rights) => {
             let region = new_region(&locus.view(), a, c, b, n, rights);
@@ -91,15 +99,22 @@ fn unmap_at(
 
 /// Takes out the region that begins at the named page of the container, and one count of its edge. NoRegion where
 /// none begins there.
-pub fn unmap(locus: &mut Locus, atlas: &mut Atlas, number: Entity, from: &mut Head) -> Reply
+#[tactic(auto, using(act_invoke::proofs::Entered::operands))]
+pub fn unmap(
+    locus: &mut Locus,
+    atlas: &mut Atlas,
+    number: Entity,
+    from: &mut Head,
+    instr: Instr,
+) -> Reply
     requires ready { IsReadyLocus (locus_of locus.old) }
+    requires instr { instr ≡ instr_at (locus_of locus.old) }
     requires wants { WantsBeside is_unmap (locus_of locus.old) number }
     requires counted { (y : ℕ) → edges_of atlas.old number y ≡ count_by (λ r. r.target == y) from.old.regions }
     ensures { (me : ℕ) → (s : Supply) → (words : ℕ → ℕ)
         → AtlasCallMade (outcome s (locus_of locus.old) (wanted me (locus_of locus.old)) (atlas_state atlas.old) (ContainerCell (container_with words from.old)))
         (locus_of locus.new) result (atlas_state atlas.new) (Some (ContainerCell (container_with words from.new))) None }
 {
-    let instr = fetch(&locus.view());
     match instr {
         Instr::Unmap(_, a) => {
             let page = locus.register(a);

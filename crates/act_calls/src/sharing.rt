@@ -2,7 +2,7 @@
 ghost use Rattle.std.specs.Prelude.{◌≡◌, ℕ, ◌<◌, Some};
 ghost use Rattle.act_invoke.specs.model_kernel.Acts.{wanted};
 ghost use Rattle.act_invoke.specs.model_kernel.Outcomes.{outcome, take_cap, give as give_cap, given_cap};
-ghost use Rattle.act_invoke.specs.model_kernel.Refusals.{reg};
+ghost use Rattle.act_invoke.specs.model_kernel.Refusals.{instr_at, reg};
 ghost use Rattle.act_invoke.specs.model_kernel.State.{Supply, AtlasState, ContainerCell};
 ghost use Rattle.act_invoke.specs.model_acts.Views.{IsReadyLocus};
 ghost use Rattle.act_invoke.specs.act_alone.Loci.{locus_of, container_with};
@@ -10,7 +10,7 @@ ghost use Rattle.act_invoke.specs.Entries.{WantsBeside};
 ghost use Rattle.act_calls.specs.Calls.{is_take, is_give, CallMade};
 
 use crate::replies::reply_with;
-use act_invoke::{Head, Locus, fetch, named_entity, named_rights};
+use act_invoke::{Head, Locus, named_entity, named_rights};
 use base_types::{Cap, Instr, Reply, Rights};
 
 fn take_from(locus: &mut Locus, head: &Head, d: u8, y: u8) -> Reply
@@ -32,14 +32,15 @@ fn take_from(locus: &mut Locus, head: &Head, d: u8, y: u8) -> Reply
 
 /// A copy of a capability of the container gets into the locus's lowest empty slot. NoSlot where the container's
 /// slot is empty, ListFull where the locus has no empty one.
-pub fn take(locus: &mut Locus, head: &Head) -> Reply
+#[tactic(auto, using(act_invoke::proofs::Entered::operands))]
+pub fn take(locus: &mut Locus, head: &Head, instr: Instr) -> Reply
     requires ready { IsReadyLocus (locus_of locus.old) }
+    requires instr { instr ≡ instr_at (locus_of locus.old) }
     requires wants { (x : ℕ) × WantsBeside is_take (locus_of locus.old) x }
     ensures { (me : ℕ) → (s : Supply) → (a : AtlasState) → (words : ℕ → ℕ)
         → CallMade (outcome s (locus_of locus.old) (wanted me (locus_of locus.old)) a (ContainerCell (container_with words head.now)))
         (locus_of locus.new) result (Some (ContainerCell (container_with words head.now))) }
 {
-    let instr = fetch(&locus.view());
     match instr {
         Instr::Take(d, _, y) => take_from(locus, head, d, y),
         _ => unreachable!(),
@@ -67,14 +68,15 @@ fn give_to(locus: &mut Locus, head: &mut Head, d: u8, s: u8, rights: Rights) -> 
 
 /// A copy of a capability of the locus, with no right but the named ones, gets into the container's lowest empty
 /// slot. ListFull where the container has none.
-pub fn give(locus: &mut Locus, head: &mut Head) -> Reply
+#[tactic(auto, using(act_invoke::proofs::Entered::operands))]
+pub fn give(locus: &mut Locus, head: &mut Head, instr: Instr) -> Reply
     requires ready { IsReadyLocus (locus_of locus.old) }
+    requires instr { instr ≡ instr_at (locus_of locus.old) }
     requires wants { (x : ℕ) × WantsBeside is_give (locus_of locus.old) x }
     ensures { (me : ℕ) → (s : Supply) → (a : AtlasState) → (words : ℕ → ℕ)
         → CallMade (outcome s (locus_of locus.old) (wanted me (locus_of locus.old)) a (ContainerCell (container_with words head.old)))
         (locus_of locus.new) result (Some (ContainerCell (container_with words head.new))) }
 {
-    let instr = fetch(&locus.view());
     match instr {
         Instr::Give(d, _, s, rights) => give_to(locus, head, d, s, rights),
         _ => unreachable!(),

@@ -1,7 +1,9 @@
 -- What an invocation makes, case by case.
-use Rattle.std.proofs.Common.{◌≡◌, ℕ, ◌+◌, ◌<◌, ◌≤◌, nat_lt, Bool, true, false, if◌then◌else◌, List, [], ◌∷◌, ◌++◌, length, Some, None, refl, sym, ap, ◌∙◌, subst, arith}
+use Rattle.std.proofs.Common.{◌≡◌, ℕ, ◌+◌, ◌<◌, ◌≤◌, nat_lt, Bool, true, false, if◌then◌else◌, List, [], ◌∷◌, ◌++◌, length, Option, Some, None, slice_get, unwrap_or, refl, sym, ap, ◌∙◌, subst, arith}
 use Rattle.std.proofs.lemmas.Bool.{lt-ltb}
 use Rattle.std.proofs.lemmas.Bool.Decides.{nat_tests}
+use Rattle.std.proofs.lemmas.Option.{get_or_from_slice_get, slice_get_within}
+use Rattle.base_types.specs.Instructions.{IsInstruction}
 use Rattle.base_types.specs.declared.instructions.Call.{Call}
 use Rattle.base_types.specs.declared.instructions.Instr.{Instr}
 use Rattle.base_types.specs.declared.instructions.Instr.TheVariants.{Invoke, Leave, Return, Halt}
@@ -19,6 +21,14 @@ use Rattle.act_alone.proofs.model_act_facts_lemmas.Alone.{wanted_says, place_wit
 use Rattle.act_invoke.specs.Entries.{is_invoke, is_leave, is_return, WantsBeside, Invoked}
 
 -- THE WANTED INSTRUCTION
+
+-- the operands of the instruction at a locus's place are in their ranges
+pub operands : (l : LocusState) (i : Instr) → IsReadyLocus l → i ≡ instr_at l → IsInstruction i
+operands l i ready is = subst IsInstruction (sym is) (by_get (slice_get l.code l.place) refl)
+  where
+    by_get : (o : Option Instr) → slice_get l.code l.place ≡ o → IsInstruction (unwrap_or o Halt)
+    by_get (Some j) at = subst IsInstruction (get_or_from_slice_get l.code l.place j Halt at) (ready.code.each l.place Halt (slice_get_within l.code l.place j at))
+    by_get None at = tt
 
 pub instr_is : (is : Instr → Bool) (l : LocusState) (x : ℕ) → WantsBeside is l x → is (instr_at l) ≡ true
 instr_is is l x h = sym (ap is (wanted_says 64 l).instr) ∙ h.instr

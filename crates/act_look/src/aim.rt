@@ -8,7 +8,7 @@ ghost use Rattle.act_invoke.specs.act_alone.Loci.{locus_of};
 ghost use Rattle.act_invoke.specs.Entries.{WantsBeside};
 ghost use Rattle.act_look.specs.Looks.{address_of, done_by, is_look, is_store, needed_by, writes, NamesRegister};
 
-use act_invoke::{Locus, fetch, next_address};
+use act_invoke::{Locus, next_address};
 use base_types::{Instr, Rights};
 
 /// What is done with a word.
@@ -39,9 +39,11 @@ pub(crate) struct Aim {
     pub(crate) access: Access,
 }
 
-/// The aim of the load or the store that the locus wants.
-pub(crate) fn aim_of(locus: &Locus) -> Aim
+/// The aim of the load or the store that the locus wants, which is this instruction.
+#[tactic(auto, using(act_invoke::proofs::Entered::operands))]
+pub(crate) fn aim_of(locus: &Locus, instr: Instr) -> Aim
     requires ready { IsReadyLocus (locus_of locus.now) }
+    requires instr { instr ≡ instr_at (locus_of locus.now) }
     requires wants { (x : ℕ) × WantsBeside is_look (locus_of locus.now) x }
     ensures address { result.address ≡ address_of (locus_of locus.now) }
     ensures register { NamesRegister result.access }
@@ -51,14 +53,13 @@ pub(crate) fn aim_of(locus: &Locus) -> Aim
         → outcome s (locus_of locus.now) (wanted me (locus_of locus.now)) a (ContainerCell c)
         ≡ looked (locus_of locus.now) c result.address (needed_by result.access) (done_by (locus_of locus.now) c result.address result.access) }
 {
-    let view = locus.view();
-    let (at, access) = match fetch(&view) {
+    let (at, access) = match instr {
         Instr::Load(d, a) => (a, Access::Load(d)),
         Instr::Store(a, v) => (a, Access::Store(locus.register(v))),
         _ => unreachable!(),
     };
     Aim {
-        address: next_address(&view, locus.register(at)),
+        address: next_address(&locus.view(), locus.register(at)),
         access,
     }
 }

@@ -1,7 +1,7 @@
 //! One look of a load or a store that a locus wants: at a word of a container, or at a region that shows another's.
 #![tactic(auto)]
 
-ghost use Rattle.std.specs.Prelude.{◌≡◌, ◌≤◌, ◌+◌, ◌/◌, ℕ, false, true, IfErr, IfOk, IsOk, OnErr, OnOk};
+ghost use Rattle.std.specs.Prelude.{◌≡◌, ◌/◌, ℕ, false, true, IfOk, IsOk, OnErr};
 ghost use Rattle.act_invoke.specs.model_kernel.Acts.{wanted};
 ghost use Rattle.act_invoke.specs.model_kernel.Outcomes.{outcome};
 ghost use Rattle.act_invoke.specs.model_kernel.Refusals.{instr_at};
@@ -10,14 +10,14 @@ ghost use Rattle.act_invoke.specs.model_acts.Views.{IsReadyLocus};
 ghost use Rattle.act_invoke.specs.act_alone.Loci.{container_with, locus_of};
 ghost use Rattle.act_invoke.specs.Entries.{WantsBeside};
 ghost use Rattle.page_memory.specs.Words.{AreCleanTrue, IsSoundTable, words_of};
-ghost use Rattle.page_memory.specs.Calls.{Counts, IsCausedIn, KeepsBlocks, KeepsIn, MakesRoomIn, MarksOne};
+ghost use Rattle.page_memory.specs.Calls.{Counts, KeepsBlocks, KeepsIn, MakesRoomIn, MarksOne, PagesOnce};
 ghost use Rattle.act_look.specs.Looks.{address_of, comes_to_word, is_look, is_store, IsMemoryOf, Looked, LooksSomehow};
 
 use crate::aim::aim_of;
 use crate::shown::shown;
 use crate::word::at_word;
 pub use act_invoke::{Head, Locus};
-use base_types::{Answer, PAGE_WORDS};
+use base_types::{Answer, Instr, PAGE_WORDS};
 use edge_managers::{Gate, Policy, Supplier};
 use page_memory::{PageFault, PageStore, PagedMemory};
 
@@ -25,7 +25,8 @@ mod aim;
 mod shown;
 mod word;
 
-/// Makes the look of the load or the store that the locus wants, at the container with this head and this memory.
+/// Makes the look of the load or the store that the locus wants, which is this instruction, at the container with this head
+/// and this memory.
 ///
 /// A begun walk looks where it stands. A new one looks at the target of the private region that was made in the
 /// locus's host and covers the page, or else at the host. There the first case that holds decides: a page at or past
@@ -41,11 +42,13 @@ pub fn look<B: PageStore, S: Supplier, P: Policy>(
     locus: &mut Locus,
     head: &Head,
     memory: &mut PagedMemory,
+    instr: Instr,
     store: &mut B,
     gate: &Gate<S, P>,
 ) -> Result<Answer, PageFault>
     requires keeps { S.keeps gate.now.supply }
     requires ready { IsReadyLocus (locus_of locus.old) }
+    requires instr { instr ≡ instr_at (locus_of locus.old) }
     requires wants { (x : ℕ) × WantsBeside is_look (locus_of locus.old) x }
     requires memory { IsMemoryOf head.now memory.old }
     requires table { IsSoundTable (B.held store.old) memory.old }
@@ -64,12 +67,9 @@ pub fn look<B: PageStore, S: Supplier, P: Policy>(
     ensures room { comes_to_word head.now (address_of (locus_of locus.old)) ≡ true → MakesRoomIn B.PageStore store.old memory.old memory.new (address_of (locus_of locus.old) / PAGE_WORDS) result }
     ensures marks { comes_to_word head.now (address_of (locus_of locus.old)) ≡ true → MarksOne (is_store (instr_at (locus_of locus.old))) memory.old memory.new (address_of (locus_of locus.old) / PAGE_WORDS) result }
     ensures counts { comes_to_word head.now (address_of (locus_of locus.old)) ≡ true → Counts B.PageStore memory.old memory.new (address_of (locus_of locus.old) / PAGE_WORDS) store.old store.new }
-    ensures one_write { B.written store.new ≤ B.written store.old + 1 }
-    ensures cause { IfErr result (IsCausedIn B.PageStore store.old store.new) }
-    ensures same_shut { OnOk result (B.is_shut store.new ≡ B.is_shut store.old) }
-    ensures between { B.Pages store.old store.new }
+    ensures pages { PagesOnce B.PageStore store.old store.new result }
 {
-    let aim = aim_of(locus);
+    let aim = aim_of(locus, instr);
     if let Some(answer) = shown(locus, head, aim.address, aim.access.needed()) {
         return Ok(answer);
     }

@@ -1,9 +1,9 @@
-ghost use Rattle.std.specs.Prelude.{◌≡◌, ◌*◌, ◌/◌, ◌<◌, IfErr, IfOk, OnErr, OnOk};
+ghost use Rattle.std.specs.Prelude.{◌≡◌, ◌*◌, ◌/◌, ◌<◌, IfOk, OnErr};
 ghost use Rattle.act_invoke.specs.model_acts.Views.{IsReadyLocus};
 ghost use Rattle.act_invoke.specs.act_alone.declared.loci.Head.{Head};
 ghost use Rattle.act_invoke.specs.act_alone.Loci.{container_with, locus_of};
 ghost use Rattle.page_memory.specs.Words.{AreCleanTrue, IsSoundTable, words_of};
-ghost use Rattle.page_memory.specs.Calls.{Counts, IsCausedIn, KeepsBlocks, KeepsIn, MakesRoomIn, MarksOne};
+ghost use Rattle.page_memory.specs.Calls.{Counts, KeepsBlocks, KeepsIn, MakesRoomIn, MarksOne, PagesOnce};
 ghost use Rattle.act_look.specs.Looks.{done_by, writes, Looked, NamesRegister, ReachesSomehow};
 
 use crate::aim::{Access, Aim};
@@ -40,9 +40,7 @@ pub(crate) fn at_word<B: PageStore, S: Supplier, P: Policy>(
     ensures room { MakesRoomIn B.PageStore store.old memory.old memory.new (aim.address / PAGE_WORDS) result }
     ensures marks { MarksOne (writes aim.access) memory.old memory.new (aim.address / PAGE_WORDS) result }
     ensures counts { Counts B.PageStore memory.old memory.new (aim.address / PAGE_WORDS) store.old store.new }
-    ensures cause { IfErr result (IsCausedIn B.PageStore store.old store.new) }
-    ensures same_shut { OnOk result (B.is_shut store.new ≡ B.is_shut store.old) }
-    ensures between { B.Pages store.old store.new }
+    ensures pages { PagesOnce B.PageStore store.old store.new result }
 {
     match aim.access {
         Access::Load(d) => {

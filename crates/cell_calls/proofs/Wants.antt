@@ -15,6 +15,7 @@ use Rattle.cell_states.specs.act_calls.Calls.{CallMade}
 use Rattle.cell_states.specs.declared.cells.Part.{Part}
 use Rattle.cell_states.specs.declared.cells.Part.TheVariants as part
 use Rattle.cell_calls.specs.Besides.{FitsBeside, WantsOther, calls_container, is_snap}
+use Rattle.cell_calls.specs.Mapping.{WantsMapping}
 use Rattle.std.proofs.lemmas.Bool.{true≢false}
 
 -- THE SAME ACT FOR EACH OTHER NUMBER
@@ -122,3 +123,11 @@ fits_touches me x l i p h fits apart =
       atlas = ap (λ (w : Act). w.atlas) (same ∙ wanted_allowed 64 l none ∙ ap (allowed 64 l) at) ∙ part_leaves 64 l i p fits;
       other = ap (λ (w : Act). w.other) same ∙ h.other;
     }
+
+-- THE NEXT INSTRUCTION of a locus that wants it
+
+pub next_beside : (l : LocusState) (i : Instr) (x : ℕ) → WantsOther l i x → i ≡ instr_at l
+next_beside l i x h = sym h.instr ∙ (wanted_says 64 l).instr
+
+pub next_mapping : (l : LocusState) (i : Instr) (x : ℕ) → WantsMapping l i x → i ≡ instr_at l
+next_mapping l i x h = sym h.instr ∙ (wanted_says 64 l).instr

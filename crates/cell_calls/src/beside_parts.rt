@@ -39,8 +39,8 @@ fn act_on_head(locus: &mut Locus, number: Entity, head: &mut Head, instr: Instr)
         Instr::Invoke(_) => invoke(locus, number, head),
         Instr::Leave(_) => leave(locus, number, head),
         Instr::Return => back(locus, head),
-        Instr::Take(..) => take(locus, head),
-        Instr::Give(..) => give(locus, head),
+        Instr::Take(..) => take(locus, head, instr),
+        Instr::Give(..) => give(locus, head, instr),
         Instr::Snap(_) => record_it(locus, number, instr),
         _ => unreachable!(),
     }

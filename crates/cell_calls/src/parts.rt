@@ -33,8 +33,8 @@ fn map_head(
         (locus_of locus.new) result (atlas_state atlas.new) (Some (ContainerCell (container_with words head.new))) None }
 {
     match instr {
-        Instr::Map(..) => map(locus, atlas, number, head),
-        Instr::Unmap(..) => unmap(locus, atlas, number, head),
+        Instr::Map(..) => map(locus, atlas, number, head, instr),
+        Instr::Unmap(..) => unmap(locus, atlas, number, head, instr),
         _ => unreachable!(),
     }
 }

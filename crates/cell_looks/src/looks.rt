@@ -1,11 +1,12 @@
 // The step of a locus that looks at a container.
-ghost use Rattle.std.specs.Prelude.{◌≡◌, ◌≤◌, ◌+◌, ◌<◌, ◌^◌, ℕ, List, [], ◌∷◌, Option, is_some, IfErr, IfOk, OnErr, OnOk};
+ghost use Rattle.std.specs.Prelude.{◌≡◌, ◌<◌, ◌^◌, ℕ, List, [], ◌∷◌, Option, is_some, IfOk, OnErr};
 ghost use Rattle.base_types.specs.declared.histories.Event.TheVariants.{Step as StepEvent};
+ghost use Rattle.cell_states.specs.model_kernel.Refusals.{instr_at};
 ghost use Rattle.cell_states.specs.model_kernel.State.{Cell as ModelCell, KernelState};
 ghost use Rattle.act_look.specs.act_alone.Loci.{locus_of};
 ghost use Rattle.act_look.specs.act_alone.declared.loci.Locus.{Locus as ALocus};
 ghost use Rattle.act_look.specs.act_invoke.Entries.{WantsBeside};
-ghost use Rattle.act_look.specs.page_memory.Calls.{IsCausedIn};
+ghost use Rattle.act_look.specs.page_memory.Calls.{PagesOnce};
 ghost use Rattle.act_look.specs.Looks.{is_look};
 ghost use Rattle.cell_states.specs.cell_clocks.Clocks.{writing, CarriesTwo, HasClock};
 ghost use Rattle.cell_states.specs.Cells.{part_of, HasCell, IsRunning};
@@ -13,7 +14,7 @@ ghost use Rattle.cell_states.specs.Steps.{Steps};
 ghost use Rattle.cell_looks.specs.Looking.{is_stored, looking, LooksAtWord, StepsSomehow, LeavesMemoryIn, MayLookIn};
 
 use crate::parts::look_in_parts;
-use base_types::{Answer, Entry, Event, Reply};
+use base_types::{Answer, Entry, Event, Instr, Reply};
 use cell_states::{Cell, Clock, PageFault, PageStore, read_and_write, write_two};
 use edge_managers::{Gate, Policy, Supplier};
 
@@ -42,16 +43,18 @@ fn write_look(locus: &mut Clock, other: &mut Clock, answer: Answer) -> Entry
     read_and_write(Event::Step, me, answer, other, locus)
 }
 
-/// The step of a running locus that makes one look of a load or a store at a container. On a fault of paging no cell has
-/// changed in the model, so that the same look can be tried again; it comes only of a look that reads or writes a word. Wishes and steps left are as before.
+/// The step of a running locus that makes one look of a load or a store, which is this instruction, at a container. On a fault
+/// of paging no cell has changed in the model, so that the same look can be tried again; it comes only of a look that reads or
+/// writes a word. Wishes and steps left are as before.
 pub fn step_look<B: PageStore, S: Supplier, P: Policy>(
     locus: &mut Cell,
     other: &mut Cell,
+    instr: Instr,
     store: &mut B,
     gate: &Gate<S, P>,
 ) -> Result<Entry, PageFault>
     requires keeps { S.keeps gate.now.supply }
-    requires wants { (l : ALocus) × IsRunning locus.old.part l × WantsBeside is_look (locus_of l) other.old.clock.entity }
+    requires wants { (l : ALocus) × IsRunning locus.old.part l × WantsBeside is_look (locus_of l) other.old.clock.entity × (instr ≡ instr_at (locus_of l)) }
     requires memory { MayLookIn (S.word gate.now.supply) B.PageStore store.old other.old.part }
     requires lower { other.old.clock.entity < locus.old.clock.entity }
     requires few { (locus.old.clock.version < 2 ^ 63) × (other.old.clock.version < 2 ^ 63) }
@@ -63,14 +66,11 @@ pub fn step_look<B: PageStore, S: Supplier, P: Policy>(
     ensures locus_stays { OnErr result (locus.new ≡ locus.old) }
     ensures other_stays { OnErr result ((other.new.clock ≡ other.old.clock) × (B.tells → part_of (S.word gate.now.supply) (B.words store.new) other.new.part ≡ part_of (S.word gate.now.supply) (B.words store.old) other.old.part)) }
     ensures memory { LeavesMemoryIn (S.word gate.now.supply) B.PageStore other.old.part other.new.part store.old store.new }
-    ensures cause { IfErr result (IsCausedIn B.PageStore store.old store.new) }
-    ensures same_shut { OnOk result (B.is_shut store.new ≡ B.is_shut store.old) }
-    ensures one_write { B.written store.new ≤ B.written store.old + 1 }
-    ensures between { B.Pages store.old store.new }
+    ensures pages { PagesOnce B.PageStore store.old store.new result }
     ensures actor { IfOk result (λ e. e.actor ≡ locus.old.clock.entity) }
     ensures rest { (locus.new.wish ≡ locus.old.wish) × (locus.new.left ≡ locus.old.left) × (other.new.wish ≡ other.old.wish) × (other.new.left ≡ other.old.left) }
     ensures entities { (locus.new.clock.entity ≡ locus.old.clock.entity) × (other.new.clock.entity ≡ other.old.clock.entity) }
 {
-    let answer = look_in_parts(&mut locus.part, &mut other.part, store, gate)?;
+    let answer = look_in_parts(&mut locus.part, &mut other.part, instr, store, gate)?;
     Ok(write_look(&mut locus.clock, &mut other.clock, answer))
 }

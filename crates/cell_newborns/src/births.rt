@@ -1,6 +1,7 @@
 // The step of a locus that gives birth.
 ghost use Rattle.std.specs.Prelude.{◌≡◌, ◌<◌, ◌+◌, ◌^◌, ℕ, List, length};
 ghost use Rattle.data_atlas.specs.data_atlas_facts.Directory.{Directory};
+ghost use Rattle.cell_states.specs.model_kernel.Refusals.{instr_at};
 ghost use Rattle.cell_states.specs.model_kernel.State.{KernelState, Supply};
 ghost use Rattle.cell_states.specs.act_alone.Loci.{locus_of};
 ghost use Rattle.cell_states.specs.act_alone.declared.loci.Locus.{Locus as ALocus};
@@ -11,13 +12,13 @@ ghost use Rattle.cell_newborns.specs.Bearing.{IsNewContainer, IsUnbornContainer}
 
 use crate::containers::make_in_parts;
 use crate::loci::spawn_in_parts;
-use base_types::{Entry, Event};
+use base_types::{Entry, Event, Instr};
 use cell_states::{Cell, Part, write_three};
 
-/// The step of a running locus that makes a container, where a number is free. The cell of the lowest free number becomes
-/// the container. It takes no memory. Wishes and steps left are as before.
-pub fn step_make(locus: &mut Cell, atlas: &mut Cell, newborn: &mut Cell) -> Entry
-    requires wants { (l : ALocus) × IsRunning locus.old.part l × WantsBirth is_make (locus_of l) }
+/// The step of a running locus that makes a container by this instruction, where a number is free. The cell of the lowest
+/// free number becomes the container. It takes no memory. Wishes and steps left are as before.
+pub fn step_make(locus: &mut Cell, atlas: &mut Cell, newborn: &mut Cell, instr: Instr) -> Entry
+    requires wants { (l : ALocus) × IsRunning locus.old.part l × WantsBirth is_make (locus_of l) × (instr ≡ instr_at (locus_of l)) }
     requires free { (d : Directory) × (atlas.old.part ≡ Part.Atlas d) × (length d.containers < 40) × (newborn.old.clock.entity ≡ length d.containers + 1) }
     requires unborn { IsUnbornContainer newborn.old.part }
     requires atlas { atlas.old.clock.entity ≡ 0 }
@@ -32,7 +33,7 @@ pub fn step_make(locus: &mut Cell, atlas: &mut Cell, newborn: &mut Cell) -> Entr
     ensures left { (locus.new.left ≡ locus.old.left) × (atlas.new.left ≡ atlas.old.left) × (newborn.new.left ≡ newborn.old.left) }
 {
     let me = locus.clock.entity;
-    let answer = make_in_parts(&mut locus.part, &mut atlas.part, &mut newborn.part);
+    let answer = make_in_parts(&mut locus.part, &mut atlas.part, &mut newborn.part, instr);
     write_three(
         Event::Step,
         me,
@@ -43,10 +44,10 @@ pub fn step_make(locus: &mut Cell, atlas: &mut Cell, newborn: &mut Cell) -> Entr
     )
 }
 
-/// The step of a running locus that spawns a locus like it, where a number is free. The cell of the lowest free number
-/// becomes the locus. Wishes and steps left are as before.
-pub fn step_spawn(locus: &mut Cell, atlas: &mut Cell, newborn: &mut Cell) -> Entry
-    requires wants { (l : ALocus) × IsRunning locus.old.part l × WantsBirth is_spawn (locus_of l) }
+/// The step of a running locus that spawns a locus like it by this instruction, where a number is free. The cell of the
+/// lowest free number becomes the locus. Wishes and steps left are as before.
+pub fn step_spawn(locus: &mut Cell, atlas: &mut Cell, newborn: &mut Cell, instr: Instr) -> Entry
+    requires wants { (l : ALocus) × IsRunning locus.old.part l × WantsBirth is_spawn (locus_of l) × (instr ≡ instr_at (locus_of l)) }
     requires free { (d : Directory) × (atlas.old.part ≡ Part.Atlas d) × (length d.loci < 23) × (newborn.old.clock.entity ≡ length d.loci + 41) }
     requires atlas { atlas.old.clock.entity ≡ 0 }
     requires locus { 0 < locus.old.clock.entity }
@@ -60,7 +61,7 @@ pub fn step_spawn(locus: &mut Cell, atlas: &mut Cell, newborn: &mut Cell) -> Ent
     ensures left { (locus.new.left ≡ locus.old.left) × (atlas.new.left ≡ atlas.old.left) × (newborn.new.left ≡ newborn.old.left) }
 {
     let me = locus.clock.entity;
-    let answer = spawn_in_parts(&mut locus.part, &mut atlas.part, &mut newborn.part);
+    let answer = spawn_in_parts(&mut locus.part, &mut atlas.part, &mut newborn.part, instr);
     write_three(
         Event::Step,
         me,

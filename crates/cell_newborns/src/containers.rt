@@ -2,6 +2,7 @@
 ghost use Rattle.std.specs.Prelude.{◌≡◌, ◌≤◌, ◌<◌, ◌+◌, ℕ, List, length};
 ghost use Rattle.cell_states.specs.model_kernel.Acts.{wanted};
 ghost use Rattle.cell_states.specs.model_kernel.Outcomes.{outcome, supplied};
+ghost use Rattle.cell_states.specs.model_kernel.Refusals.{instr_at};
 ghost use Rattle.cell_states.specs.model_kernel.State.{AtlasState, AtlasCell, ContainerCell, LocusCell, LocusState, NotBorn, Supply};
 ghost use Rattle.data_atlas.specs.data_atlas_facts.Directory.{Directory};
 ghost use Rattle.cell_states.specs.model_acts.Views.{IsReadyLocus};
@@ -11,7 +12,7 @@ ghost use Rattle.cell_states.specs.act_calls.Calls.{atlas_state, is_make, WantsB
 ghost use Rattle.cell_states.specs.Cells.{part_of, IsRunning};
 ghost use Rattle.cell_newborns.specs.Bearing.{IsNewContainer, IsUnbornContainer, MakesNewborn};
 
-use base_types::{Answer, Reply};
+use base_types::{Answer, Instr, Reply};
 use cell_states::{Head, Locus, Part, ShadowTable, Storage, make};
 use data_atlas::Atlas;
 
@@ -28,9 +29,10 @@ fn begin(storage: &mut Storage, head: Head)
     storage.head = Some(head);
 }
 
-fn make_storage(locus: &mut Locus, atlas: &mut Atlas, storage: &mut Storage) -> Reply
+fn make_storage(locus: &mut Locus, atlas: &mut Atlas, storage: &mut Storage, instr: Instr) -> Reply
     requires ready { IsReadyLocus (locus_of locus.old) }
     requires wants { WantsBirth is_make (locus_of locus.old) }
+    requires instr { instr ≡ instr_at (locus_of locus.old) }
     requires free { length atlas.old.containers < 40 }
     ensures made { (me : ℕ) → (s : Supply) → (words : ℕ → List ℕ)
         → MakesNewborn (outcome s (locus_of locus.old) (wanted me (locus_of locus.old)) (atlas_state atlas.old) NotBorn)
@@ -38,15 +40,16 @@ fn make_storage(locus: &mut Locus, atlas: &mut Atlas, storage: &mut Storage) -> 
     ensures memory { IsNewContainer (Part.Container storage.new) }
 {
     let mut newborn = None;
-    let reply = make(locus, atlas, &mut newborn);
+    let reply = make(locus, atlas, &mut newborn, instr);
     let Some(head) = newborn else { unreachable!() };
     begin(storage, head);
     reply
 }
 
-fn make_part(locus: &mut Locus, atlas: &mut Atlas, newborn: &mut Part) -> Reply
+fn make_part(locus: &mut Locus, atlas: &mut Atlas, newborn: &mut Part, instr: Instr) -> Reply
     requires ready { IsReadyLocus (locus_of locus.old) }
     requires wants { WantsBirth is_make (locus_of locus.old) }
+    requires instr { instr ≡ instr_at (locus_of locus.old) }
     requires free { length atlas.old.containers < 40 }
     requires unborn { IsUnbornContainer newborn.old }
     ensures made { (me : ℕ) → (s : Supply) → (words : ℕ → List ℕ)
@@ -55,14 +58,15 @@ fn make_part(locus: &mut Locus, atlas: &mut Atlas, newborn: &mut Part) -> Reply
     ensures memory { IsNewContainer newborn.new }
 {
     match newborn {
-        Part::Container(storage) => make_storage(locus, atlas, storage),
+        Part::Container(storage) => make_storage(locus, atlas, storage, instr),
         _ => unreachable!(),
     }
 }
 
-fn make_with_atlas(locus: &mut Locus, atlas: &mut Part, newborn: &mut Part) -> Answer
+fn make_with_atlas(locus: &mut Locus, atlas: &mut Part, newborn: &mut Part, instr: Instr) -> Answer
     requires ready { IsReadyLocus (locus_of locus.old) }
     requires wants { WantsBirth is_make (locus_of locus.old) }
+    requires instr { instr ≡ instr_at (locus_of locus.old) }
     requires free { (d : Directory) × (atlas.old ≡ Part.Atlas d) × (length d.containers < 40) }
     requires unborn { IsUnbornContainer newborn.old }
     ensures made { (me : ℕ) → (s : Supply) → (words : ℕ → List ℕ) → (a : AtlasState) → part_of s words atlas.old ≡ AtlasCell a
@@ -71,14 +75,19 @@ fn make_with_atlas(locus: &mut Locus, atlas: &mut Part, newborn: &mut Part) -> A
     ensures memory { IsNewContainer newborn.new }
 {
     match atlas {
-        Part::Atlas(directory) => Answer::Reply(make_part(locus, directory, newborn)),
+        Part::Atlas(directory) => Answer::Reply(make_part(locus, directory, newborn, instr)),
         _ => unreachable!(),
     }
 }
 
 /// What a birth of a container makes of the parts of three cells.
-pub(crate) fn make_in_parts(part: &mut Part, atlas: &mut Part, newborn: &mut Part) -> Answer
-    requires wants { (l : ALocus) × IsRunning part.old l × WantsBirth is_make (locus_of l) }
+pub(crate) fn make_in_parts(
+    part: &mut Part,
+    atlas: &mut Part,
+    newborn: &mut Part,
+    instr: Instr,
+) -> Answer
+    requires wants { (l : ALocus) × IsRunning part.old l × WantsBirth is_make (locus_of l) × (instr ≡ instr_at (locus_of l)) }
     requires free { (d : Directory) × (atlas.old ≡ Part.Atlas d) × (length d.containers < 40) }
     requires unborn { IsUnbornContainer newborn.old }
     ensures made { (me : ℕ) → (s : Supply) → (words : ℕ → List ℕ) → (l : LocusState) → (a : AtlasState)
@@ -88,7 +97,7 @@ pub(crate) fn make_in_parts(part: &mut Part, atlas: &mut Part, newborn: &mut Par
     ensures memory { IsNewContainer newborn.new }
 {
     match part {
-        Part::Locus(Some(locus)) => make_with_atlas(locus, atlas, newborn),
+        Part::Locus(Some(locus)) => make_with_atlas(locus, atlas, newborn, instr),
         _ => unreachable!(),
     }
 }

@@ -4,6 +4,7 @@ use Rattle.base_types.specs.declared.instructions.Condition.{Condition}
 use Rattle.base_types.specs.declared.instructions.Condition.TheVariants.{Running, Stopped, Halted}
 use Rattle.base_types.specs.declared.instructions.Instr.{Instr}
 use Rattle.act_look.specs.model_kernel.Acts.{wanted}
+use Rattle.act_look.specs.model_kernel.Refusals.{instr_at}
 use Rattle.act_look.specs.model_kernel.State.{LocusState, Cell, NotBorn, AtlasCell, ContainerCell, LocusCell}
 use Rattle.act_look.specs.model_acts.Views.{may_name_itself}
 use Rattle.act_look.specs.model_act_facts.Loci.{IsAlone}
@@ -18,8 +19,8 @@ use Rattle.cell_calls.specs.Besides.{WantsOther, calls_container}
 use Rattle.cell_calls.specs.Mapping.{WantsMapping}
 use Rattle.cell_plans.specs.declared.idle.Idle.{Idle}
 use Rattle.cell_plans.specs.declared.idle.Idle.TheVariants as idle
-use Rattle.cell_plans.specs.declared.plans.Plan.{Plan}
-use Rattle.cell_plans.specs.declared.plans.Plan.TheVariants as plan
+use Rattle.cell_plans.specs.declared.plans.Reach.{Reach}
+use Rattle.cell_plans.specs.declared.plans.Reach.TheVariants as reach
 
 abbrev pub idle_by : ℕ → Condition → Option Idle
 idle_by left Halted = Some idle.Halted
@@ -39,21 +40,22 @@ pub record IsCallBeside (me : ℕ) (l : LocusState) (i : Instr) (x : ℕ) : Type
   pub calls : (calls_container i || may_name_itself i) ≡ true
   pub apart : may_name_itself i ≡ true → x ≢ me
 
--- the locus with this number wants an act of this kind
-abbrev pub PlansFor : ℕ → LocusState → Plan → Type 0
-PlansFor me l plan.Alone = IsAlone (wanted me l)
-PlansFor me l (plan.Beside x i) = IsCallBeside me l i x
-PlansFor me l (plan.Look x) = WantsBeside is_look l x
-PlansFor me l (plan.Mapping x i) = WantsMapping l i x
-PlansFor me l plan.Make = WantsBirth is_make l
-PlansFor me l plan.Spawn = WantsBirth is_spawn l
+-- the locus with this number wants an act that touches this, by the instruction where it is one beside another entity
+abbrev pub PlansFor : ℕ → LocusState → Instr → Reach → Type 0
+PlansFor me l i reach.Alone = IsAlone (wanted me l)
+PlansFor me l i (reach.Beside x) = IsCallBeside me l i x
+PlansFor me l i (reach.Look x) = WantsBeside is_look l x
+PlansFor me l i (reach.Mapping x) = WantsMapping l i x
+PlansFor me l i reach.Make = WantsBirth is_make l
+PlansFor me l i reach.Spawn = WantsBirth is_spawn l
 
--- the locus of the cell runs, has a step left, and wants an act of this kind
-pub record IsPlanned (c : LentCell) (p : Plan) : Type 0 where
+-- the locus of the cell runs, has a step left, has this instruction next, and wants an act that touches this
+pub record IsPlanned (c : LentCell) (i : Instr) (r : Reach) : Type 0 where
   pub locus : Locus
   pub runs : IsRunning c.part locus
   pub left : 0 < c.left
-  pub wants : PlansFor c.clock.entity (locus_of locus) p
+  pub instr : i ≡ instr_at (locus_of locus)
+  pub wants : PlansFor c.clock.entity (locus_of locus) i r
 
 -- the locus wants this act, which it doesn't refuse, and which names no other entity
 pub record BearsNone (l : LocusState) (i : Instr) : Type 0 where

@@ -7,4 +7,4 @@ mod plans;
 pub use act_look::Locus;
 pub use cell_calls::{step_beside, step_mapping};
 pub use idle::{Idle, why_idle};
-pub use plans::{Plan, next_plan};
+pub use plans::{Plan, Reach, next_plan};

@@ -2,6 +2,7 @@
 ghost use Rattle.std.specs.Prelude.{◌≡◌, ◌≢◌, ◌&&◌, ◌==◌, ℕ, None, Some, IfErr, IfOk, List, true, false};
 ghost use Rattle.base_types.specs.declared.instructions.Condition.TheVariants.{Running as RunningNow};
 ghost use Rattle.act_look.specs.model_kernel.Acts.{wanted};
+ghost use Rattle.act_look.specs.model_kernel.Refusals.{instr_at};
 ghost use Rattle.act_look.specs.model_kernel.State.{LocusState, Supply};
 ghost use Rattle.act_look.specs.model_acts.Views.{may_name_itself, IsReadyLocus};
 ghost use Rattle.act_look.specs.act_alone.Loci.{locus_of};
@@ -15,17 +16,24 @@ use act_look::Locus;
 use base_types::{Entity, Instr};
 use cell_calls::{Cell, Part};
 
-/// What the next step of a locus touches besides the locus.
+/// The next step of a locus: its instruction, and what it touches besides the locus.
 #[derive(Clone, Copy, Debug)]
-pub enum Plan {
+pub struct Plan {
+    pub instr: Instr,
+    pub reach: Reach,
+}
+
+/// What a step of a locus touches besides the locus.
+#[derive(Clone, Copy, Debug)]
+pub enum Reach {
     /// Nothing.
     Alone,
-    /// Another entity, by this instruction, which is neither a look nor a mapping.
-    Beside(Entity, Instr),
+    /// Another entity, by an instruction that is neither a look nor a mapping.
+    Beside(Entity),
     /// A container, of which a word may be looked at.
     Look(Entity),
     /// The atlas and a container.
-    Mapping(Entity, Instr),
+    Mapping(Entity),
     /// The atlas and the container with the lowest free number, if there is one.
     Make,
     /// The atlas and the locus with the lowest free number, if there is one.
@@ -46,53 +54,64 @@ fn is_itself(me: Entity, instr: Instr, other: Entity) -> bool
     names_itself(instr) && other.number() == me.number()
 }
 
-/// An act beside an entity.
-fn plan_beside(me: Entity, instr: Instr, other: Entity) -> Plan
-    ensures { (l : LocusState) → WantsOther l instr other → PlansFor me l result }
+/// What an act beside an entity touches.
+fn reach_beside(me: Entity, instr: Instr, other: Entity) -> Reach
+    ensures { (l : LocusState) → WantsOther l instr other → PlansFor me l instr result }
 {
     if is_itself(me, instr, other) {
-        return Plan::Alone;
+        return Reach::Alone;
     }
     match instr {
-        Instr::Load(..) => Plan::Look(other),
-        Instr::Store(..) => Plan::Look(other),
-        Instr::Map(..) => Plan::Mapping(other, instr),
-        Instr::Unmap(..) => Plan::Mapping(other, instr),
-        _ => Plan::Beside(other, instr),
+        Instr::Load(..) => Reach::Look(other),
+        Instr::Store(..) => Reach::Look(other),
+        Instr::Map(..) => Reach::Mapping(other),
+        Instr::Unmap(..) => Reach::Mapping(other),
+        _ => Reach::Beside(other),
     }
 }
 
-/// An act beside no entity.
-fn plan_alone(me: Entity, instr: Instr) -> Plan
-    ensures { (l : LocusState) → BearsNone l instr → PlansFor me l result }
+/// What an act beside no entity touches.
+fn reach_alone(me: Entity, instr: Instr) -> Reach
+    ensures { (l : LocusState) → BearsNone l instr → PlansFor me l instr result }
 {
     match instr {
-        Instr::Make(..) => Plan::Make,
-        Instr::Spawn(..) => Plan::Spawn,
-        _ => Plan::Alone,
+        Instr::Make(..) => Reach::Make,
+        Instr::Spawn(..) => Reach::Spawn,
+        _ => Reach::Alone,
     }
 }
 
-/// What the next step of a running locus touches.
+/// The next step of a running locus.
 fn plan_of(me: Entity, locus: &Locus) -> Plan
     requires running { locus.now.condition ≡ RunningNow }
     requires ready { IsReadyLocus (locus_of locus.now) }
-    ensures { PlansFor me (locus_of locus.now) result }
+    ensures instr { result.instr ≡ instr_at (locus_of locus.now) }
+    ensures wants { PlansFor me (locus_of locus.now) result.instr result.reach }
 {
     let act = locus.wants();
+    let instr = act.instr;
     if act.refused.is_some() {
-        return Plan::Alone;
+        return Plan {
+            instr,
+            reach: Reach::Alone,
+        };
     }
     match act.other {
-        Some(other) => plan_beside(me, act.instr, other),
-        None => plan_alone(me, act.instr),
+        Some(other) => Plan {
+            instr,
+            reach: reach_beside(me, instr, other),
+        },
+        None => Plan {
+            instr,
+            reach: reach_alone(me, instr),
+        },
     }
 }
 
-/// What the next step of a cell's running locus touches.
+/// The next step of a cell's running locus.
 fn plan_running(cell: &Cell) -> Plan
     requires { (l : ALocus) × IsRunning cell.now.part l }
-    ensures { (l : ALocus) × IsRunning cell.now.part l × PlansFor cell.now.clock.entity (locus_of l) result }
+    ensures { (l : ALocus) × IsRunning cell.now.part l × (result.instr ≡ instr_at (locus_of l)) × PlansFor cell.now.clock.entity (locus_of l) result.instr result.reach }
 {
     match &cell.part {
         Part::Locus(Some(locus)) => plan_of(cell.clock.entity, locus),
@@ -100,12 +119,12 @@ fn plan_running(cell: &Cell) -> Plan
     }
 }
 
-/// What the next step of the cell's locus touches, or why it makes none. It looks at the locus alone.
+/// The next step of the cell's locus, or why it makes none. It looks at the locus alone.
 pub fn next_plan(cell: &Cell) -> Result<Plan, Idle>
     requires ready { (l : ALocus) → cell.now.part ≡ Part.Locus (Some l) → IsReadyLocus (locus_of l) }
     ensures idle { (s : Supply) → (words : ℕ → List ℕ) → IfErr result (λ why. idle_of cell.now.left (part_of s words cell.now.part) ≡ Some why) }
     ensures goes { (s : Supply) → (words : ℕ → List ℕ) → IfOk result (λ _. idle_of cell.now.left (part_of s words cell.now.part) ≡ None) }
-    ensures plans { IfOk result (IsPlanned cell.now) }
+    ensures plans { IfOk result (λ p. IsPlanned cell.now p.instr p.reach) }
 {
     match why_idle(cell) {
         Some(why) => Err(why),

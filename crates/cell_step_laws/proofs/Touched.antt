@@ -26,8 +26,8 @@ use Rattle.cell_newborns.proofs.BirthSteps.{make_touches, spawn_touches}
 use Rattle.cell_looks.proofs.LookSteps.{look_touches}
 use Rattle.cell_plans.proofs.cell_calls_lemmas.MapSteps.{mapping_touches}
 use Rattle.cell_plans.specs.Plans.{IsCallBeside, PlansFor}
-use Rattle.cell_plans.specs.declared.plans.Plan.{Plan}
-use Rattle.cell_plans.specs.declared.plans.Plan.TheVariants as plan
+use Rattle.cell_plans.specs.declared.plans.Reach.{Reach}
+use Rattle.cell_plans.specs.declared.plans.Reach.TheVariants as reach
 use Rattle.cell_step_laws.specs.Touching.{IsTouchedBy}
 use Rattle.std.proofs.lemmas.Bool.{true≢false}
 use Rattle.cell_looks.proofs.Somehow.{same_locus}
@@ -230,31 +230,31 @@ module _ (s : Supply) (me : ℕ) (w : KernelState) (l : LocusState) (x : ℕ) wh
   abbrev made : Outcome
   made = outcome_in s l act w
 
-  by_plan : (p : Plan) → PlansFor me l p → IsOneOf me act.atlas act.other made.newborn x → (x ≡ me) ⊎ IsTouchedBy p (atlas_in (w 0).cell) x
-  by_plan plan.Alone wants h = only_own me x (written_as me x _ _ _ _ _ _ wants.atlas wants.other (alone_bears s me l _ _ wants) h)
-  by_plan (plan.Beside y i) wants h =
+  by_reach : (i : Instr) (r : Reach) → PlansFor me l i r → IsOneOf me act.atlas act.other made.newborn x → (x ≡ me) ⊎ IsTouchedBy r (atlas_in (w 0).cell) x
+  by_reach i reach.Alone wants h = only_own me x (written_as me x _ _ _ _ _ _ wants.atlas wants.other (alone_bears s me l _ _ wants) h)
+  by_reach i (reach.Beside y) wants h =
       let t = call_touches me y l i wants in
       own_or_other me x y (written_as me x _ _ _ _ _ _ t.0 t.1 (none_beside s me l _ _ y t.1) h)
-  by_plan (plan.Look y) wants h =
+  by_reach i (reach.Look y) wants h =
       let t = look_touches me y l wants in
       own_or_other me x y (written_as me x _ _ _ _ _ _ t.atlas t.other (none_beside s me l _ _ y t.other) h)
-  by_plan (plan.Mapping y i) wants h =
+  by_reach i (reach.Mapping y) wants h =
       let t = mapping_touches me y l i wants in
       own_or_both me x y (written_as me x _ _ _ _ _ _ t.atlas t.other (none_beside s me l _ _ y t.other) h)
-  by_plan plan.Make wants h =
+  by_reach i reach.Make wants h =
       let t = make_touches me l wants in
       own_or_born me x made.newborn (free_container (atlas_in (w 0).cell) ≡ Some x)
       (λ born. subst (λ b. free_container (seen_atlas w b) ≡ Some x) t.atlas (container_born s me l (seen_atlas w act.atlas) (seen_other w act.other) x wants born))
       (written_as me x _ _ _ _ _ _ t.atlas t.other refl h)
-  by_plan plan.Spawn wants h =
+  by_reach i reach.Spawn wants h =
       let t = spawn_touches me l wants in
       own_or_born me x made.newborn (free_locus (atlas_in (w 0).cell) ≡ Some x)
       (λ born. subst (λ b. free_locus (seen_atlas w b) ≡ Some x) t.atlas (locus_born s me l (seen_atlas w act.atlas) (seen_other w act.other) x wants born))
       (written_as me x _ _ _ _ _ _ t.atlas t.other refl h)
 
 -- the step of a locus with this plan
-pub plan_writes : (s : Supply) (me : ℕ) (w : KernelState) (e : Entry) (l : LocusState) (p : Plan) (x : ℕ) → IsStep s me w e → (w me).cell ≡ LocusCell l → PlansFor me l p → writes e x ≡ true
-    → (x ≡ me) ⊎ IsTouchedBy p (atlas_in (w 0).cell) x
-plan_writes s me w e l p x k there wants h =
+pub plan_writes : (s : Supply) (me : ℕ) (w : KernelState) (e : Entry) (l : LocusState) (i : Instr) (r : Reach) (x : ℕ) → IsStep s me w e → (w me).cell ≡ LocusCell l → PlansFor me l i r → writes e x ≡ true
+    → (x ≡ me) ⊎ IsTouchedBy r (atlas_in (w 0).cell) x
+plan_writes s me w e l i r x k there wants h =
     let same : k.locus ≡ l = same_locus k.locus l (sym k.there ∙ there) in
-    by_plan s me w l x p wants (subst (λ l. IsOneOf me (wanted me l).atlas (wanted me l).other (outcome_in s l (wanted me l) w).newborn x) same (step_accessed s me w e x k h))
+    by_reach s me w l x i r wants (subst (λ l. IsOneOf me (wanted me l).atlas (wanted me l).other (outcome_in s l (wanted me l) w).newborn x) same (step_accessed s me w e x k h))

@@ -5,18 +5,18 @@ use Rattle.plain_states.specs.model_kernel.Histories.{Run, asked_by, with_asked,
 use Rattle.plain_states.specs.model_kernel.Outcomes.{free_container, free_locus}
 use Rattle.plain_states.specs.model_kernel.State.{AtlasState, KernelState, LocusState}
 use Rattle.cell_newborns.specs.cell_states.declared.cells.Cell.{Cell}
-use Rattle.cell_plans.specs.declared.plans.Plan.{Plan}
-use Rattle.cell_plans.specs.declared.plans.Plan.TheVariants as plan
+use Rattle.cell_plans.specs.declared.plans.Reach.{Reach}
+use Rattle.cell_plans.specs.declared.plans.Reach.TheVariants as reach
 
--- What a step of this plan may write besides the locus: the entity that the plan names, and the atlas or what is born, which has the
--- lowest number that is free by the atlas before the step.
-abbrev pub IsTouchedBy : Plan → AtlasState → ℕ → Type 0
-IsTouchedBy plan.Alone a x = ⊥
-IsTouchedBy (plan.Beside y i) a x = x ≡ y
-IsTouchedBy (plan.Look y) a x = x ≡ y
-IsTouchedBy (plan.Mapping y i) a x = (x ≡ 0) ⊎ (x ≡ y)
-IsTouchedBy plan.Make a x = (x ≡ 0) ⊎ (free_container a ≡ Some x)
-IsTouchedBy plan.Spawn a x = (x ≡ 0) ⊎ (free_locus a ≡ Some x)
+-- What a step may write besides the locus, by what its plan says that it touches: the entity that it names, and the atlas or what is
+-- born, which has the lowest number that is free by the atlas before the step.
+abbrev pub IsTouchedBy : Reach → AtlasState → ℕ → Type 0
+IsTouchedBy reach.Alone a x = ⊥
+IsTouchedBy (reach.Beside y) a x = x ≡ y
+IsTouchedBy (reach.Look y) a x = x ≡ y
+IsTouchedBy (reach.Mapping y) a x = (x ≡ 0) ⊎ (x ≡ y)
+IsTouchedBy reach.Make a x = (x ≡ 0) ⊎ (free_container a ≡ Some x)
+IsTouchedBy reach.Spawn a x = (x ≡ 0) ⊎ (free_locus a ≡ Some x)
 
 -- the wish after a step of this locus: whether the step wrote the entity or asked for it is noted, and the locus that stepped has one step less
 pub record IsNoted (e : Entry) (l : Option LocusState) (c d : Cell) : Type 0 where

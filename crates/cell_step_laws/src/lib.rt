@@ -4,6 +4,7 @@
 ghost use Rattle.std.specs.Prelude.{◌≡◌, ◌⊎◌, ◌≤◌, ℕ, List, Option, Some, false, true};
 ghost use Rattle.plain_states.specs.base_types.declared.histories.Entry.{Entry};
 ghost use Rattle.plain_states.specs.base_types.declared.histories.Event.TheVariants.{Step as StepEvent};
+ghost use Rattle.plain_states.specs.base_types.declared.instructions.Instr.{Instr as AnInstr};
 ghost use Rattle.plain_states.specs.model_kernel.Histories.{after_step, locus_in, writes, Run};
 ghost use Rattle.plain_states.specs.model_kernel.Soundness.{IsSound};
 ghost use Rattle.plain_states.specs.model_kernel.State.{KernelState, LocusState, Supply};
@@ -13,7 +14,7 @@ ghost use Rattle.cell_newborns.specs.cell_states.declared.cells.Cell.{Cell as AC
 ghost use Rattle.cell_newborns.specs.cell_states.Cells.{HasCell};
 ghost use Rattle.cell_newborns.specs.cell_states.Wishes.{HasWish};
 ghost use Rattle.cell_plans.specs.Plans.{IsPlanned};
-ghost use Rattle.cell_plans.specs.declared.plans.Plan.{Plan as APlan};
+ghost use Rattle.cell_plans.specs.declared.plans.Reach.{Reach as AReach};
 ghost use Rattle.cell_wish_laws.specs.Founded.{IsFoundedCell, IsFoundedIn};
 ghost use Rattle.cell_step_laws.specs.Touching.{run_with, IsNoted, IsTouchedBy};
 
@@ -24,11 +25,11 @@ pub use plans::{
     sound_states_may_map, sound_states_show_containers, sound_states_show_directory,
 };
 
-/// A step writes its locus, and besides it at most what its plan names.
+/// A step writes its locus, and besides it at most what its plan says that it touches.
 pub fn planned_touches_law()
-    ensures { (s : Supply) (words : ℕ → List ℕ) (w v : KernelState) (e : Entry) (c : ACell) (p : APlan) (x : ℕ)
-        → IsPlanned c p → HasCell s words w c → step s c.clock.entity w ≡ Some (e, v) → writes e x ≡ true
-        → (x ≡ c.clock.entity) ⊎ IsTouchedBy p (atlas_in (w 0).cell) x }
+    ensures { (s : Supply) (words : ℕ → List ℕ) (w v : KernelState) (e : Entry) (c : ACell) (i : AnInstr) (r : AReach) (x : ℕ)
+        → IsPlanned c i r → HasCell s words w c → step s c.clock.entity w ≡ Some (e, v) → writes e x ≡ true
+        → (x ≡ c.clock.entity) ⊎ IsTouchedBy r (atlas_in (w 0).cell) x }
 {}
 
 /// The entry of a step names the locus, which the step writes. What a step doesn't write stays, and so does, in a sound state, each

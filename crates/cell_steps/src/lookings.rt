@@ -1,28 +1,29 @@
 // The step of a locus that looks at a container.
-ghost use Rattle.std.specs.Prelude.{◌≡◌, ◌≤◌, ◌+◌, ◌<◌, ◌^◌, ℕ, [], ◌∷◌, IfErr, IfOk, OnErr, OnOk};
-ghost use Rattle.cell_looks.specs.page_memory.Calls.{IsCausedIn};
+ghost use Rattle.std.specs.Prelude.{◌≡◌, ◌<◌, ◌^◌, ℕ, [], ◌∷◌, IfOk, OnErr};
+ghost use Rattle.cell_looks.specs.page_memory.Calls.{PagesOnce};
 ghost use Rattle.cell_looks.specs.cell_states.Cells.{part_of};
 ghost use Rattle.cell_looks.specs.Looking.{LeavesMemoryIn, LooksAtWord, MayLookIn};
 ghost use Rattle.cell_plans.specs.Plans.{IsPlanned};
-ghost use Rattle.cell_plans.specs.declared.plans.Plan.TheVariants as plan;
+ghost use Rattle.cell_plans.specs.declared.plans.Reach.TheVariants as reach;
 ghost use Rattle.cell_steps.specs.Advances.{AdvancesSomehow, StepsCells};
 
 use crate::noting::{named_by_snap, note};
-use base_types::Entry;
+use base_types::{Entry, Instr};
 use cell_looks::{Cell, step_look};
 use edge_managers::{Gate, Policy, Supplier};
 use page_store::{PageFault, PageStore};
 
-/// The step of a locus that makes one look of a load or a store at a container. On a fault of paging nothing has
-/// changed in the model, so that the same step can be tried again.
+/// The step of a locus that makes one look of a load or a store, which is this instruction, at a container. On a fault of
+/// paging nothing has changed in the model, so that the same step can be tried again.
 pub fn advance_looking<B: PageStore, S: Supplier, P: Policy>(
     locus: &mut Cell,
     other: &mut Cell,
+    instr: Instr,
     store: &mut B,
     gate: &Gate<S, P>,
 ) -> Result<Entry, PageFault>
     requires keeps { S.keeps gate.now.supply }
-    requires planned { IsPlanned locus.old (plan.Look other.old.clock.entity) }
+    requires planned { IsPlanned locus.old instr (reach.Look other.old.clock.entity) }
     requires memory { MayLookIn (S.word gate.now.supply) B.PageStore store.old other.old.part }
     requires lower { other.old.clock.entity < locus.old.clock.entity }
     requires few { (locus.old.clock.version < 2 ^ 63) × (other.old.clock.version < 2 ^ 63) }
@@ -33,14 +34,11 @@ pub fn advance_looking<B: PageStore, S: Supplier, P: Policy>(
     ensures other_stays { OnErr result ((other.new.clock ≡ other.old.clock) × (other.new.wish ≡ other.old.wish) × (other.new.left ≡ other.old.left)) }
     ensures same_part { OnErr result (B.tells → part_of (S.word gate.now.supply) (B.words store.new) other.new.part ≡ part_of (S.word gate.now.supply) (B.words store.old) other.old.part) }
     ensures memory { LeavesMemoryIn (S.word gate.now.supply) B.PageStore other.old.part other.new.part store.old store.new }
-    ensures cause { IfErr result (IsCausedIn B.PageStore store.old store.new) }
-    ensures same_shut { OnOk result (B.is_shut store.new ≡ B.is_shut store.old) }
-    ensures one_write { B.written store.new ≤ B.written store.old + 1 }
-    ensures between { B.Pages store.old store.new }
+    ensures pages { PagesOnce B.PageStore store.old store.new result }
     ensures entities { (locus.new.clock.entity ≡ locus.old.clock.entity) × (other.new.clock.entity ≡ other.old.clock.entity) }
 {
-    let named = named_by_snap(locus);
-    let entry = step_look(locus, other, store, gate)?;
+    let named = named_by_snap(locus, instr);
+    let entry = step_look(locus, other, instr, store, gate)?;
     note(locus, &entry, &named);
     note(other, &entry, &named);
     Ok(entry)

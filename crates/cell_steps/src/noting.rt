@@ -14,27 +14,27 @@ ghost use Rattle.cell_steps.specs.Advances.{TakesIn};
 use base_types::{Answer, Entity, Entry, Instr, Reply};
 use cell_looks::{Cell, Part};
 use cell_plans::Locus;
-use model_acts::{fetch, named_entity};
+use model_acts::named_entity;
 
-/// The entity that the locus names where its instruction is a snap.
-fn named_by_locus(locus: &Locus) -> Option<Entity>
-    requires { IsReadyLocus (locus_of locus.now) }
+/// The entity that the locus names where its instruction, which is this one, is a snap.
+fn named_by_locus(locus: &Locus, instr: Instr) -> Option<Entity>
+    requires ready { IsReadyLocus (locus_of locus.now) }
+    requires instr { instr ≡ instr_at (locus_of locus.now) }
     ensures { result ≡ asks (Replied OkReply) (instr_at (locus_of locus.now)) (locus_of locus.now) }
 {
-    let view = locus.view();
-    match fetch(&view) {
-        Instr::Snap(slot) => Some(named_entity(&view, slot)),
+    match instr {
+        Instr::Snap(slot) => Some(named_entity(&locus.view(), slot)),
         _ => None,
     }
 }
 
 /// The same, of the running locus of a cell.
-pub(crate) fn named_by_snap(cell: &Cell) -> Option<Entity>
-    requires { (l : ALocus) × IsRunning cell.now.part l }
+pub(crate) fn named_by_snap(cell: &Cell, instr: Instr) -> Option<Entity>
+    requires { (l : ALocus) × IsRunning cell.now.part l × (instr ≡ instr_at (locus_of l)) }
     ensures { (s : Supply) → (words : ℕ → List ℕ) → result ≡ asked_by (Replied OkReply) (locus_in (part_of s words cell.now.part)) }
 {
     match &cell.part {
-        Part::Locus(Some(locus)) => named_by_locus(locus),
+        Part::Locus(Some(locus)) => named_by_locus(locus, instr),
         _ => unreachable!(),
     }
 }

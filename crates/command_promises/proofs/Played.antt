@@ -1,21 +1,27 @@
 -- What a kernel leaves of a run, from what it made and what was put.
-use Rattle.std.proofs.Common.{◌≡◌, ◌++◌, ◌<◌, ℕ, List, Some, Result, Ok, Err, refl, sym, ap, subst, ◌∙◌}
+use Rattle.std.proofs.Common.{◌≡◌, ◌++◌, ◌<◌, ℕ, List, Option, None, Some, refl, sym, ap, subst, ◌∙◌}
 use Rattle.std.specs.Option.{option_map}
-use Rattle.std.specs.Prelude.{IfErr, IsErrOf, ⊤}
+use Rattle.std.specs.Prelude.{IfErr, Result, ⊤}
+use Rattle.edge_disk.specs.Counts.{Rose}
 use Rattle.edge_disk.specs.declared.disk.Disk.{Ghosts}
 use Rattle.edge_disk.specs.declared.disk.NoBlocks.{NoBlocks}
 use Rattle.base_types.specs.declared.histories.Entry.{Entry}
 use Rattle.image_facts.specs.model_kernel.State.{AtlasState, KernelState, Text}
 use Rattle.image_facts.specs.model_kernel.Steps.{atlas_in}
 use Rattle.kernel_runs.specs.kernel_commit_facts.Lacking.{IsDue}
+use Rattle.kernel_runs.specs.kernel_commit_facts.Parts.{Parts}
 use Rattle.kernel_runs.specs.kernel_commits.Parts.{stop_of}
+use Rattle.kernel_runs.specs.kernel_commits.Stops.{IsCause}
+use Rattle.kernel_runs.specs.kernel_commits.Telling.{Tells}
+use Rattle.kernel_runs.specs.kernel_commits.declared.stopping.Stop.{Stop}
+use Rattle.kernel_runs.proofs.Caused.{cause_kept}
 use Rattle.kernel_runs.specs.kernel_commits.declared.stopping.Stopped.{Stopped}
-use Rattle.kernel_runs.specs.kernel_commits.declared.stopping.Stopped.TheVariants.{Failed, TooFew}
+use Rattle.kernel_runs.specs.kernel_commits.declared.stopping.Stopped.TheVariants as reason
 use Rattle.kernel_runs.specs.kernel_core_facts.Kernels.{Held, Lives}
 use Rattle.open_kernel.specs.kernel_invariant.Beginnings.{Beginning, state_after}
 use Rattle.open_kernel.specs.kernel_invariant.Live.{IsRunning, KernelView}
 use Rattle.open_kernel.specs.kernel_block_laws.Room.{enough_blocks}
-use Rattle.kernel_runs.specs.Running.{EndsRun, HasStopped, IsOver}
+use Rattle.kernel_runs.specs.Running.{EndsRun, HasStopped, IsCauseOf, IsOver}
 use Rattle.open_kernel.specs.kernel_views.Views.{view_of}
 use Rattle.open_kernel.specs.kernel_record_facts.Cells.{words_on}
 use Rattle.model_serial.specs.Serial.{IsStopped, IsWhole}
@@ -33,16 +39,28 @@ use Rattle.command_source.proofs.command_outcomes_lemmas.Endings.{fault_ends, pu
 use Rattle.command_promises.specs.Runs.{Telling, told}
 use Rattle.command_promises.specs.Playing.{HasRun, HasServed, InEach, IsPutBy, PlayLeaves, StopsPlay, WasCutForBlocks, WasCutShort, fault_of_stop}
 
--- what holds of why a call failed holds of this reason
-pub of_err : (r : Result ⊤ Stopped) (P : Stopped → Type 0) (why : Stopped) → IfErr r P → IsErrOf r why → P why
-of_err (Ok x) P why h is = absurd (cc is)
-of_err (Err e) P why h is = (let same : e ≡ why = cc in subst P same h)
+-- why a kernel has stopped, where the count of faults rose or not
+abbrev pub IsCauseBy : Type 0 → Stopped → Type 0
+IsCauseBy rose (reason.NoBlocks n) = n.free < n.need
+IsCauseBy rose reason.ReadFault = rose
+IsCauseBy rose reason.WriteFault = rose
 
--- a run that was stopped was told so
-pub put_stopped : (ended : Result ⊤ Stopped) (why : Stopped) (fault : Fault) (sink : SeenSink) (bytes : Text) (status : Status) → ended ≡ Err why → fault ≡ fault_of_stop why → status ≡ status_by fault
-    → Gains sink (bytes ++ fault_line fault) → IsPutBy ended sink bytes status
-put_stopped ended why fault sink bytes status is same by put =
-    subst (λ (r : Result ⊤ Stopped). IsPutBy r sink bytes status) (sym is) (by ∙ ap status_by same, subst (λ (f : Fault). Gains sink (bytes ++ fault_line f)) same put)
+by_cause : {D : Type 0} (faults : D → ℕ) (old new : Parts D) (disk : D) → disk ≡ new.store.disk → (why : Stopped) → IsCause faults old new why
+    → IsCauseBy (Rose (faults old.store.disk) (faults disk)) why
+by_cause {D = D} faults old new disk is (reason.NoBlocks n) cause = cause
+by_cause {D = D} faults old new disk is reason.ReadFault cause = subst (λ (d : D). Rose (faults old.store.disk) (faults d)) (sym is) cause
+by_cause {D = D} faults old new disk is reason.WriteFault cause = subst (λ (d : D). Rose (faults old.store.disk) (faults d)) (sym is) cause
+
+-- by what the run answered
+pub by_answer : {D : Type 0} (faults : D → ℕ) (old new : Parts D) (disk : D) → disk ≡ new.store.disk → (r : Result ⊤ Stop) (o : Option Stopped) → Tells r o → IfErr r (IsCauseOf faults old new)
+    → (why : Stopped) → o ≡ Some why → IsCauseBy (Rose (faults old.store.disk) (faults disk)) why
+by_answer faults old new disk same r o tells cause why is = by_cause faults old new disk same why (cause_kept faults old new r o tells cause why is)
+
+-- a run whose kernel has stopped was told so
+pub put_stopped : (stopped : Option Stopped) (why : Stopped) (fault : Fault) (sink : SeenSink) (bytes : Text) (status : Status) → stopped ≡ Some why → fault ≡ fault_of_stop why → status ≡ status_by fault
+    → Gains sink (bytes ++ fault_line fault) → IsPutBy stopped sink bytes status
+put_stopped stopped why fault sink bytes status is same by put =
+    subst (λ (o : Option Stopped). IsPutBy o sink bytes status) (sym is) (by ∙ ap status_by same, subst (λ (f : Fault). Gains sink (bytes ++ fault_line f)) same put)
 
 module _ {D : Type 0} (disks : Ghosts D) (telling : Telling) (new : Held D) (sink : SeenSink) (gave : Gave) (disk : D)
     (history : gave.history ≡ new.parts.noted.entries) (marks : gave.marks ≡ new.parts.noted.marks) (same : disk ≡ new.parts.store.disk) where
@@ -81,7 +99,7 @@ module _ {D : Type 0} (disks : Ghosts D) (telling : Telling) (new : Held D) (sin
     }
 
     -- for want of blocks
-    cut_for : (count : ℕ) (n : NoBlocks) → HasStopped disks b new → new.stop ≡ Some (TooFew n) → n.free < n.need → (books new.parts.store).count ≡ count
+    cut_for : (count : ℕ) (n : NoBlocks) → HasStopped disks b new → new.stop ≡ Some (reason.NoBlocks n) → n.free < n.need → (books new.parts.store).count ≡ count
         → Gains sink (lines ++ fault_line (Blocks n)) → WasCutForBlocks disks telling b count sink gave disk n
     cut_for count n stopped at fewer same_count put = record {
       cut = cut stopped (Blocks n) put;
@@ -96,8 +114,8 @@ module _ {D : Type 0} (disks : Ghosts D) (telling : Telling) (new : Held D) (sin
 
   -- WHAT IT LEAVES
   module _ (starts : Beginning → Type 0) (rose : Type 0) (count : ℕ) (same_count : (books new.parts.store).count ≡ count) where
-    abbrev Ends : Result ⊤ Stopped → Type 0
-    Ends result = disks.tells → (b : Beginning) → starts b → EndsRun disks b result new
+    abbrev Ends : Type 0
+    Ends = disks.tells → (b : Beginning) → starts b → EndsRun disks b new
 
     abbrev Each : (Beginning → Type 0) → Type 0
     Each P = InEach disks telling starts rose count sink gave disk P
@@ -108,12 +126,18 @@ module _ {D : Type 0} (disks : Ghosts D) (telling : Telling) (new : Held D) (sin
     abbrev Stops : Fault → Type 0
     Stops f = StopsPlay disks telling starts rose count sink gave disk f
 
-    pub play_leaves : (result : Result ⊤ Stopped) → Ends result → (IsErrOf result Failed → rose) → ((n : NoBlocks) → IsErrOf result (TooFew n) → (new.stop ≡ Some (TooFew n)) × (n.free < n.need))
-        → IsPutBy result sink (lines) gave.status → PlayLeaves disks telling starts rose count sink gave disk (ending gave.status)
-    play_leaves (Ok x) ends failed short put =
-        put_ends sink Whole Stops gave.status (lines) put (λ Puts all told b start. served b (ends told b start).over Puts all)
-    play_leaves (Err Failed) ends failed short put =
-        fault_ends sink Whole Stops gave.status Disk put.0 (failed refl, λ told b start. cut b (ends told b start).stopped Disk put.1)
-    play_leaves (Err (TooFew n)) ends failed short put =
-        let why = short n refl in
-        fault_ends sink Whole Stops gave.status (Blocks n) put.0 (λ told b start. cut_for b count n (ends told b start).stopped why.0 why.1 same_count put.1)
+    abbrev Caused : Option Stopped → Type 0
+    Caused o = (why : Stopped) → o ≡ Some why → IsCauseBy rose why
+
+    play_by : (o : Option Stopped) → new.stop ≡ o → Ends → Caused o → IsPutBy o sink (lines) gave.status → PlayLeaves disks telling starts rose count sink gave disk (ending gave.status)
+    play_by None is ends caused put =
+        put_ends sink Whole Stops gave.status (lines) put (λ Puts all told b start. served b ((ends told b start).over is) Puts all)
+    play_by (Some (reason.NoBlocks n)) is ends caused put =
+        fault_ends sink Whole Stops gave.status (Blocks n) put.0 (λ told b start. cut_for b count n ((ends told b start).stopped (reason.NoBlocks n) is) is (caused (reason.NoBlocks n) refl) same_count put.1)
+    play_by (Some reason.ReadFault) is ends caused put =
+        fault_ends sink Whole Stops gave.status Disk put.0 (caused reason.ReadFault refl, λ told b start. cut b ((ends told b start).stopped reason.ReadFault is) Disk put.1)
+    play_by (Some reason.WriteFault) is ends caused put =
+        fault_ends sink Whole Stops gave.status Disk put.0 (caused reason.WriteFault refl, λ told b start. cut b ((ends told b start).stopped reason.WriteFault is) Disk put.1)
+
+    pub play_leaves : Ends → Caused new.stop → IsPutBy new.stop sink (lines) gave.status → PlayLeaves disks telling starts rose count sink gave disk (ending gave.status)
+    play_leaves ends caused put = play_by new.stop refl ends caused put

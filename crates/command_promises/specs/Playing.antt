@@ -1,5 +1,5 @@
 -- What the run of a script by an opened kernel leaves, in the words of the disk's trait.
-use Rattle.std.specs.Prelude.{◌≡◌, ℕ, ◌++◌, Result, Ok, Err}
+use Rattle.std.specs.Prelude.{◌≡◌, ℕ, ◌++◌, Option, None, Some}
 use Rattle.edge_disk.specs.declared.disk.Disk.{Ghosts}
 use Rattle.edge_disk.specs.Image.{Image}
 use Rattle.edge_disk.specs.declared.disk.NoBlocks.{NoBlocks}
@@ -7,7 +7,7 @@ use Rattle.image_facts.specs.model_kernel.Histories.{Policy}
 use Rattle.image_facts.specs.model_kernel.Scripts.{Script as Tables}
 use Rattle.image_facts.specs.model_kernel.State.{Supply, Text}
 use Rattle.kernel_runs.specs.kernel_commits.declared.stopping.Stopped.{Stopped}
-use Rattle.kernel_runs.specs.kernel_commits.declared.stopping.Stopped.TheVariants.{Failed, TooFew}
+use Rattle.kernel_runs.specs.kernel_commits.declared.stopping.Stopped.TheVariants as reason
 use Rattle.kernel_runs.specs.kernel_core_facts.Kernels.{Held, Lives}
 use Rattle.open_kernel.specs.kernel_laws.Opening.{empty_script, with_script}
 use Rattle.open_kernel.specs.kernel_invariant.Beginnings.{Beginning}
@@ -26,13 +26,14 @@ use Rattle.edge_watched.specs.Watching.{IsAsAtStart, Start}
 
 -- what a run that was stopped tells
 abbrev pub fault_of_stop : Stopped → Fault
-fault_of_stop (TooFew n) = Blocks n
-fault_of_stop Failed = Disk
+fault_of_stop (reason.NoBlocks n) = Blocks n
+fault_of_stop reason.ReadFault = Disk
+fault_of_stop reason.WriteFault = Disk
 
--- THE LINES of a run were put, and where it was stopped that of the fault behind them; the status says so
-abbrev pub IsPutBy : {T : Type 0} → Result T Stopped → SeenSink → Text → Status → Type 0
-IsPutBy (Ok x) sink bytes status = IsPut sink bytes status
-IsPutBy (Err why) sink bytes status = (status ≡ status_by (fault_of_stop why)) × Gains sink (bytes ++ fault_line (fault_of_stop why))
+-- THE LINES of a run were put, and where its kernel has stopped that of the fault behind them; the status says so
+abbrev pub IsPutBy : Option Stopped → SeenSink → Text → Status → Type 0
+IsPutBy None sink bytes status = IsPut sink bytes status
+IsPutBy (Some why) sink bytes status = (status ≡ status_by (fault_of_stop why)) × Gains sink (bytes ++ fault_line (fault_of_stop why))
 
 -- THE DISK IS HANDED IN as the start says, which says no more
 pub record IsHandedIn {D : Type 0} (disks : Ghosts D) (s : Start) (disk : D) : Type 0 where

@@ -41,8 +41,10 @@ pub(crate) fn run_opened<W: Sink, D: Disk, S: Supplier, P: Policy>(
         (seen_sink W.held W.faults sink.old sink.new) (gave result) result.disk (ending result.status) }
     ensures later { D.faults kernel.parts.store.disk ≤ D.faults result.disk }
 {
-    let ended = run(&mut kernel, script, gate);
-    let status = put_run(sink, lines, kernel.cells(), kernel.history(), ended);
+    // what it answers is why the kernel has stopped, if it has
+    let _ = run(&mut kernel, script, gate);
+    let stopped = kernel.stopped();
+    let status = put_run(sink, lines, kernel.cells(), kernel.history(), stopped);
     let Ended {
         disk,
         history,

@@ -34,8 +34,8 @@ fn fault_of_stop(why: Stopped) -> Fault
     ensures { result ≡ told_stop why }
 {
     match why {
-        Stopped::TooFew(blocks) => Fault::Blocks(blocks),
-        Stopped::Failed => Fault::Disk,
+        Stopped::NoBlocks(blocks) => Fault::Blocks(blocks),
+        Stopped::ReadFault | Stopped::WriteFault => Fault::Disk,
     }
 }
 
@@ -94,26 +94,26 @@ fn put_cut_short<W: Sink>(
     put_fault(sink, fault)
 }
 
-/// Puts the lines of a run, and tells how it ended. A sink that fails behind a run that was stopped changes no status.
+/// Puts the lines of a run, and tells how it ended, by why its kernel has stopped. A sink that fails behind a run that was stopped changes no status.
 pub(crate) fn put_run<W: Sink>(
     sink: &mut W,
     lines: Lines,
     cells: &[Cell],
     history: &[Entry],
-    ended: Result<(), Stopped>,
+    stopped: Option<Stopped>,
 ) -> Status
-    ensures put { IsPutBy ended (seen_sink W.held W.faults sink.old sink.new) (lines_of lines (atlas_state_in cells.now) history.now) result }
+    ensures put { IsPutBy stopped (seen_sink W.held W.faults sink.old sink.new) (lines_of lines (atlas_state_in cells.now) history.now) result }
     ensures count { W.faults sink.old ≤ W.faults sink.new }
 {
-    match ended {
-        Ok(()) => {
+    match stopped {
+        None => {
             if put_lines(sink, lines, cells, history).is_ok() {
                 Status::Done
             } else {
                 Status::SinkFault
             }
         }
-        Err(why) => {
+        Some(why) => {
             let fault = fault_of_stop(why);
             let _ = put_cut_short(sink, lines, cells, history, &fault);
             status_of(fault)

@@ -5,7 +5,7 @@ use Rattle.std.proofs.Math.Seq.{take-append_seam}
 use Rattle.std.proofs.lemmas.Bool.{cases_eq}
 use Rattle.edge_disk.specs.Image.{Image}
 use Rattle.edge_disk.specs.Counts.{Rose}
-use Rattle.edge_disk.specs.declared.disk.NoBlocks.{NoBlocks as TooFewBlocks}
+use Rattle.edge_disk.specs.declared.disk.NoBlocks.{NoBlocks as Shortage}
 use Rattle.base_types.specs.declared.histories.Entry.{Entry}
 use Rattle.base_types.specs.declared.histories.Event.TheVariants.{Snap, Tried}
 use Rattle.kernel_commit_facts.specs.model_kernel.Histories.{mark}
@@ -21,16 +21,16 @@ use Rattle.kernel_commit_facts.specs.kernel_invariant.Live.{TooFew as TooFewStop
 use Rattle.kernel_commit_facts.specs.kernel_book_laws.Matching.{version_of}
 use Rattle.kernel_commit_facts.specs.Parts.{LivesAs, Noted, Parts, parts_of}
 use Rattle.kernel_commit_facts.specs.Recording.{CanRecord, CommitsAmong, HasMade, HasNotMade, HasRecorded, HasTried, IsShort, MayRecord, with_fault}
-use Rattle.kernel_commits.specs.Recording.{GoesOnBy, why_of}
+use Rattle.kernel_commits.specs.Recording.{Fails, GoesOnBy, IsOfCommit, why_of}
 use Rattle.kernel_commits.specs.declared.stopping.Stopped.{Stopped}
-use Rattle.kernel_commits.specs.declared.stopping.Stopped.TheVariants.{Failed, TooFew}
+use Rattle.kernel_commits.specs.declared.stopping.Stopped.TheVariants as reason
 use Rattle.kernel_commit_facts.proofs.Committing.{not_recorded, recorded}
 use Rattle.kernel_commit_facts.proofs.Running.{snap_stands, still_lives}
 use Rattle.kernel_commit_facts.proofs.Trying.{tried_stops}
 use Rattle.std.proofs.lemmas.Option.{same_Some}
 use Rattle.edge_disk.specs.declared.disk.Disk.{Ghosts}
 
-abbrev stop_result : Stopped → Result ⊤ Stopped
+abbrev pub stop_result : Stopped → Result ⊤ Stopped
 stop_result why = Err why
 
 abbrev made_result : Result ⊤ Stopped
@@ -105,23 +105,23 @@ module _ {D : Type 0} (disks : Ghosts D)
     unrecorded : is_recorded c ≡ false
     unrecorded = not_recorded disks x cs0 st0 can0 c at_c0
 
-    pub short_from : (n : TooFewBlocks) → r ≡ Err (NoBlocks n) → IsShort disks x old n
+    pub short_from : (n : Shortage) → r ≡ Err (NoBlocks n) → IsShort disks x old n
     short_from n is = subst (λ (p : Parts D). IsShort disks x p n) view (record { cell = c; at = at_c0; short = ((fault_is.no_blocks n).0 is).1 })
 
-    pub short_to : (n : TooFewBlocks) → IsShort disks x old n → r ≡ Err (NoBlocks n)
+    pub short_to : (n : Shortage) → IsShort disks x old n → r ≡ Err (NoBlocks n)
     short_to n short =
         let s : IsShort disks x inside n = subst (λ (p : Parts D). IsShort disks x p n) (sym view) short in
         let same : s.cell ≡ c = same_Some s.cell c (sym s.at ∙ at_c0) in
         (fault_is.no_blocks n).1 (unrecorded, subst (λ k. IsTooFew k (books st0) n) same s.short)
 
-    pub still : (n : TooFewBlocks) → r ≡ Err (NoBlocks n) → parts_of st' cs' n0 ≡ old
+    pub still : (n : Shortage) → r ≡ Err (NoBlocks n) → parts_of st' cs' n0 ≡ old
     still n is =
         let both = fault_is.untouched (inr (n, is)) in
         ap (λ st. parts_of st cs' n0) both.1 ∙ (ap (λ cs. parts_of st0 cs n0) (lent_same cs1 cs' c d q.lends both.0 ∙ deref) ∙ view)
 
   -- where a record was made it isn't short of blocks
   pub ok_short : (r : Result Bool StoreFault) → ((c d : Cell) → slice_get cs1 x ≡ Some c → slice_get cs' x ≡ Some d → CellFaults disks.faults (is_recorded c ≡ false) r c d st0 st')
-      → (b : Bool) → r ≡ Ok b → HasMade disks x cs1 cs' st0 st' → (n : TooFewBlocks) → (made_result ≡ Err (TooFew n)) ↔ IsShort disks x old n
+      → (b : Bool) → r ≡ Ok b → HasMade disks x cs1 cs' st0 st' → (n : Shortage) → (made_result ≡ Err (reason.NoBlocks n)) ↔ IsShort disks x old n
   ok_short r faults_at b is made n = (λ same. absurd (cc same), λ short. absurd (let h = short_to r faults_at made.before made.after made.commits n short in cc (is, h)))
 
   -- IT FAILED
@@ -141,31 +141,51 @@ module _ {D : Type 0} (disks : Ghosts D)
 
     module _ (r : Result Bool StoreFault) (faults_at : (c d : Cell) → slice_get cs1 x ≡ Some c → slice_get cs' x ≡ Some d → CellFaults disks.faults (is_recorded c ≡ false) r c d st0 st')
         (failed : HasNotMade disks x cs1 cs' st0 st') where
-      pub err_tried : (f : StoreFault) → r ≡ Err f → (n1 : Noted) → n1 ≡ with_fault f e n0 → stop_result (why_of f) ≡ Err Failed → HasTried disks x old (parts_of st' cs' n1)
-      err_tried (NoBlocks n) is n1 pushed failed_is = absurd (cc failed_is)
-      err_tried WriteFault is n1 pushed failed_is = tried_by n1 pushed failed ((fault_is r faults_at failed.before failed.after failed.commits).write_fault is).1
-      err_tried ReadFault is n1 pushed failed_is = absurd ((fault_is r faults_at failed.before failed.after failed.commits).no_read is)
-      err_tried Shut is n1 pushed failed_is =
+      -- the store works, so that it is want of blocks or a write that failed
+      pub of_commit : (f : StoreFault) → r ≡ Err f → IsOfCommit f
+      of_commit (NoBlocks n) is = tt
+      of_commit WriteFault is = tt
+      of_commit ReadFault is = absurd ((fault_is r faults_at failed.before failed.after failed.commits).no_read is)
+      of_commit Shut is =
           let shut = ((fault_is r faults_at failed.before failed.after failed.commits).shut.0 is).1 in
           absurd (let works = can0.working in cc (shut, works))
 
-      pub err_short : (f : StoreFault) → r ≡ Err f → (n : TooFewBlocks) → (stop_result (why_of f) ≡ Err (TooFew n)) ↔ IsShort disks x old n
+      err_tried : (f : StoreFault) → r ≡ Err f → (n1 : Noted) → n1 ≡ with_fault f e n0 → stop_result (why_of f) ≡ Err reason.WriteFault → HasTried disks x old (parts_of st' cs' n1)
+      err_tried (NoBlocks n) is n1 pushed failed_is = absurd (cc failed_is)
+      err_tried WriteFault is n1 pushed failed_is = tried_by n1 pushed failed ((fault_is r faults_at failed.before failed.after failed.commits).write_fault is).1
+      err_tried ReadFault is n1 pushed failed_is = absurd (of_commit ReadFault is)
+      err_tried Shut is n1 pushed failed_is = absurd (of_commit Shut is)
+
+      pub err_short : (f : StoreFault) → r ≡ Err f → (n : Shortage) → (stop_result (why_of f) ≡ Err (reason.NoBlocks n)) ↔ IsShort disks x old n
       err_short f is n = (to f is, λ short. back f (sym is ∙ short_to r faults_at failed.before failed.after failed.commits n short))
         where
-          to : (f : StoreFault) → r ≡ Err f → stop_result (why_of f) ≡ Err (TooFew n) → IsShort disks x old n
+          to : (f : StoreFault) → r ≡ Err f → stop_result (why_of f) ≡ Err (reason.NoBlocks n) → IsShort disks x old n
           to (NoBlocks k) is same = short_from r faults_at failed.before failed.after failed.commits n (is ∙ (let e : k ≡ n = cc same in ap (λ z. Err (NoBlocks z)) e))
           to WriteFault is same = absurd (cc same)
-          to ReadFault is same = absurd (cc same)
-          to Shut is same = absurd (cc same)
+          to ReadFault is same = absurd (of_commit ReadFault is)
+          to Shut is same = absurd (of_commit Shut is)
 
-          back : (f : StoreFault) → fault_result f ≡ Err (NoBlocks n) → stop_result (why_of f) ≡ Err (TooFew n)
+          back : (f : StoreFault) → fault_result f ≡ Err (NoBlocks n) → stop_result (why_of f) ≡ Err (reason.NoBlocks n)
           back f same = ap (λ z. Err (why_of z)) (let e : f ≡ NoBlocks n = cc same in e)
 
-      pub err_still : (f : StoreFault) → r ≡ Err f → (n1 : Noted) → n1 ≡ with_fault f e n0 → (n : TooFewBlocks) → stop_result (why_of f) ≡ Err (TooFew n) → parts_of st' cs' n1 ≡ old
+      err_still : (f : StoreFault) → r ≡ Err f → (n1 : Noted) → n1 ≡ with_fault f e n0 → (n : Shortage) → stop_result (why_of f) ≡ Err (reason.NoBlocks n) → parts_of st' cs' n1 ≡ old
       err_still (NoBlocks k) is n1 pushed n same = ap (λ z. parts_of st' cs' z) pushed ∙ still r faults_at failed.before failed.after failed.commits k is
       err_still WriteFault is n1 pushed n same = absurd (cc same)
-      err_still ReadFault is n1 pushed n same = absurd (cc same)
-      err_still Shut is n1 pushed n same = absurd (cc same)
+      err_still ReadFault is n1 pushed n same = absurd (of_commit ReadFault is)
+      err_still Shut is n1 pushed n same = absurd (of_commit Shut is)
+
+      no_reading : (f : StoreFault) → r ≡ Err f → stop_result (why_of f) ≡ Err reason.ReadFault → ⊥
+      no_reading (NoBlocks k) is same = cc same
+      no_reading WriteFault is same = cc same
+      no_reading ReadFault is same = of_commit ReadFault is
+      no_reading Shut is same = of_commit Shut is
+
+      pub err_fails : (f : StoreFault) → r ≡ Err f → (n1 : Noted) → n1 ≡ with_fault f e n0 → (why : Stopped) → why ≡ why_of f → Fails disks x (stop_result why) old (parts_of st' cs' n1)
+      err_fails f is n1 pushed why why_is = subst (λ w. Fails disks x (stop_result w) old (parts_of st' cs' n1)) (sym why_is) (record {
+        untouched = err_still f is n1 pushed;
+        tried = err_tried f is n1 pushed;
+        no_read = no_reading f is;
+      })
 
       module _ (counts_later : (disk : D) (s t : ℕ) (c : Image) → disks.tells → s ≤ t → disks.left_since disk t c → disks.left_since disk s c)
           (only_now : (disk : D) (c : Image) → disks.tells → disks.left_since disk (disks.clock disk) c → disks.may_leave disk c) (counts : CommitCounts disks st0 st') where
@@ -180,5 +200,5 @@ module _ {D : Type 0} (disks : Ghosts D)
               (still_lives disks counts_later only_now b old (TooFewStop k.need k.free) may.stands);
         }
         err_run WriteFault is n1 pushed told b may = record { stands = tt; lives = tried_stops disks counts_later only_now b x old (parts_of st' cs' n1) told may can (err_tried WriteFault is n1 pushed refl) counts0 }
-        err_run ReadFault is n1 pushed told b may = record { stands = tt; lives = tried_stops disks counts_later only_now b x old (parts_of st' cs' n1) told may can (err_tried ReadFault is n1 pushed refl) counts0 }
-        err_run Shut is n1 pushed told b may = record { stands = tt; lives = tried_stops disks counts_later only_now b x old (parts_of st' cs' n1) told may can (err_tried Shut is n1 pushed refl) counts0 }
+        err_run ReadFault is n1 pushed told b may = absurd (of_commit ReadFault is)
+        err_run Shut is n1 pushed told b may = absurd (of_commit Shut is)

@@ -4,6 +4,7 @@ pub mod Stops
 pub mod Along
 pub mod Parting
 pub mod Fitting
+pub mod Telling
 pub use Rattle.kernel_commit_facts.proofs.kernel_block_laws_lemmas
 pub use Rattle.kernel_commit_facts.proofs.kernel_book_laws_lemmas
 pub use Rattle.kernel_commit_facts.proofs as kernel_commit_facts_lemmas

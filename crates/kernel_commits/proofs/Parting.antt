@@ -3,7 +3,6 @@ use Rattle.std.proofs.Common.{◌≡◌, ℕ, List, [], ◌∷◌, ◌++◌, Som
 use Rattle.std.proofs.lemmas.List.{append-nil}
 use Rattle.std.specs.Prelude.{Result}
 use Rattle.edge_disk.specs.declared.disk.Disk.{Ghosts}
-use Rattle.edge_disk.specs.declared.disk.NoBlocks.{NoBlocks as TooFewBlocks}
 use Rattle.base_types.specs.declared.histories.Entry.{Entry}
 use Rattle.base_types.specs.declared.histories.Event.TheVariants.{Stable, Tried}
 use Rattle.kernel_commit_facts.specs.model_kernel.Histories.{Run, mark, next_changed, run_after, version_of as run_version}
@@ -15,8 +14,9 @@ use Rattle.kernel_commit_facts.specs.Parts.{Parts}
 use Rattle.kernel_commit_facts.specs.Pieces.{StopsIn}
 use Rattle.kernel_commit_facts.specs.Recording.{HasTried}
 use Rattle.kernel_commit_facts.specs.Through.{IsUnderway}
+use Rattle.kernel_commits.specs.Recording.{Fails}
 use Rattle.kernel_commits.specs.declared.stopping.Stopped.{Stopped}
-use Rattle.kernel_commits.specs.declared.stopping.Stopped.TheVariants.{Failed, TooFew}
+use Rattle.kernel_commits.specs.declared.stopping.Stopped.TheVariants as reason
 use Rattle.kernel_commit_facts.proofs.Stabling.{behind_snaps}
 
 -- nothing came
@@ -57,7 +57,8 @@ module _ {D : Type 0} (disks : Ghosts D)
   }
 
   -- THE SNAPS of the records that were made, and a Tried where the disk failed
-  pub stable_part : {T : Type 0} (res : Result T Stopped) → (res ≡ Err Failed → HasTried disks i now new) → ((n : TooFewBlocks) → res ≡ Err (TooFew n) → new ≡ now)
+  pub stable_part : {T : Type 0} (res : Result T Stopped) → Fails disks i res now new
       → (why : Stopped) → res ≡ Err why → StopsIn b owed old.noted.entries new.noted.entries
-  stable_part res tried same (TooFew n) err = made_part (sym (same n err))
-  stable_part res tried same Failed err = tried_part (tried err)
+  stable_part res fails (reason.NoBlocks n) err = made_part (sym (fails.untouched n err))
+  stable_part res fails reason.ReadFault err = absurd (fails.no_read err)
+  stable_part res fails reason.WriteFault err = tried_part (fails.tried err)

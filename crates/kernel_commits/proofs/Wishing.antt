@@ -4,7 +4,6 @@ use Rattle.std.specs.Prelude.{Result}
 use Rattle.std.proofs.lemmas.Bool.Decides.{nat_tests}
 use Rattle.std.proofs.lemmas.List.{append-nil}
 use Rattle.edge_disk.specs.declared.disk.Disk.{Ghosts}
-use Rattle.edge_disk.specs.declared.disk.NoBlocks.{NoBlocks as TooFewBlocks}
 use Rattle.base_types.specs.declared.histories.Entry.{Entry}
 use Rattle.base_types.specs.declared.histories.Event.TheVariants.{Snap, Tried}
 use Rattle.kernel_commit_facts.specs.model_kernel.Histories.{MayCommit, Policy, Run, goes_on, has_wish, is_full, mark, version_of}
@@ -12,7 +11,6 @@ use Rattle.kernel_commit_facts.specs.cell_states.declared.cells.Cell.{Cell}
 use Rattle.kernel_commit_facts.specs.model_kernel.State.{Supply}
 use Rattle.kernel_commit_facts.specs.cell_states.Cells.{HasCell, part_of}
 use Rattle.kernel_commit_facts.specs.cell_states.Wishes.{HasWish, is_open}
-use Rattle.kernel_commit_facts.specs.table_laws.Tables.{state_in}
 use Rattle.kernel_commit_facts.proofs.table_laws_lemmas.Having.{no_supply, no_words, state_has}
 use Rattle.kernel_commit_facts.specs.kernel_record_facts.Cells.{words_on}
 use Rattle.kernel_commit_facts.specs.store_facts.State.{books}
@@ -31,14 +29,15 @@ use Rattle.kernel_commit_facts.specs.kernel_book_laws.Matching.{version_at}
 use Rattle.kernel_commit_facts.specs.Parts.{LivesAs, Parts, StandsAs}
 use Rattle.kernel_commits.specs.Parts.{stop_of}
 use Rattle.kernel_commit_facts.specs.Pieces.{StopsIn}
-use Rattle.kernel_commit_facts.specs.Recording.{HasRecorded, HasTried, MayRecord}
+use Rattle.kernel_commit_facts.specs.Recording.{HasRecorded, MayRecord}
 use Rattle.kernel_commit_facts.specs.Snapping.{RunsFree, Snaps}
 use Rattle.kernel_commits.specs.Snapping.{SnapsOne}
+use Rattle.kernel_commits.specs.Recording.{Fails}
 use Rattle.kernel_commits.specs.declared.stopping.Stopped.{Stopped}
 use Rattle.kernel_commit_facts.specs.Lacking.{LacksBlocks, LacksIn}
 use Rattle.kernel_commit_facts.proofs.Dues.{lacks_first}
 use Rattle.kernel_commits.proofs.Parting.{none_came}
-use Rattle.kernel_commits.specs.declared.stopping.Stopped.TheVariants.{Failed, TooFew}
+use Rattle.kernel_commits.specs.declared.stopping.Stopped.TheVariants as reason
 
 not_first : (a b : Bool) → a ≡ false → (a && b) ≡ false
 not_first true b is = absurd (cc is)
@@ -144,12 +143,13 @@ module _ {D : Type 0} (disks : Ghosts D)
     })
 
   -- or it failed: a part of it came
-  pub one_part : test ≡ true → (new : Parts D) → {T : Type 0} → (res : Result T Stopped) → (res ≡ Err Failed → HasTried disks x old new) → ((n : TooFewBlocks) → res ≡ Err (TooFew n) → new ≡ old)
+  pub one_part : test ≡ true → (new : Parts D) → {T : Type 0} → (res : Result T Stopped) → Fails disks x res old new
       → (why : Stopped) → res ≡ Err why → StopsIn b (wished_snap policy r x) old.noted.entries new.noted.entries
-  one_part is new res tried same (TooFew n) err = none_came b (wished_snap policy r x) old.noted.entries new.noted.entries (ap (λ (p : Parts D). p.noted.entries) (same n err))
-  one_part is new res tried same Failed err = record {
+  one_part is new res fails (reason.NoBlocks n) err = none_came b (wished_snap policy r x) old.noted.entries new.noted.entries (ap (λ (p : Parts D). p.noted.entries) (fails.untouched n err))
+  one_part is new res fails reason.ReadFault err = absurd (fails.no_read err)
+  one_part is new res fails reason.WriteFault err = record {
     part = mark Tried x (version_of r x) ∷ [];
-    entries = (tried err).entries ∙ ap (λ v. old.noted.entries ++ mark Tried x v ∷ []) (sym version_is);
+    entries = (fails.tried err).entries ∙ ap (λ v. old.noted.entries ++ mark Tried x v ∷ []) (sym version_is);
     is = subst (λ (all : List Entry). IsStoppedIn b.supply b.script r all (mark Tried x (version_of r x) ∷ [])) (sym (ap snap_by is)) (cut_tried b.supply b.script r (snap_by true) [] [] x (version_of r x) refl);
   }
 

@@ -3,6 +3,7 @@ pub mod Recording
 pub mod Snapping
 pub mod Stabilising
 pub mod Stops
+pub mod Telling
 pub use Rattle.kernel_commit_facts.specs.kernel_block_laws
 pub use Rattle.kernel_commit_facts.specs.kernel_book_laws
 pub use Rattle.kernel_commit_facts.specs as kernel_commit_facts

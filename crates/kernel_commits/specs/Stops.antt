@@ -5,12 +5,13 @@ use Rattle.kernel_commit_facts.specs.table_laws.Tables.{IsOrderly}
 use Rattle.kernel_commit_facts.specs.store_facts.State.{books}
 use Rattle.kernel_commit_facts.specs.Parts.{Parts}
 use Rattle.kernel_commits.specs.declared.stopping.Stopped.{Stopped}
-use Rattle.kernel_commits.specs.declared.stopping.Stopped.TheVariants.{Failed, TooFew}
+use Rattle.kernel_commits.specs.declared.stopping.Stopped.TheVariants as reason
 
--- the cause: fewer blocks were free than were needed, or the disk's count of faults rose
+-- the cause: fewer blocks were free than were needed, or the disk's count of faults rose, at a read or at a write
 abbrev pub IsCause : {D : Type 0} → (D → ℕ) → Parts D → Parts D → Stopped → Type 0
-IsCause faults old new (TooFew n) = n.free < n.need
-IsCause faults old new Failed = Rose (faults old.store.disk) (faults new.store.disk)
+IsCause faults old new (reason.NoBlocks n) = n.free < n.need
+IsCause faults old new reason.ReadFault = Rose (faults old.store.disk) (faults new.store.disk)
+IsCause faults old new reason.WriteFault = Rose (faults old.store.disk) (faults new.store.disk)
 
 -- THE STOP: its cells are in order still, and no more marks are noted than entries
 pub record LeavesStopped {D : Type 0} (faults : D → ℕ) (old new : Parts D) (why : Stopped) : Type 0 where

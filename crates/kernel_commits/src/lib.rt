@@ -14,4 +14,4 @@ pub use kernel_commit_facts::{Idle, OpenFault, OpenWhy, Store};
 pub use notes::Notes;
 pub use snapping::{snap_one, snap_written};
 pub use stabilising::settle;
-pub use stopping::Stopped;
+pub use stopping::{Stop, Stopped, told_of};

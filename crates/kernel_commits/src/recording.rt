@@ -1,15 +1,14 @@
 // One record of a cell of the kernel.
-ghost use Rattle.std.specs.Prelude.{◌≡◌, ◌↔◌, ◌<◌, ℕ, Bool, true, false, Some, IfErr, IsErrOf, OnErr, OnOk, length, slice_get};
-ghost use Rattle.edge_disk.specs.declared.disk.NoBlocks.{NoBlocks as TooFewBlocks};
+ghost use Rattle.std.specs.Prelude.{◌≡◌, ◌↔◌, ◌<◌, false, Some, IsErrOf, OnErr, OnOk, length, slice_get};
+ghost use Rattle.edge_disk.specs.declared.disk.NoBlocks.{NoBlocks as Shortage};
 ghost use Rattle.kernel_commit_facts.specs.kernel_book_laws.Matching.{version_of};
 ghost use Rattle.base_types.specs.declared.histories.Event.TheVariants as AnEvent;
 ghost use Rattle.kernel_commit_facts.specs.model_kernel.Histories.{mark};
 ghost use Rattle.kernel_commit_facts.specs.cell_blobs.Blobs.{is_recorded};
 ghost use Rattle.kernel_commit_facts.specs.cell_states.declared.cells.Cell.{Cell as ACell};
 ghost use Rattle.kernel_commit_facts.specs.Lacking.{LacksBlocks};
-ghost use Rattle.kernel_commit_facts.specs.Parts.{Parts};
-ghost use Rattle.kernel_commit_facts.specs.Recording.{CanRecord, HasMade, HasNotMade, HasRecorded, HasTried, IsShort, MayRecord, with_fault};
-ghost use Rattle.kernel_commits.specs.Recording.{GoesOnBy, why_of};
+ghost use Rattle.kernel_commit_facts.specs.Recording.{CanRecord, HasMade, HasNotMade, HasRecorded, IsShort, MayRecord, with_fault};
+ghost use Rattle.kernel_commits.specs.Recording.{Fails, GoesOnBy, IsOfCommit, why_of};
 ghost use Rattle.kernel_commits.specs.declared.stopping.Stopped.{Stopped as AStop};
 ghost use Rattle.kernel_commit_facts.specs.kernel_invariant.Beginnings.{Beginning, run_of};
 ghost use Rattle.kernel_commit_facts.specs.kernel_records.Committing.{CellFaults, CommitCounts};
@@ -47,18 +46,20 @@ fn version_among(cells: &[Cell], entity: Entity) -> u64
     cells[entity.number() as usize].clock.version
 }
 
-/// Why a fault of a commit stops the kernel. Where a call of the disk failed, its Tried is noted.
+/// Why a fault of a commit stops the kernel. Where a write failed, its Tried is noted.
 fn note_fault(notes: &mut Notes, entity: Entity, version: u64, fault: StoreFault) -> Stopped
     requires room { length notes.old.entries < notes.old.room }
+    requires kind { IsOfCommit fault }
     ensures why { result ≡ why_of fault }
     ensures noted { notes.new ≡ with_fault fault (mark AnEvent.Tried entity version) notes.old }
 {
     match fault {
-        StoreFault::NoBlocks(blocks) => Stopped::TooFew(blocks),
-        StoreFault::WriteFault | StoreFault::ReadFault | StoreFault::Shut => {
+        StoreFault::NoBlocks(blocks) => Stopped::NoBlocks(blocks),
+        StoreFault::WriteFault => {
             notes.push_entry(mark_entry(Event::Tried, entity, version));
-            Stopped::Failed
+            Stopped::WriteFault
         }
+        StoreFault::ReadFault | StoreFault::Shut => unreachable!(),
     }
 }
 
@@ -68,13 +69,12 @@ pub(crate) fn record_one<D: Disk>(core: &mut Core<D>, entity: Entity) -> Result<
     requires entry_room { length core.old.noted.entries < core.old.noted.room }
     requires mark_room { length core.old.noted.marks < core.old.noted.room }
     ensures recorded { OnOk result (HasRecorded D.Disk entity core.old core.new) }
-    ensures tried { IsErrOf result AStop.Failed → HasTried D.Disk entity core.old core.new }
-    ensures too_few { (n : TooFewBlocks) → IsErrOf result (AStop.TooFew n) ↔ IsShort D.Disk entity core.old n }
-    ensures untouched { (n : TooFewBlocks) → IsErrOf result (AStop.TooFew n) → core.new ≡ core.old }
+    ensures no_blocks { (n : Shortage) → IsErrOf result (AStop.NoBlocks n) ↔ IsShort D.Disk entity core.old n }
+    ensures fails { Fails D.Disk entity result core.old core.new }
     ensures run { D.tells → (b : Beginning) → MayRecord D.Disk b entity core.old
         → GoesOnBy D.Disk b result core.new }
     ensures enough { D.tells → (b : Beginning) → MayRecord D.Disk b entity core.old
-        → (run_of b core.old.noted.entries).short ≡ false → (n : TooFewBlocks) → IsErrOf result (AStop.TooFew n) → LacksBlocks b core.old }
+        → (run_of b core.old.noted.entries).short ≡ false → (n : Shortage) → IsErrOf result (AStop.NoBlocks n) → LacksBlocks b core.old }
     ensures counts { CommitCounts D.Disk core.old.store core.new.store }
 {
     let version = version_among(&core.cells, entity);

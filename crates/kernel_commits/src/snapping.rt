@@ -1,5 +1,5 @@
 // Snaps of entities whose wishes are open.
-ghost use Rattle.std.specs.Prelude.{◌≡◌, ◌↔◌, ◌*◌, ℕ, List, Bool, true, false, IfErr, IsErrOf, Ok, OnErr, OnOk, Some, length, slice_get};
+ghost use Rattle.std.specs.Prelude.{◌≡◌, ◌↔◌, ◌*◌, ℕ, List, true, false, IfErr, IsErrOf, Ok, OnErr, OnOk, Some, length, slice_get};
 ghost use Rattle.base_types.specs.Touches.{IsRising};
 ghost use Rattle.kernel_commit_facts.specs.model_kernel.Histories.{Run, has_wish};
 ghost use Rattle.kernel_commit_facts.specs.model_kernel.State.{Supply};
@@ -8,13 +8,15 @@ ghost use Rattle.kernel_commit_facts.specs.cell_states.Wishes.{HasWish, is_open}
 ghost use Rattle.kernel_commit_facts.specs.cell_states.declared.cells.Cell.{Cell as ACell};
 ghost use Rattle.kernel_commit_facts.specs.kernel_invariant.Beginnings.{run_of};
 ghost use Rattle.kernel_commit_facts.specs.cell_wish_laws.Founded.{IsFoundedCell};
-ghost use Rattle.edge_disk.specs.declared.disk.NoBlocks.{NoBlocks as TooFewBlocks};
+ghost use Rattle.edge_disk.specs.declared.disk.NoBlocks.{NoBlocks as Shortage};
 ghost use Rattle.kernel_commit_facts.specs.Lacking.{LacksIn};
-ghost use Rattle.kernel_commit_facts.specs.Recording.{HasRecorded, HasTried, IsShort};
+ghost use Rattle.kernel_commit_facts.specs.Recording.{HasRecorded, IsShort};
 ghost use Rattle.kernel_commit_facts.specs.Snapping.{CanSnap, RunsFree, Snaps, wants_in};
 ghost use Rattle.kernel_commits.specs.Snapping.{SnapsAll, SnapsOne};
 ghost use Rattle.kernel_commit_facts.specs.Steady.{IsSteady};
+ghost use Rattle.kernel_commits.specs.Recording.{Fails};
 ghost use Rattle.kernel_commits.specs.Stops.{LeavesStopped};
+ghost use Rattle.kernel_commits.specs.Telling.{CommitsNote};
 ghost use Rattle.kernel_commits.specs.declared.stopping.Stopped.{Stopped as AStop};
 ghost use Rattle.kernel_commit_facts.specs.kernel_invariant.Beginnings.{Beginning};
 ghost use Rattle.kernel_commit_facts.specs.kernel_records.Committing.{CommitCounts};
@@ -77,9 +79,9 @@ pub fn snap_one<D: Disk, S: Supplier, P: Policy>(
     ensures made { Snaps (P.wish gate.now.policy) entity core.old true
         → OnOk result ((result ≡ Ok true) × HasRecorded D.Disk entity core.old core.new) }
     ensures none { Snaps (P.wish gate.now.policy) entity core.old false → (result ≡ Ok false) × (core.new ≡ core.old) }
-    ensures tried { IsErrOf result AStop.Failed → HasTried D.Disk entity core.old core.new }
-    ensures too_few { (n : TooFewBlocks) → IsErrOf result (AStop.TooFew n) ↔ (Snaps (P.wish gate.now.policy) entity core.old true × IsShort D.Disk entity core.old n) }
-    ensures untouched { (n : TooFewBlocks) → IsErrOf result (AStop.TooFew n) → core.new ≡ core.old }
+    ensures no_blocks { (n : Shortage) → IsErrOf result (AStop.NoBlocks n) ↔ (Snaps (P.wish gate.now.policy) entity core.old true × IsShort D.Disk entity core.old n) }
+    ensures fails { Fails D.Disk entity result core.old core.new }
+    ensures notes { CommitsNote result core.old.noted.entries core.new.noted.entries }
     ensures run { D.tells → (b : Beginning) → RunsFree D.Disk b (P.wish gate.now.policy) core.old
         → SnapsOne D.Disk b (P.wish gate.now.policy) entity result core.old core.new }
     ensures part { D.tells → (b : Beginning) → RunsFree D.Disk b (P.wish gate.now.policy) core.old
@@ -87,7 +89,7 @@ pub fn snap_one<D: Disk, S: Supplier, P: Policy>(
     ensures clean { D.tells → (s : Supply) → AreClean s (words_on (D.reading core.old.store.disk)) core.old.cells
         → OnOk result (AreClean s (words_on (D.reading core.new.store.disk)) core.new.cells) }
     ensures enough { D.tells → (b : Beginning) → RunsFree D.Disk b (P.wish gate.now.policy) core.old
-        → (n : TooFewBlocks) → IsErrOf result (AStop.TooFew n) → LacksIn b (wished_snap (P.wish gate.now.policy) (run_of b core.old.noted.entries) entity) core.old.noted.entries core.new }
+        → (n : Shortage) → IsErrOf result (AStop.NoBlocks n) → LacksIn b (wished_snap (P.wish gate.now.policy) (run_of b core.old.noted.entries) entity) core.old.noted.entries core.new }
     ensures counts { CommitCounts D.Disk core.old.store core.new.store }
 {
     if !wants_snap(core, entity, gate) {
@@ -114,9 +116,10 @@ fn snap_touched<D: Disk, S: Supplier, P: Policy>(
     ensures part { D.tells → (b : Beginning) → RunsFree D.Disk b (P.wish gate.now.policy) core.old
         → OnErr result (StopsIn b (wished_snaps b.supply (P.wish gate.now.policy) b.script (run_of b core.old.noted.entries) (written_in touches.now)) core.old.noted.entries core.new.noted.entries) }
     ensures enough { D.tells → (b : Beginning) → RunsFree D.Disk b (P.wish gate.now.policy) core.old
-        → (n : TooFewBlocks) → IsErrOf result (AStop.TooFew n)
+        → (n : Shortage) → IsErrOf result (AStop.NoBlocks n)
         → LacksIn b (wished_snaps b.supply (P.wish gate.now.policy) b.script (run_of b core.old.noted.entries) (written_in touches.now)) core.old.noted.entries core.new }
     ensures stopped { IfErr result (LeavesStopped D.faults core.old core.new) }
+    ensures notes { CommitsNote result core.old.noted.entries core.new.noted.entries }
     ensures clean { D.tells → (s : Supply) → AreClean s (words_on (D.reading core.old.store.disk)) core.old.cells
         → OnOk result (AreClean s (words_on (D.reading core.new.store.disk)) core.new.cells) }
     // one record at most of each of the 64 entities
@@ -147,9 +150,10 @@ pub fn snap_written<D: Disk, S: Supplier, P: Policy>(
     ensures part { D.tells → (b : Beginning) → RunsFree D.Disk b (P.wish gate.now.policy) core.old
         → OnErr result (StopsIn b (wished_snaps b.supply (P.wish gate.now.policy) b.script (run_of b core.old.noted.entries) (written_in entry.now.touched)) core.old.noted.entries core.new.noted.entries) }
     ensures enough { D.tells → (b : Beginning) → RunsFree D.Disk b (P.wish gate.now.policy) core.old
-        → (n : TooFewBlocks) → IsErrOf result (AStop.TooFew n)
+        → (n : Shortage) → IsErrOf result (AStop.NoBlocks n)
         → LacksIn b (wished_snaps b.supply (P.wish gate.now.policy) b.script (run_of b core.old.noted.entries) (written_in entry.now.touched)) core.old.noted.entries core.new }
     ensures stopped { IfErr result (LeavesStopped D.faults core.old core.new) }
+    ensures notes { CommitsNote result core.old.noted.entries core.new.noted.entries }
     ensures clean { D.tells → (s : Supply) → AreClean s (words_on (D.reading core.old.store.disk)) core.old.cells
         → OnOk result (AreClean s (words_on (D.reading core.new.store.disk)) core.new.cells) }
     ensures counts { CountsWithin D.Disk (64 * 1556) core.old.store core.new.store }

@@ -1,18 +1,19 @@
 // The records of a Stable.
-ghost use Rattle.std.specs.Prelude.{◌≡◌, ◌↔◌, ◌==◌, ◌*◌, ◌+◌, ◌<◌, ◌≤◌, ◌++◌, ◌∷◌, [], ℕ, None, Some, IfErr, IsErrOf, OnErr, OnOk, length, take};
+ghost use Rattle.std.specs.Prelude.{◌≡◌, ◌↔◌, ◌==◌, ◌*◌, ◌+◌, ◌<◌, ◌++◌, ◌∷◌, [], ℕ, Some, IfErr, IsErrOf, OnErr, OnOk, length, take};
 ghost use Rattle.kernel_commit_facts.specs.kernel_book_laws.Matching.{newest_of, version_of};
 ghost use Rattle.kernel_commit_facts.specs.Lacking.{LacksIn};
 ghost use Rattle.kernel_commit_facts.specs.Parts.{LivesAs};
 ghost use Rattle.kernel_commits.specs.Parts.{stop_of};
 ghost use Rattle.base_types.specs.declared.histories.Event.TheVariants as AnEvent;
 ghost use Rattle.kernel_commit_facts.specs.model_kernel.Histories.{mark};
-ghost use Rattle.edge_disk.specs.declared.disk.NoBlocks.{NoBlocks as TooFewBlocks};
+ghost use Rattle.edge_disk.specs.declared.disk.NoBlocks.{NoBlocks as Shortage};
 ghost use Rattle.kernel_commit_facts.specs.Pieces.{CountsWithin, StopsIn};
 ghost use Rattle.kernel_commit_facts.specs.Stabilising.{AreTooFew, HasStabilised, NeedsFit, OwesStable};
 ghost use Rattle.kernel_commits.specs.Stabilising.{Stabilises};
 ghost use Rattle.kernel_commit_facts.specs.store_facts.State.{books};
 ghost use Rattle.kernel_commit_facts.specs.Steady.{IsSteady, entries_taken, steps_to_come};
 ghost use Rattle.kernel_commits.specs.Stops.{LeavesStopped};
+ghost use Rattle.kernel_commits.specs.Telling.{CommitsNote};
 ghost use Rattle.kernel_commit_facts.specs.Through.{GoesThrough, RunsThrough};
 ghost use Rattle.kernel_commits.specs.declared.stopping.Stopped.{Stopped as AStop};
 ghost use Rattle.kernel_commit_facts.specs.kernel_invariant.Beginnings.{Beginning};
@@ -49,7 +50,7 @@ pub(crate) fn record_all<D: Disk>(core: &mut Core<D>) -> Result<(), Stopped>
         → OnErr result (StopsIn b (mark AnEvent.Stable actor 0 ∷ []) core.old.noted.entries core.new.noted.entries) }
     ensures stopped { IfErr result (LeavesStopped D.faults core.old core.new) }
     ensures counts { CountsWithin D.Disk (64 * 1556) core.old.store core.new.store }
-    ensures only_failed { IfErr result (λ why. why ≡ AStop.Failed) }
+    ensures only_writes { IfErr result (λ why. why ≡ AStop.WriteFault) }
 {
     for x in 0..64 {
         let entity = Entity::of(x);
@@ -64,7 +65,7 @@ pub(crate) fn record_all<D: Disk>(core: &mut Core<D>) -> Result<(), Stopped>
 
 /// A record of each changed cell, in ascending number, each with its Snap.
 ///
-/// `TooFew` comes exactly where fewer blocks are free than all of them need together, with both numbers, before the first write.
+/// `NoBlocks` comes exactly where fewer blocks are free than all of them need together, with both numbers, before the first write.
 fn record_changed<D: Disk>(core: &mut Core<D>) -> Result<(), Stopped>
     requires steady { IsSteady D.Disk core.old }
     ensures through { OnOk result (GoesThrough D.Disk 64 core.old core.new) }
@@ -74,13 +75,14 @@ fn record_changed<D: Disk>(core: &mut Core<D>) -> Result<(), Stopped>
         → IfErr result (λ why. LivesAs D.Disk b core.new (Some (stop_of why))) }
     ensures part { D.tells → (b : Beginning) (actor : ℕ) → OwesStable D.Disk b actor core.old
         → OnErr result (StopsIn b (mark AnEvent.Stable actor 0 ∷ []) core.old.noted.entries core.new.noted.entries) }
-    ensures too_few { (n : TooFewBlocks) → IsErrOf result (AStop.TooFew n) ↔ AreTooFew core.old n }
-    ensures untouched { (n : TooFewBlocks) → IsErrOf result (AStop.TooFew n) → core.new ≡ core.old }
+    ensures no_blocks { (n : Shortage) → IsErrOf result (AStop.NoBlocks n) ↔ AreTooFew core.old n }
+    ensures untouched { (n : Shortage) → IsErrOf result (AStop.NoBlocks n) → core.new ≡ core.old }
+    ensures no_read { IsErrOf result AStop.ReadFault → ⊥ }
     ensures stopped { IfErr result (LeavesStopped D.faults core.old core.new) }
     ensures counts { CountsWithin D.Disk (64 * 1556) core.old.store core.new.store }
 {
     if let Some(blocks) = shortage(core) {
-        return Err(Stopped::TooFew(blocks));
+        return Err(Stopped::NoBlocks(blocks));
     }
     record_all(core)
 }
@@ -110,7 +112,7 @@ fn note_stable<D: Disk>(core: &mut Core<D>, entries: usize, marks: usize, actor:
 
 /// A record of each changed entity, in ascending number, and the actor's Stable in the place of their Snaps.
 ///
-/// `TooFew` comes exactly where fewer blocks are free than all records need together, with both numbers, before the first write, and in
+/// `NoBlocks` comes exactly where fewer blocks are free than all records need together, with both numbers, before the first write, and in
 /// a run only where the image has fewer than are enough for the state. Where the disk fails the Snaps of the records that were made are
 /// left, with a Tried.
 pub fn settle<D: Disk>(core: &mut Core<D>, actor: Entity) -> Result<(), Stopped>
@@ -123,11 +125,12 @@ pub fn settle<D: Disk>(core: &mut Core<D>, actor: Entity) -> Result<(), Stopped>
         → Stabilises D.Disk b result core.new }
     ensures part { D.tells → (b : Beginning) → OwesStable D.Disk b actor core.old
         → OnErr result (StopsIn b (mark AnEvent.Stable actor 0 ∷ []) core.old.noted.entries core.new.noted.entries) }
-    ensures too_few { (n : TooFewBlocks) → IsErrOf result (AStop.TooFew n) ↔ AreTooFew core.old n }
-    ensures untouched { (n : TooFewBlocks) → IsErrOf result (AStop.TooFew n) → core.new ≡ core.old }
+    ensures no_blocks { (n : Shortage) → IsErrOf result (AStop.NoBlocks n) ↔ AreTooFew core.old n }
+    ensures untouched { (n : Shortage) → IsErrOf result (AStop.NoBlocks n) → core.new ≡ core.old }
     ensures enough { D.tells → (b : Beginning) → OwesStable D.Disk b actor core.old
-        → (n : TooFewBlocks) → IsErrOf result (AStop.TooFew n) → LacksIn b (mark AnEvent.Stable actor 0 ∷ []) core.old.noted.entries core.new }
+        → (n : Shortage) → IsErrOf result (AStop.NoBlocks n) → LacksIn b (mark AnEvent.Stable actor 0 ∷ []) core.old.noted.entries core.new }
     ensures stopped { IfErr result (LeavesStopped D.faults core.old core.new) }
+    ensures notes { CommitsNote result core.old.noted.entries core.new.noted.entries }
     ensures clean { D.tells → (s : Supply) → AreClean s (words_on (D.reading core.old.store.disk)) core.old.cells
         → OnOk result (AreClean s (words_on (D.reading core.new.store.disk)) core.new.cells) }
     ensures counts { CountsWithin D.Disk (64 * 1556) core.old.store core.new.store }

@@ -1,11 +1,65 @@
-// Why a kernel goes on no more.
-use edge_disk::NoBlocks;
+// Why a kernel's call isn't answered Ok, and why a kernel goes on no more.
+ghost use Rattle.std.specs.Prelude.{◌≡◌};
+ghost use Rattle.kernel_commits.specs.Telling.{told, told_again, told_by};
 
-/// Why a kernel has stopped.
+use edge_disk::NoBlocks;
+use kernel_commit_facts::Idle;
+
+/// Why a kernel has stopped: what the call that stopped it met.
 #[derive(Clone, Copy, Debug, PartialEq, Eq)]
 pub enum Stopped {
-    /// Fewer blocks are free than the records need that had to be made; nothing was written for them.
-    TooFew(NoBlocks),
-    /// A call of the disk failed.
-    Failed,
+    /// Fewer blocks are free than the records or the page need that had to be made; nothing was written for them.
+    NoBlocks(NoBlocks),
+    /// A page could not be read.
+    ReadFault,
+    /// A write or a sync failed.
+    WriteFault,
+}
+
+/// Why a call of a kernel is not answered Ok.
+#[derive(Clone, Copy, Debug, PartialEq, Eq)]
+pub enum Stop {
+    /// The locus can't step. The kernel goes on.
+    Idle(Idle),
+    /// Fewer blocks are free than this call needed, or the call that stopped the kernel; both numbers are of that call.
+    NoBlocks(NoBlocks),
+    /// A page could not be read in this call.
+    ReadFault,
+    /// A write or a sync failed in this call.
+    WriteFault,
+    /// The disk failed in an earlier call.
+    Shut,
+}
+
+impl Stopped {
+    /// What the call that stopped the kernel answers.
+    pub fn told(self) -> Stop
+        ensures { result ≡ told self }
+    {
+        match self {
+            Stopped::NoBlocks(blocks) => Stop::NoBlocks(blocks),
+            Stopped::ReadFault => Stop::ReadFault,
+            Stopped::WriteFault => Stop::WriteFault,
+        }
+    }
+
+    /// What each later call answers: the same numbers where blocks were too few, and Shut behind a fault of the disk.
+    pub fn told_again(self) -> Stop
+        ensures { result ≡ told_again self }
+    {
+        match self {
+            Stopped::NoBlocks(blocks) => Stop::NoBlocks(blocks),
+            Stopped::ReadFault | Stopped::WriteFault => Stop::Shut,
+        }
+    }
+}
+
+/// What a call answers that came to this.
+pub fn told_of<T>(made: Result<T, Stopped>) -> Result<T, Stop>
+    ensures { result ≡ told_by made }
+{
+    match made {
+        Ok(value) => Ok(value),
+        Err(why) => Err(why.told()),
+    }
 }

@@ -1,6 +1,8 @@
 -- What a look came to, told by what its step came to.
-use Rattle.std.proofs.Common.{◌≡◌, ℕ, Ok, Err, ap, subst}
-use Rattle.std.specs.Prelude.{◌↔◌, Result, ⊤}
+use Rattle.std.proofs.Common.{◌≡◌, ◌⊎◌, inl, inr, ℕ, ◌≤◌, List, Ok, Err, subst}
+use Rattle.std.specs.Prelude.{◌↔◌, IsErrOf, Result, ⊤}
+use Rattle.edge_disk.proofs.Ticks.{Rose-before}
+use Rattle.edge_disk.specs.Counts.{Rose}
 use Rattle.edge_disk.specs.declared.disk.Disk.{Ghosts}
 use Rattle.base_types.specs.declared.histories.Entry.{Entry}
 use Rattle.script_types.specs.model_kernel.Histories.{Policy}
@@ -9,51 +11,76 @@ use Rattle.kernel_core_facts.specs.kernel_invariant.Live.{IsCalm}
 use Rattle.kernel_core_facts.specs.model_serial.Serial.{look}
 use Rattle.kernel_core_facts.specs.kernel_commit_facts.Parts.{Parts, StandsAs}
 use Rattle.kernel_core_facts.specs.Looking.{LooksInRun}
-use Rattle.kernel_core.specs.declared.looking.Looked.{Looked as Look}
-use Rattle.kernel_core.specs.declared.looking.Looked.TheVariants.{Idle as IdleLook, Stepped}
 use Rattle.kernel_core.specs.declared.stepping.Stepping.{Stepping}
-use Rattle.kernel_core.specs.declared.stepping.Stepping.TheVariants.{Idle as IdleStep, Made}
+use Rattle.kernel_core.specs.declared.stepping.Stepping.TheVariants.{Idle, Made}
 use Rattle.kernel_core_facts.specs.cell_plans.declared.idle.Idle.{Idle as AnIdle}
+use Rattle.kernel_core_facts.specs.Stepping.{HasCause, HasStepped}
+use Rattle.kernel_core_facts.specs.table_steps.declared.stepping.Made.{Made as Step}
+use Rattle.kernel_core_facts.specs.kernel_commits.Stops.{IsCause}
+use Rattle.kernel_core_facts.specs.kernel_commits.Telling.{AddsNoTried, CommitsNote, TriesAtWrite}
+use Rattle.kernel_core_facts.proofs.kernel_commits_lemmas.Telling.{adds_none, adds_one, adds_then}
 use Rattle.kernel_core_facts.specs.kernel_commits.declared.stopping.Stopped.{Stopped}
+use Rattle.kernel_core_facts.specs.kernel_commits.declared.stopping.Stopped.TheVariants as reason
 
-abbrev pub ok_look : Look → Result Look Stopped
+abbrev pub ok_look : Stepping → Result Stepping Stopped
 ok_look look = Ok look
 
-abbrev pub err_result : Stopped → Result Look Stopped
+abbrev pub err_result : Stopped → Result Stepping Stopped
 err_result why = Err why
 
--- WHY NO LOOK WAS MADE, by why no step was
+-- a step was made, so there is no reason why none was
+pub idle_behind : (m : Step) (why : Stopped) (w : AnIdle) (P : Type 0) → (P ↔ (ok_look (Made m) ≡ ok_look (Idle w))) → P ↔ (err_result why ≡ ok_look (Idle w))
+idle_behind m why w P h = ((λ p. absurd (let is = h.0 p in cc is)), (λ is. absurd (cc is)))
 
-abbrev ok_step : Stepping → Result Stepping Stopped
-ok_step step = Ok step
+-- a step is no Tried
+pub step_untried : {D : Type 0} (disks : Ghosts D) (me : ℕ) (old mid : Parts D) (e : Entry) → HasStepped disks me old mid e → AddsNoTried old.noted.entries mid.noted.entries
+step_untried disks me old mid e h = adds_one old.noted.entries mid.noted.entries e h.entries (λ tried. let event = h.enters.event in cc (event, tried))
 
-abbrev err_step : Stopped → Result Stepping Stopped
-err_step why = Err why
+-- what was noted of a step, and behind it by commits that failed
+pub tries_look : (why : Stopped) (old mid new : List Entry) → AddsNoTried old mid → CommitsNote {T = ⊤} (Err why) mid new → TriesAtWrite (err_result why) old new
+tries_look (reason.NoBlocks n) old mid new first more = adds_then old mid new first more
+tries_look reason.ReadFault old mid new first more = absurd more
+tries_look reason.WriteFault old mid new first more = tt
 
--- a step was made, so there is no reason
-pub idle_behind : (e : Entry) (w : AnIdle) (r : Result Look Stopped) (P : Type 0) → (r ≡ ok_look (IdleLook w) → ⊥) → (P ↔ (ok_step (Made e) ≡ ok_step (IdleStep w))) → P ↔ (r ≡ ok_look (IdleLook w))
-idle_behind e w r P never h = ((λ p. absurd (let is = h.0 p in cc is)), (λ is. absurd (never is)))
+-- nothing was noted
+pub tries_none : (why : Stopped) (old new : List Entry) → new ≡ old → TriesAtWrite (err_result why) old new
+tries_none (reason.NoBlocks n) old new same = adds_none old new same
+tries_none reason.ReadFault old new same = adds_none old new same
+tries_none reason.WriteFault old new same = tt
 
--- nor where the step failed
-pub idle_failed : (why : Stopped) (w : AnIdle) (P : Type 0) → (P ↔ (err_step why ≡ ok_step (IdleStep w))) → P ↔ (err_result why ≡ ok_look (IdleLook w))
-idle_failed why w P h = ((λ p. absurd (let is = h.0 p in cc is)), (λ is. absurd (cc is)))
+-- where it ended well no fault came
+pub no_faults : {P : Type 0} (o : Stepping) → (IsErrOf (ok_look o) reason.ReadFault) ⊎ (IsErrOf (ok_look o) reason.WriteFault) → P
+no_faults {P = P} o failed = elim failed as (λ _. P) [
+  | inl is ↦ absurd (cc is)
+  | inr is ↦ absurd (cc is)
+]
 
--- the reason is told
-pub idle_told : (why w : AnIdle) (P : Type 0) → (P ↔ (ok_step (IdleStep why) ≡ ok_step (IdleStep w))) → P ↔ (ok_look (IdleLook why) ≡ ok_look (IdleLook w))
-idle_told why w P h = ((λ p. look_same (h.0 p)), (λ is. h.1 (step_same is)))
-  where
-    look_same : ok_step (IdleStep why) ≡ ok_step (IdleStep w) → ok_look (IdleLook why) ≡ ok_look (IdleLook w)
-    look_same is = let same : why ≡ w = cc is in ap (λ (v : AnIdle). ok_look (IdleLook v)) same
+-- a fault of the disk behind the step is one of the look
+pub rose_behind : {D : Type 0} (faults : D → ℕ) (old mid new : Parts D) (why : Stopped) → faults old.store.disk ≤ faults mid.store.disk → faults mid.store.disk ≤ faults new.store.disk
+    → IsCause faults mid new why → (IsErrOf (err_result why) reason.ReadFault) ⊎ (IsErrOf (err_result why) reason.WriteFault) → Rose (faults old.store.disk) (faults new.store.disk)
+rose_behind faults old mid new (reason.NoBlocks n) before later cause failed = elim failed as (λ _. Rose (faults old.store.disk) (faults new.store.disk)) [
+  | inl is ↦ absurd (cc is)
+  | inr is ↦ absurd (cc is)
+]
+rose_behind faults old mid new reason.ReadFault before later cause failed = Rose-before (faults old.store.disk) (faults mid.store.disk) (faults new.store.disk) before later cause
+rose_behind faults old mid new reason.WriteFault before later cause failed = Rose-before (faults old.store.disk) (faults mid.store.disk) (faults new.store.disk) before later cause
 
-    step_same : ok_look (IdleLook why) ≡ ok_look (IdleLook w) → ok_step (IdleStep why) ≡ ok_step (IdleStep w)
-    step_same is = let same : why ≡ w = cc is in ap (λ (v : AnIdle). ok_step (IdleStep v)) same
+-- and one of the step is
+pub rose_at : {D : Type 0} (disks : Ghosts D) (old new : Parts D) (why : Stopped) → HasCause disks old new why
+    → (IsErrOf (err_result why) reason.ReadFault) ⊎ (IsErrOf (err_result why) reason.WriteFault) → Rose (disks.faults old.store.disk) (disks.faults new.store.disk)
+rose_at disks old new (reason.NoBlocks n) cause failed = elim failed as (λ _. Rose (disks.faults old.store.disk) (disks.faults new.store.disk)) [
+  | inl is ↦ absurd (cc is)
+  | inr is ↦ absurd (cc is)
+]
+rose_at disks old new reason.ReadFault cause failed = cause
+rose_at disks old new reason.WriteFault cause failed = cause
 
 module _ {D : Type 0} (disks : Ghosts D)
     (b : Beginning) (policy : Policy) (same : b.policy ≡ policy) (me : ℕ) (old : Parts D)
     (stands : StandsAs disks b old) (calm : IsCalm b old.noted.entries) where
   -- told by what the look came to
-  pub ok_stepped : (r : Result ⊤ Stopped) (y : ⊤) (new : Parts D) → r ≡ Ok y → LooksInRun disks b policy me r old new → LooksInRun disks b policy me (ok_look Stepped) old new
-  ok_stepped r y new is looks =
+  pub ok_stepped : (r : Result ⊤ Stopped) (y : ⊤) (m : Step) (new : Parts D) → r ≡ Ok y → LooksInRun disks b policy me r old new → LooksInRun disks b policy me (ok_look (Made m)) old new
+  ok_stepped r y m new is looks =
       let l = subst (λ q. LooksInRun disks b policy me q old new) is looks in
       record { stands = l.stands; calm = l.calm; entries = l.entries; lives = tt }
 

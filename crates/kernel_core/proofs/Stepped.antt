@@ -24,7 +24,8 @@ use Rattle.kernel_core_facts.specs.cell_plans.declared.idle.Idle.TheVariants.{Ab
 use Rattle.kernel_core_facts.specs.table_laws.Steps.{EntersStep}
 use Rattle.kernel_core_facts.specs.table_laws.Tables.{AreClean, IsOrderly, entity_in, left_of, state_in}
 use Rattle.kernel_core_facts.specs.kernel_record_facts.Cells.{words_on}
-use Rattle.kernel_core_facts.specs.table_steps.Wanting.{WantsWord}
+use Rattle.kernel_core_facts.specs.table_steps.Wanting.{HasNext, WantsWord}
+use Rattle.kernel_core_facts.specs.table_steps.declared.stepping.Made.{Made as Step}
 use Rattle.kernel_core_facts.specs.table_steps.declared.stepping.StepFault.{StepFault}
 use Rattle.kernel_core_facts.specs.table_steps.declared.stepping.StepFault.TheVariants.{Idle, Paging}
 use Rattle.kernel_core_facts.specs.kernel_invariant.Beginnings.{Beginning, run_of, state_after}
@@ -51,12 +52,12 @@ use Rattle.kernel_core_facts.specs.kernel_commits.Parts.{stop_of}
 use Rattle.kernel_core_facts.specs.kernel_commit_facts.Lacking.{IsDueIn, LacksBlocks, MayWant}
 use Rattle.kernel_core_facts.specs.kernel_commit_facts.Pieces.{CountsWithin}
 use Rattle.kernel_core_facts.specs.kernel_commit_facts.Steady.{IsSteady, entries_taken, steps_to_come}
-use Rattle.kernel_core_facts.specs.Stepping.{HasCause, StepsInRun, idle_at, stop_by}
+use Rattle.kernel_core_facts.specs.Stepping.{HasCause, IsOfOpen, StepsInRun, idle_at, stop_by}
 use Rattle.kernel_core.specs.Stepping.{StepsOnce}
 use Rattle.kernel_core.specs.declared.stepping.Stepping.{Stepping}
 use Rattle.kernel_core.specs.declared.stepping.Stepping.TheVariants.{Idle as IdleFor, Made}
 use Rattle.kernel_core_facts.specs.kernel_commits.declared.stopping.Stopped.{Stopped}
-use Rattle.kernel_core_facts.specs.kernel_commits.declared.stopping.Stopped.TheVariants.{TooFew}
+use Rattle.kernel_core_facts.specs.kernel_commits.declared.stopping.Stopped.TheVariants as reason
 use Rattle.kernel_core_facts.proofs.kernel_commit_facts_lemmas.Dues.{due_first}
 use Rattle.kernel_core_facts.proofs.kernel_commit_facts_lemmas.Enough.{none_lacks}
 use Rattle.kernel_core_facts.proofs.kernel_commit_facts_lemmas.Room.{steps_within, taken_next}
@@ -80,16 +81,16 @@ none_by (Some why) h = absurd (h why refl)
 absent_none : Some Absent ≡ None → ⊥
 absent_none e = cc
 
-abbrev err_of : StepFault → Result Entry StepFault
+abbrev err_of : StepFault → Result Step StepFault
 err_of f = Err f
 
-no_fault : (e : Entry) (f : StepFault) → IsErrOf {T = Entry} {E = StepFault} (Ok e) f → ⊥
-no_fault e f is = cc
+no_fault : (m : Step) (f : StepFault) → IsErrOf {T = Step} {E = StepFault} (Ok m) f → ⊥
+no_fault m f is = cc
 
-fault_is : (f g : StepFault) → f ≡ g → IsErrOf {T = Entry} {E = StepFault} (Err f) g
+fault_is : (f g : StepFault) → f ≡ g → IsErrOf {T = Step} {E = StepFault} (Err f) g
 fault_is f g is = ap (λ (h : StepFault). err_of h) is
 
-no_idle : (f : PageFault) (why : AnIdle) → IsErrOf {T = Entry} {E = StepFault} (Err (Paging f)) (Idle why) → ⊥
+no_idle : (f : PageFault) (why : AnIdle) → IsErrOf {T = Step} {E = StepFault} (Err (Paging f)) (Idle why) → ⊥
 no_idle f why is = cc
 
 not_true : (t : Bool) → true ≡ not t → t ≡ false
@@ -100,8 +101,8 @@ not_false : (t : Bool) → false ≡ not t → t ≡ true
 not_false true is = refl
 not_false false is = absurd (cc is)
 
-abbrev ok_made : Entry → Result Stepping Stopped
-ok_made e = Ok (Made e)
+abbrev ok_made : Step → Result Stepping Stopped
+ok_made m = Ok (Made m)
 
 abbrev ok_idle : AnIdle → Result Stepping Stopped
 ok_idle why = Ok (IdleFor why)
@@ -109,16 +110,16 @@ ok_idle why = Ok (IdleFor why)
 abbrev err_why : Stopped → Result Stepping Stopped
 err_why why = Err why
 
-made_not : (e : Entry) (why : AnIdle) → ok_made e ≡ ok_idle why → ⊥
-made_not e why is = cc is
+made_not : (m : Step) (why : AnIdle) → ok_made m ≡ ok_idle why → ⊥
+made_not m why is = cc is
 
 err_not : (stop : Stopped) (why : AnIdle) → err_why stop ≡ ok_idle why → ⊥
 err_not stop why is = cc is
 
-idle_for : (why w : AnIdle) → IsErrOf {T = Entry} {E = StepFault} (Err (Idle why)) (Idle w) → ok_idle why ≡ ok_idle w
+idle_for : (why w : AnIdle) → IsErrOf {T = Step} {E = StepFault} (Err (Idle why)) (Idle w) → ok_idle why ≡ ok_idle w
 idle_for why w is = let e : why ≡ w = cc in ap ok_idle e
 
-idle_by : (why w : AnIdle) → ok_idle why ≡ ok_idle w → IsErrOf {T = Entry} {E = StepFault} (Err (Idle why)) (Idle w)
+idle_by : (why w : AnIdle) → ok_idle why ≡ ok_idle w → IsErrOf {T = Step} {E = StepFault} (Err (Idle why)) (Idle w)
 idle_by why w is = let e : why ≡ w = cc in ap (λ (v : AnIdle). err_of (Idle v)) e
 
 module _ {D : Type 0} (disks : Ghosts D)
@@ -168,14 +169,17 @@ module _ {D : Type 0} (disks : Ghosts D)
     ]
 
   -- A STEP THAT WAS MADE
-  module _ (e : Entry) (idle : (z : Supply) (ws : ℕ → List ℕ) (why : AnIdle) → IsErrOf {T = Entry} {E = StepFault} (Ok e) (Idle why) ↔ (idle_at z ws me cs ≡ Some why))
-      (enters : EntersStep me cs cs' e) (same_shut : (books st').shut ≡ (books st).shut)
-      (over : (b : Beginning) → disks.tells → b.supply ≡ s → (books st).shut ≡ false → StepsOver disks b me cs cs' st st' e) where
+  module _ (m : Step) (idle : (z : Supply) (ws : ℕ → List ℕ) (why : AnIdle) → IsErrOf {T = Step} {E = StepFault} (Ok m) (Idle why) ↔ (idle_at z ws me cs ≡ Some why))
+      (enters : EntersStep me cs cs' m.entry) (next : HasNext me cs m.instr) (same_shut : (books st').shut ≡ (books st).shut)
+      (over : (b : Beginning) → disks.tells → b.supply ≡ s → (books st).shut ≡ false → StepsOver disks b me cs cs' st st' m.entry) where
+    abbrev e : Entry
+    e = m.entry
+
     abbrev new : Parts D
     new = parts_of st' cs' (record noted { entries = noted.entries ++ e ∷ [] })
 
     not_idle : (z : Supply) (ws : ℕ → List ℕ) → idle_at z ws me cs ≡ None
-    not_idle z ws = none_by (idle_at z ws me cs) (λ why is. no_fault e (Idle why) ((idle z ws why).1 is))
+    not_idle z ws = none_by (idle_at z ws me cs) (λ why is. no_fault m (Idle why) ((idle z ws why).1 is))
 
     at_me : (c : Cell) × (slice_get cs me ≡ Some c)
     at_me = elim (cell_or cs me) as (λ _. (c : Cell) × (slice_get cs me ≡ Some c)) [
@@ -292,11 +296,12 @@ module _ {D : Type 0} (disks : Ghosts D)
             (step_behind b.supply b.policy b.script (r b stands) e quiet (step_entry b.supply b.policy b.script (r b stands) me (e, state_in b.supply (words_on (disks.reading st'.disk)) cs') made).0 may);
       }
 
-    pub once_made : StepsOnce disks s me old new (Ok (Made e))
+    pub once_made : StepsOnce disks s me old new (Ok (Made m))
     once_made = record {
-      idle = λ z ws why. ((λ is. absurd (no_fault e (Idle why) ((idle z ws why).1 is))), (λ is. absurd (made_not e why is)));
-      still = λ why is. absurd (made_not e why is);
+      idle = λ z ws why. ((λ is. absurd (no_fault m (Idle why) ((idle z ws why).1 is))), (λ is. absurd (made_not m why is)));
+      still = λ why is. absurd (made_not m why is);
       made = record { enters = enters; entries = refl; marks = refl; room = refl; spare = spare };
+      next = next;
       failed = tt;
       steady = steady_on;
       clean = clean';
@@ -306,12 +311,13 @@ module _ {D : Type 0} (disks : Ghosts D)
     }
 
   -- NONE, where the locus is idle
-  idle_once : (why : AnIdle) → ((z : Supply) (ws : ℕ → List ℕ) (w : AnIdle) → IsErrOf {T = Entry} {E = StepFault} (Err (Idle why)) (Idle w) ↔ (idle_at z ws me cs ≡ Some w)) → cs' ≡ cs → st' ≡ st
+  idle_once : (why : AnIdle) → ((z : Supply) (ws : ℕ → List ℕ) (w : AnIdle) → IsErrOf {T = Step} {E = StepFault} (Err (Idle why)) (Idle w) ↔ (idle_at z ws me cs ≡ Some w)) → cs' ≡ cs → st' ≡ st
       → StepsOnce disks s me old (parts_of st' cs' noted) (Ok (IdleFor why))
   idle_once why idle same_cells same_store = record {
     idle = λ z ws w. ((λ is. idle_for why w ((idle z ws w).1 is)), (λ is. (idle z ws w).0 (idle_by why w is)));
     still = λ w is. same_parts;
     made = tt;
+    next = tt;
     failed = tt;
     steady = subst (IsSteady disks) (sym same_parts) k;
     clean = clean';
@@ -323,11 +329,11 @@ module _ {D : Type 0} (disks : Ghosts D)
       same_parts : parts_of st' cs' noted ≡ old
       same_parts = ap (λ q. parts_of q cs' noted) same_store ∙ ap (λ q. parts_of st q noted) same_cells
 
-  pub once_idle : (f : StepFault) (why : AnIdle) → f ≡ Idle why → ((z : Supply) (ws : ℕ → List ℕ) (w : AnIdle) → IsErrOf {T = Entry} {E = StepFault} (Err f) (Idle w) ↔ (idle_at z ws me cs ≡ Some w))
-      → ((w : AnIdle) → IsErrOf {T = Entry} {E = StepFault} (Err f) (Idle w) → (cs' ≡ cs) × (st' ≡ st))
+  pub once_idle : (f : StepFault) (why : AnIdle) → f ≡ Idle why → ((z : Supply) (ws : ℕ → List ℕ) (w : AnIdle) → IsErrOf {T = Step} {E = StepFault} (Err f) (Idle w) ↔ (idle_at z ws me cs ≡ Some w))
+      → ((w : AnIdle) → IsErrOf {T = Step} {E = StepFault} (Err f) (Idle w) → (cs' ≡ cs) × (st' ≡ st))
       → StepsOnce disks s me old (parts_of st' cs' noted) (Ok (IdleFor why))
   once_idle f why is idle still =
-      idle_once why (subst (λ f. (z : Supply) (ws : ℕ → List ℕ) (w : AnIdle) → IsErrOf {T = Entry} {E = StepFault} (Err f) (Idle w) ↔ (idle_at z ws me cs ≡ Some w)) is idle)
+      idle_once why (subst (λ f. (z : Supply) (ws : ℕ → List ℕ) (w : AnIdle) → IsErrOf {T = Step} {E = StepFault} (Err f) (Idle w) ↔ (idle_at z ws me cs ≡ Some w)) is idle)
       (still why (fault_is f (Idle why) is)).0 (still why (fault_is f (Idle why) is)).1
 
   -- A FAULT
@@ -338,10 +344,21 @@ module _ {D : Type 0} (disks : Ghosts D)
   cause_by page.WriteFault c = c.0
   cause_by page.Shut c = absurd (let w = k.sound.working in cc (w, c))
 
+  open_by : (f : PageFault) → IsCausedBy (free_in (books st)) (disks.faults st.disk) (disks.faults st'.disk) (books st).shut (books st').shut f → IsOfOpen f
+  open_by (page.NoBlocks n) c = tt
+  open_by page.ReadFault c = tt
+  open_by page.WriteFault c = tt
+  open_by page.Shut c = absurd (let w = k.sound.working in cc (w, c))
+
+  -- the store works, so that it isn't shut
+  pub open_fault : (g : StepFault) (f : PageFault) → g ≡ Paging f
+      → ((q : PageFault) → IsErrOf {T = Step} {E = StepFault} (Err g) (Paging q) → IsCausedBy (free_in (books st)) (disks.faults st.disk) (disks.faults st'.disk) (books st).shut (books st').shut q) → IsOfOpen f
+  open_fault g f is cause = open_by f (cause f (fault_is g (Paging f) is))
+
   -- a page is short of a block only where the image lacks them
   short_by : (f : PageFault) → IsCausedBy (free_in (books st)) (disks.faults st.disk) (disks.faults st'.disk) (books st).shut (books st').shut f
       → disks.tells → (b : Beginning) → StandsAs disks b old → IsCalm b noted.entries
-      → (n : TooFewBlocks) → err_why (stop_by f) ≡ err_why (TooFew n) → LacksBlocks b (parts_of st' cs' noted)
+      → (n : TooFewBlocks) → err_why (stop_by f) ≡ err_why (reason.NoBlocks n) → LacksBlocks b (parts_of st' cs' noted)
   short_by (page.NoBlocks m) c told b stands calm n is =
       subst (λ count. count < enough_blocks (state_after b noted.entries)) (sym leaves.pages.only.same_count)
       (none_lacks disks b old told stands (calm_whole b noted.entries stands.runs.begins stands.runs.legal calm.nothing_owed) c.0)
@@ -373,7 +390,7 @@ module _ {D : Type 0} (disks : Ghosts D)
         (sym (look_made b.supply b.policy b.script (r b stands) me made.0 made.1 behind.owed can_step_here steps_here.1 refl))
         (subst (λ (v : Event). MayWant b noted.entries made.0 v) (sym (step_entry b.supply b.policy b.script (r b stands) me made steps_here.1).0) word_step) refl
 
-  failed_once : (f : PageFault) → ((z : Supply) (ws : ℕ → List ℕ) (w : AnIdle) → IsErrOf {T = Entry} {E = StepFault} (Err (Paging f)) (Idle w) ↔ (idle_at z ws me cs ≡ Some w))
+  failed_once : (f : PageFault) → ((z : Supply) (ws : ℕ → List ℕ) (w : AnIdle) → IsErrOf {T = Step} {E = StepFault} (Err (Paging f)) (Idle w) ↔ (idle_at z ws me cs ≡ Some w))
       → IsCausedBy (free_in (books st)) (disks.faults st.disk) (disks.faults st'.disk) (books st).shut (books st').shut f
       → ((b : Beginning) → disks.tells → b.supply ≡ s → StopsOver disks b cs cs' st st') → WantsWord me cs
       → StepsOnce disks s me old (parts_of st' cs' noted) (Err (stop_by f))
@@ -381,6 +398,7 @@ module _ {D : Type 0} (disks : Ghosts D)
     idle = λ z ws w. ((λ is. absurd (no_idle f w ((idle z ws w).1 is))), (λ is. absurd (err_not (stop_by f) w is)));
     still = λ w is. absurd (err_not (stop_by f) w is);
     made = tt;
+    next = tt;
     failed = record { noted = refl; orderly = leaves.orderly; cause = cause_by f cause };
     steady = tt;
     clean = clean';
@@ -393,11 +411,27 @@ module _ {D : Type 0} (disks : Ghosts D)
         record { lacks = short_by f cause told b stands calm n is; due = step_due none at_word b stands };
   }
 
-  pub once_failed : (g : StepFault) (f : PageFault) → g ≡ Paging f → ((z : Supply) (ws : ℕ → List ℕ) (w : AnIdle) → IsErrOf {T = Entry} {E = StepFault} (Err g) (Idle w) ↔ (idle_at z ws me cs ≡ Some w))
-      → ((q : PageFault) → IsErrOf {T = Entry} {E = StepFault} (Err g) (Paging q) → IsCausedBy (free_in (books st)) (disks.faults st.disk) (disks.faults st'.disk) (books st).shut (books st').shut q)
-      → ((b : Beginning) (q : PageFault) → disks.tells → b.supply ≡ s → IsErrOf {T = Entry} {E = StepFault} (Err g) (Paging q) → StopsOver disks b cs cs' st st')
-      → ((q : PageFault) → IsErrOf {T = Entry} {E = StepFault} (Err g) (Paging q) → WantsWord me cs)
+  pub once_failed : (g : StepFault) (f : PageFault) → g ≡ Paging f → ((z : Supply) (ws : ℕ → List ℕ) (w : AnIdle) → IsErrOf {T = Step} {E = StepFault} (Err g) (Idle w) ↔ (idle_at z ws me cs ≡ Some w))
+      → ((q : PageFault) → IsErrOf {T = Step} {E = StepFault} (Err g) (Paging q) → IsCausedBy (free_in (books st)) (disks.faults st.disk) (disks.faults st'.disk) (books st).shut (books st').shut q)
+      → ((b : Beginning) (q : PageFault) → disks.tells → b.supply ≡ s → IsErrOf {T = Step} {E = StepFault} (Err g) (Paging q) → StopsOver disks b cs cs' st st')
+      → ((q : PageFault) → IsErrOf {T = Step} {E = StepFault} (Err g) (Paging q) → WantsWord me cs)
       → StepsOnce disks s me old (parts_of st' cs' noted) (Err (stop_by f))
   once_failed g f is idle cause over at_word =
-      failed_once f (subst (λ f. (z : Supply) (ws : ℕ → List ℕ) (w : AnIdle) → IsErrOf {T = Entry} {E = StepFault} (Err f) (Idle w) ↔ (idle_at z ws me cs ≡ Some w)) is idle)
+      failed_once f (subst (λ f. (z : Supply) (ws : ℕ → List ℕ) (w : AnIdle) → IsErrOf {T = Step} {E = StepFault} (Err f) (Idle w) ↔ (idle_at z ws me cs ≡ Some w)) is idle)
       (cause f (fault_is g (Paging f) is)) (λ b told same. over b f told same (fault_is g (Paging f) is)) (at_word f (fault_is g (Paging f) is))
+
+-- THE CORE'S FIELDS, taken one by one
+
+pub steady_inside : {D : Type 0} (disks : Ghosts D) (old : Parts D) (st : State D) (cs cs1 : List Cell) (n : Noted) → parts_of st cs n ≡ old → cs1 ≡ cs → IsSteady disks old → IsSteady disks (parts_of st cs1 n)
+steady_inside {D = D} disks old st cs cs1 n view deref k = subst (λ (ks : List Cell). IsSteady disks (parts_of st ks n)) (sym deref) (subst (IsSteady disks) (sym view) k)
+
+pub clean_inside : {D : Type 0} (disks : Ghosts D) (s : Supply) (old : Parts D) (st : State D) (cs cs1 : List Cell) (n : Noted) → parts_of st cs n ≡ old → cs1 ≡ cs
+    → AreClean s (words_on (disks.reading old.store.disk)) old.cells → AreClean s (words_on (disks.reading st.disk)) cs1
+clean_inside {D = D} disks s old st cs cs1 n view deref clean =
+    subst (AreClean s (words_on (disks.reading st.disk))) (sym deref) (subst (λ (p : Parts D). AreClean s (words_on (disks.reading p.store.disk)) p.cells) (sym view) clean)
+
+pub once_outside : {D : Type 0} (disks : Ghosts D) (s : Supply) (me : ℕ) (old : Parts D) (st : State D) (cs cs1 : List Cell) (n : Noted) → parts_of st cs n ≡ old → cs1 ≡ cs
+    → (st' : State D) (cs' kept : List Cell) (n' : Noted) (r : Result Stepping Stopped) → kept ≡ cs' → StepsOnce disks s me (parts_of st cs1 n) (parts_of st' cs' n') r → StepsOnce disks s me old (parts_of st' kept n') r
+once_outside {D = D} disks s me old st cs cs1 n view deref st' cs' kept n' r same once =
+    subst (λ (ks : List Cell). StepsOnce disks s me old (parts_of st' ks n') r) (sym same)
+    (subst (λ (p : Parts D). StepsOnce disks s me p (parts_of st' cs' n') r) (ap (λ (ks : List Cell). parts_of st ks n) deref ∙ view) once)

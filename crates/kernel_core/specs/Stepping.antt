@@ -5,9 +5,10 @@ use Rattle.edge_disk.specs.declared.disk.NoBlocks.{NoBlocks}
 use Rattle.base_types.specs.declared.histories.Entry.{Entry}
 use Rattle.script_types.specs.model_kernel.Serial.{can_step}
 use Rattle.script_types.specs.model_kernel.State.{Supply}
-use Rattle.page_store.specs.declared.faults.PageFault.TheVariants as page
 use Rattle.kernel_core_facts.specs.cell_plans.declared.idle.Idle.{Idle}
 use Rattle.kernel_core_facts.specs.table_laws.Tables.{AreClean}
+use Rattle.kernel_core_facts.specs.table_steps.Wanting.{HasNext}
+use Rattle.kernel_core_facts.specs.table_steps.declared.stepping.Made.{Made as Step}
 use Rattle.kernel_core_facts.specs.kernel_record_facts.Cells.{words_on}
 use Rattle.kernel_core_facts.specs.kernel_invariant.Beginnings.{Beginning, run_of}
 use Rattle.kernel_core_facts.specs.kernel_invariant.Live.{IsCalm}
@@ -17,20 +18,32 @@ use Rattle.kernel_core_facts.specs.kernel_commit_facts.Pieces.{CountsWithin}
 use Rattle.kernel_core_facts.specs.kernel_commit_facts.Parts.{LivesAs, Parts, StandsAs}
 use Rattle.kernel_core_facts.specs.kernel_commits.Parts.{stop_of}
 use Rattle.kernel_core_facts.specs.kernel_commit_facts.Steady.{IsSteady}
+use Rattle.kernel_core_facts.specs.kernel_commits.Telling.{told}
+use Rattle.kernel_core_facts.specs.kernel_commits.declared.stopping.Stop.{Stop}
+use Rattle.kernel_core_facts.specs.kernel_commits.declared.stopping.Stop.TheVariants as stop
 use Rattle.kernel_core_facts.specs.kernel_commits.declared.stopping.Stopped.{Stopped}
-use Rattle.kernel_core_facts.specs.kernel_commits.declared.stopping.Stopped.TheVariants.{TooFew}
+use Rattle.kernel_core_facts.specs.kernel_commits.declared.stopping.Stopped.TheVariants as reason
 use Rattle.kernel_core.specs.declared.stepping.Stepping.{Stepping}
 use Rattle.kernel_core.specs.declared.stepping.Stepping.TheVariants.{Idle as IdleFor, Made}
 use Rattle.kernel_core_facts.specs.Stepping.{idle_at, HasStepped, StopsStep, StepsInRun}
 
 -- of a step that was made
-abbrev pub IfMade : Stepping → (Entry → Type 0) → Type 0
-IfMade (Made e) P = P e
+abbrev pub IfMade : Stepping → (Step → Type 0) → Type 0
+IfMade (Made m) P = P m
 IfMade (IdleFor why) P = Unit {0}
+
+-- what a call of the kernel answers that came to this
+abbrev pub answer_of : Stepping → Result Entry Stop
+answer_of (Made m) = Ok m.entry
+answer_of (IdleFor why) = Err (stop.Idle why)
+
+abbrev pub answer_by : Result Stepping Stopped → Result Entry Stop
+answer_by (Ok o) = answer_of o
+answer_by (Err why) = Err (told why)
 
 module _ {D : Type 0} (disks : Ghosts D) where
   abbrev pub RunsStep : Beginning → ℕ → Parts D → Parts D → Result Stepping Stopped → Type 0
-  RunsStep b me old new (Ok (Made e)) = StepsInRun disks b me e old new
+  RunsStep b me old new (Ok (Made m)) = StepsInRun disks b me m.entry old new
   RunsStep b me old new (Ok (IdleFor why)) = can_step b.script (run_of b old.noted.entries) me ≡ false
   RunsStep b me old new (Err why) = LivesAs disks b new (Some (stop_of why))
 
@@ -38,7 +51,8 @@ module _ {D : Type 0} (disks : Ghosts D) where
   pub record StepsOnce (supply : Supply) (me : ℕ) (old new : Parts D) (result : Result Stepping Stopped) : Type 0 where
     pub idle : (s : Supply) (words : ℕ → List ℕ) (why : Idle) → (idle_at s words me old.cells ≡ Some why) ↔ (result ≡ Ok (IdleFor why))
     pub still : (why : Idle) → result ≡ Ok (IdleFor why) → new ≡ old
-    pub made : IfOk result (λ o. IfMade o (HasStepped disks me old new))
+    pub made : IfOk result (λ o. IfMade o (λ m. HasStepped disks me old new m.entry))
+    pub next : IfOk result (λ o. IfMade o (λ m. HasNext me old.cells m.instr))
     pub failed : IfErr result (StopsStep disks old new)
     pub steady : OnOk result (IsSteady disks new)
     pub clean : disks.tells → AreClean supply (words_on (disks.reading new.store.disk)) new.cells
@@ -47,4 +61,4 @@ module _ {D : Type 0} (disks : Ghosts D) where
         → RunsStep b me old new result
     -- short of a block only where the image lacks them, and the step reads or writes a word
     pub enough : disks.tells → (b : Beginning) → b.supply ≡ supply → StandsAs disks b old → IsCalm b old.noted.entries
-        → (n : NoBlocks) → IsErrOf result (TooFew n) → LacksIn b (look b.supply b.policy b.script (run_of b old.noted.entries) me) old.noted.entries new
+        → (n : NoBlocks) → IsErrOf result (reason.NoBlocks n) → LacksIn b (look b.supply b.policy b.script (run_of b old.noted.entries) me) old.noted.entries new

@@ -1,7 +1,7 @@
 // A running kernel.
-ghost use Rattle.std.specs.Prelude.{◌≡◌, ◌↔◌, ◌⊎◌, ◌+◌, ◌*◌, ◌^◌, ◌≤◌, ◌++◌, ℕ, List, [], true, false, None, Some, Ok, Err, IfErr, IfOk, IfSome, IsErrOf, OnErr, OnOk, length, slice_get};
+ghost use Rattle.std.specs.Prelude.{◌≡◌, ◌↔◌, ◌+◌, ◌*◌, ◌^◌, ◌≤◌, ℕ, List, [], true, false, None, Some, Ok, Err, IfErr, IfOk, IfSome, IsErrOf, OnOk, length, slice_get};
 ghost use Rattle.script_types.specs.model_kernel.State.{Supply};
-ghost use Rattle.edge_disk.specs.declared.disk.NoBlocks.{NoBlocks as TooFewBlocks};
+ghost use Rattle.edge_disk.specs.declared.disk.NoBlocks.{NoBlocks as Shortage};
 ghost use Rattle.kernel_core_facts.specs.cell_states.declared.cells.Cell.{Cell as ACell};
 ghost use Rattle.kernel_core_facts.specs.cell_states.declared.cells.Part.{Part as APart};
 ghost use Rattle.kernel_core_facts.specs.model_births.Fitting.{Fits};
@@ -10,29 +10,31 @@ ghost use Rattle.script_types.specs.Scripts.{tables_of};
 ghost use Rattle.kernel_core_facts.specs.table_births.Births.{atlas_state_in};
 ghost use Rattle.kernel_core_facts.specs.kernel_laws.Opening.{empty_script, with_script};
 ghost use Rattle.kernel_core_facts.specs.Bearing.{HasOpened, IsShortBehind};
-ghost use Rattle.kernel_core_facts.specs.Kernels.{Lives, MayBegin, StaysClean};
-ghost use Rattle.kernel_core_facts.specs.kernel_commit_facts.Lacking.{LacksIn};
-ghost use Rattle.kernel_core_facts.specs.kernel_commit_facts.Pieces.{CountsWithin, StopsIn};
+ghost use Rattle.kernel_core_facts.specs.Kernels.{Lives, MayBegin, NotesAlong, StaysClean};
+ghost use Rattle.kernel_core_facts.specs.kernel_commit_facts.Pieces.{CountsWithin};
 ghost use Rattle.edge_disk.specs.Counts.{Rose};
-ghost use Rattle.kernel_core_facts.specs.Looking.{StopsLook};
+ghost use Rattle.kernel_core_facts.specs.Looking.{LooksOnce, StopsLook};
 ghost use Rattle.kernel_core_facts.specs.kernel_commit_facts.Recording.{HasRecorded, HasTried, IsShort};
 ghost use Rattle.kernel_core_facts.specs.kernel_commit_facts.Snapping.{Snaps};
 ghost use Rattle.kernel_core_facts.specs.Stepping.{idle_at};
-ghost use Rattle.kernel_core.specs.declared.looking.Looked.TheVariants as ALook;
 ghost use Rattle.kernel_core_facts.specs.cell_plans.declared.idle.Idle.{Idle as AnIdle};
-ghost use Rattle.kernel_core_facts.specs.kernel_commits.declared.stopping.Stopped.{Stopped as AStop};
+ghost use Rattle.kernel_core_facts.specs.kernel_commits.Telling.{FailsByDisk, FailsByWrite, Tells, TriesByAnswer, told_again};
+ghost use Rattle.kernel_core_facts.specs.kernel_commits.declared.stopping.Stop.{Stop as AStop};
 ghost use Rattle.kernel_core_facts.specs.kernel_invariant.Beginnings.{Beginning, run_of};
 ghost use Rattle.kernel_core_facts.specs.kernel_records.Committing.{CommitCounts};
 ghost use Rattle.kernel_core_facts.specs.model_serial.Serial.{look, opening, wished_snap};
 
 use crate::bearing::open_core;
-use crate::looking::{Looked, look_core};
+use crate::looking::look_core;
+use crate::stepping::{answered, why_stopped};
 use base_bytes::Blob;
 use base_types::{Entity, Entry};
 use data_atlas::Atlas;
 use edge_disk::Disk;
 use edge_managers::{Gate, Policy, Supplier};
-use kernel_core_facts::{Cell, Core, Notes, OpenFault, OpenWhy, Part, Stopped, Store, snap_one};
+use kernel_core_facts::{
+    Cell, Core, Notes, OpenFault, OpenWhy, Part, Stop, Stopped, Store, snap_one, told_of,
+};
 use script_types::Script;
 use std::alloc::{AllocError, Global};
 use std::marker::Model;
@@ -176,132 +178,122 @@ impl<D: Disk> Kernel<D> {
     }
 
     /// Makes a record of an entity where one is wished and fewer than four kept records are its own, and tells whether it did. A kernel
-    /// that has stopped does nothing, and tells why it stopped; one that a fault meets stops.
+    /// that a fault meets stops.
     ///
-    /// `TooFew` comes exactly where fewer blocks are free than the record needs, with both numbers, before the first write. `Failed` comes
-    /// only where the disk's count of faults rose: the record may be found when the image is opened again, or not.
+    /// `NoBlocks` comes exactly where fewer blocks are free than the record needs, with both numbers, before the first write. `WriteFault`
+    /// comes only where the disk's count of faults rose: the record may be found when the image is opened again, or not. A kernel that has
+    /// stopped does nothing, and answers `Shut` behind a fault of the disk, and the same `NoBlocks` behind want of blocks.
     ///
     /// A record takes at most 1,556 writes and syncs.
     pub fn snap<S: Supplier, P: Policy>(
         &mut self,
         entity: Entity,
         gate: &Gate<S, P>,
-    ) -> Result<bool, Stopped>
+    ) -> Result<bool, Stop>
         requires keeps { P.keeps gate.now.policy }
-        ensures was_stopped { IfSome self.old.stop (λ why. (result ≡ Err why) × (self.new ≡ self.old)) }
-        ensures stops { IfErr result (λ why. self.new.stop ≡ Some why) }
-        ensures goes { OnOk result (self.new.stop ≡ None) }
+        ensures was_stopped { IfSome self.old.stop (λ why. (result ≡ Err (told_again why)) × (self.new ≡ self.old)) }
+        ensures ends { self.old.stop ≡ None → Tells result self.new.stop }
         ensures made { self.old.stop ≡ None → Snaps (P.wish gate.now.policy) entity self.old.parts true
             → OnOk result ((result ≡ Ok true) × HasRecorded D.Disk entity self.old.parts self.new.parts) }
         ensures none { self.old.stop ≡ None → Snaps (P.wish gate.now.policy) entity self.old.parts false → (result ≡ Ok false) × (self.new ≡ self.old) }
-        ensures failed { self.old.stop ≡ None → IsErrOf result AStop.Failed → HasTried D.Disk entity self.old.parts self.new.parts }
-        ensures too_few { (n : TooFewBlocks) → self.old.stop ≡ None
-            → IsErrOf result (AStop.TooFew n) ↔ (Snaps (P.wish gate.now.policy) entity self.old.parts true × IsShort D.Disk entity self.old.parts n) }
-        ensures untouched { (n : TooFewBlocks) → self.old.stop ≡ None → IsErrOf result (AStop.TooFew n) → self.new.parts ≡ self.old.parts }
+        ensures fails { self.old.stop ≡ None → IfErr result (FailsByWrite (HasTried D.Disk entity self.old.parts self.new.parts)) }
+        ensures no_blocks { (n : Shortage) → self.old.stop ≡ None
+            → IsErrOf result (AStop.NoBlocks n) ↔ (Snaps (P.wish gate.now.policy) entity self.old.parts true × IsShort D.Disk entity self.old.parts n) }
+        ensures untouched { (n : Shortage) → IsErrOf result (AStop.NoBlocks n) → self.new.parts ≡ self.old.parts }
         ensures run { D.tells → (b : Beginning) → b.policy ≡ P.wish gate.now.policy → Lives D.Disk b self.old
             → Lives D.Disk b self.new }
-        ensures part { D.tells → (b : Beginning) → b.policy ≡ P.wish gate.now.policy → Lives D.Disk b self.old → self.old.stop ≡ None
-            → OnErr result (StopsIn b (wished_snap b.policy (run_of b self.old.parts.noted.entries) entity) self.old.parts.noted.entries self.new.parts.noted.entries) }
-        ensures enough { D.tells → (b : Beginning) → b.policy ≡ P.wish gate.now.policy → Lives D.Disk b self.old → self.old.stop ≡ None
-            → (n : TooFewBlocks) → IsErrOf result (AStop.TooFew n) → LacksIn b (wished_snap b.policy (run_of b self.old.parts.noted.entries) entity) self.old.parts.noted.entries self.new.parts }
+        ensures notes { D.tells → (b : Beginning) → b.policy ≡ P.wish gate.now.policy → Lives D.Disk b self.old → self.old.stop ≡ None
+            → NotesAlong b (wished_snap b.policy (run_of b self.old.parts.noted.entries) entity) self.old self.new }
+        ensures tries { TriesByAnswer result self.old.parts.noted.entries self.new.parts.noted.entries }
         ensures clean { (s : Supply) → StaysClean D.Disk s self.old → StaysClean D.Disk s self.new }
         ensures counts { CommitCounts D.Disk self.old.parts.store self.new.parts.store }
     {
         if let Some(why) = self.stopped {
-            return Err(why);
+            return Err(why.told_again());
         }
         let made = snap_one(&mut self.core, entity, gate);
         self.stopped = made.err();
-        made
+        told_of(made)
     }
 
-    /// The births of a script that fits the atlas, in the order of its tables, and behind the last the Stable of the atlas: a record of each
-    /// entity that has changed since its newest one. Where each name of the script is in the atlas already, nothing is done. A kernel that
-    /// has stopped does nothing, and tells why it stopped; one that a fault meets stops.
+    /// The births of a script that fits the atlas, in the order of its tables, and behind the last the Stable of the atlas: a record of
+    /// each entity that has changed since its newest one. Where each name of the script is in the atlas already, nothing is done. A kernel
+    /// that a fault meets stops.
     ///
-    /// `TooFew` comes exactly where fewer blocks are free than all those records need together, behind all births, with both numbers,
-    /// before the first write. `Failed` comes only where the disk's count of faults rose. The births are noted in either case; where the
-    /// disk failed, with the Snaps of the records that were made.
+    /// `NoBlocks` comes exactly where fewer blocks are free than all those records need together, behind all births, with both numbers,
+    /// before the first write. `WriteFault` comes only where the disk's count of faults rose. The births are noted in either case; where a
+    /// write failed, with the Snaps of the records that were made. A kernel that has stopped does nothing, and answers `Shut` behind a
+    /// fault of the disk, and the same `NoBlocks` behind want of blocks.
     ///
     /// There are at most 63 births: all of them cost one pass over the script's tables, and each a pass over the names of the atlas. They
     /// write nothing and take no memory. The Stable takes a record of each changed entity.
-    pub fn births(&mut self, script: &Script) -> Result<(), Stopped>
+    pub fn births(&mut self, script: &Script) -> Result<(), Stop>
         requires allowed { IsScript (tables_of script.now) }
         requires fits { Fits (atlas_state_in self.old.parts.cells) (tables_of script.now) }
         requires first { self.old.parts.noted.entries ≡ [] }
-        ensures was_stopped { IfSome self.old.stop (λ why. (result ≡ Err why) × (self.new ≡ self.old)) }
-        ensures stops { IfErr result (λ why. self.new.stop ≡ Some why) }
-        ensures goes { OnOk result (self.new.stop ≡ None) }
+        ensures was_stopped { IfSome self.old.stop (λ why. (result ≡ Err (told_again why)) × (self.new ≡ self.old)) }
+        ensures ends { self.old.stop ≡ None → Tells result self.new.stop }
         ensures made { self.old.stop ≡ None → OnOk result (HasOpened (tables_of script.now) self.old.parts self.new.parts) }
-        ensures too_few { self.old.stop ≡ None → IsShortBehind (tables_of script.now) result self.old.parts self.new.parts }
-        ensures failed { self.old.stop ≡ None → IsErrOf result AStop.Failed → Rose (D.faults self.old.parts.store.disk) (D.faults self.new.parts.store.disk) }
+        ensures no_blocks { self.old.stop ≡ None → IsShortBehind (tables_of script.now) (λ n. IsErrOf result (AStop.NoBlocks n)) self.old.parts self.new.parts }
+        ensures fails { self.old.stop ≡ None → IfErr result (FailsByWrite (Rose (D.faults self.old.parts.store.disk) (D.faults self.new.parts.store.disk))) }
         ensures run { D.tells → (b : Beginning) → b.script ≡ tables_of script.now
             → Lives D.Disk (with_script b (empty_script b.script.steps)) self.old
             → Lives D.Disk b self.new }
-        ensures opening { D.tells → (b : Beginning) → b.script ≡ tables_of script.now
+        ensures notes { D.tells → (b : Beginning) → b.script ≡ tables_of script.now
             → Lives D.Disk (with_script b (empty_script b.script.steps)) self.old → self.old.stop ≡ None
-            → OnOk result (self.new.parts.noted.entries ≡ opening b.supply b.script b.state) }
-        ensures part { D.tells → (b : Beginning) → b.script ≡ tables_of script.now
-            → Lives D.Disk (with_script b (empty_script b.script.steps)) self.old → self.old.stop ≡ None
-            → OnErr result (StopsIn b (opening b.supply b.script b.state) [] self.new.parts.noted.entries) }
-        ensures enough { D.tells → (b : Beginning) → b.script ≡ tables_of script.now
-            → Lives D.Disk (with_script b (empty_script b.script.steps)) self.old → self.old.stop ≡ None
-            → (n : TooFewBlocks) → IsErrOf result (AStop.TooFew n) → LacksIn b (opening b.supply b.script b.state) [] self.new.parts }
+            → NotesAlong b (opening b.supply b.script b.state) self.old self.new }
+        ensures tries { TriesByAnswer result self.old.parts.noted.entries self.new.parts.noted.entries }
         ensures clean { (s : Supply) → StaysClean D.Disk s self.old → StaysClean D.Disk s self.new }
         ensures counts { CountsWithin D.Disk (64 * 1556) self.old.parts.store self.new.parts.store }
     {
         if let Some(cause) = self.stopped {
-            return Err(cause);
+            return Err(cause.told_again());
         }
         let opened = open_core(&mut self.core, script);
         self.stopped = opened.err();
-        opened
+        told_of(opened)
     }
 
     /// One look at the locus with this number: its step, and behind it the Stable that it owes, or a Snap of each entity that it wrote
-    /// whose wish is open and of which fewer than four kept records are. None is made exactly where the locus can't step: it isn't born or
-    /// no locus, it is halted or stopped, or it has no step left, in this order; that is told, and nothing is changed. A kernel that has stopped does nothing, and tells why it stopped; one that a fault meets stops.
+    /// whose wish is open and of which fewer than four kept records are. It answers the step's entry. A kernel that a fault meets stops.
     ///
-    /// `TooFew` comes only where fewer blocks are free than are needed, for a page of the step or for a record behind it, with both
-    /// numbers, and in a run only where the image has fewer than are enough for the state. `Failed` comes only where the disk's count of
-    /// faults rose over the step, or over what came behind it. Where the step itself fails nothing is noted of it; where a record behind
-    /// it fails the step is noted, with the Snaps that were made.
+    /// `Idle` comes exactly where the locus can't step: it isn't born or no locus, it is halted or stopped, or it has no step left, in this
+    /// order; then nothing is changed. `NoBlocks` comes only where fewer blocks are free than are needed, for a page of the step or for a
+    /// record behind it, with both numbers, and in a run only where the image has fewer than are enough for the state. `ReadFault` and
+    /// `WriteFault` come only where the disk's count of faults rose over the step, or over what came behind it. Where the step itself
+    /// fails nothing is noted of it; where a record behind it fails the step is noted, with the Snaps that were made. A kernel that has
+    /// stopped does nothing, whatever the locus, and answers `Shut` behind a fault of the disk, and the same `NoBlocks` behind want of blocks.
     ///
     /// A step begins at most one write, and what comes behind it a record of each of the 64 entities, of at most 1,556 writes and syncs each.
     pub fn step<S: Supplier, P: Policy>(
         &mut self,
         me: Entity,
         gate: &Gate<S, P>,
-    ) -> Result<Looked, Stopped>
+    ) -> Result<Entry, Stop>
         requires keeps { S.keeps gate.now.supply }
         requires wishes { P.keeps gate.now.policy }
         requires clean { StaysClean D.Disk (S.word gate.now.supply) self.old }
-        ensures was_stopped { IfSome self.old.stop (λ why. (result ≡ Err why) × (self.new ≡ self.old)) }
-        ensures stops { IfErr result (λ why. self.new.stop ≡ Some why) }
-        ensures goes { OnOk result (self.new.stop ≡ None) }
-        ensures idle { (s : Supply) (words : ℕ → List ℕ) (why : AnIdle) → self.old.stop ≡ None → (idle_at s words me self.old.parts.cells ≡ Some why) ↔ (result ≡ Ok (ALook.Idle why)) }
-        ensures still { (why : AnIdle) → result ≡ Ok (ALook.Idle why) → self.new ≡ self.old }
-        ensures stopped { self.old.stop ≡ None → IfErr result (StopsLook D.Disk me self.old.parts self.new.parts) }
-        ensures looks { D.tells → (b : Beginning) → b.supply ≡ S.word gate.now.supply → b.policy ≡ P.wish gate.now.policy
-            → Lives D.Disk b self.old → self.old.stop ≡ None
-            → OnOk result (self.new.parts.noted.entries ≡ self.old.parts.noted.entries ++ look b.supply b.policy b.script (run_of b self.old.parts.noted.entries) me) }
+        ensures was_stopped { IfSome self.old.stop (λ why. (result ≡ Err (told_again why)) × (self.new ≡ self.old)) }
+        ensures ends { self.old.stop ≡ None → Tells result self.new.stop }
+        ensures idle { (s : Supply) (words : ℕ → List ℕ) (why : AnIdle) → self.old.stop ≡ None → (idle_at s words me self.old.parts.cells ≡ Some why) ↔ (result ≡ Err (AStop.Idle why)) }
+        ensures still { (why : AnIdle) → result ≡ Err (AStop.Idle why) → self.new ≡ self.old }
+        ensures made { IfOk result (LooksOnce D.Disk me self.old.parts self.new.parts) }
+        ensures stopped { self.old.stop ≡ None → IfSome self.new.stop (StopsLook D.Disk me self.old.parts self.new.parts) }
+        ensures fails { self.old.stop ≡ None → IfErr result (FailsByDisk (Rose (D.faults self.old.parts.store.disk) (D.faults self.new.parts.store.disk))) }
         ensures run { D.tells → (b : Beginning) → b.supply ≡ S.word gate.now.supply → b.policy ≡ P.wish gate.now.policy
             → Lives D.Disk b self.old → Lives D.Disk b self.new }
-        ensures part { D.tells → (b : Beginning) → b.supply ≡ S.word gate.now.supply → b.policy ≡ P.wish gate.now.policy
+        ensures notes { D.tells → (b : Beginning) → b.supply ≡ S.word gate.now.supply → b.policy ≡ P.wish gate.now.policy
             → Lives D.Disk b self.old → self.old.stop ≡ None
-            → OnErr result (StopsIn b (look b.supply b.policy b.script (run_of b self.old.parts.noted.entries) me) self.old.parts.noted.entries self.new.parts.noted.entries) }
-        ensures failed { self.old.stop ≡ None → IsErrOf result AStop.Failed → Rose (D.faults self.old.parts.store.disk) (D.faults self.new.parts.store.disk) }
-        ensures enough { D.tells → (b : Beginning) → b.supply ≡ S.word gate.now.supply → b.policy ≡ P.wish gate.now.policy
-            → Lives D.Disk b self.old → self.old.stop ≡ None
-            → (n : TooFewBlocks) → IsErrOf result (AStop.TooFew n) → LacksIn b (look b.supply b.policy b.script (run_of b self.old.parts.noted.entries) me) self.old.parts.noted.entries self.new.parts }
+            → NotesAlong b (look b.supply b.policy b.script (run_of b self.old.parts.noted.entries) me) self.old self.new }
+        ensures tries { TriesByAnswer result self.old.parts.noted.entries self.new.parts.noted.entries }
         ensures clean { StaysClean D.Disk (S.word gate.now.supply) self.new }
         ensures counts { CountsWithin D.Disk (1 + 64 * 1556) self.old.parts.store self.new.parts.store }
     {
         if let Some(stop) = self.stopped {
-            return Err(stop);
+            return Err(stop.told_again());
         }
         let looked = look_core(&mut self.core, me, gate);
-        self.stopped = looked.err();
-        looked
+        self.stopped = why_stopped(&looked);
+        answered(&looked)
     }
 }

@@ -4,11 +4,8 @@
 mod bearing;
 mod kernels;
 mod looking;
-mod over_store;
 mod owing;
 mod stepping;
 
-pub use kernel_core_facts::{Idle, Stopped};
+pub use kernel_core_facts::{Idle, Stop, Stopped};
 pub use kernels::{Ended, Kernel};
-pub use looking::Looked;
-pub use over_store::step_over;

@@ -1,71 +1,43 @@
 // One look at a locus: its step, and what comes behind it.
-ghost use Rattle.std.specs.Prelude.{◌≡◌, ◌<◌, ◌++◌, ◌∷◌, [], length};
+ghost use Rattle.std.specs.Prelude.{◌≡◌};
+ghost use Rattle.std.specs.Result.{result_err};
 ghost use Rattle.kernel_core_facts.specs.table_laws.Tables.{AreClean};
-ghost use Rattle.kernel_core_facts.specs.kernel_commit_facts.Parts.{parts_of};
 ghost use Rattle.kernel_core_facts.specs.kernel_commit_facts.Steady.{IsSteady};
-ghost use Rattle.kernel_core.specs.Stepping.{StepsOnce};
-ghost use Rattle.kernel_core_facts.specs.Stepping.{stop_by};
+ghost use Rattle.kernel_core.specs.Stepping.{StepsOnce, answer_by};
+ghost use Rattle.kernel_core_facts.specs.Stepping.{IsOfOpen, stop_by};
 ghost use Rattle.kernel_core_facts.specs.kernel_record_facts.Cells.{words_on};
 
-use crate::step_over;
 use base_types::{Entity, Entry};
 use edge_disk::Disk;
 use edge_managers::{Gate, Policy, Supplier};
-use kernel_core_facts::{Cell, Core, Idle, Notes, StepFault, Stopped, Store};
+use kernel_core_facts::{Core, Idle, Made, StepFault, Stop, Stopped, advance};
 use page_store::PageFault;
 
-/// What came of a step.
+/// What came of a step, or of a look.
 #[derive(Clone, Copy)]
 pub(crate) enum Stepping {
-    /// It was made, with this entry.
-    Made(Entry),
+    /// It was made.
+    Made(Made),
     /// None was made: the locus can't step.
     Idle(Idle),
 }
 
-/// Why a fault of paging stops the kernel.
+/// Why a fault of paging stops the kernel. While it goes on its store works, and is not shut.
 fn page_stop(fault: PageFault) -> Stopped
+    requires { IsOfOpen fault }
     ensures { result ≡ stop_by fault }
 {
     match fault {
-        PageFault::NoBlocks(blocks) => Stopped::TooFew(blocks),
-        PageFault::ReadFault | PageFault::WriteFault | PageFault::Shut => Stopped::Failed,
-    }
-}
-
-/// Adds an entry to what is noted.
-fn note_entry(notes: &mut Notes, entry: &Entry)
-    requires room { length notes.old.entries < notes.old.room }
-    ensures { notes.new ≡ record notes.old { entries = notes.old.entries ++ entry.now ∷ [] } }
-{
-    notes.push_entry(*entry);
-}
-
-/// One step of the locus with this number over a kernel's parts, with its entry noted; none where it can't step, and then why.
-fn step_among<D: Disk, S: Supplier, P: Policy>(
-    cells: &mut [Cell],
-    store: &mut Store<D>,
-    notes: &mut Notes,
-    me: Entity,
-    gate: &Gate<S, P>,
-) -> Result<Stepping, Stopped>
-    requires keeps { S.keeps gate.now.supply }
-    requires steady { IsSteady D.Disk (parts_of store.old cells.old notes.old) }
-    requires clean { D.tells → AreClean (S.word gate.now.supply) (words_on (D.reading store.old.disk)) cells.old }
-    ensures { StepsOnce D.Disk (S.word gate.now.supply) me
-        (parts_of store.old cells.old notes.old) (parts_of store.new cells.new notes.new) result }
-{
-    match step_over(cells, me, store, gate) {
-        Ok(entry) => {
-            note_entry(notes, &entry);
-            Ok(Stepping::Made(entry))
-        }
-        Err(StepFault::Idle(why)) => Ok(Stepping::Idle(why)),
-        Err(StepFault::Paging(fault)) => Err(page_stop(fault)),
+        PageFault::NoBlocks(blocks) => Stopped::NoBlocks(blocks),
+        PageFault::ReadFault => Stopped::ReadFault,
+        PageFault::WriteFault => Stopped::WriteFault,
+        PageFault::Shut => unreachable!(),
     }
 }
 
 /// One step of the locus with this number, with its entry noted; none where it can't step, and then why.
+///
+/// It takes no memory. It makes at most one read and one write of the disk, of a page each.
 pub(crate) fn step_core<D: Disk, S: Supplier, P: Policy>(
     core: &mut Core<D>,
     me: Entity,
@@ -76,5 +48,33 @@ pub(crate) fn step_core<D: Disk, S: Supplier, P: Policy>(
     requires clean { D.tells → AreClean (S.word gate.now.supply) (words_on (D.reading core.old.store.disk)) core.old.cells }
     ensures { StepsOnce D.Disk (S.word gate.now.supply) me core.old core.new result }
 {
-    step_among(&mut core.cells, &mut core.store, &mut core.notes, me, gate)
+    match advance(&mut core.cells, me, &mut core.store, gate) {
+        Ok(made) => {
+            core.notes.push_entry(made.entry);
+            Ok(Stepping::Made(made))
+        }
+        Err(StepFault::Idle(why)) => Ok(Stepping::Idle(why)),
+        Err(StepFault::Paging(fault)) => Err(page_stop(fault)),
+    }
+}
+
+/// Why a look stopped the kernel, if it did.
+pub(crate) fn why_stopped(came: &Result<Stepping, Stopped>) -> Option<Stopped>
+    ensures { result ≡ result_err came.now }
+{
+    match came {
+        Ok(_) => None,
+        Err(why) => Some(*why),
+    }
+}
+
+/// What a call of the kernel answers that came to this.
+pub(crate) fn answered(came: &Result<Stepping, Stopped>) -> Result<Entry, Stop>
+    ensures { result ≡ answer_by came.now }
+{
+    match came {
+        Ok(Stepping::Made(made)) => Ok(made.entry),
+        Ok(Stepping::Idle(why)) => Err(Stop::Idle(*why)),
+        Err(why) => Err(why.told()),
+    }
 }

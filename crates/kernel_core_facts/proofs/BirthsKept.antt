@@ -1,9 +1,10 @@
 -- What the births leave of a kernel, whatever came of their Stable.
-use Rattle.std.proofs.Common.{◌≡◌, ℕ, [], Option, None, Some, Ok, Err, refl, sym, ap, subst, ◌∙◌}
+use Rattle.std.proofs.Common.{◌≡◌, ℕ, List, [], ◌++◌, Option, None, Some, Ok, Err, refl, sym, ap, subst, ◌∙◌}
 use Rattle.std.specs.Prelude.{IfErr, IsErrOf, OnOk, Result, ⊤}
 use Rattle.std.specs.Result.{result_err}
 use Rattle.edge_disk.specs.declared.disk.Disk.{Ghosts}
 use Rattle.edge_disk.specs.Counts.{Rose}
+use Rattle.base_types.specs.declared.histories.Entry.{Entry}
 use Rattle.table_births.specs.model_kernel.Scripts.{Script}
 use Rattle.table_births.specs.script_types.Rules.{IsScript}
 use Rattle.table_births.specs.model_births.Fitting.{Fits}
@@ -13,20 +14,25 @@ use Rattle.table_births.specs.Births.{atlas_state_in}
 use Rattle.kernel_commits.specs.kernel_laws.Opening.{empty_script, with_script}
 use Rattle.kernel_commits.specs.kernel_invariant.Beginnings.{Beginning}
 use Rattle.kernel_core_facts.specs.Bearing.{OpensRun, RunsInBirths}
-use Rattle.kernel_core_facts.specs.Kernels.{Held, IsKept, Lives}
+use Rattle.kernel_core_facts.specs.Kernels.{Held, IsKept, Lives, NotesAlong}
+use Rattle.kernel_commits.specs.kernel_commit_facts.Lacking.{LacksIn}
 use Rattle.kernel_commits.specs.kernel_commit_facts.Parts.{Parts}
+use Rattle.kernel_commits.specs.kernel_commit_facts.Pieces.{StopsIn}
+use Rattle.kernel_commits.specs.model_serial.Serial.{opening}
+use Rattle.kernel_commits.proofs.Telling.{err_of_kept, when_stopped}
 use Rattle.kernel_commits.specs.Parts.{stop_of}
 use Rattle.kernel_commits.specs.kernel_commit_facts.Steady.{IsSteady}
 use Rattle.kernel_commits.specs.Stops.{LeavesStopped}
 use Rattle.kernel_commits.specs.declared.stopping.Stopped.{Stopped}
-use Rattle.kernel_commits.specs.declared.stopping.Stopped.TheVariants.{Failed, TooFew}
+use Rattle.kernel_commits.specs.declared.stopping.Stopped.TheVariants as reason
 use Rattle.kernel_core_facts.proofs.Begun.{begins_births, goes_on_with}
 use Rattle.kernel_core_facts.proofs.Kept.{while_going}
 
-pub failed_rose : {D : Type 0} (faults : D → ℕ) (old new : Parts D) (result : Result ⊤ Stopped) → IfErr result (LeavesStopped faults old new) → IsErrOf result Failed → Rose (faults old.store.disk) (faults new.store.disk)
+pub failed_rose : {D : Type 0} (faults : D → ℕ) (old new : Parts D) (result : Result ⊤ Stopped) → IfErr result (LeavesStopped faults old new) → IsErrOf result reason.WriteFault → Rose (faults old.store.disk) (faults new.store.disk)
 failed_rose faults old new (Ok u) stop is = absurd (cc is)
-failed_rose faults old new (Err Failed) stop is = stop.cause
-failed_rose faults old new (Err (TooFew n)) stop is = absurd (cc is)
+failed_rose faults old new (Err reason.WriteFault) stop is = stop.cause
+failed_rose faults old new (Err reason.ReadFault) stop is = stop.cause
+failed_rose faults old new (Err (reason.NoBlocks n)) stop is = absurd (cc is)
 
 module _ {D : Type 0} (disks : Ghosts D) where
   orderly_by : (old new : Parts D) (result : Result ⊤ Stopped) → OnOk result (IsSteady disks new) → IfErr result (LeavesStopped disks.faults old new) → IsOrderly (books new.store).held new.cells
@@ -48,6 +54,15 @@ module _ {D : Type 0} (disks : Ghosts D) where
     live = record { running = l.stands.runs; calm = λ _. l.calm };
     clean = λ _. l.stands.clean;
   })
+
+  -- what was noted of the opening, by the kernel as it is left
+  pub births_along : (b : Beginning) (old : Held D) (new : Parts D) → old.parts.noted.entries ≡ [] → (result : Result ⊤ Stopped) → OpensRun disks b result new
+      → (o : Option Stopped) → o ≡ result_err result → NotesAlong b (opening b.supply b.script b.state) old (record { parts = new; stop = o })
+  births_along b old new first result l o is = record {
+    whole = λ going. while_going result l.complete o is going ∙ sym (ap (λ (es : List Entry). es ++ opening b.supply b.script b.state) first);
+    part = λ why kept. subst (λ (es : List Entry). StopsIn b (opening b.supply b.script b.state) es new.noted.entries) (sym first) (when_stopped result l.part o is why kept);
+    enough = λ n kept. subst (λ (es : List Entry). LacksIn b (opening b.supply b.script b.state) es new) (sym first) (l.enough n (err_of_kept result o is (reason.NoBlocks n) kept));
+  }
 
   -- a kernel that nothing is noted of, and its parts
   module _ (b : Beginning) (script : Script) (same : b.script ≡ script) (rules : IsScript script) (p : Parts D) (stop : Option Stopped) (k : Held D) (view : record { parts = p; stop = stop } ≡ k)

@@ -4,7 +4,6 @@ use Rattle.std.specs.Prelude.{OnOk, Result}
 use Rattle.std.specs.Result.{result_err}
 use Rattle.std.proofs.lemmas.List.{append-nil}
 use Rattle.edge_disk.specs.declared.disk.Disk.{Ghosts}
-use Rattle.edge_disk.specs.declared.disk.NoBlocks.{NoBlocks as TooFewBlocks}
 use Rattle.base_types.specs.declared.histories.Entry.{Entry}
 use Rattle.base_types.specs.declared.histories.Event.TheVariants.{Snap}
 use Rattle.table_births.specs.model_kernel.Histories.{Policy, Run, births_owed, goes_on, has_wish, is_due, is_full, mark, version_of}
@@ -16,12 +15,12 @@ use Rattle.kernel_commits.specs.kernel_invariant.Live.{IsCalm}
 use Rattle.kernel_commits.proofs.kernel_views_lemmas.Legal.{run_next}
 use Rattle.kernel_core_facts.specs.Kernels.{IsKept, Lives}
 use Rattle.kernel_commits.specs.kernel_commit_facts.Parts.{Parts}
-use Rattle.kernel_commits.specs.kernel_commit_facts.Recording.{HasTried}
 use Rattle.kernel_commits.specs.kernel_commit_facts.Snapping.{RunsFree, wants_in}
+use Rattle.kernel_commits.specs.Recording.{Fails}
 use Rattle.kernel_commits.specs.Snapping.{SnapsOne}
 use Rattle.kernel_commits.specs.kernel_commit_facts.Steady.{IsSteady}
 use Rattle.kernel_commits.specs.declared.stopping.Stopped.{Stopped}
-use Rattle.kernel_commits.specs.declared.stopping.Stopped.TheVariants.{Failed, TooFew}
+use Rattle.kernel_commits.specs.declared.stopping.Stopped.TheVariants as reason
 use Rattle.kernel_commits.proofs.Stops.{tried_orderly}
 
 -- what holds where a call ended well holds while the kernel goes on
@@ -31,15 +30,14 @@ while_going (Err why) p o is none = absurd (let clash : Some why ≡ None = sym 
 
 module _ {D : Type 0} (disks : Ghosts D)
     (x : ℕ) (old new : Parts D) (k : IsSteady disks old) where
-  orderly_after : (r : Result Bool Stopped) → OnOk r (IsSteady disks new) → (r ≡ Err Failed → HasTried disks x old new)
-      → ((n : TooFewBlocks) → r ≡ Err (TooFew n) → new ≡ old) → IsOrderly (books new.store).held new.cells
-  orderly_after (Ok b) steady tried same = steady.sound.matches.orderly
-  orderly_after (Err (TooFew n)) steady tried same = subst (λ (p : Parts D). IsOrderly (books p.store).held p.cells) (sym (same n refl)) k.sound.matches.orderly
-  orderly_after (Err Failed) steady tried same = tried_orderly disks x old new k.sound.matches.orderly (tried refl)
+  orderly_after : (r : Result Bool Stopped) → OnOk r (IsSteady disks new) → Fails disks x r old new → IsOrderly (books new.store).held new.cells
+  orderly_after (Ok b) steady fails = steady.sound.matches.orderly
+  orderly_after (Err (reason.NoBlocks n)) steady fails = subst (λ (p : Parts D). IsOrderly (books p.store).held p.cells) (sym (fails.untouched n refl)) k.sound.matches.orderly
+  orderly_after (Err reason.ReadFault) steady fails = absurd (fails.no_read refl)
+  orderly_after (Err reason.WriteFault) steady fails = tried_orderly disks x old new k.sound.matches.orderly (fails.tried refl)
 
-  pub kept_after : (r : Result Bool Stopped) → OnOk r (IsSteady disks new) → (r ≡ Err Failed → HasTried disks x old new)
-      → ((n : TooFewBlocks) → r ≡ Err (TooFew n) → new ≡ old) → (o : Option Stopped) → o ≡ result_err r → IsKept disks (record { parts = new; stop = o })
-  kept_after r steady tried same o is = record { orderly = orderly_after r steady tried same; steady = while_going r steady o is }
+  pub kept_after : (r : Result Bool Stopped) → OnOk r (IsSteady disks new) → Fails disks x r old new → (o : Option Stopped) → o ≡ result_err r → IsKept disks (record { parts = new; stop = o })
+  kept_after r steady fails o is = record { orderly = orderly_after r steady fails; steady = while_going r steady o is }
 
   -- IN A RUN
 

@@ -5,11 +5,13 @@ use Rattle.std.proofs.lemmas.List.{append-nil, append_assoc}
 use Rattle.edge_disk.specs.declared.disk.Disk.{Ghosts}
 use Rattle.base_types.specs.declared.histories.Answer.TheVariants.{Reply as Replied}
 use Rattle.base_types.specs.declared.histories.Entry.{Entry}
+use Rattle.base_types.specs.declared.instructions.Instr.{Instr}
 use Rattle.base_types.specs.declared.instructions.Reply.TheVariants.{Ok as AnsweredOk}
+use Rattle.table_births.specs.table_steps.Wanting.{HasNext}
 use Rattle.base_types.specs.declared.histories.Event.TheVariants.{Stable}
-use Rattle.table_births.specs.model_kernel.Histories.{Policy, Run, births_owed, goes_on, is_due, locus_in, mark, owed_by, start_run}
+use Rattle.table_births.specs.model_kernel.Histories.{Policy, Run, births_owed, goes_on, is_due, locus_in, mark, owed_by, stabilises, start_run}
 use Rattle.table_births.specs.model_kernel.Serial.{can_step}
-use Rattle.table_births.specs.model_kernel.State.{KernelState, Supply}
+use Rattle.table_births.specs.model_kernel.State.{KernelState}
 use Rattle.table_births.proofs.model_sound_runs_lemmas.Naming.{births_over}
 use Rattle.table_births.specs.table_laws.Tables.{state_in}
 use Rattle.kernel_commits.specs.kernel_record_facts.Cells.{words_on}
@@ -71,22 +73,23 @@ module _ {D : Type 0} (disks : Ghosts D)
     owed_of : (o : Option ℕ) → (run_of b mid.noted.entries).owed ≡ o → (run_of b (old.noted.entries ++ e ∷ [])).owed ≡ o
     owed_of o is = ap (λ (es : List Entry). (run_of b es).owed) (sym h.entries) ∙ is
 
-    -- what it owes, where the locus's next instruction was a stabilise or not
+    -- what it owes, by the instruction that was carried out
     abbrev words : ℕ → List ℕ
     words = words_on (disks.reading old.store.disk)
 
     follow : FollowsRun b words old.cells old.noted.entries
     follow = cells_follow b old.noted.entries (disks.reading old.store.disk) old.cells stands.orderly.numbers (books old.store) old.noted.marks None stands.runs.follows
 
-    pub owes_is : (t : Bool) → ((s : Supply) (ws : ℕ → List ℕ) → owed_by me (Replied AnsweredOk) (locus_in (state_in s ws old.cells me).cell) ≡ (if t then Some me else None))
-        → (run_of b mid.noted.entries).owed ≡ (if t && is_ok e.answer then Some me else None)
-    owes_is t flag =
+    pub owes_is : (i : Instr) → HasNext me old.cells i
+        → (run_of b mid.noted.entries).owed ≡ (if stabilises (Replied AnsweredOk) i && is_ok e.answer then Some me else None)
+    owes_is i next =
         ap (λ (es : List Entry). (run_of b es).owed) h.entries
         ∙ (ap (λ (q : Run). q.owed) (run_next b old.noted.entries e)
         ∙ (owed_next b.supply b.script (run_of b old.noted.entries) e h.enters.event
         ∙ (ap (λ x. owed_by x e.answer (locus_in ((run_of b old.noted.entries).state x).cell)) h.enters.actor
         ∙ (ap (λ (w : KernelState). owed_by me e.answer (locus_in (w me).cell)) (sym follow.state)
-        ∙ owes_by me e.answer (locus_in (state_in b.supply words old.cells me).cell) t (flag b.supply words)))))
+        ∙ owes_by me e.answer (locus_in (state_in b.supply words old.cells me).cell) (stabilises (Replied AnsweredOk) i)
+        (ap (owed_by me (Replied AnsweredOk)) (next.is b.supply words) ∙ ap (λ (j : Instr). if stabilises (Replied AnsweredOk) j then Some me else None) (sym next.instr))))))
 
     -- the Snaps are to be made from there
     pub free_behind : (run_of b mid.noted.entries).owed ≡ None → RunsFree disks b policy mid

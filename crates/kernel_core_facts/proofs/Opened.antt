@@ -1,11 +1,12 @@
 -- Behind the births: their Stable, or nothing where none was made.
 use Rattle.std.proofs.Common.{◌≡◌, ◌≢◌, ◌↔◌, ℕ, ◌+◌, ◌<◌, ◌≤◌, ◌==◌, true, false, List, [], ◌∷◌, ◌++◌, length, None, Ok, Err, refl, sym, ap, subst, ◌∙◌, arith, eqb-true}
-use Rattle.std.specs.Prelude.{IfErr, IsErrOf, OnErr, OnOk, Result, ⊤}
+use Rattle.std.proofs.lemmas.List.Elements.{All-cons, All-nil}
+use Rattle.std.specs.Prelude.{All, IfErr, IsErrOf, OnErr, OnOk, Result, ⊤}
 use Rattle.edge_disk.specs.declared.disk.Disk.{Ghosts}
 use Rattle.edge_disk.specs.Image.{Image}
 use Rattle.edge_disk.specs.declared.disk.NoBlocks.{NoBlocks}
 use Rattle.base_types.specs.declared.histories.Entry.{Entry}
-use Rattle.base_types.specs.declared.histories.Event.TheVariants.{Stable}
+use Rattle.base_types.specs.declared.histories.Event.TheVariants.{Stable, Tried}
 use Rattle.table_births.specs.model_kernel.Histories.{births_owed, mark, start_run}
 use Rattle.table_births.specs.model_kernel.Scripts.{Script}
 use Rattle.table_births.specs.model_kernel.State.{Supply}
@@ -14,6 +15,7 @@ use Rattle.kernel_commits.specs.model_serial.Serial.{IsCalm as IsCalmRun, openin
 use Rattle.kernel_commits.specs.model_serial_turns.Turns.{IsStoppedIn}
 use Rattle.kernel_commits.proofs.model_serial_turns_lemmas.Bearing.{bearing_over, begins}
 use Rattle.kernel_commits.proofs.model_serial_turns_lemmas.Stops.{stopped_behind}
+use Rattle.table_births.specs.cell_states.declared.cells.Cell.{Cell}
 use Rattle.table_births.specs.table_laws.Tables.{AreClean}
 use Rattle.kernel_commits.specs.kernel_record_facts.Cells.{words_on}
 use Rattle.kernel_commits.specs.store_facts.State.{State, books}
@@ -23,19 +25,22 @@ use Rattle.kernel_commits.specs.kernel_views.Views.{FollowsRun}
 use Rattle.kernel_commits.proofs.kernel_views_lemmas.Following.{cells_follow}
 use Rattle.kernel_commits.proofs.kernel_views_lemmas.Legal.{run_next}
 use Rattle.table_births.specs.Births.{NoBirthLeft}
-use Rattle.kernel_commits.specs.kernel_commit_facts.Parts.{Parts}
+use Rattle.kernel_commits.specs.kernel_commit_facts.Parts.{Noted, Parts}
 use Rattle.kernel_commits.specs.kernel_commit_facts.Lacking.{LacksIn}
 use Rattle.kernel_commits.specs.kernel_commit_facts.Pieces.{CountsWithin, StopsIn}
 use Rattle.kernel_commits.specs.kernel_commit_facts.Stabilising.{AreTooFew, HasStabilised, OwesStable}
 use Rattle.kernel_commits.specs.Stabilising.{Stabilises}
 use Rattle.kernel_commits.specs.kernel_commit_facts.Steady.{entries_taken, steps_to_come}
 use Rattle.kernel_commits.specs.Stops.{LeavesStopped}
+use Rattle.kernel_commits.specs.Telling.{AddsNoTried, told_by}
+use Rattle.kernel_commits.specs.declared.stopping.Stop.TheVariants as stop
+use Rattle.kernel_commits.proofs.Telling.{told_no_blocks}
 use Rattle.kernel_commits.specs.declared.stopping.Stopped.{Stopped}
-use Rattle.kernel_commits.specs.declared.stopping.Stopped.TheVariants.{Failed, TooFew}
+use Rattle.kernel_commits.specs.declared.stopping.Stopped.TheVariants as reason
 use Rattle.kernel_commits.proofs.kernel_commit_facts_lemmas.Counting.{CountsWithin-stay}
 use Rattle.kernel_commits.proofs.kernel_commit_facts_lemmas.Dues.{lacks_behind}
 use Rattle.kernel_commits.proofs.kernel_commit_facts_lemmas.Room.{steps_within}
-use Rattle.kernel_core_facts.specs.Bearing.{AwaitsStable, HasBorneAll, HasOpened, IsInBirths, IsShortBehind, OpensRun, RunsInBirths}
+use Rattle.kernel_core_facts.specs.Bearing.{AreBirths, AwaitsStable, HasBorneAll, HasOpened, IsInBirths, IsShortBehind, OpensRun, RunsInBirths}
 use Rattle.kernel_core_facts.proofs.Births.{births_clean}
 
 -- ROOM for the Stable's entry
@@ -61,6 +66,23 @@ none_noted es is = no_entries es (eqb-true (length es) 0 is)
 
 -- WHATEVER THE DISK TELLS
 
+-- what the opening came to, as it is told
+pub short_told : {D : Type 0} (script : Script) (r : Result ⊤ Stopped) (old new : Parts D) → IsShortBehind script (λ n. IsErrOf r (reason.NoBlocks n)) old new
+    → IsShortBehind script (λ n. IsErrOf (told_by r) (stop.NoBlocks n)) old new
+short_told script r old new s = record {
+  mid = s.mid;
+  borne = s.borne;
+  exact = λ n.
+      let told = told_no_blocks r n in
+      ((λ is. (s.exact n).0 (told.1 is)), (λ few. told.0 ((s.exact n).1 few)));
+  untouched = λ n is. s.untouched n ((told_no_blocks r n).1 is);
+}
+
+births_no_try : (script : Script) (cs cs' : List Cell) (es : List Entry) → AreBirths script cs es cs' → All (λ (e : Entry). e.event ≢ Tried) es
+births_no_try script cs cs' [] h = All-nil (λ (e : Entry). e.event ≢ Tried)
+births_no_try script cs cs' (e ∷ es) h =
+    All-cons (λ (e : Entry). e.event ≢ Tried) e es (λ tried. let birth = h.1.enters.event in cc (birth, tried)) (births_no_try script h.0 cs' es h.2)
+
 pub counts_stay : {D : Type 0} (disks : Ghosts D) (most : ℕ) (old new : State D) → new ≡ old → CountsWithin disks most old new
 counts_stay disks most old new same = subst (CountsWithin disks most old) (sym same) (CountsWithin-stay disks most old)
 
@@ -69,7 +91,7 @@ module _ {D : Type 0} (script : Script) (old mid : Parts D) (borne : HasBorneAll
   pub opened_empty : mid.noted.entries ≡ [] → HasOpened script old mid
   opened_empty is = record { mid = mid; borne = borne; nothing = λ _. refl; stabilised = λ some. absurd (some is) }
 
-  pub short_empty : mid.noted.entries ≡ [] → IsShortBehind script (Ok tt) old mid
+  pub short_empty : mid.noted.entries ≡ [] → IsShortBehind script (λ n. IsErrOf {T = ⊤} {E = Stopped} (Ok tt) (reason.NoBlocks n)) old mid
   short_empty is = record {
     mid = mid;
     borne = borne;
@@ -82,8 +104,8 @@ module _ {D : Type 0} (script : Script) (old mid : Parts D) (borne : HasBorneAll
     opened_stable (Ok u) made = record { mid = mid; borne = borne; nothing = λ none. absurd (some none); stabilised = λ _. made }
     opened_stable (Err why) made = tt
 
-    pub short_stable : (result : Result ⊤ Stopped) → ((n : NoBlocks) → IsErrOf result (TooFew n) ↔ AreTooFew mid n) → ((n : NoBlocks) → IsErrOf result (TooFew n) → new ≡ mid)
-        → IsShortBehind script result old new
+    pub short_stable : (result : Result ⊤ Stopped) → ((n : NoBlocks) → IsErrOf result (reason.NoBlocks n) ↔ AreTooFew mid n) → ((n : NoBlocks) → IsErrOf result (reason.NoBlocks n) → new ≡ mid)
+        → IsShortBehind script (λ n. IsErrOf result (reason.NoBlocks n)) old new
     short_stable result exact untouched = record {
       mid = mid;
       borne = borne;
@@ -94,8 +116,17 @@ module _ {D : Type 0} (script : Script) (old mid : Parts D) (borne : HasBorneAll
   -- a stop behind the births is one behind the old parts
   pub stopped_births : (faults : D → ℕ) (new : Parts D) (result : Result ⊤ Stopped) → IfErr result (LeavesStopped faults mid new) → IfErr result (LeavesStopped faults old new)
   stopped_births faults new (Ok u) stop = tt
-  stopped_births faults new (Err (TooFew n)) stop = record { orderly = stop.orderly; marks = stop.marks; cause = stop.cause }
-  stopped_births faults new (Err Failed) stop = record { orderly = stop.orderly; marks = stop.marks; cause = subst (λ (st : State D). Rattle.edge_disk.specs.Counts.Rose (faults st.disk) (faults new.store.disk)) borne.made.store stop.cause }
+  stopped_births faults new (Err (reason.NoBlocks n)) stop = record { orderly = stop.orderly; marks = stop.marks; cause = stop.cause }
+  stopped_births faults new (Err reason.ReadFault) stop = record { orderly = stop.orderly; marks = stop.marks; cause = subst (λ (st : State D). Rattle.edge_disk.specs.Counts.Rose (faults st.disk) (faults new.store.disk)) borne.made.store stop.cause }
+  stopped_births faults new (Err reason.WriteFault) stop = record { orderly = stop.orderly; marks = stop.marks; cause = subst (λ (st : State D). Rattle.edge_disk.specs.Counts.Rose (faults st.disk) (faults new.store.disk)) borne.made.store stop.cause }
+
+  -- births are no Tried
+  pub untried_births : AddsNoTried old.noted.entries mid.noted.entries
+  untried_births = record {
+    part = borne.made.entries;
+    entries = ap (λ (n : Noted). n.entries) borne.made.noted;
+    untried = births_no_try script old.cells mid.cells borne.made.entries borne.made.births;
+  }
 
   -- pages stay clean
   pub clean_births : (reading : D → Image) (s : Supply) → AreClean s (words_on (reading old.store.disk)) old.cells → AreClean s (words_on (reading mid.store.disk)) mid.cells
@@ -160,7 +191,7 @@ module _ {D : Type 0} (disks : Ghosts D)
 
     pub opens_settled : (result : Result ⊤ Stopped) (new : Parts D) → OnOk result (HasStabilised 0 p new) → Stabilises disks b result new
         → OnErr result (StopsIn b (mark Stable 0 0 ∷ []) es new.noted.entries)
-        → ((n : NoBlocks) → IsErrOf result (TooFew n) → LacksIn b (mark Stable 0 0 ∷ []) es new) → OpensRun disks b result new
+        → ((n : NoBlocks) → IsErrOf result (reason.NoBlocks n) → LacksIn b (mark Stable 0 0 ∷ []) es new) → OpensRun disks b result new
     opens_settled (Ok u) new st s part lacks = record {
       stands = s.stands;
       calm = record { births_made = born_still new st.entries; nothing_owed = s.calm.owed; not_tried = s.calm.tried; nothing_due = s.calm.due };

@@ -1,5 +1,5 @@
 -- Whether a step owes a Stable, by its locus's cell before it and its answer.
-use Rattle.std.proofs.Common.{◌≡◌, ℕ, Bool, true, false, ◌&&◌, if◌then◌else◌, List, slice_get, Option, Some, None, refl, ap}
+use Rattle.std.proofs.Common.{◌≡◌, ℕ, Bool, true, false, ◌&&◌, if◌then◌else◌, Option, Some, None, refl, ap}
 use Rattle.base_types.specs.declared.histories.Answer.{Answer}
 use Rattle.base_types.specs.declared.histories.Answer.TheVariants.{Hop, Print, Quiet, Read, Reply as Replied}
 use Rattle.base_types.specs.declared.histories.Entry.{Entry}
@@ -9,9 +9,6 @@ use Rattle.base_types.specs.declared.instructions.Reply.TheVariants.{Ok}
 use Rattle.table_births.specs.model_kernel.Histories.{Run, goes_on, locus_in, owed_by, went_on}
 use Rattle.table_births.specs.model_kernel.Scripts.{Script}
 use Rattle.table_births.specs.model_kernel.State.{LocusState, Supply}
-use Rattle.table_births.specs.cell_states.Cells.{part_of}
-use Rattle.table_births.specs.cell_states.declared.cells.Cell.{Cell}
-use Rattle.table_births.specs.table_laws.Tables.{entity_in, state_in}
 use Rattle.kernel_core_facts.specs.Stepping.{is_ok}
 
 abbrev owing : ℕ → Bool → Option ℕ
@@ -42,7 +39,3 @@ owes_by me (Replied r) (Some l) t is = not_asked me t
 -- in a run
 pub owed_next : (s : Supply) (script : Script) (r : Run) (e : Entry) → e.event ≡ Step → (goes_on s script r e).owed ≡ owed_by e.actor e.answer (locus_in (r.state e.actor).cell)
 owed_next s script r e is = ap (λ (v : Event). (went_on s script r e v).owed) is
-
--- a cell that is no locus's has no locus in the model
-pub cell_at_is : (s : Supply) (words : ℕ → List ℕ) (cs : List Cell) (x : ℕ) (c : Cell) → slice_get cs x ≡ Some c → locus_in (state_in s words cs x).cell ≡ locus_in (part_of s words c.part)
-cell_at_is s words cs x c at = ap (λ o. locus_in (entity_in s words x o).cell) at

@@ -19,14 +19,15 @@ use Rattle.table_births.specs.cell_plans.declared.idle.Idle.TheVariants.{Absent}
 use Rattle.table_births.specs.table_laws.Steps.{EntersStep, GoesOn, StaysAtFault}
 use Rattle.table_births.specs.table_laws.Tables.{AreClean, HasNews, HasTableWishes, IsOrderly, entity_in, left_of, state_in, tables_in}
 use Rattle.kernel_commits.specs.kernel_record_facts.Cells.{words_on}
+use Rattle.table_births.specs.table_steps.declared.stepping.Made.{Made}
 use Rattle.table_births.specs.table_steps.declared.stepping.StepFault.{StepFault}
 use Rattle.table_births.specs.table_steps.declared.stepping.StepFault.TheVariants.{Idle, Paging}
 use Rattle.kernel_commits.specs.kernel_invariant.Beginnings.{Beginning}
 use Rattle.kernel_commits.specs.kernel_views.Events.{StepsOver, StopsOver}
 use Rattle.kernel_core_facts.specs.Leaving.{LeavesInOrder}
 
-no_fault : (e : Entry) (f : StepFault) → IsErrOf {T = Entry} {E = StepFault} (Ok e) f → ⊥
-no_fault e f is = cc
+no_fault : (m : Made) (f : StepFault) → IsErrOf {T = Made} {E = StepFault} (Ok m) f → ⊥
+no_fault m f is = cc
 
 -- a table has a cell at each number below its length
 cell_at : (cs : List Cell) (x : ℕ) → x < length cs → (c : Cell) × (slice_get cs x ≡ Some c)
@@ -101,9 +102,9 @@ module _ {D : Type 0} (disks : Ghosts D)
           left = omega (arith, fewer);
         }
 
-    pub steps_over : (r : Result Entry StepFault) → (IsErrOf r (Idle Absent) ↔ (idle_of (left_of (slice_get cs me)) (state_in s words cs me).cell ≡ Some Absent)) → IfOk r (GoesOn s words words' me cs cs') → IfOk r (EntersStep me cs cs') → OnOk r ((books new).shut ≡ (books old).shut)
-        → IfOk r (StepsOver disks b me cs cs' old new)
-    steps_over (Ok e) absent goes enters same_shut = over e (locus_at s words me cs (slice_get cs me) refl (λ none. no_fault e (Idle Absent) (absent.1 none))) goes enters same_shut
+    pub steps_over : (r : Result Made StepFault) → (IsErrOf r (Idle Absent) ↔ (idle_of (left_of (slice_get cs me)) (state_in s words cs me).cell ≡ Some Absent)) → IfOk r (λ m. GoesOn s words words' me cs cs' m.entry) → IfOk r (λ m. EntersStep me cs cs' m.entry) → OnOk r ((books new).shut ≡ (books old).shut)
+        → IfOk r (λ m. StepsOver disks b me cs cs' old new m.entry)
+    steps_over (Ok m) absent goes enters same_shut = over m.entry (locus_at s words me cs (slice_get cs me) refl (λ none. no_fault m (Idle Absent) (absent.1 none))) goes enters same_shut
     steps_over (Err f) absent goes enters same_shut = tt
 
   -- A FAULT
@@ -133,7 +134,7 @@ module _ {D : Type 0} (disks : Ghosts D)
   same_version : (c d : Cell) → d.clock ≡ c.clock → (c.clock.version ≤ d.clock.version) × (d.clock.version ≤ c.clock.version + 1)
   same_version c d same = (let is = ap (λ (k : Clock). k.version) same in (omega (arith, is), omega (arith, is)))
 
-  versions_by : (r : Result Entry StepFault) → IfOk r (EntersStep me cs cs') → ((why : AnIdle) → IsErrOf r (Idle why) → Still) → ((f : PageFault) → IsErrOf r (Paging f) → Stays) → Versions
+  versions_by : (r : Result Made StepFault) → IfOk r (λ m. EntersStep me cs cs' m.entry) → ((why : AnIdle) → IsErrOf r (Idle why) → Still) → ((f : PageFault) → IsErrOf r (Paging f) → Stays) → Versions
   unfolding Versions
   versions_by (Ok e) enters still faulted x c d was is = enters.versions x c d was is
   versions_by (Err (Idle why)) enters still faulted x c d was is =
@@ -141,12 +142,12 @@ module _ {D : Type 0} (disks : Ghosts D)
       same_version c d (ap (λ (k : Cell). k.clock) (same_Some d c (sym is ∙ same ∙ was)))
   versions_by (Err (Paging f)) enters still faulted x c d was is = same_version c d ((faulted f refl).same x c d was is).0
 
-  pub leaves : (r : Result Entry StepFault) → IfOk r (EntersStep me cs cs') → ((why : AnIdle) → IsErrOf r (Idle why) → Still) → ((f : PageFault) → IsErrOf r (Paging f) → Stays)
+  pub leaves : (r : Result Made StepFault) → IfOk r (λ m. EntersStep me cs cs' m.entry) → ((why : AnIdle) → IsErrOf r (Idle why) → Still) → ((f : PageFault) → IsErrOf r (Paging f) → Stays)
       → LeavesInOrder disks cs cs' old new
   unfolding Versions
   leaves r enters still faulted = record { orderly = after; versions = versions_by r enters still faulted; pages = pages; one_write = one_write }
 
-  pub stays_clean : (r : Result Entry StepFault) → disks.tells → AreClean s words cs → IfOk r (GoesOn s words words' me cs cs') → ((why : AnIdle) → IsErrOf r (Idle why) → Still)
+  pub stays_clean : (r : Result Made StepFault) → disks.tells → AreClean s words cs → IfOk r (λ m. GoesOn s words words' me cs cs' m.entry) → ((why : AnIdle) → IsErrOf r (Idle why) → Still)
       → ((f : PageFault) → IsErrOf r (Paging f) → Stays) → AreClean s words' cs'
   stays_clean (Ok e) told clean goes still faulted = goes.clean clean
   stays_clean (Err (Idle why)) told clean goes still faulted =

@@ -21,7 +21,7 @@ use Rattle.kernel_commits.specs.kernel_commit_facts.Pieces.{StopsIn}
 use Rattle.kernel_commits.specs.kernel_commit_facts.Stabilising.{AreTooFew, HasStabilised}
 use Rattle.kernel_commits.specs.kernel_commit_facts.Steady.{IsSteady, entries_to_come}
 use Rattle.kernel_commits.specs.declared.stopping.Stopped.{Stopped}
-use Rattle.kernel_commits.specs.declared.stopping.Stopped.TheVariants.{TooFew}
+use Rattle.kernel_commits.specs.declared.stopping.Stopped.TheVariants as reason
 
 -- ONE BIRTH of the script, with its entry noted
 pub record HasBorne (script : Script) (cs cs' : List Cell) (noted noted' : Noted) : Type 0 where
@@ -53,13 +53,13 @@ pub record HasOpened {D : Type 0} (script : Script) (old new : Parts D) : Type 0
   pub nothing : mid.noted.entries ≡ [] → new ≡ mid
   pub stabilised : mid.noted.entries ≢ [] → HasStabilised 0 mid new
 
--- THE BLOCKS ARE TOO FEW exactly where the Stable is made and fewer are free than its records need, behind all births; then nothing else
--- is changed
-pub record IsShortBehind {D : Type 0} (script : Script) (result : Result ⊤ Stopped) (old new : Parts D) : Type 0 where
+-- THE BLOCKS ARE TOO FEW, which is told so, exactly where the Stable is made and fewer are free than its records need, behind all births;
+-- then nothing else is changed
+pub record IsShortBehind {D : Type 0} (script : Script) (short : NoBlocks → Type 0) (old new : Parts D) : Type 0 where
   pub mid : Parts D
   pub borne : HasBorneAll script old mid
-  pub exact : (n : NoBlocks) → IsErrOf result (TooFew n) ↔ ((mid.noted.entries ≢ []) × AreTooFew mid n)
-  pub untouched : (n : NoBlocks) → IsErrOf result (TooFew n) → new ≡ mid
+  pub exact : (n : NoBlocks) → short n ↔ ((mid.noted.entries ≢ []) × AreTooFew mid n)
+  pub untouched : (n : NoBlocks) → short n → new ≡ mid
 
 -- THE KERNEL IS IN ITS BIRTHS, whatever the disk tells: it is steady, has noted no more entries than there are entities, and has the
 -- room for births still
@@ -93,5 +93,5 @@ module _ {D : Type 0} (disks : Ghosts D) where
     pub calm : OnOk result (IsCalm b new.noted.entries)
     pub complete : OnOk result (new.noted.entries ≡ opening b.supply b.script b.state)
     pub part : OnErr result (StopsIn b (opening b.supply b.script b.state) [] new.noted.entries)
-    pub enough : (n : NoBlocks) → IsErrOf result (TooFew n) → LacksIn b (opening b.supply b.script b.state) [] new
+    pub enough : (n : NoBlocks) → IsErrOf result (reason.NoBlocks n) → LacksIn b (opening b.supply b.script b.state) [] new
     pub lives : IfErr result (λ why. LivesAs disks b new (Some (stop_of why)))

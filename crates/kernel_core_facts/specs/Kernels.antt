@@ -1,7 +1,9 @@
 -- A kernel, as contracts see it.
-use Rattle.std.specs.Prelude.{◌≡◌, ℕ, ◌+◌, ◌≤◌, ◌^◌, false, List, [], Option, Some, None, slice_get}
+use Rattle.std.specs.Prelude.{◌≡◌, ℕ, ◌+◌, ◌≤◌, ◌^◌, false, List, [], ◌++◌, Option, Some, None, slice_get}
 use Rattle.std.specs.Option.{option_map}
 use Rattle.edge_disk.specs.declared.disk.Disk.{Ghosts}
+use Rattle.edge_disk.specs.declared.disk.NoBlocks.{NoBlocks}
+use Rattle.base_types.specs.declared.histories.Entry.{Entry}
 use Rattle.table_births.specs.model_kernel.State.{Supply}
 use Rattle.table_births.specs.cell_states.declared.cells.Cell.{Cell}
 use Rattle.table_births.specs.table_laws.Tables.{AreClean, IsOrderly}
@@ -9,10 +11,13 @@ use Rattle.kernel_commits.specs.kernel_record_facts.Cells.{words_on}
 use Rattle.kernel_commits.specs.store_facts.State.{State, books}
 use Rattle.kernel_commits.specs.kernel_invariant.Beginnings.{Beginning}
 use Rattle.kernel_commits.specs.kernel_book_laws.Matching.{version_of}
+use Rattle.kernel_commits.specs.kernel_commit_facts.Lacking.{LacksIn}
 use Rattle.kernel_commits.specs.kernel_commit_facts.Parts.{LivesAs, Parts}
+use Rattle.kernel_commits.specs.kernel_commit_facts.Pieces.{StopsIn}
 use Rattle.kernel_commits.specs.Parts.{stop_of}
 use Rattle.kernel_commits.specs.kernel_commit_facts.Steady.{IsSound, IsSteady}
 use Rattle.kernel_commits.specs.declared.stopping.Stopped.{Stopped}
+use Rattle.kernel_commits.specs.declared.stopping.Stopped.TheVariants as reason
 
 -- its parts, and why it has stopped, if it has
 pub record Held (D : Type 0) : Type 0 where
@@ -45,3 +50,10 @@ module _ {D : Type 0} (disks : Ghosts D) where
   pub record Lives (b : Beginning) (k : Held D) : Type 0 where
     pub live : LivesAs disks b k.parts (option_map stop_of k.stop)
     pub clean : k.stop ≡ None → AreClean b.supply (words_on (disks.reading k.parts.store.disk)) k.parts.cells
+
+-- WHAT A CALL NOTED IN A RUN of a kernel that went on: where it goes on still, the whole of this piece; where it has stopped, a part of it, and for
+-- want of blocks only where the image lacks them
+pub record NotesAlong {D : Type 0} (b : Beginning) (all : List Entry) (old new : Held D) : Type 0 where
+  pub whole : new.stop ≡ None → new.parts.noted.entries ≡ old.parts.noted.entries ++ all
+  pub part : (why : Stopped) → new.stop ≡ Some why → StopsIn b all old.parts.noted.entries new.parts.noted.entries
+  pub enough : (n : NoBlocks) → new.stop ≡ Some (reason.NoBlocks n) → LacksIn b all old.parts.noted.entries new.parts

@@ -10,6 +10,7 @@ use Rattle.kernel_commits.specs.kernel_commit_facts.Parts.{LivesAs, Parts, Stand
 use Rattle.kernel_commits.specs.Parts.{stop_of}
 use Rattle.kernel_core_facts.specs.Stepping.{HasStepped, StopsStep}
 use Rattle.kernel_commits.specs.Stops.{LeavesStopped}
+use Rattle.kernel_commits.specs.Telling.{AddsNoTried}
 use Rattle.kernel_commits.specs.declared.stopping.Stopped.{Stopped}
 
 module _ {D : Type 0} (disks : Ghosts D) where
@@ -22,6 +23,12 @@ module _ {D : Type 0} (disks : Ghosts D) where
 
   abbrev pub StopsLook : ℕ → Parts D → Parts D → Stopped → Type 0
   StopsLook me old new why = StopsStep disks old new why ⊎ StopsBehind me old new why
+
+  -- THE LOOK WAS MADE, whatever the disk tells: its step, with this entry, and behind it what it owed or what was wished, with no Tried
+  pub record LooksOnce (me : ℕ) (old new : Parts D) (e : Entry) : Type 0 where
+    pub mid : Parts D
+    pub stepped : HasStepped disks me old mid e
+    pub behind : AddsNoTried mid.noted.entries new.noted.entries
 
   -- THE LOOK: the kernel goes on at rest, with its step and what comes behind it, or is live where it stopped
   pub record LooksInRun (b : Beginning) (policy : Policy) (me : ℕ) {T : Type 0} (result : Result T Stopped) (old new : Parts D) : Type 0 where

@@ -24,7 +24,7 @@ use Rattle.kernel_commits.specs.model_serial.Serial.{IsBehind, written_in}
 use Rattle.kernel_commits.specs.kernel_commit_facts.Parts.{Parts, StandsAs}
 use Rattle.kernel_commits.specs.kernel_commit_facts.Steady.{entries_taken, steps_to_come}
 use Rattle.kernel_commits.specs.declared.stopping.Stopped.{Stopped}
-use Rattle.kernel_commits.specs.declared.stopping.Stopped.TheVariants.{Failed, TooFew}
+use Rattle.kernel_commits.specs.declared.stopping.Stopped.TheVariants as reason
 
 -- why a locus can't step, if it can't, whatever the blocks hold
 abbrev pub idle_at : Supply → (ℕ → List ℕ) → ℕ → List Cell → Option Idle
@@ -35,12 +35,19 @@ abbrev pub is_ok : Answer → Bool
 is_ok (Replied AnsweredOk) = true
 is_ok answer = false
 
--- why a fault of paging stops the kernel
+-- the faults of paging over a store that works
+abbrev pub IsOfOpen : PageFault → Type 0
+IsOfOpen (page.NoBlocks n) = Unit {0}
+IsOfOpen page.ReadFault = Unit {0}
+IsOfOpen page.WriteFault = Unit {0}
+IsOfOpen page.Shut = ⊥
+
+-- why such a fault stops the kernel
 abbrev pub stop_by : PageFault → Stopped
-stop_by (page.NoBlocks n) = TooFew n
-stop_by page.ReadFault = Failed
-stop_by page.WriteFault = Failed
-stop_by page.Shut = Failed
+stop_by (page.NoBlocks n) = reason.NoBlocks n
+stop_by page.ReadFault = reason.ReadFault
+stop_by page.WriteFault = reason.WriteFault
+stop_by page.Shut = reason.WriteFault
 
 module _ {D : Type 0} (disks : Ghosts D) where
   -- A STEP was made and its entry noted
@@ -51,10 +58,11 @@ module _ {D : Type 0} (disks : Ghosts D) where
     pub room : new.noted.room ≡ old.noted.room
     pub spare : steps_to_come new.cells + entries_taken new.noted.entries < new.noted.room
 
-  -- the cause of a stop: a block was wanted and none free, or the disk's count of faults rose
+  -- the cause of a stop: a block was wanted and none free, or the disk's count of faults rose, at a read or at a write
   abbrev pub HasCause : Parts D → Parts D → Stopped → Type 0
-  HasCause old new (TooFew n) = (free_in (books old.store) ≡ 0) × (n ≡ record { need = 1; free = 0 })
-  HasCause old new Failed = Rose (disks.faults old.store.disk) (disks.faults new.store.disk)
+  HasCause old new (reason.NoBlocks n) = (free_in (books old.store) ≡ 0) × (n ≡ record { need = 1; free = 0 })
+  HasCause old new reason.ReadFault = Rose (disks.faults old.store.disk) (disks.faults new.store.disk)
+  HasCause old new reason.WriteFault = Rose (disks.faults old.store.disk) (disks.faults new.store.disk)
 
   -- NO STEP WAS MADE, for a fault: nothing is noted
   pub record StopsStep (old new : Parts D) (why : Stopped) : Type 0 where

@@ -1,8 +1,7 @@
 -- A kernel along its course: by one pick, by one locus, and to its end.
-use Rattle.std.proofs.Common.{◌≡◌, ℕ, ◌+◌, ◌<◌, ◌≤◌, List, [], ◌∷◌, ◌++◌, length, Option, Some, slice_get, sym, ap, subst, ◌∙◌}
-use Rattle.std.specs.Prelude.{Result}
+use Rattle.std.proofs.Common.{◌≡◌, ℕ, ◌+◌, ◌<◌, ◌≤◌, List, [], ◌∷◌, ◌++◌, length, Some, slice_get, sym, ap, subst, ◌∙◌}
 use Rattle.edge_disk.specs.declared.disk.Disk.{Ghosts}
-use Rattle.edge_disk.specs.declared.disk.NoBlocks.{NoBlocks as TooFewBlocks}
+use Rattle.edge_disk.specs.declared.disk.NoBlocks.{NoBlocks as Shortage}
 use Rattle.base_types.specs.declared.histories.Entry.{Entry}
 use Rattle.script_types.specs.model_kernel.Histories.{Policy}
 use Rattle.script_types.specs.model_kernel.Scripts.{Script, locus_named}
@@ -10,30 +9,25 @@ use Rattle.script_types.specs.model_kernel.Serial.{looks_of}
 use Rattle.script_types.specs.model_kernel.State.{Supply, Text}
 use Rattle.script_types.specs.model_kernel.Steps.{atlas_in}
 use Rattle.kernel_core.specs.model_births.Fitting.{Fits}
-use Rattle.kernel_core.specs.model_serial.Serial.{IsStopped, opening}
+use Rattle.kernel_core.specs.model_serial.Serial.{IsStopped, look, opening}
 use Rattle.kernel_core.specs.model_serial_turns.Turns.{ComeFirst, HasLooked, before_locus, before_pick}
 use Rattle.kernel_core.proofs.model_serial_turns_lemmas.Course.{loci_first, locus_more, picks_first}
 use Rattle.kernel_core.proofs.model_serial_turns_lemmas.Picks.{pick_now}
 use Rattle.kernel_core.proofs.model_serial_turns_lemmas.Stops.{stopped_opening}
-use Rattle.kernel_core.proofs.model_serial_turns_lemmas.Whereabouts.{looked_opening}
+use Rattle.kernel_core.proofs.model_serial_turns_lemmas.Whereabouts.{looked_more, looked_opening}
 use Rattle.kernel_core.proofs.table_births_lemmas.AtlasStates.{same_atlas}
 use Rattle.kernel_core.specs.table_births.Births.{atlas_state_in}
 use Rattle.kernel_core.specs.kernel_record_facts.Cells.{words_on}
 use Rattle.kernel_core.specs.kernel_laws.Opening.{empty_script, with_script}
 use Rattle.kernel_core.specs.kernel_invariant.Beginnings.{Beginning, run_of, state_after}
-use Rattle.kernel_core.specs.kernel_core_facts.Kernels.{Held, Lives}
+use Rattle.kernel_core.specs.kernel_core_facts.Kernels.{Held, Lives, NotesAlong}
 use Rattle.kernel_core.specs.kernel_commit_facts.Lacking.{LacksIn}
 use Rattle.kernel_core.specs.kernel_commit_facts.Pieces.{StopsIn}
 use Rattle.kernel_core.specs.kernel_commits.declared.stopping.Stopped.{Stopped}
-use Rattle.kernel_core.specs.kernel_commits.declared.stopping.Stopped.TheVariants.{TooFew}
-use Rattle.kernel_core.proofs.kernel_commit_facts_lemmas.Dues.{due_opening}
-use Rattle.kernel_core.proofs.kernel_commits_lemmas.Wishing.{fault_in}
+use Rattle.kernel_core.specs.kernel_commits.declared.stopping.Stopped.TheVariants as reason
+use Rattle.kernel_core.proofs.kernel_commit_facts_lemmas.Dues.{due_looks, due_opening}
 use Rattle.kernel_runs.specs.Running.{HasStopped, IsOver, IsRunBy, RunsAlong, TakesOn, opened_in}
-use Rattle.kernel_runs.proofs.Course.{over}
-
--- a call tells why the kernel stopped
-pub told_stop : (T : Type 0) (o : Option Stopped) (why stop : Stopped) → o ≡ Some why → o ≡ Some stop → fault_in T why ≡ fault_in T stop
-told_stop T o why stop is same = let e : why ≡ stop = cc (is, same) in ap (fault_in T) e
+use Rattle.kernel_runs.proofs.Course.{one_look, over, part_of_look}
 
 -- the next locus of a round
 pub locus_next : (b : Beginning) (made l : ℕ) → 41 ≤ l → l < 64 → before_locus b.script (opened_in b) made (l + 1) ≡ before_locus b.script (opened_in b) made l ++ l ∷ []
@@ -87,22 +81,44 @@ module _ {D : Type 0} (disks : Ghosts D) (supply : Supply) (policy : Policy) whe
   opens b k lives same = record { lives = lives; looks = subst (HasLooked b.supply b.policy b.script b.state []) (sym same) (looked_opening b.supply b.policy b.script b.state) }
 
   -- the births were stopped
-  pub stops_opening : (b : Beginning) (k : Held D) → Lives disks b k → StopsIn b (opening b.supply b.script b.state) [] k.parts.noted.entries
-      → ((n : TooFewBlocks) → k.stop ≡ Some (TooFew n) → LacksIn b (opening b.supply b.script b.state) [] k.parts)
+  pub stops_opening : (b : Beginning) (k0 k : Held D) → Lives disks b k → k0.parts.noted.entries ≡ [] → NotesAlong b (opening b.supply b.script b.state) k0 k → (why : Stopped) → k.stop ≡ Some why
       → HasStopped disks b k
-  stops_opening b k lives p enough = record {
-    lives = lives;
-    part = subst (IsStopped b.supply b.policy b.script b.state) (sym p.entries) (stopped_opening b.supply b.script b.policy b.state p.part p.is);
-    enough = λ n is. (enough n is).lacks;
-    due = λ n is. due_opening b k.parts.noted.entries (enough n is).due;
-  }
+  stops_opening b k0 k lives first notes why is =
+      let p = subst (λ (es : List Entry). StopsIn b (opening b.supply b.script b.state) es k.parts.noted.entries) first (notes.part why is) in
+      let lacks : (n : Shortage) → k.stop ≡ Some (reason.NoBlocks n) → LacksIn b (opening b.supply b.script b.state) [] k.parts =
+      λ n at. subst (λ (es : List Entry). LacksIn b (opening b.supply b.script b.state) es k.parts) first (notes.enough n at) in
+      record {
+        lives = lives;
+        part = subst (IsStopped b.supply b.policy b.script b.state) (sym p.entries) (stopped_opening b.supply b.script b.policy b.state p.part p.is);
+        enough = λ n at. (lacks n at).lacks;
+        due = λ n at. due_opening b k.parts.noted.entries (lacks n at).due;
+      }
+
+  -- ONE LOOK: the kernel is behind it, or was stopped in it
+  pub takes_look : (b : Beginning) (looked : List ℕ) (l : ℕ) (old new : Held D) → Along b looked old → ComeFirst b.script (opened_in b) (looked ++ l ∷ []) → Lives disks b new
+      → NotesAlong b (look b.supply b.policy b.script (run_of b old.parts.noted.entries) l) old new → TakesOn disks b (looked ++ l ∷ []) new
+  takes_look b looked l old new along first lives notes =
+      let es = old.parts.noted.entries in
+      let all = look b.supply b.policy b.script (run_of b es) l in
+      record {
+        along = λ going. record { lives = lives; looks = one_look b.supply b.policy b.script b.state looked es new.parts.noted.entries l along.looks (notes.whole going) };
+        stopped = λ why is.
+            let p = notes.part why is in
+            record {
+              lives = lives;
+              part = part_of_look b.supply b.policy b.script b.state looked es new.parts.noted.entries l along.looks first p.part p.entries p.is;
+              enough = λ n at. (notes.enough n at).lacks;
+              due = λ n at.
+                  due_looks b (looked ++ l ∷ []) es all new.parts.noted.entries (looked_more b.supply b.policy b.script b.state looked es l along.looks) first (notes.enough n at).due;
+            };
+      }
 
   -- a look at the locus of the pick
-  pub takes_pick : (b : Beginning) (i : ℕ) (name : Text) (old new : Held D) (l : ℕ) {T : Type 0} (r : Result T Stopped) (p : IsPick b old.parts.noted.entries i name) → Some l ≡ Some p.locus
-      → (ComeFirst b.script (opened_in b) (before_pick b.script (opened_in b) i ++ l ∷ []) → TakesOn disks b (before_pick b.script (opened_in b) i ++ l ∷ []) r new)
-      → TakesOn disks b (before_pick b.script (opened_in b) (i + 1)) r new
-  takes_pick b i name old new l r p same takes =
+  pub takes_pick : (b : Beginning) (i : ℕ) (name : Text) (old new : Held D) (l : ℕ) (p : IsPick b old.parts.noted.entries i name) → Some l ≡ Some p.locus
+      → (ComeFirst b.script (opened_in b) (before_pick b.script (opened_in b) i ++ l ∷ []) → TakesOn disks b (before_pick b.script (opened_in b) i ++ l ∷ []) new)
+      → TakesOn disks b (before_pick b.script (opened_in b) (i + 1)) new
+  takes_pick b i name old new l p same takes =
       let is : l ≡ p.locus = cc in
       let next : before_pick b.script (opened_in b) i ++ l ∷ [] ≡ before_pick b.script (opened_in b) (i + 1) = ap (λ x. before_pick b.script (opened_in b) i ++ x ∷ []) is ∙ sym p.next in
-      subst (λ looked. TakesOn disks b looked r new) next
+      subst (λ looked. TakesOn disks b looked new) next
       (takes (subst (λ x. ComeFirst b.script (opened_in b) (before_pick b.script (opened_in b) i ++ x ∷ [])) (sym is) p.first))

@@ -1,6 +1,7 @@
 -- What takes a kernel along the serial history of its run, and how a run ends.
-use Rattle.std.specs.Prelude.{◌≡◌, ℕ, ◌+◌, ◌*◌, List, length, Some, OnErr, OnOk, Result}
+use Rattle.std.specs.Prelude.{◌≡◌, ◌<◌, ℕ, ◌+◌, ◌*◌, List, length, None, Some, Ok, Err, Result, ⊤}
 use Rattle.edge_disk.specs.declared.disk.Disk.{Ghosts}
+use Rattle.edge_disk.specs.Counts.{Rose}
 use Rattle.edge_disk.specs.declared.disk.NoBlocks.{NoBlocks}
 use Rattle.script_types.specs.model_kernel.Histories.{Policy, Run}
 use Rattle.script_types.specs.model_kernel.State.{AtlasState, Supply}
@@ -11,8 +12,11 @@ use Rattle.kernel_core.specs.model_serial_turns.Turns.{HasLooked, opened}
 use Rattle.kernel_core.specs.kernel_invariant.Beginnings.{Beginning}
 use Rattle.kernel_core.specs.kernel_core_facts.Kernels.{Held, Lives}
 use Rattle.kernel_core.specs.kernel_commit_facts.Lacking.{IsDue, LacksBlocks}
+use Rattle.kernel_core.specs.kernel_commit_facts.Parts.{Parts}
+use Rattle.kernel_core.specs.kernel_commits.declared.stopping.Stop.{Stop}
+use Rattle.kernel_core.specs.kernel_commits.declared.stopping.Stop.TheVariants as stop
 use Rattle.kernel_core.specs.kernel_commits.declared.stopping.Stopped.{Stopped}
-use Rattle.kernel_core.specs.kernel_commits.declared.stopping.Stopped.TheVariants.{TooFew}
+use Rattle.kernel_core.specs.kernel_commits.declared.stopping.Stopped.TheVariants as reason
 
 -- these managers answer in the run, and its script fits the atlas of its state
 pub record IsRunBy (supply : Supply) (policy : Policy) (b : Beginning) : Type 0 where
@@ -32,6 +36,22 @@ end_of a = 41 + length a.loci
 abbrev pub look_most : ℕ
 look_most = 1 + 64 * 1556
 
+-- why a run stops: blocks are too few, or the disk's count of faults rose; it is never told Idle, and Shut of an earlier call alone
+abbrev pub IsCauseOf : {D : Type 0} → (D → ℕ) → Parts D → Parts D → Stop → Type 0
+IsCauseOf faults old new (stop.Idle why) = ⊥
+IsCauseOf faults old new (stop.NoBlocks n) = n.free < n.need
+IsCauseOf faults old new stop.ReadFault = Rose (faults old.store.disk) (faults new.store.disk)
+IsCauseOf faults old new stop.WriteFault = Rose (faults old.store.disk) (faults new.store.disk)
+IsCauseOf faults old new stop.Shut = ⊥
+
+-- a look that made no step is passed over
+abbrev pub past_idle : Stop → Result ⊤ Stop
+past_idle (stop.Idle why) = Ok tt
+past_idle (stop.NoBlocks n) = Err (stop.NoBlocks n)
+past_idle stop.ReadFault = Err stop.ReadFault
+past_idle stop.WriteFault = Err stop.WriteFault
+past_idle stop.Shut = Err stop.Shut
+
 module _ {D : Type 0} (disks : Ghosts D) where
   -- THE KERNEL IS ALONG ITS COURSE: live, and behind a look at each of these loci
   pub record RunsAlong (b : Beginning) (looked : List ℕ) (k : Held D) : Type 0 where
@@ -43,8 +63,8 @@ module _ {D : Type 0} (disks : Ghosts D) where
   pub record HasStopped (b : Beginning) (k : Held D) : Type 0 where
     pub lives : Lives disks b k
     pub part : IsStopped b.supply b.policy b.script b.state k.parts.noted.entries
-    pub enough : (n : NoBlocks) → k.stop ≡ Some (TooFew n) → LacksBlocks b k.parts
-    pub due : (n : NoBlocks) → k.stop ≡ Some (TooFew n) → IsDue b k.parts.noted.entries
+    pub enough : (n : NoBlocks) → k.stop ≡ Some (reason.NoBlocks n) → LacksBlocks b k.parts
+    pub due : (n : NoBlocks) → k.stop ≡ Some (reason.NoBlocks n) → IsDue b k.parts.noted.entries
 
   -- THE RUN IS OVER: the kernel is live, and has noted the whole serial history
   pub record IsOver (b : Beginning) (k : Held D) : Type 0 where
@@ -52,11 +72,11 @@ module _ {D : Type 0} (disks : Ghosts D) where
     pub whole : IsWhole b.supply b.policy b.script b.state k.parts.noted.entries
 
   -- WHAT LOOKS LEAVE: the kernel is behind them all, or was stopped in one
-  pub record TakesOn (b : Beginning) (looked : List ℕ) {T : Type 0} (result : Result T Stopped) (new : Held D) : Type 0 where
-    pub along : OnOk result (RunsAlong b looked new)
-    pub stopped : OnErr result (HasStopped b new)
+  pub record TakesOn (b : Beginning) (looked : List ℕ) (new : Held D) : Type 0 where
+    pub along : new.stop ≡ None → RunsAlong b looked new
+    pub stopped : (why : Stopped) → new.stop ≡ Some why → HasStopped b new
 
   -- WHAT A RUN LEAVES
-  pub record EndsRun (b : Beginning) {T : Type 0} (result : Result T Stopped) (new : Held D) : Type 0 where
-    pub over : OnOk result (IsOver b new)
-    pub stopped : OnErr result (HasStopped b new)
+  pub record EndsRun (b : Beginning) (new : Held D) : Type 0 where
+    pub over : new.stop ≡ None → IsOver b new
+    pub stopped : (why : Stopped) → new.stop ≡ Some why → HasStopped b new

@@ -1,42 +1,52 @@
 // Looks at loci, by number and by name.
-ghost use Rattle.std.specs.Prelude.{◌≡◌, ◌+◌, ◌*◌, ◌++◌, ◌∷◌, [], ℕ, List, None, Some, Err, IfErr, IfSome, OnOk, length, map, slice_get, string_bytes};
+ghost use Rattle.std.specs.Prelude.{◌≡◌, ◌+◌, ◌*◌, ◌++◌, ◌∷◌, [], ℕ, List, None, Some, Err, IfErr, IfSome, length, map, slice_get, string_bytes};
 ghost use Rattle.script_types.specs.model_kernel.Scripts.{locus_named};
 ghost use Rattle.script_types.specs.model_kernel.Serial.{looks_of};
 ghost use Rattle.script_types.specs.model_kernel.Steps.{atlas_in};
 ghost use Rattle.kernel_core.specs.kernel_commit_facts.Pieces.{CountsWithin};
-ghost use Rattle.kernel_core.specs.kernel_commits.Stops.{IsCause};
+ghost use Rattle.kernel_core.specs.kernel_commits.Telling.{Tells, TriesByAnswer, told_again};
 ghost use Rattle.kernel_core.specs.kernel_core_facts.Kernels.{Lives, StaysClean};
 ghost use Rattle.kernel_core.specs.kernel_invariant.Beginnings.{Beginning, run_of};
-ghost use Rattle.kernel_runs.specs.Running.{IsRunBy, RunsAlong, TakesOn, look_most, opened_in};
+ghost use Rattle.kernel_runs.specs.Running.{IsCauseOf, IsRunBy, RunsAlong, TakesOn, look_most, opened_in, past_idle};
 ghost use Rattle.kernel_core.specs.model_serial_turns.Turns.{ComeFirst, before_pick};
 
 use base_types::{Entity, Kind};
 use edge_disk::Disk;
 use edge_managers::{Gate, Policy, Supplier};
-use kernel_core::{Kernel, Stopped};
+use kernel_core::{Kernel, Stop};
+
+/// A look that made no step is passed over.
+fn unless_idle(stop: Stop) -> Result<(), Stop>
+    ensures { result ≡ past_idle stop }
+{
+    match stop {
+        Stop::Idle(_) => Ok(()),
+        _ => Err(stop),
+    }
+}
 
 /// One look at the locus with this number.
 pub(crate) fn look_at<D: Disk, S: Supplier, P: Policy>(
     kernel: &mut Kernel<D>,
     locus: Entity,
     gate: &Gate<S, P>,
-) -> Result<(), Stopped>
+) -> Result<(), Stop>
     requires keeps { S.keeps gate.now.supply }
     requires wishes { P.keeps gate.now.policy }
     requires clean { StaysClean D.Disk (S.word gate.now.supply) kernel.old }
     requires going { kernel.old.stop ≡ None }
-    ensures stops { IfErr result (λ why. kernel.new.stop ≡ Some why) }
-    ensures goes { OnOk result (kernel.new.stop ≡ None) }
-    ensures caused { IfErr result (IsCause D.faults kernel.old.parts kernel.new.parts) }
+    ensures ends { Tells result kernel.new.stop }
+    ensures caused { IfErr result (IsCauseOf D.faults kernel.old.parts kernel.new.parts) }
+    ensures tries { TriesByAnswer result kernel.old.parts.noted.entries kernel.new.parts.noted.entries }
     ensures clean { StaysClean D.Disk (S.word gate.now.supply) kernel.new }
     ensures counts { CountsWithin D.Disk (look_most) kernel.old.parts.store kernel.new.parts.store }
     ensures run { D.tells → (b : Beginning) (looked : List ℕ) → IsRunBy (S.word gate.now.supply) (P.wish gate.now.policy) b
         → ComeFirst b.script (opened_in b) (looked ++ locus ∷ []) → RunsAlong D.Disk b looked kernel.old
-        → TakesOn D.Disk b (looked ++ locus ∷ []) result kernel.new }
+        → TakesOn D.Disk b (looked ++ locus ∷ []) kernel.new }
 {
     match kernel.step(locus, gate) {
         Ok(_) => Ok(()),
-        Err(why) => Err(why),
+        Err(stop) => unless_idle(stop),
     }
 }
 
@@ -57,20 +67,20 @@ fn look_for<D: Disk, S: Supplier, P: Policy>(
     kernel: &mut Kernel<D>,
     name: &str,
     gate: &Gate<S, P>,
-) -> Result<(), Stopped>
+) -> Result<(), Stop>
     requires keeps { S.keeps gate.now.supply }
     requires wishes { P.keeps gate.now.policy }
     requires clean { StaysClean D.Disk (S.word gate.now.supply) kernel.old }
     requires going { kernel.old.stop ≡ None }
-    ensures stops { IfErr result (λ why. kernel.new.stop ≡ Some why) }
-    ensures goes { OnOk result (kernel.new.stop ≡ None) }
-    ensures caused { IfErr result (IsCause D.faults kernel.old.parts kernel.new.parts) }
+    ensures ends { Tells result kernel.new.stop }
+    ensures caused { IfErr result (IsCauseOf D.faults kernel.old.parts kernel.new.parts) }
+    ensures tries { TriesByAnswer result kernel.old.parts.noted.entries kernel.new.parts.noted.entries }
     ensures clean { StaysClean D.Disk (S.word gate.now.supply) kernel.new }
     ensures counts { CountsWithin D.Disk (look_most) kernel.old.parts.store kernel.new.parts.store }
     ensures run { D.tells → (b : Beginning) (i : ℕ) → IsRunBy (S.word gate.now.supply) (P.wish gate.now.policy) b
         → slice_get b.script.order i ≡ Some name.now
         → RunsAlong D.Disk b (before_pick b.script (opened_in b) i) kernel.old
-        → TakesOn D.Disk b (before_pick b.script (opened_in b) (i + 1)) result kernel.new }
+        → TakesOn D.Disk b (before_pick b.script (opened_in b) (i + 1)) kernel.new }
 {
     match locus_called(kernel, name) {
         Some(locus) => look_at(kernel, locus, gate),
@@ -83,54 +93,55 @@ fn look_for_all<D: Disk, S: Supplier, P: Policy>(
     kernel: &mut Kernel<D>,
     order: &[String],
     gate: &Gate<S, P>,
-) -> Result<(), Stopped>
+) -> Result<(), Stop>
     requires keeps { S.keeps gate.now.supply }
     requires wishes { P.keeps gate.now.policy }
     requires clean { StaysClean D.Disk (S.word gate.now.supply) kernel.old }
     requires going { kernel.old.stop ≡ None }
-    ensures stops { IfErr result (λ why. kernel.new.stop ≡ Some why) }
-    ensures goes { OnOk result (kernel.new.stop ≡ None) }
-    ensures caused { IfErr result (IsCause D.faults kernel.old.parts kernel.new.parts) }
+    ensures ends { Tells result kernel.new.stop }
+    ensures caused { IfErr result (IsCauseOf D.faults kernel.old.parts kernel.new.parts) }
+    ensures tries { TriesByAnswer result kernel.old.parts.noted.entries kernel.new.parts.noted.entries }
     ensures clean { StaysClean D.Disk (S.word gate.now.supply) kernel.new }
     ensures counts { CountsWithin D.Disk (length order.now * look_most) kernel.old.parts.store kernel.new.parts.store }
     ensures run { D.tells → (b : Beginning) → IsRunBy (S.word gate.now.supply) (P.wish gate.now.policy) b
         → b.script.order ≡ map string_bytes order.now
         → RunsAlong D.Disk b [] kernel.old
-        → TakesOn D.Disk b (looks_of b.script (opened_in b) 0) result kernel.new }
+        → TakesOn D.Disk b (looks_of b.script (opened_in b) 0) kernel.new }
 {
     for i in 0..order.len() {
-        if let Err(why) = look_for(kernel, order[i].as_str(), gate) {
-            return Err(why);
+        if let Err(stop) = look_for(kernel, order[i].as_str(), gate) {
+            return Err(stop);
         }
     }
     Ok(())
 }
 
-/// Plays the order of a script whose births were made: a look at the locus of each name, one after another. A kernel that has stopped
-/// does nothing, and tells why it stopped; one that a fault meets stops, and looks at no more.
+/// Plays the order of a script whose births were made: a look at the locus of each name, one after another. A kernel that a fault meets
+/// stops, and looks at no more. A kernel that has stopped does nothing, and answers `Shut` behind a fault of the disk, and the same
+/// `NoBlocks` behind want of blocks.
 ///
 /// Each look costs a search for the name in the directory, and 99,585 writes and syncs at most.
 pub fn play<D: Disk, S: Supplier, P: Policy>(
     kernel: &mut Kernel<D>,
     order: &[String],
     gate: &Gate<S, P>,
-) -> Result<(), Stopped>
+) -> Result<(), Stop>
     requires keeps { S.keeps gate.now.supply }
     requires wishes { P.keeps gate.now.policy }
     requires clean { StaysClean D.Disk (S.word gate.now.supply) kernel.old }
-    ensures was_stopped { IfSome kernel.old.stop (λ why. (result ≡ Err why) × (kernel.new ≡ kernel.old)) }
-    ensures stops { IfErr result (λ why. kernel.new.stop ≡ Some why) }
-    ensures goes { OnOk result (kernel.new.stop ≡ None) }
-    ensures caused { kernel.old.stop ≡ None → IfErr result (IsCause D.faults kernel.old.parts kernel.new.parts) }
+    ensures was_stopped { IfSome kernel.old.stop (λ why. (result ≡ Err (told_again why)) × (kernel.new ≡ kernel.old)) }
+    ensures ends { kernel.old.stop ≡ None → Tells result kernel.new.stop }
+    ensures caused { kernel.old.stop ≡ None → IfErr result (IsCauseOf D.faults kernel.old.parts kernel.new.parts) }
+    ensures tries { TriesByAnswer result kernel.old.parts.noted.entries kernel.new.parts.noted.entries }
     ensures clean { StaysClean D.Disk (S.word gate.now.supply) kernel.new }
     ensures counts { CountsWithin D.Disk (length order.now * look_most) kernel.old.parts.store kernel.new.parts.store }
     ensures run { D.tells → kernel.old.stop ≡ None → (b : Beginning) → IsRunBy (S.word gate.now.supply) (P.wish gate.now.policy) b
         → b.script.order ≡ map string_bytes order.now
         → RunsAlong D.Disk b [] kernel.old
-        → TakesOn D.Disk b (looks_of b.script (opened_in b) 0) result kernel.new }
+        → TakesOn D.Disk b (looks_of b.script (opened_in b) 0) kernel.new }
 {
     if let Some(why) = kernel.stopped() {
-        return Err(why);
+        return Err(why.told_again());
     }
     look_for_all(kernel, order, gate)
 }

@@ -1,18 +1,18 @@
 // Rounds over all loci, until one makes no entry.
-ghost use Rattle.std.specs.Prelude.{◌≡◌, ◌+◌, ◌*◌, ◌^◌, ◌≤◌, ℕ, None, Some, Err, IfErr, IfSome, OnOk, length};
+ghost use Rattle.std.specs.Prelude.{◌≡◌, ◌+◌, ◌*◌, ◌^◌, ◌≤◌, ℕ, None, Some, Err, IfErr, IfSome, length};
 ghost use Rattle.script_types.specs.model_kernel.Serial.{looks_of};
 ghost use Rattle.script_types.specs.model_kernel.Steps.{atlas_in};
 ghost use Rattle.kernel_core.specs.kernel_commit_facts.Pieces.{CountsWithin};
-ghost use Rattle.kernel_core.specs.kernel_commits.Stops.{IsCause};
+ghost use Rattle.kernel_core.specs.kernel_commits.Telling.{Tells, TriesByAnswer, told_again};
 ghost use Rattle.kernel_core.specs.kernel_core_facts.Kernels.{Lives, StaysClean};
 ghost use Rattle.kernel_core.specs.kernel_invariant.Beginnings.{Beginning, run_of};
-ghost use Rattle.kernel_runs.specs.Running.{EndsRun, IsRunBy, RunsAlong, TakesOn, end_of, look_most, opened_in};
+ghost use Rattle.kernel_runs.specs.Running.{EndsRun, IsCauseOf, IsRunBy, RunsAlong, TakesOn, end_of, look_most, opened_in};
 
 use crate::looking::look_at;
 use base_types::{Entity, FIRST_LOCUS, Kind};
 use edge_disk::Disk;
 use edge_managers::{Gate, Policy, Supplier};
-use kernel_core::{Kernel, Stopped};
+use kernel_core::{Kernel, Stop};
 
 /// The number behind the last locus that is born.
 fn loci_end<D: Disk>(kernel: &Kernel<D>) -> u8
@@ -27,24 +27,24 @@ fn loci_end<D: Disk>(kernel: &Kernel<D>) -> u8
 fn round<D: Disk, S: Supplier, P: Policy>(
     kernel: &mut Kernel<D>,
     gate: &Gate<S, P>,
-) -> Result<(), Stopped>
+) -> Result<(), Stop>
     requires keeps { S.keeps gate.now.supply }
     requires wishes { P.keeps gate.now.policy }
     requires clean { StaysClean D.Disk (S.word gate.now.supply) kernel.old }
     requires going { kernel.old.stop ≡ None }
-    ensures stops { IfErr result (λ why. kernel.new.stop ≡ Some why) }
-    ensures goes { OnOk result (kernel.new.stop ≡ None) }
-    ensures caused { IfErr result (IsCause D.faults kernel.old.parts kernel.new.parts) }
+    ensures ends { Tells result kernel.new.stop }
+    ensures caused { IfErr result (IsCauseOf D.faults kernel.old.parts kernel.new.parts) }
+    ensures tries { TriesByAnswer result kernel.old.parts.noted.entries kernel.new.parts.noted.entries }
     ensures clean { StaysClean D.Disk (S.word gate.now.supply) kernel.new }
     ensures counts { CountsWithin D.Disk (23 * look_most) kernel.old.parts.store kernel.new.parts.store }
     ensures run { D.tells → (b : Beginning) (made : ℕ) → IsRunBy (S.word gate.now.supply) (P.wish gate.now.policy) b
         → RunsAlong D.Disk b (looks_of b.script (opened_in b) made) kernel.old
-        → TakesOn D.Disk b (looks_of b.script (opened_in b) (made + 1)) result kernel.new }
+        → TakesOn D.Disk b (looks_of b.script (opened_in b) (made + 1)) kernel.new }
 {
     let mut number = FIRST_LOCUS;
     while number < loci_end(kernel) {
-        if let Err(why) = look_at(kernel, Entity::of(number), gate) {
-            return Err(why);
+        if let Err(stop) = look_at(kernel, Entity::of(number), gate) {
+            return Err(stop);
         }
         number += 1;
     }
@@ -63,24 +63,24 @@ fn entries_noted<D: Disk>(kernel: &Kernel<D>) -> usize
 fn go_round<D: Disk, S: Supplier, P: Policy>(
     kernel: &mut Kernel<D>,
     gate: &Gate<S, P>,
-) -> Result<(), Stopped>
+) -> Result<(), Stop>
     requires keeps { S.keeps gate.now.supply }
     requires wishes { P.keeps gate.now.policy }
     requires clean { StaysClean D.Disk (S.word gate.now.supply) kernel.old }
     requires going { kernel.old.stop ≡ None }
-    ensures stops { IfErr result (λ why. kernel.new.stop ≡ Some why) }
-    ensures goes { OnOk result (kernel.new.stop ≡ None) }
-    ensures caused { IfErr result (IsCause D.faults kernel.old.parts kernel.new.parts) }
+    ensures ends { Tells result kernel.new.stop }
+    ensures caused { IfErr result (IsCauseOf D.faults kernel.old.parts kernel.new.parts) }
+    ensures tries { TriesByAnswer result kernel.old.parts.noted.entries kernel.new.parts.noted.entries }
     ensures clean { StaysClean D.Disk (S.word gate.now.supply) kernel.new }
     ensures counts { CountsWithin D.Disk ((2 ^ 22 + 1) * (23 * look_most)) kernel.old.parts.store kernel.new.parts.store }
     ensures run { D.tells → (b : Beginning) (made : ℕ) → IsRunBy (S.word gate.now.supply) (P.wish gate.now.policy) b
         → RunsAlong D.Disk b (looks_of b.script (opened_in b) made) kernel.old
-        → EndsRun D.Disk b result kernel.new }
+        → EndsRun D.Disk b kernel.new }
 {
     loop {
         let noted = entries_noted(kernel);
-        if let Err(why) = round(kernel, gate) {
-            return Err(why);
+        if let Err(stop) = round(kernel, gate) {
+            return Err(stop);
         }
         if entries_noted(kernel) <= noted {
             return Ok(());
@@ -88,30 +88,31 @@ fn go_round<D: Disk, S: Supplier, P: Policy>(
     }
 }
 
-/// Goes on, behind the picks of an order or behind whole rounds, with rounds over the loci until one makes no entry. A kernel that has
-/// stopped does nothing, and tells why it stopped; one that a fault meets stops, and looks at no more.
+/// Goes on, behind the picks of an order or behind whole rounds, with rounds over the loci until one makes no entry. A kernel that a fault
+/// meets stops, and looks at no more. A kernel that has stopped does nothing, and answers `Shut` behind a fault of the disk, and the same
+/// `NoBlocks` behind want of blocks.
 ///
 /// A round costs a look at each locus that is born. Each round but the last notes an entry, so there are at most as many as the loci have
 /// steps, and one beside.
 pub fn finish<D: Disk, S: Supplier, P: Policy>(
     kernel: &mut Kernel<D>,
     gate: &Gate<S, P>,
-) -> Result<(), Stopped>
+) -> Result<(), Stop>
     requires keeps { S.keeps gate.now.supply }
     requires wishes { P.keeps gate.now.policy }
     requires clean { StaysClean D.Disk (S.word gate.now.supply) kernel.old }
-    ensures was_stopped { IfSome kernel.old.stop (λ why. (result ≡ Err why) × (kernel.new ≡ kernel.old)) }
-    ensures stops { IfErr result (λ why. kernel.new.stop ≡ Some why) }
-    ensures goes { OnOk result (kernel.new.stop ≡ None) }
-    ensures caused { kernel.old.stop ≡ None → IfErr result (IsCause D.faults kernel.old.parts kernel.new.parts) }
+    ensures was_stopped { IfSome kernel.old.stop (λ why. (result ≡ Err (told_again why)) × (kernel.new ≡ kernel.old)) }
+    ensures ends { kernel.old.stop ≡ None → Tells result kernel.new.stop }
+    ensures caused { kernel.old.stop ≡ None → IfErr result (IsCauseOf D.faults kernel.old.parts kernel.new.parts) }
+    ensures tries { TriesByAnswer result kernel.old.parts.noted.entries kernel.new.parts.noted.entries }
     ensures clean { StaysClean D.Disk (S.word gate.now.supply) kernel.new }
     ensures counts { CountsWithin D.Disk ((2 ^ 22 + 1) * (23 * look_most)) kernel.old.parts.store kernel.new.parts.store }
     ensures run { D.tells → kernel.old.stop ≡ None → (b : Beginning) (made : ℕ) → IsRunBy (S.word gate.now.supply) (P.wish gate.now.policy) b
         → RunsAlong D.Disk b (looks_of b.script (opened_in b) made) kernel.old
-        → EndsRun D.Disk b result kernel.new }
+        → EndsRun D.Disk b kernel.new }
 {
     if let Some(why) = kernel.stopped() {
-        return Err(why);
+        return Err(why.told_again());
     }
     go_round(kernel, gate)
 }

@@ -3,6 +3,6 @@
 
 mod opening;
 
-pub use kernel_core::{Ended, Kernel, Stopped};
+pub use kernel_core::{Ended, Kernel, Stop, Stopped};
 pub use open_image::{OpenFault, OpenWhy};
 pub use opening::open_image;

@@ -1,5 +1,5 @@
 -- What the calls of a memory do to its pages and to its page store.
-use Rattle.std.specs.Prelude.{◌≡◌, ◌≢◌, ◌↔◌, ◌⊎◌, ℕ, ◌+◌, ◌≤◌, Bool, false, true, List, Result, IsErrOf, IsOk, OnErr, OnOk, None, is_some, IsTrue, ◌||◌}
+use Rattle.std.specs.Prelude.{◌≡◌, ◌≢◌, ◌↔◌, ◌⊎◌, ℕ, ◌+◌, ◌≤◌, Bool, false, true, List, Result, IfErr, IsErrOf, IsOk, OnErr, OnOk, None, is_some, IsTrue, ◌||◌}
 use Rattle.page_store.specs.Pages.{SameWords}
 use Rattle.page_store.specs.declared.store.PageStore.{Ghosts}
 use Rattle.page_store.specs.model_kernel.State.{Supply}
@@ -180,3 +180,11 @@ WordsStay stores these old new = SameWords stores.held stores.kept_names stores.
 -- the same where this block, if there is one, may be written unless a kept record names it
 abbrev pub WordsStayBut : {B : Type 0} → Ghosts B → ℕ → B → B → Type 0
 WordsStayBut stores block old new = (n : ℕ) → IsTrue (stores.held old n || stores.kept_names old n) → (block ≢ 0 → n ≡ block → stores.kept_names old n ≡ true) → stores.words new n ≡ stores.words old n
+
+-- A call that makes at most one page write: a fault has its cause, a call that succeeds leaves the store open or shut as it was, and
+-- nothing but calls of the store lie between.
+pub record PagesOnce {B T : Type 0} (stores : Ghosts B) (b b' : B) (result : Result T PageFault) : Type 0 where
+  pub cause : IfErr result (IsCausedIn stores b b')
+  pub same_shut : OnOk result (stores.is_shut b' ≡ stores.is_shut b)
+  pub one_write : stores.written b' ≤ stores.written b + 1
+  pub between : stores.Pages b b'

@@ -8,4 +8,4 @@ mod lending;
 pub use bearing::bear_next;
 pub use cell_births::{Part, Progress, Storage};
 pub use lending::atlas_of;
-pub use table_steps::{Cell, StepFault, advance};
+pub use table_steps::{Cell, Made, StepFault, advance};

@@ -15,8 +15,8 @@ use Rattle.cell_steps.specs.cell_states.Cells.{container_cell, part_of}
 use Rattle.cell_steps.specs.cell_calls.Besides.{FitsBeside}
 use Rattle.cell_step_laws.proofs.SoundPlans.{fits_here, locus_here}
 use Rattle.cell_steps.specs.cell_plans.Plans.{IsPlanned}
-use Rattle.cell_steps.specs.cell_plans.declared.plans.Plan.{Plan}
-use Rattle.cell_steps.specs.cell_plans.declared.plans.Plan.TheVariants as plan
+use Rattle.cell_steps.specs.cell_plans.declared.plans.Reach.{Reach}
+use Rattle.cell_steps.specs.cell_plans.declared.plans.Reach.TheVariants as reach
 use Rattle.table_laws.specs.Steps.{IsPlannedAt}
 use Rattle.table_laws.specs.Tables.{AreFewWrites, HasKind, IsOrderly, entity_in, state_in}
 pub use Rattle.table_laws.proofs.Having.{no_supply, no_words}
@@ -47,33 +47,33 @@ module _ (held : ℕ → Bool) (cs : List Cell) (orderly : IsOrderly held cs) wh
   pub high_at : (x : ℕ) (c : Cell) (l : Locus) → slice_get cs x ≡ Some c → c.part ≡ part.Locus (Some l) → 40 < x
   high_at x c l is at = subst (HasKind x) at (orderly.kinds x c is)
 
-  module _ (me : ℕ) (p : Plan) (planned : IsPlannedAt cs me p) (a : Cell) (is : slice_get cs me ≡ Some a) where
-    pub plan_of : IsPlanned a p
-    plan_of = subst (λ c. IsPlanned c p) (same_Some planned.cell a (sym planned.is ∙ is)) planned.plan
+  module _ (me : ℕ) (i : Instr) (p : Reach) (planned : IsPlannedAt cs me i p) (a : Cell) (is : slice_get cs me ≡ Some a) where
+    pub plan_of : IsPlanned a i p
+    plan_of = subst (λ c. IsPlanned c i p) (same_Some planned.cell a (sym planned.is ∙ is)) planned.plan
 
   -- BESIDE
   pub record FacesOther (a b : Cell) (i : Instr) : Type 0 where
-    pub planned : IsPlanned a (plan.Beside b.clock.entity i)
+    pub planned : IsPlanned a i (reach.Beside b.clock.entity)
     pub fits : FitsBeside i b.part
     pub apart : b.clock.entity ≢ a.clock.entity
     pub few : (a.clock.version < 2 ^ 63) × (b.clock.version < 2 ^ 63)
 
-  pub faces_other : (me y : ℕ) (i : Instr) → AreFewWrites cs → IsPlannedAt cs me (plan.Beside y i) → (a b : Cell) → slice_get cs me ≡ Some a → slice_get cs y ≡ Some b → FacesOther a b i
+  pub faces_other : (me y : ℕ) (i : Instr) → AreFewWrites cs → IsPlannedAt cs me i (reach.Beside y) → (a b : Cell) → slice_get cs me ≡ Some a → slice_get cs y ≡ Some b → FacesOther a b i
   faces_other me y i few planned a b is_a is_b =
-      let p = plan_of me (plan.Beside y i) planned a is_a in
+      let p = plan_of me i (reach.Beside y) planned a is_a in
       let at_a = orderly.numbers.each me a is_a in
       let at_b = orderly.numbers.each y b is_b in
       let f = fits_here atlas cells me (locus_of p.locus) are_sound (locus_at me a p.locus is_a p.runs.is) no_supply no_words i y b.part
       (subst (λ m. Rattle.cell_steps.specs.cell_plans.Plans.IsCallBeside m (locus_of p.locus) i y) at_a p.wants) (part_here y b is_b) in
       record {
-        planned = subst (λ z. IsPlanned a (plan.Beside z i)) (sym at_b) p;
+        planned = subst (λ z. IsPlanned a i (reach.Beside z)) (sym at_b) p;
         fits = f.0;
         apart = λ e. f.1 (sym at_b ∙ e ∙ at_a);
         few = (few me a is_a, few y b is_b);
       }
 
   -- the other isn't the locus
-  pub other_apart : (me y : ℕ) (i : Instr) → IsPlannedAt cs me (plan.Beside y i) → (b : Cell) → slice_get cs y ≡ Some b → y ≢ me
+  pub other_apart : (me y : ℕ) (i : Instr) → IsPlannedAt cs me i (reach.Beside y) → (b : Cell) → slice_get cs y ≡ Some b → y ≢ me
   other_apart me y i planned b is_b =
       let p = planned.plan in
       (fits_here atlas cells me (locus_of p.locus) are_sound (locus_at me planned.cell p.locus planned.is p.runs.is) no_supply no_words i y b.part

@@ -19,8 +19,8 @@ use Rattle.cell_step_laws.proofs.SoundMaps.{map_here}
 use Rattle.cell_step_laws.proofs.SoundParts.{directory_part, unborn_part}
 use Rattle.cell_step_laws.proofs.SoundPlans.{around_container, around_locus}
 use Rattle.cell_steps.specs.cell_plans.Plans.{IsPlanned}
-use Rattle.cell_steps.specs.cell_plans.declared.plans.Plan.{Plan}
-use Rattle.cell_steps.specs.cell_plans.declared.plans.Plan.TheVariants as plan
+use Rattle.cell_steps.specs.cell_plans.declared.plans.Reach.{Reach}
+use Rattle.cell_steps.specs.cell_plans.declared.plans.Reach.TheVariants as reach
 use Rattle.table_laws.specs.Steps.{HasDirectory, IsPlannedAt}
 use Rattle.table_laws.specs.Tables.{AreFewWrites, HasKind, IsOrderly}
 use Rattle.table_laws.proofs.Facing.{are_sound, atlas, cells, locus_at, no_supply, no_words, part_here, plan_of}
@@ -53,7 +53,7 @@ module _ (held : ℕ → Bool) (cs : List Cell) (orderly : IsOrderly held cs) wh
 
   -- MAPPINGS
   pub record FacesMapping (a k b : Cell) (i : Instr) : Type 0 where
-    pub planned : IsPlanned a (plan.Mapping b.clock.entity i)
+    pub planned : IsPlanned a i (reach.Mapping b.clock.entity)
     pub may : (l : Locus) → a.part ≡ part.Locus (Some l)
         → (d : Directory) × IsDirectoryPart k.part d × (h : Head) × IsHeadPart b.part h × MayMap d (locus_of l) b.clock.entity h
     pub atlas : k.clock.entity ≡ 0
@@ -62,28 +62,28 @@ module _ (held : ℕ → Bool) (cs : List Cell) (orderly : IsOrderly held cs) wh
     pub few : (a.clock.version < 2 ^ 63) × (k.clock.version < 2 ^ 63) × (b.clock.version < 2 ^ 63)
     pub born : cells held cs orderly b.clock.entity ≡ NotBorn → ⊥
 
-  mapping_at : (me y : ℕ) (i : Instr) (a k b : Cell) (p : IsPlanned a (plan.Mapping y i)) → slice_get cs me ≡ Some a → (is_k : slice_get cs 0 ≡ Some k) → slice_get cs y ≡ Some b
+  mapping_at : (me y : ℕ) (i : Instr) (a k b : Cell) (p : IsPlanned a i (reach.Mapping y)) → slice_get cs me ≡ Some a → (is_k : slice_get cs 0 ≡ Some k) → slice_get cs y ≡ Some b
       → (h : Head) × IsHeadPart b.part h × MayMap (directory_at k is_k).0 (locus_of p.locus) y h × (0 < y) × (y < me)
   mapping_at me y i a k b p is_a is_k is_b =
       let f = directory_at k is_k in
       map_here no_supply no_words f.0 (cells held cs orderly) me y (locus_of p.locus) i b.part (subst (λ t. AreSound t (cells held cs orderly)) (sym f.2) (are_sound held cs orderly))
       (locus_at held cs orderly me a p.locus is_a p.runs.is) p.wants (part_here held cs orderly y b is_b)
 
-  pub mapping_between : (me y : ℕ) (i : Instr) (a k b : Cell) → IsPlannedAt cs me (plan.Mapping y i) → slice_get cs me ≡ Some a → slice_get cs 0 ≡ Some k → slice_get cs y ≡ Some b → (0 < y) × (y < me)
+  pub mapping_between : (me y : ℕ) (i : Instr) (a k b : Cell) → IsPlannedAt cs me i (reach.Mapping y) → slice_get cs me ≡ Some a → slice_get cs 0 ≡ Some k → slice_get cs y ≡ Some b → (0 < y) × (y < me)
   mapping_between me y i a k b planned is_a is_k is_b =
-      let p = plan_of held cs orderly me (plan.Mapping y i) planned a is_a in
+      let p = plan_of held cs orderly me i (reach.Mapping y) planned a is_a in
       let f = mapping_at me y i a k b p is_a is_k is_b in
       (f.3, f.4)
 
-  pub faces_mapping : (me y : ℕ) (i : Instr) (a k b : Cell) → AreFewWrites cs → IsPlannedAt cs me (plan.Mapping y i) → slice_get cs me ≡ Some a → slice_get cs 0 ≡ Some k → slice_get cs y ≡ Some b → FacesMapping a k b i
+  pub faces_mapping : (me y : ℕ) (i : Instr) (a k b : Cell) → AreFewWrites cs → IsPlannedAt cs me i (reach.Mapping y) → slice_get cs me ≡ Some a → slice_get cs 0 ≡ Some k → slice_get cs y ≡ Some b → FacesMapping a k b i
   faces_mapping me y i a k b few planned is_a is_k is_b =
-      let p = plan_of held cs orderly me (plan.Mapping y i) planned a is_a in
+      let p = plan_of held cs orderly me i (reach.Mapping y) planned a is_a in
       let f = mapping_at me y i a k b p is_a is_k is_b in
       let d = directory_at k is_k in
       let at_a = orderly.numbers.each me a is_a in
       let at_b = orderly.numbers.each y b is_b in
       record {
-        planned = subst (λ z. IsPlanned a (plan.Mapping z i)) (sym at_b) p;
+        planned = subst (λ z. IsPlanned a i (reach.Mapping z)) (sym at_b) p;
         may = λ l is. (d.0, record { is = d.1 }, f.0, f.1, subst (λ z. MayMap d.0 (locus_of l) z f.0) (sym at_b) (subst (λ m. MayMap d.0 (locus_of m) y f.0) (same_locus p.locus l (sym p.runs.is ∙ is)) f.2));
         atlas = orderly.numbers.each 0 k is_k;
         some = omega (arith, at_b, f.3);
@@ -101,14 +101,14 @@ module _ (held : ℕ → Bool) (cs : List Cell) (orderly : IsOrderly held cs) wh
   kind_memory x (part.Atlas d) some low kind = absurd (omega (arith, kind))
   kind_memory x (part.Locus l) some low kind = absurd (omega (arith, kind))
 
-  pub making_below : (me : ℕ) (d : Directory) (a : Cell) (p : Plan) → HasDirectory cs d → IsPlannedAt cs me p → slice_get cs me ≡ Some a → length d.containers < 40 → length d.containers + 1 < me
-  making_below me d a p has planned is_a few =
-      let q = plan_of held cs orderly me p planned a is_a in
+  pub making_below : (me : ℕ) (d : Directory) (a : Cell) (i : Instr) (p : Reach) → HasDirectory cs d → IsPlannedAt cs me i p → slice_get cs me ≡ Some a → length d.containers < 40 → length d.containers + 1 < me
+  making_below me d a i p has planned is_a few =
+      let q = plan_of held cs orderly me i p planned a is_a in
       around_container (atlas_state d) (cells held cs orderly) me (locus_of q.locus) (directory_sound d has) (locus_at held cs orderly me a q.locus is_a q.runs.is) few
 
-  pub spawning_above : (me : ℕ) (d : Directory) (a : Cell) (p : Plan) → HasDirectory cs d → IsPlannedAt cs me p → slice_get cs me ≡ Some a → me < length d.loci + 41
-  spawning_above me d a p has planned is_a =
-      let q = plan_of held cs orderly me p planned a is_a in
+  pub spawning_above : (me : ℕ) (d : Directory) (a : Cell) (i : Instr) (p : Reach) → HasDirectory cs d → IsPlannedAt cs me i p → slice_get cs me ≡ Some a → me < length d.loci + 41
+  spawning_above me d a i p has planned is_a =
+      let q = plan_of held cs orderly me i p planned a is_a in
       around_locus (atlas_state d) (cells held cs orderly) me (locus_of q.locus) (directory_sound d has) (locus_at held cs orderly me a q.locus is_a q.runs.is)
 
   pub newborn_unborn : (d : Directory) (b : Cell) → HasDirectory cs d → length d.containers < 40 → slice_get cs (length d.containers + 1) ≡ Some b → IsUnbornContainer b.part

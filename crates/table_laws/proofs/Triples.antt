@@ -1,6 +1,7 @@
 -- The cells that were lent for a quiet step with the atlas.
 use Rattle.std.proofs.Common.{◌≡◌, ◌≢◌, inl, inr, ℕ, ◌+◌, ◌<◌, ◌≤◌, Bool, List, [], ◌∷◌, length, slice_get, Some, sym, ap, ◌∙◌, subst, arith}
 use Rattle.cell_steps.specs.base_types.declared.histories.Entry.{Entry}
+use Rattle.cell_steps.specs.base_types.declared.instructions.Instr.{Instr}
 use Rattle.cell_steps.specs.model_kernel.State.{Supply}
 use Rattle.cell_steps.specs.data_atlas_facts.Directory.{Directory}
 use Rattle.cell_step_laws.specs.act_calls.Calls.{atlas_state}
@@ -8,8 +9,8 @@ use Rattle.cell_steps.specs.act_alone.Loci.{locus_of}
 use Rattle.cell_steps.specs.cell_states.declared.cells.Cell.{Cell}
 use Rattle.cell_steps.specs.cell_newborns.Bearing.{IsNewContainer, IsUnbornContainer}
 use Rattle.cell_steps.specs.Advances.{StepsCells}
-use Rattle.cell_steps.specs.cell_plans.declared.plans.Plan.{Plan}
-use Rattle.cell_steps.specs.cell_plans.declared.plans.Plan.TheVariants as plan
+use Rattle.cell_steps.specs.cell_plans.declared.plans.Reach.{Reach}
+use Rattle.cell_steps.specs.cell_plans.declared.plans.Reach.TheVariants as reach
 use Rattle.table_laws.specs.Lending.{Lends}
 use Rattle.table_laws.specs.Steps.{HasDirectory, IsPlannedAt, StepsQuietly}
 use Rattle.table_laws.specs.Tables.{HasKind, IsOrderly, entity_in, state_in}
@@ -46,13 +47,13 @@ lends_three held cs cs' a k b a' k' b' x z y orderly at same_a same_k same_b =
       others = λ n apart. at.others n (λ e. apart.0 (e ∙ sym at_a)) (λ e. apart.1.0 (e ∙ sym at_k)) (λ e. apart.1.1.0 (e ∙ sym at_b));
     }
 
-module _ (held : ℕ → Bool) (cs : List Cell) (orderly : IsOrderly held cs) (me : ℕ) (p : Plan) (planned : IsPlannedAt cs me p) (cs' : List Cell) (e : Entry) where
+module _ (held : ℕ → Bool) (cs : List Cell) (orderly : IsOrderly held cs) (me : ℕ) (i : Instr) (p : Reach) (planned : IsPlannedAt cs me i p) (cs' : List Cell) (e : Entry) where
   -- the locus and the atlas with a third cell
   module _ (a k b a' k' b' : Cell) (y : ℕ) (at : StandAt cs cs' a k b a' k' b' me 0 y) (lends : Lends cs cs' (a ∷ k ∷ b ∷ []) (a' ∷ k' ∷ b' ∷ []))
       (steps : (s : Supply) (words : ℕ → List ℕ) → StepsCells s words words a.clock.entity (a ∷ k ∷ b ∷ []) (a' ∷ k' ∷ b' ∷ []) e) where
     pub three_quiet : GoesQuietly b b' → StepsQuietly me cs cs' e
     three_quiet third =
-        let q = plan_of held cs orderly me p planned a at.was_a in
+        let q = plan_of held cs orderly me i p planned a at.was_a in
         let at_a : a.clock.entity ≡ me = orderly.numbers.each me a at.was_a in
         let at_k : k.clock.entity ≡ 0 = orderly.numbers.each 0 k at.was_k in
         let high : 40 < me = high_at held cs orderly me a q.locus at.was_a q.runs.is in
@@ -64,15 +65,15 @@ module _ (held : ℕ → Bool) (cs : List Cell) (orderly : IsOrderly held cs) (m
         ))
 
     -- the locus that is spawned
-    pub spawned_goes : (d : Directory) → HasDirectory cs d → (was : IsPlannedAt cs me plan.Spawn) → length d.loci < 23 → y ≡ length d.loci + 41 → GoesQuietly b b'
+    pub spawned_goes : (d : Directory) → HasDirectory cs d → (was : IsPlannedAt cs me i reach.Spawn) → length d.loci < 23 → y ≡ length d.loci + 41 → GoesQuietly b b'
     unfolding cells
     spawned_goes d has was few number =
-        let q = plan_of held cs orderly me plan.Spawn was a at.was_a in
+        let q = plan_of held cs orderly me i reach.Spawn was a at.was_a in
         let at_a : a.clock.entity ≡ me = orderly.numbers.each me a at.was_a in
         let at_b : b'.clock.entity ≡ y = lends.numbers.1.1.0 ∙ orderly.numbers.each y b at.was_b in
         let after = sound_after a.clock.entity cs cs' (a ∷ k ∷ b ∷ []) (a' ∷ k' ∷ b' ∷ []) e steps lends orderly.numbers orderly.sound no_supply no_words in
         let made = goes_on a.clock.entity cs cs' (a ∷ k ∷ b ∷ []) (a' ∷ k' ∷ b' ∷ []) e steps lends orderly.numbers no_supply no_words in
-        let above = spawning_above held cs orderly me d a plan.Spawn has was at.was_a in
+        let above = spawning_above held cs orderly me d a i reach.Spawn has was at.was_a in
         let high : 40 < me = high_at held cs orderly me a q.locus at.was_a q.runs.is in
         let born = spawned no_supply a.clock.entity (state_in no_supply no_words cs) (state_in no_supply no_words cs') e (locus_of q.locus) (atlas_state d) made
         (ap (cells held cs orderly) at_a ∙ locus_at held cs orderly me a q.locus at.was_a q.runs.is) q.runs.runs q.wants (directory_sound held cs orderly d has).atlas few (omega (arith, at_a, high)) (omega (arith, at_a, above)) in
@@ -88,11 +89,11 @@ pub made_goes : (y : ℕ) (b b' : Cell) → 0 < y → y ≤ 40 → b'.clock.enti
 made_goes y b b' some low at unborn new = record { kind = subst (λ n. HasKind n b'.part) (sym at) (subst (HasKind y) (sym new.is) (some, low)); memory = inr (unborn, new) }
 
 -- the locus and the atlas alone
-pub two_quiet : (held : ℕ → Bool) (cs : List Cell) (orderly : IsOrderly held cs) (me : ℕ) (p : Plan) (planned : IsPlannedAt cs me p) (cs' : List Cell) (e : Entry) (a k a' k' : Cell)
+pub two_quiet : (held : ℕ → Bool) (cs : List Cell) (orderly : IsOrderly held cs) (me : ℕ) (i : Instr) (p : Reach) (planned : IsPlannedAt cs me i p) (cs' : List Cell) (e : Entry) (a k a' k' : Cell)
     → slice_get cs me ≡ Some a → slice_get cs 0 ≡ Some k → slice_get cs' me ≡ Some a' → slice_get cs' 0 ≡ Some k' → Lends cs cs' (a ∷ k ∷ []) (a' ∷ k' ∷ [])
     → ((s : Supply) (words : ℕ → List ℕ) → StepsCells s words words a.clock.entity (a ∷ k ∷ []) (a' ∷ k' ∷ []) e) → StepsQuietly me cs cs' e
-two_quiet held cs orderly me p planned cs' e a k a' k' was_a was_k is_a is_k lends steps =
-    let q = plan_of held cs orderly me p planned a was_a in
+two_quiet held cs orderly me i p planned cs' e a k a' k' was_a was_k is_a is_k lends steps =
+    let q = plan_of held cs orderly me i p planned a was_a in
     let at_a : a.clock.entity ≡ me = orderly.numbers.each me a was_a in
     let at_k : k.clock.entity ≡ 0 = orderly.numbers.each 0 k was_k in
     let high : 40 < me = high_at held cs orderly me a q.locus was_a q.runs.is in

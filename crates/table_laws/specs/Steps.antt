@@ -3,6 +3,7 @@ use Rattle.std.specs.Prelude.{◌≡◌, ℕ, ◌+◌, ◌≤◌, Bool, false, �
 use Rattle.std.specs.List.{list_any}
 use Rattle.cell_steps.specs.base_types.declared.histories.Entry.{Entry}
 use Rattle.cell_steps.specs.base_types.declared.histories.Event.TheVariants.{Step as StepEvent}
+use Rattle.cell_steps.specs.base_types.declared.instructions.Instr.{Instr}
 use Rattle.cell_steps.specs.model_kernel.Histories.{Run, goes_on}
 use Rattle.cell_steps.specs.model_kernel.Scripts.{Script}
 use Rattle.cell_steps.specs.model_kernel.State.{Supply}
@@ -11,7 +12,7 @@ use Rattle.cell_steps.specs.data_atlas_facts.Directory.{Directory}
 use Rattle.cell_steps.specs.cell_states.declared.cells.Cell.{Cell}
 use Rattle.cell_steps.specs.cell_states.declared.cells.Part.TheVariants as Part
 use Rattle.cell_steps.specs.cell_plans.Plans.{IsPlanned}
-use Rattle.cell_steps.specs.cell_plans.declared.plans.Plan.{Plan}
+use Rattle.cell_steps.specs.cell_plans.declared.plans.Reach.{Reach}
 use Rattle.table_laws.specs.Tables.{AreClean, HasTableWishes, IsOrderly, state_in, tables_in}
 
 -- THE STEP of the locus in the state that the cells are gives this entry and the state that they are left as; each run that is in this
@@ -44,11 +45,11 @@ pub record StepsQuietly (me : ℕ) (cs cs' : List Cell) (e : Entry) : Type 0 whe
   pub blocks : (held : ℕ → Bool) → IsOrderly held cs → (x page : ℕ) → slice_index (tables_in cs' x) page ≡ slice_index (tables_in cs x) page
   pub enters : EntersStep me cs cs' e
 
--- the cell at the number is a locus's that runs, has a step left, and wants an act of this kind
-pub record IsPlannedAt (cs : List Cell) (me : ℕ) (p : Plan) : Type 0 where
+-- the cell at the number is a locus's that runs, has a step left, has this instruction next, and wants an act that touches this
+pub record IsPlannedAt (cs : List Cell) (me : ℕ) (i : Instr) (r : Reach) : Type 0 where
   pub cell : Cell
   pub is : slice_get cs me ≡ Some cell
-  pub plan : IsPlanned cell p
+  pub plan : IsPlanned cell i r
 
 -- the table is in order over some store
 pub record IsInOrder (cs : List Cell) : Type 0 where

@@ -1,13 +1,19 @@
 -- What a plan of one cell says of the table.
-use Rattle.std.proofs.Common.{◌≡◌, ℕ, List, slice_get, Some, None, Result, Ok, Err, IfErr, IfOk, ap, ◌∙◌}
+use Rattle.std.proofs.Common.{◌≡◌, ℕ, List, slice_get, if◌then◌else◌, Some, None, Result, Ok, Err, IfErr, IfOk, sym, ap, ◌∙◌}
+use Rattle.base_types.specs.declared.histories.Answer.{Answer}
+use Rattle.base_types.specs.declared.instructions.Instr.{Instr}
+use Rattle.page_store.specs.model_kernel.Histories.{locus_in, owed_by, stabilises}
 use Rattle.page_store.specs.model_kernel.State.{Supply}
+use Rattle.table_laws.specs.act_alone.Loci.{locus_of}
 use Rattle.table_laws.specs.cell_states.declared.cells.Cell.{Cell}
 use Rattle.table_laws.specs.cell_states.Cells.{part_of}
 use Rattle.table_laws.specs.cell_plans.Plans.{IsPlanned, idle_of}
 use Rattle.table_laws.specs.cell_plans.declared.idle.Idle.{Idle}
 use Rattle.table_laws.specs.cell_plans.declared.plans.Plan.{Plan}
+use Rattle.table_laws.specs.cell_plans.declared.plans.Reach.{Reach}
 use Rattle.table_laws.specs.Steps.{IsPlannedAt}
 use Rattle.table_laws.specs.Tables.{entity_in, left_of, state_in}
+use Rattle.table_steps.specs.Wanting.{HasNext}
 
 module _ (s : Supply) (words : ℕ → List ℕ) (cs : List Cell) (me : ℕ) (cell : Cell) (here : slice_get cs me ≡ Some cell) where
   idle_here : idle_of (left_of (slice_get cs me)) (state_in s words cs me).cell ≡ idle_of cell.left (part_of s words cell.part)
@@ -21,6 +27,23 @@ module _ (s : Supply) (words : ℕ → List ℕ) (cs : List Cell) (me : ℕ) (ce
   ok_idle (Ok p) h = idle_here ∙ h
   ok_idle (Err why) h = h
 
-pub planned_here : (cs : List Cell) (me : ℕ) (cell : Cell) → slice_get cs me ≡ Some cell → (r : Result Plan Idle) → IfOk r (IsPlanned cell) → IfOk r (IsPlannedAt cs me)
+pub planned_here : (cs : List Cell) (me : ℕ) (cell : Cell) → slice_get cs me ≡ Some cell → (r : Result Plan Idle) → IfOk r (λ p. IsPlanned cell p.instr p.reach) → IfOk r (λ p. IsPlannedAt cs me p.instr p.reach)
 planned_here cs me cell here (Ok p) h = record { cell = cell; is = here; plan = h }
 planned_here cs me cell here (Err why) h = h
+
+-- the locus has the instruction of its plan next
+pub has_next : (cs : List Cell) (me : ℕ) (i : Instr) (r : Reach) → IsPlannedAt cs me i r → HasNext me cs i
+has_next cs me i r p = record {
+  locus = locus_of p.plan.locus;
+  is = λ s words. ap (λ o. locus_in (entity_in s words me o).cell) p.is ∙ ap (λ k. locus_in (part_of s words k)) p.plan.runs.is;
+  instr = p.plan.instr;
+}
+
+pub next_here : (cs : List Cell) (me : ℕ) (cell : Cell) → slice_get cs me ≡ Some cell → (r : Result Plan Idle) → IfOk r (λ p. IsPlanned cell p.instr p.reach) → IfOk r (λ p. HasNext me cs p.instr)
+next_here cs me cell here (Ok p) h = has_next cs me p.instr p.reach (record { cell = cell; is = here; plan = h })
+next_here cs me cell here (Err why) h = h
+
+-- what a step by this instruction owes, for the kernel
+pub owed_next : (cs : List Cell) (me : ℕ) (i : Instr) → HasNext me cs i → (a : Answer) (s : Supply) (words : ℕ → List ℕ)
+    → owed_by me a (locus_in (state_in s words cs me).cell) ≡ (if stabilises a i then Some me else None)
+owed_next cs me i h a s words = ap (owed_by me a) (h.is s words) ∙ ap (λ j. if stabilises a j then Some me else None) (sym h.instr)

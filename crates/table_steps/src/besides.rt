@@ -1,6 +1,6 @@
 // Steps of a locus over the table that touch it alone, or it and one other entity without a look.
 ghost use Rattle.std.specs.Prelude.{◌<◌};
-ghost use Rattle.table_laws.specs.cell_plans.declared.plans.Plan.TheVariants as plan;
+ghost use Rattle.table_laws.specs.cell_plans.declared.plans.Reach.TheVariants as reach;
 ghost use Rattle.table_laws.specs.Steps.{IsInOrder, IsPlannedAt, StepsQuietly};
 ghost use Rattle.table_laws.specs.Tables.{AreFewWrites};
 
@@ -8,19 +8,19 @@ use base_types::{Entity, Entry, Instr};
 use table_laws::{Cell, advance_alone, advance_beside};
 
 /// A step that touches the locus alone.
-pub(crate) fn go_alone(cells: &mut [Cell], me: Entity) -> Entry
+pub(crate) fn go_alone(cells: &mut [Cell], me: Entity, instr: Instr) -> Entry
     requires order { IsInOrder cells.old }
-    requires planned { IsPlannedAt cells.old me plan.Alone }
+    requires planned { IsPlannedAt cells.old me instr reach.Alone }
     requires few { AreFewWrites cells.old }
     ensures { StepsQuietly me cells.old cells.new result }
 {
-    advance_alone(&mut cells[me.number() as usize])
+    advance_alone(&mut cells[me.number() as usize], instr)
 }
 
 /// A step beside an entity with a lower number.
 fn go_beside_lower(cells: &mut [Cell], me: Entity, other: Entity, instr: Instr) -> Entry
     requires order { IsInOrder cells.old }
-    requires planned { IsPlannedAt cells.old me (plan.Beside other instr) }
+    requires planned { IsPlannedAt cells.old me instr (reach.Beside other) }
     requires few { AreFewWrites cells.old }
     requires lower { other < me }
     ensures { StepsQuietly me cells.old cells.new result }
@@ -32,7 +32,7 @@ fn go_beside_lower(cells: &mut [Cell], me: Entity, other: Entity, instr: Instr) 
 /// A step beside an entity with a higher number.
 fn go_beside_higher(cells: &mut [Cell], me: Entity, other: Entity, instr: Instr) -> Entry
     requires order { IsInOrder cells.old }
-    requires planned { IsPlannedAt cells.old me (plan.Beside other instr) }
+    requires planned { IsPlannedAt cells.old me instr (reach.Beside other) }
     requires few { AreFewWrites cells.old }
     requires higher { me < other }
     ensures { StepsQuietly me cells.old cells.new result }
@@ -44,7 +44,7 @@ fn go_beside_higher(cells: &mut [Cell], me: Entity, other: Entity, instr: Instr)
 /// A step beside another entity, which is neither a look nor a mapping.
 pub(crate) fn go_beside(cells: &mut [Cell], me: Entity, other: Entity, instr: Instr) -> Entry
     requires order { IsInOrder cells.old }
-    requires planned { IsPlannedAt cells.old me (plan.Beside other instr) }
+    requires planned { IsPlannedAt cells.old me instr (reach.Beside other) }
     requires few { AreFewWrites cells.old }
     ensures { StepsQuietly me cells.old cells.new result }
 {

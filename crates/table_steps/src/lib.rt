@@ -7,5 +7,5 @@ mod besides;
 mod looks;
 mod stepping;
 
-pub use stepping::{StepFault, advance};
+pub use stepping::{Made, StepFault, advance};
 pub use table_laws::{Cell, is_recorded, need_cell};

@@ -2,6 +2,7 @@
 ghost use Rattle.std.specs.Prelude.{◌≡◌, ℕ, None, Some, IsTrue};
 ghost use Rattle.base_types.specs.declared.instructions.Condition.TheVariants.{Running as RunningNow};
 ghost use Rattle.plain_states.specs.model_kernel.Acts.{wanted};
+ghost use Rattle.plain_states.specs.model_kernel.Refusals.{instr_at};
 ghost use Rattle.model_acts.specs.Views.{IsReadyLocus, act_of};
 ghost use Rattle.act_alone.specs.Loci.{locus_of};
 ghost use Rattle.act_invoke.specs.Entries.{WantsBeside};
@@ -31,15 +32,17 @@ fn mapped(
     atlas: &mut Atlas,
     number: Entity,
     head: &mut Head,
+    instr: Instr,
 ) -> Reply
     requires ready { IsReadyLocus (locus_of locus.old) }
+    requires instr { instr ≡ instr_at (locus_of locus.old) }
     requires wants { WantsBeside is_map (locus_of locus.old) number }
 {
     assert!(rt; number.kind() == Kind::Container);
     assert!(rt; atlas.born(number));
     assert!(rt; names_born(atlas, locus.caps.slots()));
     assert!(rt; is_counted(atlas, number, &head.regions));
-    map(locus, atlas, number, head)
+    map(locus, atlas, number, head, instr)
 }
 
 fn unmapped(
@@ -48,14 +51,16 @@ fn unmapped(
     atlas: &mut Atlas,
     number: Entity,
     head: &mut Head,
+    instr: Instr,
 ) -> Reply
     requires ready { IsReadyLocus (locus_of locus.old) }
+    requires instr { instr ≡ instr_at (locus_of locus.old) }
     requires wants { WantsBeside is_unmap (locus_of locus.old) number }
 {
     assert!(rt; number.kind() == Kind::Container);
     assert!(rt; atlas.born(number));
     assert!(rt; is_counted(atlas, number, &head.regions));
-    unmap(locus, atlas, number, head)
+    unmap(locus, atlas, number, head, instr)
 }
 
 /// A call beside a container. None of a load and a store, which are no calls.
@@ -76,10 +81,10 @@ fn beside_container(
         Instr::Invoke(_) => invoke(locus, number, head),
         Instr::Leave(_) => leave(locus, number, head),
         Instr::Return => back(locus, head),
-        Instr::Map(..) => mapped(rt, locus, atlas, number, head),
-        Instr::Unmap(..) => unmapped(rt, locus, atlas, number, head),
-        Instr::Take(..) => take(locus, head),
-        Instr::Give(..) => give(locus, head),
+        Instr::Map(..) => mapped(rt, locus, atlas, number, head, act.instr),
+        Instr::Unmap(..) => unmapped(rt, locus, atlas, number, head, act.instr),
+        Instr::Take(..) => take(locus, head, act.instr),
+        Instr::Give(..) => give(locus, head, act.instr),
         _ => return None,
     };
     Some(reply)
@@ -119,8 +124,8 @@ fn bearing(locus: &mut Locus, atlas: &mut Atlas, act: Act, around: &mut Around) 
     requires allowed { act.refused ≡ None }
 {
     match act.instr {
-        Instr::Make(..) => Some(make(locus, atlas, &mut around.newborn_head)),
-        Instr::Spawn(..) => Some(spawn(locus, atlas, &mut around.newborn_locus)),
+        Instr::Make(..) => Some(make(locus, atlas, &mut around.newborn_head, act.instr)),
+        Instr::Spawn(..) => Some(spawn(locus, atlas, &mut around.newborn_locus, act.instr)),
         _ => None,
     }
 }

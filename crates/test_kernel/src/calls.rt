@@ -11,7 +11,7 @@ use edge_disk::{DiskFault, MemoryDisk};
 use edge_streams::MemorySink;
 use image_format::format;
 use image_reading::{ImageFacts, write_report};
-use kernel_core::Ended;
+use kernel_core::{Ended, Stop};
 use line_text::NameLists;
 use script_types::Script;
 use std::alloc::Global;
@@ -122,8 +122,9 @@ pub(crate) fn reported(alloc: Global, facts: &ImageFacts) -> Result<String, Fail
 pub(crate) fn step_rounds(own: &mut OwnKernel<MemoryDisk>, rounds: u32) -> bool {
     for look in 0..rounds.saturating_mul(23) {
         let number = 41 + (look % 23) as u8;
-        if own.step(Entity::of(number)).is_err() {
-            return false;
+        match own.step(Entity::of(number)) {
+            Ok(_) | Err(Stop::Idle(_)) => {}
+            Err(_) => return false,
         }
     }
     true

@@ -4,14 +4,14 @@ ghost use Rattle.image_blocks.specs.image_facts.Layout.{least_blocks, most_block
 ghost use Rattle.script_types.specs.Rules.{IsScript};
 ghost use Rattle.script_types.specs.Scripts.{tables_of};
 
-use crate::calls::{formatted, kernel_of, run, run_whole};
+use crate::calls::{formatted, kernel_of, opened, run, run_whole};
 use crate::forms::{script_of, with_frames, with_steps};
-use crate::own::OwnKernel;
-use crate::scripts::{ALL_PAGES, FORTY_PAGES, FORTY_PAGES_STABLE, WISHES};
+use crate::own::{OwnKernel, Unborn};
+use crate::scripts::{ALL_PAGES, FORTY_PAGES, FORTY_PAGES_STABLE, LOADS_BEHIND, WISHES};
 use base_types::{Entity, Entry, Event};
 use edge_disk::{MemoryDisk, NoBlocks};
 use kernel_core::Ended;
-use open_kernel::Stopped;
+use open_kernel::{Stop, Stopped};
 use script_drill::drill_script;
 use script_types::Script;
 use std::alloc::Global;
@@ -19,21 +19,34 @@ use std::process::Abort;
 use std::test::Fail;
 use test_replays::{commits_of, common, facts_of, fronts_from, is_cut_off, means_one_of, shown};
 
-// A kernel that stopped makes no more, whatever is called, and tells why.
+// A kernel that stopped makes no more, whatever is called and whatever the locus: behind a fault of the disk it is shut, and behind want of
+// blocks it tells the same numbers.
 fn goes_on_no_more(
     rt: &impl Abort,
     own: &mut OwnKernel<MemoryDisk>,
     script: &Script,
     why: Stopped,
 ) {
+    let again = match why {
+        Stopped::NoBlocks(blocks) => Stop::NoBlocks(blocks),
+        Stopped::ReadFault | Stopped::WriteFault => Stop::Shut,
+    };
     let len = own.kernel().history().len();
-    assert!(rt; own.step(Entity::of(41)) == Err(why));
-    assert!(rt; own.step(Entity::of(63)) == Err(why));
-    assert!(rt; own.snap(Entity::of(1)) == Err(why));
-    assert!(rt; own.play(script) == Err(why));
-    assert!(rt; own.finish() == Err(why));
+    assert!(rt; own.step(Entity::of(41)) == Err(again));
+    assert!(rt; own.step(Entity::of(63)) == Err(again));
+    assert!(rt; own.snap(Entity::of(1)) == Err(again));
+    assert!(rt; own.play(script) == Err(again));
+    assert!(rt; own.finish() == Err(again));
     assert!(rt; own.kernel().history().len() == len);
     assert!(rt; own.kernel().stopped() == Some(why));
+}
+
+// Whether the last entry is a record that was tried.
+fn ends_tried(history: &[Entry]) -> bool {
+    match history.last() {
+        Some(entry) => entry.event == Event::Tried,
+        None => false,
+    }
 }
 
 // The run of a script, stopped by a call that fails. What it has made, if it was opened.
@@ -42,18 +55,21 @@ fn stopped_run(
     alloc: Global,
     script: &Script,
     disk: MemoryDisk,
-) -> Option<Ended<MemoryDisk>>
+) -> Result<Option<Ended<MemoryDisk>>, Fail>
     requires script { IsScript (tables_of script.now) }
 {
     let mut own = match kernel_of(alloc, disk, script) {
         Some(own) => own,
-        None => return None,
+        None => return Ok(None),
     };
     if own.births(alloc, script).is_ok() && own.play(script).is_ok() {
-        assert!(rt; own.finish() == Err(Stopped::Failed));
+        assert!(rt; own.finish().is_err());
     }
-    goes_on_no_more(rt, &mut own, script, Stopped::Failed);
-    Some(own.into_ended())
+    let why = own.kernel().stopped().ok_or("a stop")?;
+    assert!(rt; matches!(why, Stopped::ReadFault | Stopped::WriteFault));
+    assert!(rt; !ends_tried(own.kernel().history()) || why == Stopped::WriteFault);
+    goes_on_no_more(rt, &mut own, script, why);
+    Ok(Some(own.into_ended()))
 }
 
 // What a stopped kernel leaves: its image means what all its commits make, the last of which may be tried, and runs on to the end.
@@ -66,10 +82,7 @@ fn leaves_a_front(
     requires script { IsScript (tables_of script.now) }
 {
     let commits = commits_of(alloc, &ended.history)?;
-    let tried = match ended.history.last() {
-        Some(entry) => entry.event == Event::Tried,
-        None => false,
-    };
+    let tried = ends_tried(&ended.history);
     let least = commits.recs.len().saturating_sub(usize::from(tried));
     let fronts = fronts_from(alloc, script, &ended.history, &commits.recs, least)?;
     let mut disk = ended.disk;
@@ -97,7 +110,7 @@ fn each_call_fails(
     for failing in 11..=whole.disk.calls() {
         if failing % stride == 0 {
             let disk = formatted(alloc, blocks, 1000, &[failing])?;
-            if let Some(ended) = stopped_run(rt, alloc, script, disk) {
+            if let Some(ended) = stopped_run(rt, alloc, script, disk)? {
                 assert!(rt; is_cut_off(&whole.history, &ended.history), "at {failing}");
                 let len = common(&whole.history, &ended.history);
                 let more = ended.history.len() - len;
@@ -145,7 +158,7 @@ fn an_eviction_without_a_block_stops_the_kernel(rt: HostRuntime) -> Result<(), F
     let script = with_frames(script_of(alloc, ALL_PAGES)?, 1);
     let ended = run(alloc, formatted(alloc, 2600, 1000, &[])?, &script)?;
     let none = NoBlocks { need: 1, free: 0 };
-    assert!(rt; ended.stopped == Some(Stopped::TooFew(none)));
+    assert!(rt; ended.stopped == Some(Stopped::NoBlocks(none)));
     let shown = shown_behind(alloc, ended)?;
     assert!(rt; shown.as_str() == BORN, "{shown}");
     Ok(())
@@ -167,7 +180,7 @@ fn is_short_of(
     let script = with_frames(script, 256);
     let ended = run(alloc, formatted(alloc, 2600, 1000, &[])?, &script)?;
     let few = NoBlocks { need, free: FREE };
-    assert!(rt; ended.stopped == Some(Stopped::TooFew(few)));
+    assert!(rt; ended.stopped == Some(Stopped::NoBlocks(few)));
     let mark = ended.marks.last().ok_or("a mark")?;
     assert!(rt; *mark == ended.disk.moments().saturating_sub(10));
     let entry = ended.history.last().ok_or("an entry")?;
@@ -192,5 +205,22 @@ fn a_stable_without_blocks_writes_nothing(rt: HostRuntime) -> Result<(), Fail> {
     let script = script_of(alloc, FORTY_PAGES_STABLE)?;
     // Forty pages, the container's blob and the locus's.
     is_short_of(&rt, alloc, script, 43)?;
+    Ok(())
+}
+
+#[test]
+fn a_read_that_fails_is_told_as_one(rt: HostRuntime) -> Result<(), Fail> {
+    let alloc = rt.alloc();
+    let script = script_of(alloc, LOADS_BEHIND)?;
+    let first = run_whole(alloc, formatted(alloc, 2600, 1000, &[])?, &script)?;
+    let whole = run_whole(alloc, first.disk, &script)?;
+    // The second run writes nothing, so the read of the page that is loaded is its last call.
+    let disk = formatted(alloc, 2600, 1000, &[whole.disk.calls()])?;
+    let first = run_whole(alloc, disk, &script)?;
+    let mut own = opened(alloc, first.disk, &script)?;
+    assert!(rt; own.step(Entity::of(41)) == Err(Stop::ReadFault));
+    assert!(rt; own.kernel().history().is_empty());
+    assert!(rt; own.births(alloc, &script) == Err(Unborn::Stopped(Stop::Shut)));
+    goes_on_no_more(&rt, &mut own, &script, Stopped::ReadFault);
     Ok(())
 }

@@ -8,7 +8,7 @@ use crate::scripts::{
 use base_types::{Answer, Entity, Entry, Event, Reply};
 use cell_plans::Idle;
 use image_blocks::Area;
-use kernel_core::Looked;
+use kernel_core::Stop;
 use std::alloc::Global;
 use std::test::Fail;
 use test_replays::{facts_of, shown};
@@ -27,10 +27,12 @@ fn a_locus_out_of_steps_and_an_absent_one_make_none(rt: HostRuntime) -> Result<(
     assert!(rt; own.kernel().stopped().is_none());
     assert!(rt; own.births(alloc, &script) == Ok(()));
     assert!(rt; own.births(alloc, &script) == Err(Unborn::Unfit));
-    assert!(rt; own.step(Entity::of(41)) == Ok(Looked::Stepped));
-    assert!(rt; own.step(Entity::of(41)) == Ok(Looked::Idle(Idle::Spent)));
-    assert!(rt; own.step(Entity::of(63)) == Ok(Looked::Idle(Idle::Absent)));
-    assert!(rt; own.step(Entity::of(1)) == Ok(Looked::Idle(Idle::Absent)));
+    let entry = own.step(Entity::of(41)).ok();
+    assert!(rt; entry.is_some());
+    assert!(rt; entry.as_ref() == own.kernel().history().last());
+    assert!(rt; own.step(Entity::of(41)) == Err(Stop::Idle(Idle::Spent)));
+    assert!(rt; own.step(Entity::of(63)) == Err(Stop::Idle(Idle::Absent)));
+    assert!(rt; own.step(Entity::of(1)) == Err(Stop::Idle(Idle::Absent)));
     assert!(rt; own.finish() == Ok(()));
     let ended = own.into_ended();
     let lines = trace(alloc, &ended.history, &["a"], &["l"])?;

@@ -1,17 +1,18 @@
 // A kernel with managers of its own.
-ghost use Rattle.std.specs.Prelude.{◌≡◌, ◌<◌, ◌≤◌, [], true, None, Some, Err, IfErr, IfSome, OnOk};
+ghost use Rattle.std.specs.Prelude.{◌≡◌, ◌<◌, ◌≤◌, [], true, None, Err, IfSome, OnOk};
 ghost use Rattle.script_fits.specs.model_births.Fitting.{Fits};
+ghost use Rattle.kernel_core.specs.kernel_commits.Telling.{Tells, told_again};
 ghost use Rattle.kernel_core.specs.kernel_core_facts.Bearing.{HasOpened};
 ghost use Rattle.script_types.specs.Rules.{IsScript};
 ghost use Rattle.script_types.specs.Scripts.{tables_of};
 ghost use Rattle.kernel_core.specs.table_births.Births.{atlas_state_in};
 
-use base_types::Entity;
+use base_types::{Entity, Entry};
 use edge_disk::Disk;
 use edge_managers::{CountedWords, EveryVersions, Gate};
-use kernel_core::{Ended, Kernel, Looked};
+use kernel_core::{Ended, Kernel};
 use kernel_runs::{finish, play};
-use open_kernel::{Stopped, open_image};
+use open_kernel::{Stop, open_image};
 use script_fits::against;
 use script_types::Script;
 use std::alloc::Global;
@@ -24,7 +25,7 @@ pub enum Unborn {
     /// Entries were made before, or the script doesn't fit the names that are born.
     Unfit,
     /// The kernel stopped.
-    Stopped(Stopped),
+    Stopped(Stop),
 }
 
 // Whether no entry was made.
@@ -120,45 +121,41 @@ impl<D: Disk> OwnKernel<D> {
         }
         match self.kernel.births(script) {
             Ok(()) => Ok(()),
-            Err(why) => Err(Unborn::Stopped(why)),
+            Err(stop) => Err(Unborn::Stopped(stop)),
         }
     }
 
     /// One look at a locus.
-    pub fn step(&mut self, me: Entity) -> Result<Looked, Stopped>
-        ensures was_stopped { IfSome self.old.stop (λ why. (result ≡ Err why) × (self.new ≡ self.old)) }
-        ensures stops { IfErr result (λ why. self.new.stop ≡ Some why) }
-        ensures goes { OnOk result (self.new.stop ≡ None) }
+    pub fn step(&mut self, me: Entity) -> Result<Entry, Stop>
+        ensures was_stopped { IfSome self.old.stop (λ why. (result ≡ Err (told_again why)) × (self.new ≡ self.old)) }
+        ensures ends { self.old.stop ≡ None → Tells result self.new.stop }
     {
         let gate = Gate::new(CountedWords, EveryVersions);
         self.kernel.step(me, &gate)
     }
 
     /// A record of an entity where one is wished.
-    pub fn snap(&mut self, entity: Entity) -> Result<bool, Stopped>
-        ensures was_stopped { IfSome self.old.stop (λ why. (result ≡ Err why) × (self.new ≡ self.old)) }
-        ensures stops { IfErr result (λ why. self.new.stop ≡ Some why) }
-        ensures goes { OnOk result (self.new.stop ≡ None) }
+    pub fn snap(&mut self, entity: Entity) -> Result<bool, Stop>
+        ensures was_stopped { IfSome self.old.stop (λ why. (result ≡ Err (told_again why)) × (self.new ≡ self.old)) }
+        ensures ends { self.old.stop ≡ None → Tells result self.new.stop }
     {
         let gate = Gate::new(CountedWords, EveryVersions);
         self.kernel.snap(entity, &gate)
     }
 
     /// The picks of a script's order.
-    pub fn play(&mut self, script: &Script) -> Result<(), Stopped>
-        ensures was_stopped { IfSome self.old.stop (λ why. (result ≡ Err why) × (self.new ≡ self.old)) }
-        ensures stops { IfErr result (λ why. self.new.stop ≡ Some why) }
-        ensures goes { OnOk result (self.new.stop ≡ None) }
+    pub fn play(&mut self, script: &Script) -> Result<(), Stop>
+        ensures was_stopped { IfSome self.old.stop (λ why. (result ≡ Err (told_again why)) × (self.new ≡ self.old)) }
+        ensures ends { self.old.stop ≡ None → Tells result self.new.stop }
     {
         let gate = Gate::new(CountedWords, EveryVersions);
         play(&mut self.kernel, &script.order, &gate)
     }
 
     /// Rounds over all loci, until none can step.
-    pub fn finish(&mut self) -> Result<(), Stopped>
-        ensures was_stopped { IfSome self.old.stop (λ why. (result ≡ Err why) × (self.new ≡ self.old)) }
-        ensures stops { IfErr result (λ why. self.new.stop ≡ Some why) }
-        ensures goes { OnOk result (self.new.stop ≡ None) }
+    pub fn finish(&mut self) -> Result<(), Stop>
+        ensures was_stopped { IfSome self.old.stop (λ why. (result ≡ Err (told_again why)) × (self.new ≡ self.old)) }
+        ensures ends { self.old.stop ≡ None → Tells result self.new.stop }
     {
         let gate = Gate::new(CountedWords, EveryVersions);
         finish(&mut self.kernel, &gate)

@@ -82,6 +82,13 @@ container = [{ name = 'a', pages = 256, program = 'p' }]
 locus = [{ name = 'l', host = 'a', caps = ['atlas t'] }]
 ";
 
+// A word is stored and all is made stable, which takes the steps; behind that it is loaded.
+pub(crate) const LOADS_BEHIND: &str = "steps = 3
+program.p = ['set r0 7', 'store r1 r0', 'stabilise r2', 'load r3 r1', 'halt']
+container = [{ name = 'a', pages = 1, program = 'p' }]
+locus = [{ name = 'l', host = 'a', caps = ['atlas t'] }]
+";
+
 /// These names, as a list.
 pub(crate) fn names_of(alloc: Global, names: &[&str]) -> Result<Vec<String>, AllocError> {
     let mut list = Vec::new(alloc);

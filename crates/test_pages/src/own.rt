@@ -92,7 +92,14 @@ impl OwnPages {
         match act.instr {
             Instr::Load(..) | Instr::Store(..) => {
                 let gate = Gate::new(CountedWords, EveryVersions);
-                Some(look(locus, head, &mut self.memory, &mut self.store, &gate))
+                Some(look(
+                    locus,
+                    head,
+                    &mut self.memory,
+                    act.instr,
+                    &mut self.store,
+                    &gate,
+                ))
             }
             _ => None,
         }

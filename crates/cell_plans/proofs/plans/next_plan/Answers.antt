@@ -12,4 +12,4 @@ returns-in-None-clause-plans c =
     let cell = c.args.cell.now in
     let goes = not_idle cell.left cell.part c.in-None.ensures in
     let run = c.plan_running.ensures in
-    record { locus = run.0; runs = run.1; left = goes.some; wants = run.2 }
+    record { locus = run.0; runs = run.1; left = goes.some; instr = run.2; wants = run.3 }

@@ -13,3 +13,9 @@ returns-clause-step c s words =
     let mid = c.step_no_number-entry.new in
     takes_two s words words c.args.locus.now c.args.atlas.now mid.locus mid.atlas c.note.new.cell c.note-2.new.cell c.step_no_number-entry.result c.named_by_snap-named.result (made.step s words) c.note.ensures c.note-2.ensures
     (record { entity = made.entities.0; wish = made.rest.0; left = made.rest.1 }) (record { entity = made.entities.1; wish = made.rest.2; left = made.rest.3 }) (c.named_by_snap-named.ensures s words)
+
+pub named_by_snap-named-requires : goal.named_by_snap-named-requires
+named_by_snap-named-requires c = let wants = c.requires.wants in (wants.0, wants.1, wants.5)
+
+pub step_no_number-entry-requires-clause-wants : goal.step_no_number-entry-requires-clause-wants
+step_no_number-entry-requires-clause-wants c = let wants = c.requires.wants in (wants.0, wants.1, wants.2, wants.3, wants.4)

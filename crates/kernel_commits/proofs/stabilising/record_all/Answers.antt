@@ -2,12 +2,13 @@ use Rattle.std.proofs.Common.{◌≡◌, ◌≢◌, ◌<◌, ◌+◌, ◌*◌, s
 use Rattle.kernel_commit_facts.specs.store_facts.State.{books}
 use Rattle.kernel_commit_facts.specs.kernel_book_laws.Matching.{newest_of, version_of}
 use Rattle.kernel_commit_facts.specs.Parts.{Parts}
-use Rattle.kernel_commit_facts.specs.Recording.{CanRecord, HasRecorded, HasTried, MayRecord}
+use Rattle.kernel_commit_facts.specs.Recording.{CanRecord, HasRecorded, MayRecord}
 use Rattle.kernel_commit_facts.specs.Pieces.{CountsWithin}
 use Rattle.kernel_commit_facts.specs.Stabilising.{NeedsFit}
 use Rattle.kernel_commit_facts.specs.Through.{GoesThrough, RunsThrough}
 use Rattle.kernel_commit_facts.proofs.Counting.{CountsWithin-fewer, one_within}
-use Rattle.kernel_commits.proofs.Fitting.{only_failed}
+use Rattle.kernel_commits.specs.Recording.{Fails}
+use Rattle.kernel_commits.proofs.Fitting.{only_writes}
 use Rattle.kernel_commit_facts.proofs.Fitting.{still_fits}
 use Rattle.kernel_commits.proofs.Parting.{stable_part}
 use Rattle.kernel_commit_facts.proofs.Through.{begins_through, is_newest, marks_within, may_go_on, newest_low, not_newest, passes, records_next}
@@ -79,7 +80,7 @@ returns-in-Err-clause-stopped g c =
     let t = c.loop-x.invariant.through in
     stop_left d c.of-entity.result c.loop-x.core c.record_one.new.core t.sound.matches.orderly c.args.core.now
     (marks_within d c.loop-x.x c.args.core.now c.loop-x.core t c.requires.steady.few.marks) t.counts.later s.counts.later
-    c.record_one.result s.tried s.untouched (λ n is. (s.too_few n).0 is) c.in-Err.why c.in-Err.is
+    c.record_one.result s.fails (λ n is. (s.no_blocks n).0 is) c.in-Err.why c.in-Err.is
 
 pub returns-in-Err-clause-part : goal.returns-in-Err-clause-part
 returns-in-Err-clause-part g c = λ told b actor owes.
@@ -93,7 +94,7 @@ returns-in-Err-clause-part g c = λ told b actor owes.
     stable_part d b actor c.loop-x.x c.args.core.now c.loop-x.core c.record_one.new.core u.under
     (next_is d b actor c.loop-x.x c.args.core.now c.loop-x.core owes.stands t u (omega arith) lt)
     (version_in_run d b c.loop-x.core u.stands c.loop-x.x)
-    c.record_one.result (λ is. subst (λ y. HasTried d y c.loop-x.core c.record_one.new.core) c.of-entity.ensures (s.tried is)) s.untouched c.in-Err.why c.in-Err.is
+    c.record_one.result (subst (λ y. Fails d y c.record_one.result c.loop-x.core c.record_one.new.core) c.of-entity.ensures s.fails) c.in-Err.why c.in-Err.is
 
 pub returns-in-Err-clause-counts : goal.returns-in-Err-clause-counts
 returns-in-Err-clause-counts g c =
@@ -106,7 +107,7 @@ returns-clause-counts g c =
     let done : c.loop-x.x ≡ 64 = (let d = c.loop-x-test.false in let u = c.loop-x.auto.x-end in omega (arith, d, u)) in
     subst (λ n. CountsWithin g.D.Disk (n * 1556) c.args.core.now.store c.loop-x.core.store) done c.loop-x.invariant.through.counts
 
-pub returns-in-Err-clause-only_failed : goal.returns-in-Err-clause-only_failed
-returns-in-Err-clause-only_failed g c =
+pub returns-in-Err-clause-only_writes : goal.returns-in-Err-clause-only_writes
+returns-in-Err-clause-only_writes g c =
     let d = g.D.Disk in
-    only_failed d c.of-entity.result c.loop-x.core c.record_one.result c.loop-x.invariant.fits (λ n is. (c.record_one.ensures.too_few n).0 is) c.in-Err.why c.in-Err.is
+    only_writes d c.of-entity.result c.loop-x.core c.record_one.result c.loop-x.invariant.fits (λ n is. (c.record_one.ensures.no_blocks n).0 is) c.record_one.ensures.fails.no_read c.in-Err.why c.in-Err.is

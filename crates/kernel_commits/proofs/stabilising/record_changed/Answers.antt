@@ -19,8 +19,8 @@ returns-in-Some-clause-lives g c = λ told b actor owes.
     subst (λ p. LivesAs d b p (Some why)) (sym c.shortage.ensures.same)
     (still_lives d g.met.D.Disk.counts_later g.met.D.Disk.only_now b c.args.core.now why owes.stands)
 
-pub returns-in-Some-clause-too_few : goal.returns-in-Some-clause-too_few
-returns-in-Some-clause-too_few g c =
+pub returns-in-Some-clause-no_blocks : goal.returns-in-Some-clause-no_blocks
+returns-in-Some-clause-no_blocks g c =
     let d = g.D.Disk in
     stops_short d c.args.core.now c.shortage.result c.in-Some.blocks c.in-Some.is c.shortage.ensures.some
 

@@ -1,13 +1,15 @@
-use Rattle.std.proofs.Common.{◌*◌, [], ◌∷◌, refl, sym, subst}
+use Rattle.std.proofs.Common.{◌*◌, [], ◌∷◌, refl, sym, ap, subst}
 use Rattle.base_types.specs.declared.histories.Event.TheVariants.{Stable}
 use Rattle.kernel_commit_facts.specs.model_kernel.Histories.{mark}
 use Rattle.kernel_commit_facts.specs.table_laws.Tables.{AreClean}
 use Rattle.kernel_commit_facts.specs.kernel_record_facts.Cells.{words_on}
+use Rattle.kernel_commit_facts.specs.Parts.{Parts}
 use Rattle.kernel_commit_facts.specs.Pieces.{CountsWithin}
 use Rattle.kernel_commit_facts.proofs.Settled.{entries_are, has_stabilised, marks_are, stable_steady}
 use Rattle.kernel_commit_facts.proofs.Settling.{stable_calm, stable_stands}
 use Rattle.kernel_commit_facts.proofs.Dues.{lacks_first}
 use Rattle.kernel_commit_facts.proofs.Enough.{lacks_blocks}
+use Rattle.kernel_commits.proofs.Telling.{adds_one, stops_noting}
 use Rattle.kernel_commits.proofs.stabilising.settle.Goals as goal
 
 pub returns-in-Err-clause-run : goal.returns-in-Err-clause-run
@@ -44,4 +46,13 @@ pub returns-in-Err-clause-enough : goal.returns-in-Err-clause-enough
 returns-in-Err-clause-enough g c = λ told b owes n is.
     let d = g.D.Disk in
     lacks_first b (mark Stable c.args.actor 0) [] (mark Stable c.args.actor 0 ∷ []) c.args.core.now c.record_changed.new.core refl tt (c.in-Err.ensures.untouched n is)
-    (lacks_blocks d b c.args.core.now told owes.stands owes.whole ((c.in-Err.ensures.too_few n).0 is).fewer)
+    (lacks_blocks d b c.args.core.now told owes.stands owes.whole ((c.in-Err.ensures.no_blocks n).0 is).fewer)
+
+pub returns-in-Err-clause-notes : goal.returns-in-Err-clause-notes
+returns-in-Err-clause-notes g c =
+    stops_noting c.in-Err.why c.args.core.now.noted.entries c.record_changed.new.core.noted.entries
+    (λ n is. ap (λ (p : Parts g.row.D.Denot). p.noted.entries) (c.in-Err.ensures.untouched n is)) c.in-Err.ensures.no_read
+
+pub returns-clause-notes : goal.returns-clause-notes
+returns-clause-notes g c =
+    adds_one c.args.core.now.noted.entries c.note_stable.new.core.noted.entries _ (returns-clause-stabilised g c).entries (λ is. cc is)

@@ -2,7 +2,8 @@ use Rattle.std.proofs.Common.{◌*◌, sym, ◌∙◌, subst}
 use Rattle.script_types.specs.Scripts.{tables_of}
 use Rattle.kernel_core_facts.specs.store_facts.State.{State}
 use Rattle.kernel_core_facts.specs.kernel_commit_facts.Pieces.{CountsWithin}
-use Rattle.kernel_core_facts.proofs.Opened.{clean_births, counts_stay, none_noted, opened_empty, opened_stable, opens_empty, opens_settled, owes, short_empty, short_stable, some_noted, spare, stopped_births}
+use Rattle.kernel_core_facts.proofs.Opened.{clean_births, counts_stay, none_noted, opened_empty, opened_stable, opens_empty, opens_settled, owes, short_empty, short_stable, some_noted, spare, stopped_births, untried_births}
+use Rattle.kernel_core_facts.proofs.kernel_commits_lemmas.Telling.{tries_behind}
 use Rattle.kernel_core.proofs.bearing.open_core.Goals as goal
 
 pub settle-requires-clause-spare : goal.settle-requires-clause-spare
@@ -16,8 +17,8 @@ pub returns-then-is_new-clause-made : goal.returns-then-is_new-clause-made
 returns-then-is_new-clause-made g c =
     opened_empty (tables_of c.args.script.now) c.args.core.now c.bear_all.new.core c.bear_all.ensures.all (none_noted c.bear_all.new.core.noted.entries (sym c.is_new.ensures ∙ c.if-is_new.true))
 
-pub returns-then-is_new-clause-too_few : goal.returns-then-is_new-clause-too_few
-returns-then-is_new-clause-too_few g c =
+pub returns-then-is_new-clause-no_blocks : goal.returns-then-is_new-clause-no_blocks
+returns-then-is_new-clause-no_blocks g c =
     short_empty (tables_of c.args.script.now) c.args.core.now c.bear_all.new.core c.bear_all.ensures.all (none_noted c.bear_all.new.core.noted.entries (sym c.is_new.ensures ∙ c.if-is_new.true))
 
 pub returns-then-is_new-clause-run : goal.returns-then-is_new-clause-run
@@ -38,10 +39,10 @@ returns-clause-made g c =
     opened_stable (tables_of c.args.script.now) c.args.core.now c.bear_all.new.core c.bear_all.ensures.all (some_noted c.bear_all.new.core.noted.entries (sym c.is_new.ensures ∙ c.if-is_new.false))
     c.settle.new.core c.settle.result c.settle.ensures.stabilised
 
-pub returns-clause-too_few : goal.returns-clause-too_few
-returns-clause-too_few g c =
+pub returns-clause-no_blocks : goal.returns-clause-no_blocks
+returns-clause-no_blocks g c =
     short_stable (tables_of c.args.script.now) c.args.core.now c.bear_all.new.core c.bear_all.ensures.all (some_noted c.bear_all.new.core.noted.entries (sym c.is_new.ensures ∙ c.if-is_new.false))
-    c.settle.new.core c.settle.result c.settle.ensures.too_few c.settle.ensures.untouched
+    c.settle.new.core c.settle.result c.settle.ensures.no_blocks c.settle.ensures.untouched
 
 pub returns-clause-stopped : goal.returns-clause-stopped
 returns-clause-stopped g c = stopped_births (tables_of c.args.script.now) c.args.core.now c.bear_all.new.core c.bear_all.ensures.all g.D.Disk.faults c.settle.new.core c.settle.result c.settle.ensures.stopped
@@ -59,3 +60,11 @@ returns-clause-clean g c = λ told s clean. c.settle.ensures.clean told s (clean
 
 pub returns-clause-counts : goal.returns-clause-counts
 returns-clause-counts g c = subst (λ (st : State g.row.D.Denot). CountsWithin g.D.Disk (64 * 1556) st c.settle.new.core.store) c.bear_all.ensures.all.made.store c.settle.ensures.counts
+
+pub returns-then-is_new-clause-notes : goal.returns-then-is_new-clause-notes
+returns-then-is_new-clause-notes g c = untried_births (tables_of c.args.script.now) c.args.core.now c.bear_all.new.core c.bear_all.ensures.all
+
+pub returns-clause-notes : goal.returns-clause-notes
+returns-clause-notes g c =
+    tries_behind c.settle.result c.args.core.now.noted.entries c.bear_all.new.core.noted.entries c.settle.new.core.noted.entries
+    (untried_births (tables_of c.args.script.now) c.args.core.now c.bear_all.new.core c.bear_all.ensures.all) c.settle.ensures.notes

@@ -1,50 +1,36 @@
-use Rattle.std.proofs.Common.{◌≡◌, [], ◌∷◌, ◌++◌, Some}
-use Rattle.edge_disk.specs.declared.disk.NoBlocks.{NoBlocks as TooFewBlocks}
-use Rattle.kernel_core.specs.kernel_commits.declared.stopping.Stopped.TheVariants.{TooFew}
-use Rattle.kernel_core.specs.declared.looking.Looked.{Looked}
-use Rattle.kernel_core.proofs.model_serial_turns_lemmas.Whereabouts.{looked_more}
-use Rattle.kernel_core.specs.model_serial.Serial.{look}
-use Rattle.kernel_core.specs.kernel_invariant.Beginnings.{run_of}
-use Rattle.kernel_core.specs.kernel_commit_facts.Lacking.{LacksIn}
-use Rattle.kernel_core.proofs.kernel_commit_facts_lemmas.Dues.{due_looks}
-use Rattle.kernel_runs.proofs.Alongs.{told_stop}
-use Rattle.kernel_runs.proofs.Caused.{look_cause}
-use Rattle.kernel_runs.proofs.Course.{one_look, part_of_look}
+use Rattle.std.proofs.Common.{sym, subst}
+use Rattle.std.specs.Prelude.{IfErr}
+use Rattle.base_types.specs.declared.histories.Entry.{Entry}
+use Rattle.kernel_core.specs.kernel_commits.Telling.{Tells, TriesByAnswer}
+use Rattle.kernel_runs.specs.Running.{IsCauseOf}
+use Rattle.kernel_runs.proofs.Alongs.{takes_look}
+use Rattle.kernel_runs.proofs.Caused.{look_cause, tells_past, tries_past}
 use Rattle.kernel_runs.proofs.looking.look_at.Goals as goal
 
 pub returns-in-Ok-clause-run : goal.returns-in-Ok-clause-run
-returns-in-Ok-clause-run g c = λ told b looked given first along. record {
-  along = record {
-    lives = c.in-Ok.ensures.run told b given.same_supply given.same_policy along.lives;
-    looks =
-        one_look b.supply b.policy b.script b.state looked c.args.kernel.now.parts.noted.entries c.step.new.self.parts.noted.entries c.args.locus along.looks
-        (c.in-Ok.ensures.looks told b given.same_supply given.same_policy along.lives c.requires.going);
-  };
-  stopped = tt;
-}
+returns-in-Ok-clause-run g c = λ told b looked given first along.
+    let s = c.step.ensures in
+    takes_look g.D.Disk (g.S.Supplier.word c.args.gate.now.supply) (g.P.Policy.wish c.args.gate.now.policy) b looked c.args.locus c.args.kernel.now c.step.new.self along first
+    (s.run told b given.same_supply given.same_policy along.lives) (s.notes told b given.same_supply given.same_policy along.lives c.requires.going)
 
 pub returns-in-Err-clause-run : goal.returns-in-Err-clause-run
 returns-in-Err-clause-run g c = λ told b looked given first along.
-    let p = c.in-Err.ensures.part told b given.same_supply given.same_policy along.lives c.requires.going in
-    let es = c.args.kernel.now.parts.noted.entries in
-    let lacks : (n : TooFewBlocks) → c.step.new.self.stop ≡ Some (TooFew n) → LacksIn b (look b.supply b.policy b.script (run_of b es) c.args.locus) es c.step.new.self.parts =
-    λ n is. c.in-Err.ensures.enough told b given.same_supply given.same_policy along.lives c.requires.going n
-    (told_stop Looked c.step.new.self.stop c.in-Err.why (TooFew n) c.in-Err.ensures.stops is) in
-    record {
-      along = tt;
-      stopped = record {
-        lives = c.in-Err.ensures.run told b given.same_supply given.same_policy along.lives;
-        part =
-            part_of_look b.supply b.policy b.script b.state looked c.args.kernel.now.parts.noted.entries c.step.new.self.parts.noted.entries c.args.locus along.looks first
-            p.part p.entries p.is;
-        enough = λ n is. (lacks n is).lacks;
-        due = λ n is.
-            due_looks b (looked ++ c.args.locus ∷ []) es (look b.supply b.policy b.script (run_of b es) c.args.locus) c.step.new.self.parts.noted.entries
-            (looked_more b.supply b.policy b.script b.state looked es c.args.locus along.looks) first (lacks n is).due;
-      };
-    }
+    let s = c.step.ensures in
+    takes_look g.D.Disk (g.S.Supplier.word c.args.gate.now.supply) (g.P.Policy.wish c.args.gate.now.policy) b looked c.args.locus c.args.kernel.now c.step.new.self along first
+    (s.run told b given.same_supply given.same_policy along.lives) (s.notes told b given.same_supply given.same_policy along.lives c.requires.going)
+
+pub returns-in-Err-clause-ends : goal.returns-in-Err-clause-ends
+returns-in-Err-clause-ends g c =
+    subst (λ r. Tells r c.step.new.self.stop) (sym c.unless_idle.ensures) (tells_past Entry c.in-Err.stop c.step.new.self.stop (c.in-Err.ensures.ends c.requires.going))
+
+pub returns-in-Err-clause-tries : goal.returns-in-Err-clause-tries
+returns-in-Err-clause-tries g c =
+    subst (λ r. TriesByAnswer r c.args.kernel.now.parts.noted.entries c.step.new.self.parts.noted.entries) (sym c.unless_idle.ensures)
+    (tries_past Entry c.in-Err.stop c.args.kernel.now.parts.noted.entries c.step.new.self.parts.noted.entries c.in-Err.ensures.tries)
 
 pub returns-in-Err-clause-caused : goal.returns-in-Err-clause-caused
 returns-in-Err-clause-caused g c =
     let d = g.D.Disk in
-    look_cause d c.args.locus c.args.kernel.now.parts c.step.new.self.parts Looked c.in-Err.why (c.in-Err.ensures.stopped c.requires.going) (c.in-Err.ensures.failed c.requires.going)
+    subst (λ r. IfErr r (IsCauseOf d.faults c.args.kernel.now.parts c.step.new.self.parts)) (sym c.unless_idle.ensures)
+    (look_cause Entry d c.args.locus c.args.kernel.now.parts c.step.new.self.parts c.in-Err.stop c.step.new.self.stop (c.in-Err.ensures.ends c.requires.going) (c.in-Err.ensures.stopped c.requires.going)
+    (c.in-Err.ensures.fails c.requires.going))

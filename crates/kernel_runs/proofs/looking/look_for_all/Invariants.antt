@@ -1,6 +1,7 @@
 use Rattle.std.proofs.Common.{◌≡◌, ◌*◌, None, [], map}
 use Rattle.std.specs.Prelude.{string_bytes}
 use Rattle.kernel_core.specs.kernel_commit_facts.Pieces.{CountsWithin}
+use Rattle.kernel_core.specs.kernel_commits.Telling.{AddsNoTried}
 use Rattle.kernel_core.specs.kernel_core_facts.Kernels.{StaysClean}
 use Rattle.kernel_core.specs.kernel_invariant.Beginnings.{Beginning}
 use Rattle.kernel_core.specs.model_serial_turns.Turns.{before_pick}
@@ -10,6 +11,7 @@ use Rattle.kernel_runs.proofs.looking.look_for_all.Given as goal
 abbrev pub invariant-loop-i : goal.invariant-loop-i
 invariant-loop-i g l = record {
   going : l.kernel.stop ≡ None;
+  tries : AddsNoTried l.fn.kernel.parts.noted.entries l.kernel.parts.noted.entries;
   clean : StaysClean g.D.Disk (g.S.Supplier.word l.gate.supply) l.kernel;
   counts : CountsWithin g.D.Disk (l.i * look_most) l.fn.kernel.parts.store l.kernel.parts.store;
   run : g.D.Disk.tells → (b : Beginning) → IsRunBy (g.S.Supplier.word l.gate.supply) (g.P.Policy.wish l.gate.policy) b

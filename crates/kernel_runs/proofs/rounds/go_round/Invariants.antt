@@ -1,14 +1,16 @@
 use Rattle.std.proofs.Common.{◌≡◌, ◌-◌, ◌*◌, ◌^◌, None, ℕ, length}
 use Rattle.script_types.specs.model_kernel.Serial.{looks_of}
 use Rattle.kernel_core.specs.kernel_commit_facts.Pieces.{CountsWithin}
+use Rattle.kernel_core.specs.kernel_commits.Telling.{AddsNoTried}
 use Rattle.kernel_core.specs.kernel_core_facts.Kernels.{StaysClean}
 use Rattle.kernel_core.specs.kernel_invariant.Beginnings.{Beginning}
 use Rattle.kernel_runs.specs.Running.{IsRunBy, RunsAlong, look_most, opened_in}
 use Rattle.kernel_runs.proofs.rounds.go_round.Given as goal
 
-abbrev pub invariant-loop-why : goal.invariant-loop-why
-invariant-loop-why g l = record {
+abbrev pub invariant-loop-stop : goal.invariant-loop-stop
+invariant-loop-stop g l = record {
   going : l.kernel.stop ≡ None;
+  tries : AddsNoTried l.fn.kernel.parts.noted.entries l.kernel.parts.noted.entries;
   clean : StaysClean g.D.Disk (g.S.Supplier.word l.gate.supply) l.kernel;
   counts : CountsWithin g.D.Disk (length l.kernel.parts.noted.entries * (23 * look_most)) l.fn.kernel.parts.store l.kernel.parts.store;
   run : g.D.Disk.tells → (b : Beginning) (made : ℕ) → IsRunBy (g.S.Supplier.word l.gate.supply) (g.P.Policy.wish l.gate.policy) b
@@ -17,5 +19,5 @@ invariant-loop-why g l = record {
 }
 
 -- each round but the last notes an entry
-abbrev pub decreases-loop-why : goal.decreases-loop-why
-decreases-loop-why g l = 2 ^ 22 - length l.kernel.parts.noted.entries
+abbrev pub decreases-loop-stop : goal.decreases-loop-stop
+decreases-loop-stop g l = 2 ^ 22 - length l.kernel.parts.noted.entries

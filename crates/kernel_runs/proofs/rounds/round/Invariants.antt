@@ -1,6 +1,7 @@
 use Rattle.std.proofs.Common.{◌≡◌, ◌≤◌, ◌-◌, ◌*◌, None, ℕ}
 use Rattle.script_types.specs.model_kernel.Serial.{looks_of}
 use Rattle.kernel_core.specs.kernel_commit_facts.Pieces.{CountsWithin}
+use Rattle.kernel_core.specs.kernel_commits.Telling.{AddsNoTried}
 use Rattle.kernel_core.specs.kernel_core_facts.Kernels.{StaysClean}
 use Rattle.kernel_core.specs.kernel_invariant.Beginnings.{Beginning}
 use Rattle.kernel_core.specs.model_serial_turns.Turns.{before_locus}
@@ -12,6 +13,7 @@ invariant-loop-number g l = record {
   low : 41 ≤ l.number;
   high : l.number ≤ 64;
   going : l.kernel.stop ≡ None;
+  tries : AddsNoTried l.fn.kernel.parts.noted.entries l.kernel.parts.noted.entries;
   clean : StaysClean g.D.Disk (g.S.Supplier.word l.gate.supply) l.kernel;
   counts : CountsWithin g.D.Disk ((l.number - 41) * look_most) l.fn.kernel.parts.store l.kernel.parts.store;
   run : g.D.Disk.tells → (b : Beginning) (made : ℕ) → IsRunBy (g.S.Supplier.word l.gate.supply) (g.P.Policy.wish l.gate.policy) b

@@ -1,14 +1,15 @@
-use Rattle.std.proofs.Common.{◌+◌, ◌*◌, ◌^◌, ◌≤◌, ℕ, length, map, sym, ap, ◌∙◌, arith}
+use Rattle.std.proofs.Common.{◌+◌, ◌*◌, ◌^◌, ◌≤◌, ◌++◌, ℕ, List, length, map, sym, ap, ◌∙◌, arith}
 use Rattle.std.specs.Prelude.{Err, IfErr, Ok, Result, string_bytes, ⊤}
 use Rattle.script_types.specs.model_kernel.Scripts.{Script}
 use Rattle.script_types.specs.Scripts.{tables_of}
 use Rattle.kernel_core.specs.kernel_commit_facts.Parts.{Parts}
-use Rattle.kernel_core.specs.kernel_commits.Stops.{IsCause}
-use Rattle.kernel_core.specs.kernel_commits.declared.stopping.Stopped.{Stopped}
-use Rattle.kernel_core.specs.kernel_commits.declared.stopping.Stopped.TheVariants.{TooFew}
-use Rattle.kernel_runs.specs.Running.{look_most}
-use Rattle.kernel_runs.proofs.Alongs.{opens, run_by, stops_opening, told_stop}
-use Rattle.kernel_runs.proofs.Caused.{births_cause, cause_from}
+use Rattle.base_types.specs.declared.histories.Entry.{Entry}
+use Rattle.kernel_core.specs.model_serial.Serial.{opening}
+use Rattle.kernel_core.specs.kernel_commits.declared.stopping.Stop.{Stop}
+use Rattle.kernel_runs.specs.Running.{IsCauseOf, look_most}
+use Rattle.kernel_runs.proofs.Alongs.{opens, run_by, stops_opening}
+use Rattle.kernel_runs.proofs.Caused.{births_cause, cause_from, has_stopped}
+use Rattle.kernel_core.proofs.kernel_commits_lemmas.Telling.{adds_then, answers_behind}
 use Rattle.kernel_core.proofs.kernel_commit_facts_lemmas.Counting.{CountsWithin-fewer, CountsWithin-then}
 use Rattle.kernel_runs.proofs.running.run.Goals as goal
 
@@ -18,10 +19,12 @@ play-requires-clause-clean g c = c.births.ensures.clean (g.S.Supplier.word c.arg
 pub returns-in-Err-clause-run : goal.returns-in-Err-clause-run
 returns-in-Err-clause-run g c = λ told going b supply policy script lives.
     let d = g.D.Disk in
+    let n = c.births.ensures in
     record {
-      over = tt;
-      stopped = stops_opening d (g.S.Supplier.word c.args.gate.now.supply) (g.P.Policy.wish c.args.gate.now.policy) b c.births.new.self (c.births.ensures.run told b script lives) (c.in-Err.ensures.part told b script lives going)
-          (λ n is. c.in-Err.ensures.enough told b script lives going n (told_stop ⊤ c.births.new.self.stop c.in-Err.why (TooFew n) c.in-Err.ensures.stops is));
+      over = λ still. absurd (has_stopped ⊤ d.faults c.args.kernel.now.parts c.births.new.self.parts c.in-Err.stop c.births.new.self.stop (c.in-Err.ensures.ends going)
+          (births_cause d.faults (tables_of c.args.script.now) c.args.kernel.now.parts c.births.new.self.parts c.in-Err.stop (c.in-Err.ensures.no_blocks going) (c.in-Err.ensures.fails going)) still);
+      stopped = stops_opening d (g.S.Supplier.word c.args.gate.now.supply) (g.P.Policy.wish c.args.gate.now.policy) b c.args.kernel.now c.births.new.self (n.run told b script lives) c.requires.first
+          (n.notes told b script lives going);
     }
 
 pub returns-in-Err-play-clause-counts : goal.returns-in-Err-play-clause-counts
@@ -37,9 +40,13 @@ pub returns-in-Err-play-clause-run : goal.returns-in-Err-play-clause-run
 returns-in-Err-play-clause-run g c = λ told going b supply policy script lives.
     let d = g.D.Disk in
     let given = run_by d (g.S.Supplier.word c.args.gate.now.supply) (g.P.Policy.wish c.args.gate.now.policy) b _ c.args.kernel.now supply policy script c.requires.first c.requires.fits lives in
-    let along = opens d (g.S.Supplier.word c.args.gate.now.supply) (g.P.Policy.wish c.args.gate.now.policy) b c.births.new.self (c.births.ensures.run told b script lives) (c.in_default.ensures.opening told b script lives going) in
+    let along = opens d (g.S.Supplier.word c.args.gate.now.supply) (g.P.Policy.wish c.args.gate.now.policy) b c.births.new.self (c.births.ensures.run told b script lives) ((c.births.ensures.notes told b script lives going).whole (c.in_default.ensures.ends going) ∙ ap (λ (es : List Entry). es ++ opening b.supply b.script b.state) c.requires.first) in
     let order = ap (λ (t : Script). t.order) script ∙ ap (map string_bytes) (sym c.deref.ensures.value) in
-    record { over = tt; stopped = (c.in-Err-play.ensures.run told c.in_default.ensures.goes b given order along).stopped }
+    record {
+      over = λ still. absurd (has_stopped ⊤ d.faults c.births.new.self.parts c.play.new.kernel.parts c.in-Err-play.stop c.play.new.kernel.stop (c.in-Err-play.ensures.ends (c.in_default.ensures.ends going))
+          (c.in-Err-play.ensures.caused (c.in_default.ensures.ends going)) still);
+      stopped = (c.in-Err-play.ensures.run told (c.in_default.ensures.ends going) b given order along).stopped;
+    }
 
 pub returns-clause-counts : goal.returns-clause-counts
 returns-clause-counts g c =
@@ -54,27 +61,46 @@ pub returns-clause-run : goal.returns-clause-run
 returns-clause-run g c = λ told going b supply policy script lives.
     let d = g.D.Disk in
     let given = run_by d (g.S.Supplier.word c.args.gate.now.supply) (g.P.Policy.wish c.args.gate.now.policy) b _ c.args.kernel.now supply policy script c.requires.first c.requires.fits lives in
-    let along = opens d (g.S.Supplier.word c.args.gate.now.supply) (g.P.Policy.wish c.args.gate.now.policy) b c.births.new.self (c.births.ensures.run told b script lives) (c.in_default.ensures.opening told b script lives going) in
+    let along = opens d (g.S.Supplier.word c.args.gate.now.supply) (g.P.Policy.wish c.args.gate.now.policy) b c.births.new.self (c.births.ensures.run told b script lives) ((c.births.ensures.notes told b script lives going).whole (c.in_default.ensures.ends going) ∙ ap (λ (es : List Entry). es ++ opening b.supply b.script b.state) c.requires.first) in
     let order = ap (λ (t : Script). t.order) script ∙ ap (map string_bytes) (sym c.deref.ensures.value) in
-    c.finish.ensures.run told c.in_default-play.ensures.goes b 0 given (c.in_default-play.ensures.run told c.in_default.ensures.goes b given order along).along
+    let behind = c.in_default-play.ensures.ends (c.in_default.ensures.ends going) in
+    c.finish.ensures.run told behind b 0 given ((c.in_default-play.ensures.run told (c.in_default.ensures.ends going) b given order along).along behind)
 
 -- WHAT STOPPED IT
 
 pub returns-in-Err-clause-caused : goal.returns-in-Err-clause-caused
 returns-in-Err-clause-caused g c = λ going.
-    births_cause g.D.Disk.faults (tables_of c.args.script.now) c.args.kernel.now.parts c.births.new.self.parts c.in-Err.why (c.in-Err.ensures.too_few going) (c.in-Err.ensures.failed going)
+    births_cause g.D.Disk.faults (tables_of c.args.script.now) c.args.kernel.now.parts c.births.new.self.parts c.in-Err.stop (c.in-Err.ensures.no_blocks going) (c.in-Err.ensures.fails going)
 
 pub returns-in-Err-play-clause-caused : goal.returns-in-Err-play-clause-caused
 returns-in-Err-play-clause-caused g c = λ going.
-    cause_from g.D.Disk.faults c.args.kernel.now.parts c.births.new.self.parts c.play.new.kernel.parts c.in-Err-play.why c.births.ensures.counts.later c.play.ensures.counts.later (c.in-Err-play.ensures.caused c.in_default.ensures.goes)
+    cause_from g.D.Disk.faults c.args.kernel.now.parts c.births.new.self.parts c.play.new.kernel.parts c.in-Err-play.stop c.births.ensures.counts.later c.play.ensures.counts.later (c.in-Err-play.ensures.caused (c.in_default.ensures.ends going))
 
-cause_behind : {D : Type 0} (faults : D → ℕ) (old mid new : Parts D) (r : Result ⊤ Stopped) → faults old.store.disk ≤ faults mid.store.disk → faults mid.store.disk ≤ faults new.store.disk
-    → IfErr r (IsCause faults mid new) → IfErr r (IsCause faults old new)
+cause_behind : {D : Type 0} (faults : D → ℕ) (old mid new : Parts D) (r : Result ⊤ Stop) → faults old.store.disk ≤ faults mid.store.disk → faults mid.store.disk ≤ faults new.store.disk
+    → IfErr r (IsCauseOf faults mid new) → IfErr r (IsCauseOf faults old new)
 cause_behind faults old mid new (Ok x) low later cause = tt
-cause_behind faults old mid new (Err why) low later cause = cause_from faults old mid new why low later cause
+cause_behind faults old mid new (Err s) low later cause = cause_from faults old mid new s low later cause
 
 pub returns-clause-caused : goal.returns-clause-caused
 returns-clause-caused g c = λ going.
     let early = c.births.ensures.counts.later in
     let later = c.play.ensures.counts.later in
-    cause_behind g.D.Disk.faults c.args.kernel.now.parts c.play.new.kernel.parts c.finish.new.kernel.parts c.finish.result (omega (arith, early, later)) c.finish.ensures.counts.later (c.finish.ensures.caused c.in_default-play.ensures.goes)
+    cause_behind g.D.Disk.faults c.args.kernel.now.parts c.play.new.kernel.parts c.finish.new.kernel.parts c.finish.result (omega (arith, early, later)) c.finish.ensures.counts.later
+    (c.finish.ensures.caused (c.in_default-play.ensures.ends (c.in_default.ensures.ends going)))
+
+-- HOW IT ENDS
+
+pub returns-in-Err-play-clause-ends : goal.returns-in-Err-play-clause-ends
+returns-in-Err-play-clause-ends g c = λ going. c.in-Err-play.ensures.ends (c.in_default.ensures.ends going)
+
+pub returns-clause-ends : goal.returns-clause-ends
+returns-clause-ends g c = λ going. c.finish.ensures.ends (c.in_default-play.ensures.ends (c.in_default.ensures.ends going))
+
+pub returns-in-Err-play-clause-tries : goal.returns-in-Err-play-clause-tries
+returns-in-Err-play-clause-tries g c =
+    answers_behind {T = ⊤} (Err c.in-Err-play.stop) c.args.kernel.now.parts.noted.entries c.births.new.self.parts.noted.entries c.play.new.kernel.parts.noted.entries c.in_default.ensures.tries c.in-Err-play.ensures.tries
+
+pub returns-clause-tries : goal.returns-clause-tries
+returns-clause-tries g c =
+    answers_behind c.finish.result c.args.kernel.now.parts.noted.entries c.play.new.kernel.parts.noted.entries c.finish.new.kernel.parts.noted.entries
+    (adds_then c.args.kernel.now.parts.noted.entries c.births.new.self.parts.noted.entries c.play.new.kernel.parts.noted.entries c.in_default.ensures.tries c.in_default-play.ensures.tries) c.finish.ensures.tries

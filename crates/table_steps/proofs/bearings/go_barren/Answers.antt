@@ -12,7 +12,7 @@ advance_barren-requires c =
     let held = c.requires.order.held in
     let orderly = c.requires.order.orderly in
     let count = orderly.numbers.len in
-    let plans = planned_barren cs c.args.me c.requires.wants in
+    let plans = planned_barren cs c.args.me c.args.instr c.requires.wants in
     let p = plans.1.plan in
     let high : 40 < c.args.me = high_at held cs orderly c.args.me plans.1.cell p.locus plans.1.is p.runs.is in
     let parts = c.split_at_mut-front in
@@ -24,7 +24,7 @@ advance_barren-requires c =
     ap (slice_get cs) (sym c.number.ensures.number) ∙ read_back cs front back c.number.result c.index-back-0.result parts.ensures.value parts.ensures.front_len (omega arith) in
     let is_k : slice_get cs 0 ≡ Some (get_or c.split_at_mut-front.result.0.now 0 c.index-front-0.result) =
     read_front cs front back c.number.result 0 c.index-front-0.result parts.ensures.value parts.ensures.front_len (omega (arith, high)) in
-    let faces = faces_barren held cs orderly c.args.me a k c.requires.few is_a is_k c.requires.wants in
+    let faces = faces_barren held cs orderly c.args.me c.args.instr a k c.requires.few is_a is_k c.requires.wants in
     record { wants = faces.wants; left = faces.left; atlas = faces.atlas; some = faces.some; few = faces.few }
 
 pub returns : goal.returns
@@ -33,7 +33,7 @@ returns c =
     let held = c.requires.order.held in
     let orderly = c.requires.order.orderly in
     let count = orderly.numbers.len in
-    let plans = planned_barren cs c.args.me c.requires.wants in
+    let plans = planned_barren cs c.args.me c.args.instr c.requires.wants in
     let p = plans.1.plan in
     let high : 40 < c.args.me = high_at held cs orderly c.args.me plans.1.cell p.locus plans.1.is p.runs.is in
     let parts = c.split_at_mut-front in
@@ -53,4 +53,4 @@ returns c =
     let at_a = orderly.numbers.each c.args.me a is_a in
     let at_k = orderly.numbers.each 0 k is_k in
     let lends = lends_high cs cs' a k mid.locus mid.atlas 0 c.number.result sets (ap (slice_get cs) c.number.ensures.number ∙ is_a) is_k (at_a ∙ sym c.number.ensures.number) at_k made.entities.0 made.entities.1 in
-    two_quiet held cs orderly c.args.me plans.0 plans.1 cs' c.advance_barren.result a k mid.locus mid.atlas is_a is_k (ap (slice_get cs') (sym c.number.ensures.number) ∙ sets.second) sets.first lends made.step
+    two_quiet held cs orderly c.args.me c.args.instr plans.0 plans.1 cs' c.advance_barren.result a k mid.locus mid.atlas is_a is_k (ap (slice_get cs') (sym c.number.ensures.number) ∙ sets.second) sets.first lends made.step

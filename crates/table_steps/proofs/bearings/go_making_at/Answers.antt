@@ -1,5 +1,5 @@
 use Rattle.std.proofs.Common.{◌≡◌, ◌++◌, slice_get, slice_set, get_or, Some, sym, ap, ◌∙◌, arith}
-use Rattle.table_laws.specs.cell_plans.declared.plans.Plan.TheVariants as plan
+use Rattle.table_laws.specs.cell_plans.declared.plans.Reach.TheVariants as reach
 use Rattle.table_laws.proofs.Facing.{plan_of}
 use Rattle.table_laws.proofs.FacingAtlas.{directory_is, making_below, newborn_unborn}
 use Rattle.table_laws.proofs.Places.{read_back, read_first, read_middle, set_three, write_three}
@@ -16,7 +16,7 @@ split_at_mut-first-requires c =
     let has = c.requires.free.1 in
     let room = c.requires.free.2 in
     let number = c.requires.free.3 in
-    let below = making_below held cs orderly c.args.me d c.requires.planned.cell plan.Make has c.requires.planned c.requires.planned.is room in
+    let below = making_below held cs orderly c.args.me d c.requires.planned.cell c.args.instr reach.Make has c.requires.planned c.requires.planned.is room in
     omega (arith, number, below)
 
 pub bounds-rest-0 : goal.bounds-rest-0
@@ -29,7 +29,7 @@ bounds-rest-0 c =
     let has = c.requires.free.1 in
     let room = c.requires.free.2 in
     let number = c.requires.free.3 in
-    let below = making_below held cs orderly c.args.me d c.requires.planned.cell plan.Make has c.requires.planned c.requires.planned.is room in
+    let below = making_below held cs orderly c.args.me d c.requires.planned.cell c.args.instr reach.Make has c.requires.planned c.requires.planned.is room in
     omega (arith, number, below)
 
 pub advance_making-requires : goal.advance_making-requires
@@ -42,7 +42,7 @@ advance_making-requires c =
     let has = c.requires.free.1 in
     let room = c.requires.free.2 in
     let number = c.requires.free.3 in
-    let below = making_below held cs orderly c.args.me d c.requires.planned.cell plan.Make has c.requires.planned c.requires.planned.is room in
+    let below = making_below held cs orderly c.args.me d c.requires.planned.cell c.args.instr reach.Make has c.requires.planned c.requires.planned.is room in
     let parts = c.split_at_mut-front in
     let low = c.split_at_mut-first in
     let front = parts.result.0.now in
@@ -61,7 +61,7 @@ advance_making-requires c =
     let at_a = orderly.numbers.each c.args.me a is_a in
     let at_b = orderly.numbers.each c.args.newborn b is_b in
     record {
-      planned = plan_of held cs orderly c.args.me plan.Make c.requires.planned a is_a;
+      planned = plan_of held cs orderly c.args.me c.args.instr reach.Make c.requires.planned a is_a;
       free = (d, directory_is held cs orderly d has k is_k, room, at_b ∙ number);
       unborn = newborn_unborn held cs orderly d b has room (ap (slice_get cs) (sym number) ∙ is_b);
       atlas = orderly.numbers.each 0 k is_k;
@@ -79,7 +79,7 @@ returns c =
     let has = c.requires.free.1 in
     let room = c.requires.free.2 in
     let number = c.requires.free.3 in
-    let below = making_below held cs orderly c.args.me d c.requires.planned.cell plan.Make has c.requires.planned c.requires.planned.is room in
+    let below = making_below held cs orderly c.args.me d c.requires.planned.cell c.args.instr reach.Make has c.requires.planned c.requires.planned.is room in
     let parts = c.split_at_mut-front in
     let low = c.split_at_mut-first in
     let front = parts.result.0.now in
@@ -113,6 +113,6 @@ returns c =
     } in
     let lends = lends_three held cs cs' a k b mid.locus mid.atlas mid.newborn c.args.me 0 c.args.newborn orderly at made.entities.0 made.entities.1 made.entities.2 in
     let at_b = orderly.numbers.each c.args.newborn b is_b in
-    three_quiet held cs orderly c.args.me plan.Make c.requires.planned cs' c.advance_making.result a k b mid.locus mid.atlas mid.newborn c.args.newborn at lends made.step
+    three_quiet held cs orderly c.args.me c.args.instr reach.Make c.requires.planned cs' c.advance_making.result a k b mid.locus mid.atlas mid.newborn c.args.newborn at lends made.step
     (made_goes c.args.newborn b mid.newborn (omega (arith, number)) (omega (arith, number, room)) (made.entities.2 ∙ at_b)
     (newborn_unborn held cs orderly d b has room (ap (slice_get cs) (sym number) ∙ is_b)) made.memory)

@@ -1,6 +1,6 @@
 use Rattle.std.proofs.Common.{◌≡◌, [], ◌∷◌, ◌++◌, slice_get, slice_set, get_or, Some, sym, ap, ◌∙◌, arith}
 use Rattle.std.proofs.lemmas.Option.{slice_get-get_or}
-use Rattle.table_laws.specs.cell_plans.declared.plans.Plan.TheVariants as plan
+use Rattle.table_laws.specs.cell_plans.declared.plans.Reach.TheVariants as reach
 use Rattle.table_laws.proofs.Facing.{cells}
 use Rattle.table_laws.proofs.FacingAtlas.{faces_mapping, mapping_between}
 use Rattle.table_laws.proofs.Pairs.{kept_goes}
@@ -117,6 +117,6 @@ returns c =
     let lends = lends_three held cs cs' a k b mid.locus mid.atlas mid.other c.args.me 0 c.args.other orderly at made.entities.0 made.entities.1 made.entities.2 in
     let at_a = orderly.numbers.each c.args.me a is_a in
     let at_b = orderly.numbers.each c.args.other b is_b in
-    three_quiet held cs orderly c.args.me (plan.Mapping c.args.other c.args.instr) c.requires.planned cs' c.advance_mapping.result a k b mid.locus mid.atlas mid.other c.args.other at lends made.step
+    three_quiet held cs orderly c.args.me c.args.instr (reach.Mapping c.args.other) c.requires.planned cs' c.advance_mapping.result a k b mid.locus mid.atlas mid.other c.args.other at lends made.step
     (kept_goes held cs orderly a.clock.entity cs' (a ∷ k ∷ b ∷ []) (mid.locus ∷ mid.atlas ∷ mid.other ∷ []) c.advance_mapping.result made.step lends c.args.other b mid.other at.is_b (made.entities.2 ∙ at_b)
     (λ none. faces.born (ap (cells held cs orderly) at_b ∙ none)) made.memory)

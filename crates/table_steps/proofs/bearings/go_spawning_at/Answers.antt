@@ -1,5 +1,5 @@
 use Rattle.std.proofs.Common.{◌≡◌, ◌++◌, ◌<◌, slice_get, slice_set, get_or, Some, sym, ap, ◌∙◌, arith}
-use Rattle.table_laws.specs.cell_plans.declared.plans.Plan.TheVariants as plan
+use Rattle.table_laws.specs.cell_plans.declared.plans.Reach.TheVariants as reach
 use Rattle.table_laws.proofs.Facing.{high_at, plan_of}
 use Rattle.table_laws.proofs.FacingAtlas.{directory_is, spawning_above}
 use Rattle.table_laws.proofs.Places.{read_back, read_first, read_middle, set_three, write_three}
@@ -16,7 +16,7 @@ split_at_mut-first-requires c =
     let has = c.requires.free.1 in
     let room = c.requires.free.2 in
     let number = c.requires.free.3 in
-    let above = spawning_above held cs orderly c.args.me d c.requires.planned.cell plan.Spawn has c.requires.planned c.requires.planned.is in
+    let above = spawning_above held cs orderly c.args.me d c.requires.planned.cell c.args.instr reach.Spawn has c.requires.planned c.requires.planned.is in
     let p = c.requires.planned.plan in
     let high : 40 < c.args.me = high_at held cs orderly c.args.me c.requires.planned.cell p.locus c.requires.planned.is p.runs.is in
     omega (arith, number, above)
@@ -31,7 +31,7 @@ bounds-rest-0 c =
     let has = c.requires.free.1 in
     let room = c.requires.free.2 in
     let number = c.requires.free.3 in
-    let above = spawning_above held cs orderly c.args.me d c.requires.planned.cell plan.Spawn has c.requires.planned c.requires.planned.is in
+    let above = spawning_above held cs orderly c.args.me d c.requires.planned.cell c.args.instr reach.Spawn has c.requires.planned c.requires.planned.is in
     let p = c.requires.planned.plan in
     let high : 40 < c.args.me = high_at held cs orderly c.args.me c.requires.planned.cell p.locus c.requires.planned.is p.runs.is in
     omega (arith, number, above)
@@ -46,7 +46,7 @@ bounds-first-0 c =
     let has = c.requires.free.1 in
     let room = c.requires.free.2 in
     let number = c.requires.free.3 in
-    let above = spawning_above held cs orderly c.args.me d c.requires.planned.cell plan.Spawn has c.requires.planned c.requires.planned.is in
+    let above = spawning_above held cs orderly c.args.me d c.requires.planned.cell c.args.instr reach.Spawn has c.requires.planned c.requires.planned.is in
     let p = c.requires.planned.plan in
     let high : 40 < c.args.me = high_at held cs orderly c.args.me c.requires.planned.cell p.locus c.requires.planned.is p.runs.is in
     omega (arith, high)
@@ -61,7 +61,7 @@ advance_spawning-requires c =
     let has = c.requires.free.1 in
     let room = c.requires.free.2 in
     let number = c.requires.free.3 in
-    let above = spawning_above held cs orderly c.args.me d c.requires.planned.cell plan.Spawn has c.requires.planned c.requires.planned.is in
+    let above = spawning_above held cs orderly c.args.me d c.requires.planned.cell c.args.instr reach.Spawn has c.requires.planned c.requires.planned.is in
     let p = c.requires.planned.plan in
     let high : 40 < c.args.me = high_at held cs orderly c.args.me c.requires.planned.cell p.locus c.requires.planned.is p.runs.is in
     let parts = c.split_at_mut-front in
@@ -82,7 +82,7 @@ advance_spawning-requires c =
     let at_a = orderly.numbers.each c.args.me a is_a in
     let at_b = orderly.numbers.each c.args.newborn b is_b in
     record {
-      planned = plan_of held cs orderly c.args.me plan.Spawn c.requires.planned a is_a;
+      planned = plan_of held cs orderly c.args.me c.args.instr reach.Spawn c.requires.planned a is_a;
       free = (d, directory_is held cs orderly d has k is_k, room, at_b ∙ number);
       atlas = orderly.numbers.each 0 k is_k;
       some = omega (arith, at_a, high);
@@ -100,7 +100,7 @@ returns c =
     let has = c.requires.free.1 in
     let room = c.requires.free.2 in
     let number = c.requires.free.3 in
-    let above = spawning_above held cs orderly c.args.me d c.requires.planned.cell plan.Spawn has c.requires.planned c.requires.planned.is in
+    let above = spawning_above held cs orderly c.args.me d c.requires.planned.cell c.args.instr reach.Spawn has c.requires.planned c.requires.planned.is in
     let p = c.requires.planned.plan in
     let high : 40 < c.args.me = high_at held cs orderly c.args.me c.requires.planned.cell p.locus c.requires.planned.is p.runs.is in
     let parts = c.split_at_mut-front in
@@ -135,5 +135,5 @@ returns c =
       others = λ n x z y. sets.others n z (λ e. x (e ∙ c.number.ensures.number)) y;
     } in
     let lends = lends_three held cs cs' a k b mid.locus mid.atlas mid.newborn c.args.me 0 c.args.newborn orderly at made.entities.0 made.entities.1 made.entities.2 in
-    three_quiet held cs orderly c.args.me plan.Spawn c.requires.planned cs' c.advance_spawning.result a k b mid.locus mid.atlas mid.newborn c.args.newborn at lends made.step
-    (spawned_goes held cs orderly c.args.me plan.Spawn c.requires.planned cs' c.advance_spawning.result a k b mid.locus mid.atlas mid.newborn c.args.newborn at lends made.step d has c.requires.planned room number)
+    three_quiet held cs orderly c.args.me c.args.instr reach.Spawn c.requires.planned cs' c.advance_spawning.result a k b mid.locus mid.atlas mid.newborn c.args.newborn at lends made.step
+    (spawned_goes held cs orderly c.args.me c.args.instr reach.Spawn c.requires.planned cs' c.advance_spawning.result a k b mid.locus mid.atlas mid.newborn c.args.newborn at lends made.step d has c.requires.planned room number)

@@ -1,6 +1,6 @@
 use Rattle.std.proofs.Common.{◌≡◌, ◌++◌, slice_get, slice_set, get_or, Some, sym, ap, ◌∙◌, arith}
 use Rattle.std.proofs.lemmas.Result.{on_err_weaker}
-use Rattle.table_laws.specs.cell_plans.declared.plans.Plan.TheVariants as plan
+use Rattle.table_laws.specs.cell_plans.declared.plans.Reach.TheVariants as reach
 use Rattle.table_laws.proofs.Blocks.{ChangesTwo}
 use Rattle.table_laws.proofs.Facing.{high_at, plan_of}
 use Rattle.table_steps.proofs.FacingLook.{faces_look, look_below, wants_word}
@@ -19,7 +19,7 @@ bounds-front-number g c =
     let cs = c.args.cells.now in
     let orderly = c.requires.orderly in
     let count = orderly.numbers.len in
-    let below = look_below (g.B.PageStore.held c.args.store.now) cs orderly c.args.me c.args.other c.requires.planned in
+    let below = look_below (g.B.PageStore.held c.args.store.now) cs orderly c.args.me c.args.other c.args.instr c.requires.planned in
     omega (arith, below.1)
 
 pub advance_looking-requires : goal.advance_looking-requires
@@ -32,7 +32,7 @@ advance_looking-requires g c =
     let cs = c.args.cells.now in
     let orderly = c.requires.orderly in
     let count = orderly.numbers.len in
-    let below = look_below (g.B.PageStore.held c.args.store.now) cs orderly c.args.me c.args.other c.requires.planned in
+    let below = look_below (g.B.PageStore.held c.args.store.now) cs orderly c.args.me c.args.other c.args.instr c.requires.planned in
     let parts = c.split_at_mut-front in
     let front = parts.result.0.now in
     let back = parts.result.1.now in
@@ -42,7 +42,7 @@ advance_looking-requires g c =
     ap (slice_get cs) (sym c.number-2.ensures.number) ∙ read_front cs front back c.number.result c.number-2.result c.index-front-number.result parts.ensures.value parts.ensures.front_len (omega (arith, below.1)) in
     let is_a : slice_get cs c.args.me ≡ Some (get_or c.split_at_mut-front.result.1.now 0 c.index-back-0.result) =
     ap (slice_get cs) (sym c.number.ensures.number) ∙ read_back cs front back c.number.result c.index-back-0.result parts.ensures.value parts.ensures.front_len (omega arith) in
-    let faces = faces_look (g.B.PageStore.held c.args.store.now) cs orderly s tells (g.B.PageStore.words c.args.store.now) c.args.me c.args.other a b c.requires.few c.requires.clean c.requires.planned is_a is_b in
+    let faces = faces_look (g.B.PageStore.held c.args.store.now) cs orderly s tells (g.B.PageStore.words c.args.store.now) c.args.me c.args.other c.args.instr a b c.requires.few c.requires.clean c.requires.planned is_a is_b in
     record { keeps = c.requires.keeps; planned = faces.planned; memory = faces.memory; lower = faces.lower; few = faces.few }
 
 pub returns : goal.returns
@@ -55,7 +55,7 @@ returns g c =
     let cs = c.args.cells.now in
     let orderly = c.requires.orderly in
     let count = orderly.numbers.len in
-    let below = look_below (g.B.PageStore.held c.args.store.now) cs orderly c.args.me c.args.other c.requires.planned in
+    let below = look_below (g.B.PageStore.held c.args.store.now) cs orderly c.args.me c.args.other c.args.instr c.requires.planned in
     let parts = c.split_at_mut-front in
     let front = parts.result.0.now in
     let back = parts.result.1.now in
@@ -77,7 +77,7 @@ returns g c =
     (at_a ∙ sym c.number.ensures.number) (at_b ∙ sym c.number-2.ensures.number) made.entities.0 made.entities.1 in
     let p = c.requires.planned.plan in
     let high = high_at (g.B.PageStore.held c.args.store.now) cs orderly c.args.me c.requires.planned.cell p.locus c.requires.planned.is p.runs.is in
-    let q = plan_of (g.B.PageStore.held c.args.store.now) cs orderly c.args.me (plan.Look c.args.other) c.requires.planned a is_a in
+    let q = plan_of (g.B.PageStore.held c.args.store.now) cs orderly c.args.me c.args.instr (reach.Look c.args.other) c.requires.planned a is_a in
     let two : ChangesTwo cs cs' c.args.me c.args.other a b mid.locus mid.other = record {
       len = sets.len;
       high = high;
@@ -101,9 +101,6 @@ returns g c =
       faulted = left.faulted;
       at_word = on_err_weaker c.advance_looking.result (wants_word cs c.args.me c.args.other a b is_a is_b at_a at_b) made.at_word;
       news = left.news;
-      one_write = made.one_write;
       kept = made.memory.others.same_kept;
-      cause = made.cause;
-      same_shut = made.same_shut;
-      between = made.between;
+      pages = made.pages;
     }

@@ -1,7 +1,7 @@
 use Rattle.std.proofs.Common.{◌≡◌, slice_get, Some, sym, ap, ◌∙◌, arith}
 use Rattle.std.proofs.lemmas.Option.{slice_get-get_or}
 use Rattle.table_laws.proofs.Facing.{ready_at}
-use Rattle.table_steps.proofs.Planning.{err_along, ok_idle, planned_here}
+use Rattle.table_steps.proofs.Planning.{err_along, next_here, ok_idle, planned_here}
 use Rattle.table_steps.proofs.stepping.plan_at.Goals as goal
 
 pub next_plan-requires : goal.next_plan-requires
@@ -43,3 +43,13 @@ returns-clause-plans c =
     let here : slice_get cs c.args.me ≡ Some c.index-cells-number.result =
     ap (slice_get cs) (sym c.number.ensures.number) ∙ slice_get-get_or cs c.number.result c.index-cells-number.result (omega (arith, c.number.ensures.small)) ∙ ap Some (sym c.index-cells-number.is) in
     planned_here cs c.args.me cell here c.next_plan.result c.next_plan.ensures.plans
+
+pub returns-clause-next : goal.returns-clause-next
+returns-clause-next c =
+    let cs = c.args.cells.now in
+    let orderly = c.requires.order.orderly in
+    let count = orderly.numbers.len in
+    let cell = c.index-cells-number.result in
+    let here : slice_get cs c.args.me ≡ Some c.index-cells-number.result =
+    ap (slice_get cs) (sym c.number.ensures.number) ∙ slice_get-get_or cs c.number.result c.index-cells-number.result (omega (arith, c.number.ensures.small)) ∙ ap Some (sym c.index-cells-number.is) in
+    next_here cs c.args.me cell here c.next_plan.result c.next_plan.ensures.plans

@@ -3,7 +3,7 @@ use Rattle.act_look.specs.Looks.{is_look}
 use Rattle.cell_calls.specs.act_calls.Calls.{is_map, is_unmap}
 use Rattle.cell_plans.proofs.Planned.{call_beside}
 use Rattle.cell_calls.proofs.Touching.{itself_alone}
-use Rattle.cell_plans.proofs.plans.plan_beside.Goals as goal
+use Rattle.cell_plans.proofs.plans.reach_beside.Goals as goal
 
 pub returns-then-is_itself : goal.returns-then-is_itself
 returns-then-is_itself c l wants = itself_alone c.args.me c.args.other l c.args.instr wants (sym c.is_itself.ensures ∙ c.if-is_itself.true)

@@ -1,7 +1,7 @@
 use Rattle.std.proofs.Common.{ap, ◌∙◌}
 use Rattle.cell_calls.specs.act_calls.Calls.{is_make, is_spawn}
 use Rattle.cell_plans.proofs.Planned.{alone_by}
-use Rattle.cell_plans.proofs.plans.plan_alone.Goals as goal
+use Rattle.cell_plans.proofs.plans.reach_alone.Goals as goal
 
 pub returns-in-Make : goal.returns-in-Make
 returns-in-Make c l none = record { instr = ap is_make (none.instr ∙ c.in-Make.is); allowed = none.allowed }
