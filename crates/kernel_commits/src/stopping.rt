@@ -48,7 +48,7 @@ impl Stopped {
         ensures { result ≡ told_again self }
     {
         match self {
-            Stopped::NoBlocks(blocks) => Stop::NoBlocks(blocks),
+            Stopped::NoBlocks(numbers) => Stop::NoBlocks(numbers),
             Stopped::ReadFault | Stopped::WriteFault => Stop::Shut,
         }
     }

@@ -1,8 +1,7 @@
 -- What a plan of one cell says of the table.
-use Rattle.std.proofs.Common.{◌≡◌, ℕ, List, slice_get, if◌then◌else◌, Some, None, Result, Ok, Err, IfErr, IfOk, sym, ap, ◌∙◌}
-use Rattle.base_types.specs.declared.histories.Answer.{Answer}
+use Rattle.std.proofs.Common.{◌≡◌, ℕ, List, slice_get, Some, None, Result, Ok, Err, IfErr, IfOk, ap, ◌∙◌}
 use Rattle.base_types.specs.declared.instructions.Instr.{Instr}
-use Rattle.page_store.specs.model_kernel.Histories.{locus_in, owed_by, stabilises}
+use Rattle.page_store.specs.model_kernel.Histories.{locus_in}
 use Rattle.page_store.specs.model_kernel.State.{Supply}
 use Rattle.table_laws.specs.act_alone.Loci.{locus_of}
 use Rattle.table_laws.specs.cell_states.declared.cells.Cell.{Cell}
@@ -42,8 +41,3 @@ has_next cs me i r p = record {
 pub next_here : (cs : List Cell) (me : ℕ) (cell : Cell) → slice_get cs me ≡ Some cell → (r : Result Plan Idle) → IfOk r (λ p. IsPlanned cell p.instr p.reach) → IfOk r (λ p. HasNext me cs p.instr)
 next_here cs me cell here (Ok p) h = has_next cs me p.instr p.reach (record { cell = cell; is = here; plan = h })
 next_here cs me cell here (Err why) h = h
-
--- what a step by this instruction owes, for the kernel
-pub owed_next : (cs : List Cell) (me : ℕ) (i : Instr) → HasNext me cs i → (a : Answer) (s : Supply) (words : ℕ → List ℕ)
-    → owed_by me a (locus_in (state_in s words cs me).cell) ≡ (if stabilises a i then Some me else None)
-owed_next cs me i h a s words = ap (owed_by me a) (h.is s words) ∙ ap (λ j. if stabilises a j then Some me else None) (sym h.instr)
