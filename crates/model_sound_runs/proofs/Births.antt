@@ -30,7 +30,7 @@ use Rattle.model_sound_steps.proofs.MadeNames.{text_same}
 
 -- NUMBERS
 
-free_container_number : (a : AtlasState) (n : ℕ) → free_container a ≡ Some n → (n ≡ length a.containers + 1) × (n ≤ 40)
+pub free_container_number : (a : AtlasState) (n : ℕ) → free_container a ≡ Some n → (n ≡ length a.containers + 1) × (n ≤ 40)
 free_container_number a n free =
     elim (nat_lt (length a.containers) 40) as (λ b. nat_lt (length a.containers) 40 ≡ b → (if b then Some (length a.containers + 1) else None) ≡ Some n → (n ≡ length a.containers + 1) × (n ≤ 40)) [
       | true ↦ λ is f. (let few = ltb-true _ _ is in let e : length a.containers + 1 ≡ n = cc in (sym e, omega arith))

@@ -27,14 +27,14 @@ not_shown (r ∷ rs) y all =
 -- THE MODEL'S EDGES
 
 -- one more from n to d, where m is the count so far
-one_more : (n d x y e f g m k : ℕ) → e ≡ k + (if x == n then m else 0) → f ≡ e + (if x == n then if d == y then 1 else 0 else 0) → g ≡ (if d == y then 1 else 0) + m → f ≡ k + (if x == n then g else 0)
+pub one_more : (n d x y e f g m k : ℕ) → e ≡ k + (if x == n then m else 0) → f ≡ e + (if x == n then if d == y then 1 else 0 else 0) → g ≡ (if d == y then 1 else 0) + m → f ≡ k + (if x == n then g else 0)
 one_more n d x y e f g m k so_far more next =
     elim (x == n) as (λ b. e ≡ k + (if b then m else 0) → f ≡ e + (if b then if d == y then 1 else 0 else 0) → f ≡ k + (if b then g else 0)) [
       | true ↦ λ p q. omega arith
       | false ↦ λ p q. omega arith
     ] so_far more
 
-put_one : (a : AtlasState) (n d x y : ℕ) → (with_edge a n d).edges x y ≡ a.edges x y + (if x == n then if d == y then 1 else 0 else 0)
+pub put_one : (a : AtlasState) (n d x y : ℕ) → (with_edge a n d).edges x y ≡ a.edges x y + (if x == n then if d == y then 1 else 0 else 0)
 put_one a n d x y =
     elim (x == n) as (λ b. (x == n) ≡ b → (if b then put (a.edges n) d (a.edges n d + 1) else a.edges x) y ≡ a.edges x y + (if b then if d == y then 1 else 0 else 0)) [
       | true ↦ λ is.

@@ -60,13 +60,13 @@ module _ (s : Supply) (w : KernelState) (k : IsSoundState s w) (ms : List Access
   no_zero : (n : ℕ) → n ≡ 0 → (m : ℕ) → n ≡ m + 1 → ⊥
   no_zero n z m e = omega (arith, z, e)
 
-  event_born : (x : ℕ) → 0 < x → ((v x).cell ≡ NotBorn) ↔ ((v x).version ≡ 0)
+  pub event_born : (x : ℕ) → 0 < x → ((v x).cell ≡ NotBorn) ↔ ((v x).version ≡ 0)
   event_born x high = elim (case_at x) as (λ _. ((v x).cell ≡ NotBorn) ↔ ((v x).version ≡ 0)) [
     | inl same ↦ subst (λ (e : EntityState). (e.cell ≡ NotBorn) ↔ (e.version ≡ 0)) (sym same) (k.born x high)
     | inr new ↦ (λ none. absurd (not_unborn s (v x).cell new.0 none), λ zero. absurd (no_zero (v x).version zero (w x).version new.1))
   ]
 
-  event_words : (x : ℕ) (c : ContainerState) → (v x).cell ≡ ContainerCell c → IsSupplied s c
+  pub event_words : (x : ℕ) (c : ContainerState) → (v x).cell ≡ ContainerCell c → IsSupplied s c
   event_words x c at = elim (case_at x) as (λ _. IsSupplied s c) [
     | inl same ↦ k.words x c (ap (λ (e : EntityState). e.cell) (sym same) ∙ at)
     | inr new ↦ words_of s (v x).cell c new.0 at
