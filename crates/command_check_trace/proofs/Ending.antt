@@ -11,7 +11,7 @@ use Rattle.command_outcomes.specs.Ends.{IsUnrun}
 use Rattle.command_outcomes.specs.Seen.{Gave, IsOnlyRead, SeenDisk, SeenSink, SeenSource, seen_disk}
 use Rattle.command_outcomes.specs.Statuses.{Ending, Stopped as StoppedBy, Unput, Whole, Wrong as WrongIn, ending, status_by}
 use Rattle.command_outcomes.specs.declared.faults.Fault.{Fault}
-use Rattle.command_outcomes.specs.declared.faults.Fault.TheVariants.{Script, Foreign, Disk, Source, Memory}
+use Rattle.command_outcomes.specs.declared.faults.Fault.TheVariants.{Script, Foreign, DiskFault, Source, Memory}
 use Rattle.command_outcomes.proofs.Endings.{by_done, by_fault, by_sink}
 use Rattle.command_promises.specs.TraceBooked.{over}
 use Rattle.command_promises.specs.TraceLeaving.{StopsTrace, TraceEnds, TraceLeaves}
@@ -30,7 +30,7 @@ module _ (m : Managers) (t : Traced) (sink : SeenSink) (disk : SeenDisk) (gave :
   stops : (fault : Fault) → IsJudgedRight (Stopped fault) → IsUnrun sink gave fault → StopsTrace m (from_parts t) sink disk gave fault
   stops (Script refusal) told unrun = (unrun, inr told)
   stops (Foreign block place) told unrun = (unrun, told)
-  stops Disk told unrun = (unrun, told)
+  stops DiskFault told unrun = (unrun, told)
   stops Memory told unrun = unrun
   stops fault told unrun = absurd told
 
@@ -47,7 +47,7 @@ module _ (m : Managers) (from to : ReadFrom) (sink : SeenSink) (disk : SeenDisk)
   stops_from (Script refusal) (unrun, inl (is, same)) = (unrun, inl (refused refusal is, same))
   stops_from (Script refusal) (unrun, inr misfit) = (unrun, inr (means _ misfit))
   stops_from (Foreign block place) (unrun, foreign) = (unrun, means _ foreign)
-  stops_from Disk (unrun, failed) = (unrun, means _ failed)
+  stops_from DiskFault (unrun, failed) = (unrun, means _ failed)
   stops_from Source (unrun, failed, same) = (unrun, rose failed, same)
   stops_from Memory unrun = unrun
   stops_from fault stopped = absurd stopped

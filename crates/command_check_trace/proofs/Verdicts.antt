@@ -74,8 +74,8 @@ told m script trace w a same fits (Err (checked.At line want text)) spells wrong
 told m script trace w a same fits (Err checked.Memory) spells wrong = tt
 
 -- WHY AN IMAGE WAS NOT READ
-pub unread : (m : Managers) (script : Tables) (trace : Text) (disk : SeenDisk) (f : ReadingFault) → (disk.tells → (bad : Bad) → f ≡ reading.Foreign bad → IsForeign disk.before.reading bad) → (f ≡ reading.Disk → disk.rose)
+pub unread : (m : Managers) (script : Tables) (trace : Text) (disk : SeenDisk) (f : ReadingFault) → (disk.tells → (bad : Bad) → f ≡ reading.Foreign bad → IsForeign disk.before.reading bad) → (f ≡ reading.ReadFault → disk.rose)
     → StopsJudging m script trace disk (fault_of_reading f)
 unread m script trace disk (reading.Foreign bad) foreign cause = λ told. foreign told bad refl
-unread m script trace disk reading.Disk foreign cause = cause refl
+unread m script trace disk reading.ReadFault foreign cause = cause refl
 unread m script trace disk reading.Memory foreign cause = tt

@@ -15,7 +15,7 @@ use Rattle.command_outcomes.specs.Faults.{wrong_line}
 use Rattle.command_outcomes.specs.Seen.{Gave, SeenDisk, SeenSink}
 use Rattle.command_outcomes.specs.Statuses.{status_by}
 use Rattle.command_outcomes.specs.declared.faults.Fault.{Fault}
-use Rattle.command_outcomes.specs.declared.faults.Fault.TheVariants.{Script, Foreign, Disk, Memory}
+use Rattle.command_outcomes.specs.declared.faults.Fault.TheVariants.{Script, Foreign, DiskFault, Memory}
 use Rattle.command_outcomes.specs.declared.statuses.Status.TheVariants.{TraceWrong}
 use Rattle.command_promises.specs.TraceLeaving.{ok_line}
 use Rattle.command_promises.specs.Traces.{HasMisfit, IsLegal, IsWrong}
@@ -47,7 +47,7 @@ module _ (m : Managers) (script : Tables) (trace : Text) (disk : SeenDisk) where
   abbrev pub StopsJudging : Fault → Type 0
   StopsJudging (Script refusal) = HasMisfit m script disk refusal
   StopsJudging (Foreign block place) = disk.tells → IsForeign disk.before.reading (record { block = block; place = place })
-  StopsJudging Disk = disk.rose
+  StopsJudging DiskFault = disk.rose
   StopsJudging Memory = ⊤
   StopsJudging fault = ⊥
 

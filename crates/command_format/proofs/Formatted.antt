@@ -4,7 +4,7 @@ use Rattle.std.proofs.lemmas.Bool.{cases_lt}
 use Rattle.edge_disk.specs.declared.disk.Disk.{Ghosts}
 use Rattle.edge_disk.specs.Image.{Image}
 use Rattle.edge_disk.specs.Moments.{LeavesOnly}
-use Rattle.image_format.specs.Faults.{IsWriteFault, TooFew}
+use Rattle.image_format.specs.Faults.{IsSmall, IsWriteFault}
 use Rattle.image_format.specs.Formats.{IsFormatting}
 use Rattle.image_format.specs.declared.formatting.FormatFault.{FormatFault}
 use Rattle.command_outcomes.specs.Ends.{IsUnrun}
@@ -25,7 +25,7 @@ module _ {D : Type 0} (disks : Ghosts D) (blocks : ℕ) (disk : D) where
     Stops = StopsFormat blocks (seen_disk disks disk fault.disk) sink gave (fault_of_format fault.why)
 
     -- the disk is too small
-    too_small : disks.block_count disk < blocks → TooFew blocks (disks.block_count disk) disk fault → Stops
+    too_small : disks.block_count disk < blocks → IsSmall blocks (disks.block_count disk) disk fault → Stops
     too_small fewer few =
         subst (λ why. StopsFormat blocks (seen_disk disks disk fault.disk) sink gave (fault_of_format why)) (sym few.why)
         (subst (λ why. IsUnrun sink gave (fault_of_format why)) few.why unrun, record { fewer = fewer; numbers = refl; same = few.untouched })
@@ -44,7 +44,7 @@ module _ {D : Type 0} (disks : Ghosts D) (blocks : ℕ) (disk : D) where
 
     -- one of the two
     pub stopped : (new : D) → new ≡ fault.disk → gave.status ≡ status_by (fault_of_format fault.why)
-        → (disks.block_count disk < blocks → TooFew blocks (disks.block_count disk) disk fault) → (blocks ≤ disks.block_count disk → IsWriteFault disks.faults disk fault)
+        → (disks.block_count disk < blocks → IsSmall blocks (disks.block_count disk) disk fault) → (blocks ≤ disks.block_count disk → IsWriteFault disks.faults disk fault)
         → (disks.tells → LeavesOnly disks disk fault.disk (IsFormatting disks.may_leave blocks disk))
         → FormatLeaves blocks (seen_disk disks disk new) sink gave (ending gave.status)
     stopped new same status small large moments =

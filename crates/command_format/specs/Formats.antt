@@ -11,14 +11,14 @@ use Rattle.command_outcomes.specs.Ends.{IsSilent, IsUnrun}
 use Rattle.command_outcomes.specs.Seen.{Gave, LeavesImages, SeenDisk, SeenSink}
 use Rattle.command_outcomes.specs.Statuses.{Ending, Stopped, Unput, Whole, Wrong}
 use Rattle.command_outcomes.specs.declared.faults.Fault.{Fault}
-use Rattle.command_outcomes.specs.declared.faults.Fault.TheVariants.{Blocks, Disk}
+use Rattle.command_outcomes.specs.declared.faults.Fault.TheVariants as fault
 use Rattle.image_format.specs.declared.formatting.FormatWhy.{FormatWhy}
 use Rattle.image_format.specs.declared.formatting.FormatWhy.TheVariants.{Small, WriteFault}
 
 -- the fault of a formatting that failed
 abbrev pub fault_of_format : FormatWhy → Fault
-fault_of_format (Small n) = Blocks n
-fault_of_format WriteFault = Disk
+fault_of_format (Small n) = fault.NoBlocks n
+fault_of_format WriteFault = fault.DiskFault
 
 -- WHOLE: no line was put. The disk reads as an empty image of so many blocks, with all others as they were; a stop leaves just that, which
 -- means the state in which nothing but the atlas is born.
@@ -47,8 +47,8 @@ pub record IsBroken (blocks : ℕ) (disk : SeenDisk) : Type 0 where
 
 -- STOPPED by this fault: one of these two
 abbrev pub StopsFormat : ℕ → SeenDisk → SeenSink → Gave → Fault → Type 0
-StopsFormat blocks disk sink gave (Blocks n) = IsUnrun sink gave (Blocks n) × IsTooSmall blocks disk n
-StopsFormat blocks disk sink gave Disk = IsUnrun sink gave Disk × IsBroken blocks disk
+StopsFormat blocks disk sink gave (fault.NoBlocks n) = IsUnrun sink gave (fault.NoBlocks n) × IsTooSmall blocks disk n
+StopsFormat blocks disk sink gave fault.DiskFault = IsUnrun sink gave fault.DiskFault × IsBroken blocks disk
 StopsFormat blocks disk sink gave fault = ⊥
 
 -- WHAT `format` LEAVES of so many blocks, by how it ended

@@ -16,8 +16,8 @@ fn fault_of(why: FormatWhy) -> Fault
     ensures { result ≡ fault_of_format why }
 {
     match why {
-        FormatWhy::Small(blocks) => Fault::Blocks(blocks),
-        FormatWhy::WriteFault => Fault::Disk,
+        FormatWhy::Small(blocks) => Fault::NoBlocks(blocks),
+        FormatWhy::WriteFault => Fault::DiskFault,
     }
 }
 

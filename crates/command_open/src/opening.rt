@@ -40,7 +40,7 @@ fn fault_of_opening(why: OpenWhy) -> Fault
             block: bad.block,
             place: bad.place,
         },
-        OpenWhy::ReadFault | OpenWhy::WriteFault => Fault::Disk,
+        OpenWhy::ReadFault | OpenWhy::WriteFault => Fault::DiskFault,
         OpenWhy::Memory => Fault::Memory,
     }
 }
@@ -79,7 +79,7 @@ fn fit<D: Disk>(alloc: Global, script: &Script, kernel: Kernel<D>) -> Result<Ker
 /// nothing of the script was run. Where it isn't opened for the script, the image means what it meant, if its epoch leaves room for a turn.
 ///
 /// `Foreign` comes only where the image isn't accepted, with its first bad place, and then nothing was written. `Script` comes with the
-/// first reason why the script doesn't fit, `Disk` only where the disk's count of faults rose, and `Memory` where memory ran out; the others
+/// first reason why the script doesn't fit, `DiskFault` only where the disk's count of faults rose, and `Memory` where memory ran out; the others
 /// never. The disk comes back with each.
 ///
 /// It costs what `open_image` and `against` do: 138 writes and syncs at most.

@@ -8,7 +8,7 @@ use Rattle.command_outcomes.specs.Ends.{Gains, IsPut, LeavesBy}
 use Rattle.command_outcomes.specs.Seen.{SeenSink}
 use Rattle.command_outcomes.specs.Statuses.{Ending, IsComplete, Stopped, Unput, Whole, ending, status_by}
 use Rattle.command_outcomes.specs.declared.faults.Fault.{Fault}
-use Rattle.command_outcomes.specs.declared.faults.Fault.TheVariants.{Usage, Script, Foreign, Disk, Source, Memory, Blocks}
+use Rattle.command_outcomes.specs.declared.faults.Fault.TheVariants.{Usage, Script, Foreign, DiskFault, Source, Memory, NoBlocks}
 use Rattle.command_outcomes.specs.declared.statuses.Status.{Status}
 use Rattle.command_outcomes.specs.declared.statuses.Status.TheVariants.{Done, SinkFault}
 
@@ -22,10 +22,10 @@ pub ending-status_by : (f : Fault) → ending (status_by f) ≡ Stopped f
 ending-status_by Usage = refl
 ending-status_by (Script refusal) = refl
 ending-status_by (Foreign block place) = refl
-ending-status_by Disk = refl
+ending-status_by DiskFault = refl
 ending-status_by Source = refl
 ending-status_by Memory = refl
-ending-status_by (Blocks n) = refl
+ending-status_by (NoBlocks n) = refl
 
 module _ (P : Ending → Type 0) (status : Status) where
   pub by_fault : (f : Fault) → status ≡ status_by f → P (Stopped f) → P (ending status)

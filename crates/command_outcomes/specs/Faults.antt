@@ -9,7 +9,7 @@ use Rattle.script_types.specs.declared.refusals.ScriptFault.TheVariants as scrip
 use Rattle.script_types.specs.declared.refusals.Why.{Why}
 use Rattle.script_types.specs.Refusals.{why_number}
 use Rattle.command_outcomes.specs.declared.faults.Fault.{Fault}
-use Rattle.command_outcomes.specs.declared.faults.Fault.TheVariants.{Usage, Script, Foreign, Disk, Source, Memory, Blocks}
+use Rattle.command_outcomes.specs.declared.faults.Fault.TheVariants.{Usage, Script, Foreign, DiskFault, Source, Memory, NoBlocks}
 
 -- a text and the end of the line
 abbrev pub line : Text → Text
@@ -31,10 +31,10 @@ abbrev pub fault_line : Fault → Text
 fault_line Usage = line (codes "fault 2 usage")
 fault_line (Script refusal) = refusal_line refusal
 fault_line (Foreign block place) = numbers_line (codes "fault 4 ") block place
-fault_line Disk = line (codes "fault 5 disk")
+fault_line DiskFault = line (codes "fault 5 disk")
 fault_line Source = line (codes "fault 6 source")
 fault_line Memory = line (codes "fault 8 memory")
-fault_line (Blocks n) = numbers_line (codes "fault 9 ") n.need n.free
+fault_line (NoBlocks n) = numbers_line (codes "fault 9 ") n.need n.free
 
 -- the last line where a trace goes wrong in the line of this number: the line of the entry that it wants, or `none`
 abbrev pub wrong_line : ℕ → Text → Text
@@ -48,5 +48,5 @@ fault_of_script script.Memory = Memory
 
 abbrev pub fault_of_reading : ReadingFault → Fault
 fault_of_reading (reading.Foreign bad) = Foreign bad.block bad.place
-fault_of_reading reading.Disk = Disk
+fault_of_reading reading.ReadFault = DiskFault
 fault_of_reading reading.Memory = Memory

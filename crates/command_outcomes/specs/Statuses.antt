@@ -22,10 +22,10 @@ abbrev pub status_by : Fault → Status
 status_by fault.Usage = Usage
 status_by (fault.Script refusal) = Script refusal
 status_by (fault.Foreign block place) = Foreign block place
-status_by fault.Disk = DiskFault
+status_by fault.DiskFault = DiskFault
 status_by fault.Source = SourceFault
 status_by fault.Memory = Memory
-status_by (fault.Blocks n) = BlocksFull n
+status_by (fault.NoBlocks n) = BlocksFull n
 
 -- HOW A CALL ENDED: whole, with all its lines put; whole, but its lines went out in part, since the sink failed; stopped by a fault; or with
 -- a trace that goes wrong in this line, which wants this entry, or none
@@ -40,11 +40,11 @@ ending Done = Whole
 ending Usage = Stopped fault.Usage
 ending (Script refusal) = Stopped (fault.Script refusal)
 ending (Foreign block place) = Stopped (fault.Foreign block place)
-ending DiskFault = Stopped fault.Disk
+ending DiskFault = Stopped fault.DiskFault
 ending SourceFault = Stopped fault.Source
 ending SinkFault = Unput
 ending Memory = Stopped fault.Memory
-ending (BlocksFull n) = Stopped (fault.Blocks n)
+ending (BlocksFull n) = Stopped (fault.NoBlocks n)
 ending (TraceWrong line want) = Wrong line want
 
 -- the call came to its end, or memory ran out

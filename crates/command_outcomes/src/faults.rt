@@ -28,13 +28,13 @@ pub enum Fault {
     /// The disk holds no image.
     Foreign { block: u32, place: u16 },
     /// A call of the disk failed.
-    Disk,
+    DiskFault,
     /// The source could not be read.
     Source,
     /// Memory ran out.
     Memory,
     /// Too few blocks.
-    Blocks(NoBlocks),
+    NoBlocks(NoBlocks),
 }
 
 impl From<AllocError> for Fault {
@@ -48,12 +48,12 @@ impl From<AllocError> for Fault {
 }
 
 impl From<DiskFault> for Fault {
-    ghost use Rattle.command_outcomes.specs.declared.faults.Fault.TheVariants.{Disk};
+    ghost use Rattle.command_outcomes.specs.declared.faults.Fault.TheVariants.{DiskFault};
 
-    ghost from_gives = { λ _ fault. fault ≡ Disk };
+    ghost from_gives = { λ _ fault. fault ≡ DiskFault };
 
     fn from(_error: DiskFault) -> Fault {
-        Fault::Disk
+        Fault::DiskFault
     }
 }
 
@@ -81,7 +81,7 @@ impl From<ReadingFault> for Fault {
                 block: bad.block,
                 place: bad.place,
             },
-            ReadingFault::Disk => Fault::Disk,
+            ReadingFault::ReadFault => Fault::DiskFault,
             ReadingFault::Memory => Fault::Memory,
         }
     }
@@ -157,9 +157,9 @@ pub fn put_fault<W: Sink>(sink: &mut W, fault: &Fault) -> Result<(), SinkFault>
         Fault::Foreign { block, place } => {
             sink.put(foreign_line(*block, *place).as_str().as_bytes())
         }
-        Fault::Disk => sink.put(b"fault 5 disk\n"),
+        Fault::DiskFault => sink.put(b"fault 5 disk\n"),
         Fault::Source => sink.put(b"fault 6 source\n"),
         Fault::Memory => sink.put(b"fault 8 memory\n"),
-        Fault::Blocks(blocks) => sink.put(blocks_line(*blocks).as_str().as_bytes()),
+        Fault::NoBlocks(blocks) => sink.put(blocks_line(*blocks).as_str().as_bytes()),
     }
 }

@@ -74,9 +74,9 @@ pub fn status_of(fault: Fault) -> Status
         Fault::Usage => Status::Usage,
         Fault::Script(refusal) => Status::Script(refusal),
         Fault::Foreign { block, place } => Status::Foreign { block, place },
-        Fault::Disk => Status::DiskFault,
+        Fault::DiskFault => Status::DiskFault,
         Fault::Source => Status::SourceFault,
         Fault::Memory => Status::Memory,
-        Fault::Blocks(blocks) => Status::BlocksFull(blocks),
+        Fault::NoBlocks(blocks) => Status::BlocksFull(blocks),
     }
 }

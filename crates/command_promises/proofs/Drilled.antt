@@ -39,9 +39,9 @@ module _ (m : Managers) (number : ℕ) (sink : SeenSink) (disk : SeenDisk) (gave
   of_script Unput h = h
   of_script (Stopped (fault.Script refusal)) h = h
   of_script (Stopped (fault.Foreign block place)) h = h
-  of_script (Stopped fault.Disk) h = h
+  of_script (Stopped fault.DiskFault) h = h
   of_script (Stopped fault.Memory) h = (h.0, inr h.1)
-  of_script (Stopped (fault.Blocks n)) h = h
+  of_script (Stopped (fault.NoBlocks n)) h = h
   of_script (Stopped fault.Usage) h = absurd h
   of_script (Stopped fault.Source) h = absurd h
   of_script (Wrong line want) h = absurd h

@@ -61,8 +61,8 @@ source_stops telling m call gave fault.Source why unrun same = (why, unrun, same
 source_stops telling m call gave fault.Memory why unrun same = (unrun, inl same)
 source_stops telling m call gave fault.Usage why unrun same = absurd why
 source_stops telling m call gave (fault.Foreign block place) why unrun same = absurd why
-source_stops telling m call gave fault.Disk why unrun same = absurd why
-source_stops telling m call gave (fault.Blocks n) why unrun same = absurd why
+source_stops telling m call gave fault.DiskFault why unrun same = absurd why
+source_stops telling m call gave (fault.NoBlocks n) why unrun same = absurd why
 
 -- a fault that stopped the call says how it ended
 pub ended_by : (telling : Telling) (m : Managers) (call : Call) (gave : Gave) (status : Status) (f : Fault) → status ≡ status_by f → StopsRun telling m call gave f → RunLeaves telling m call gave (ending status)
@@ -103,7 +103,7 @@ module _ {D : Type 0} (disks : Ghosts D)
     cut telling sink f h = record { run = kept_run h.run; part = h.part; output = h.output }
 
     cut_for : (telling : Telling) (sink : SeenSink) (count : ℕ) (n : NoBlocks) → count ≡ count_in (disks.reading old) → WasCutForBlocks disks telling b count sink gave new n → IsCutForBlocks telling b seen sink gave n
-    cut_for telling sink count n same h = record { cut = cut telling sink (fault.Blocks n) h.cut; short = subst (λ (blocks : ℕ). IsShortOfBlocks b blocks gave.history n) same h.short }
+    cut_for telling sink count n same h = record { cut = cut telling sink (fault.NoBlocks n) h.cut; short = subst (λ (blocks : ℕ). IsShortOfBlocks b blocks gave.history n) same h.short }
 
   module _ (telling : Telling) (m : Managers) (sink : SeenSink) (script : Tables) (gave : Gave) where
     -- THE RUN was made, by a kernel that was ready for it
@@ -125,8 +125,8 @@ module _ {D : Type 0} (disks : Ghosts D)
       pub run_leaves : (e : Ending) → PlayLeaves disks telling Starts rose (books k.parts.store).count sink gave new e → ScriptLeaves telling m script sink seen gave e
       run_leaves Whole h = in_run _ _ (λ told b first. served told b first gave telling _) h
       run_leaves Unput h = (in_run _ _ (λ told b first. served told b first gave telling _) h.0, h.1)
-      run_leaves (Stopped fault.Disk) h = (risen h.0, inr (in_run _ _ (λ told b first. cut told b first gave telling sink fault.Disk) h.1))
-      run_leaves (Stopped (fault.Blocks n)) h = in_run _ _ (λ told b first. cut_for told b first gave telling sink (books k.parts.store).count n (ready told).count) h
+      run_leaves (Stopped fault.DiskFault) h = (risen h.0, inr (in_run _ _ (λ told b first. cut told b first gave telling sink fault.DiskFault) h.1))
+      run_leaves (Stopped (fault.NoBlocks n)) h = in_run _ _ (λ told b first. cut_for told b first gave telling sink (books k.parts.store).count n (ready told).count) h
       run_leaves (Stopped fault.Usage) h = absurd h
       run_leaves (Stopped (fault.Script refusal)) h = absurd h
       run_leaves (Stopped (fault.Foreign block place)) h = absurd h
@@ -146,11 +146,11 @@ module _ {D : Type 0} (disks : Ghosts D)
       pub opening_stops : (f : Fault) → StopsOpening script seen f → IsUnrun sink gave f → StopsScript telling m script sink seen gave f
       opening_stops (fault.Script refusal) why unrun = (unrun, why)
       opening_stops (fault.Foreign block place) why unrun = (unrun, why)
-      opening_stops fault.Disk why unrun = (why.0, inl (unrun, left_unopened why.1))
+      opening_stops fault.DiskFault why unrun = (why.0, inl (unrun, left_unopened why.1))
       opening_stops fault.Memory why unrun = (unrun, why)
       opening_stops fault.Usage why unrun = absurd why
       opening_stops fault.Source why unrun = absurd why
-      opening_stops (fault.Blocks n) why unrun = absurd why
+      opening_stops (fault.NoBlocks n) why unrun = absurd why
 
 -- BEHIND A SOURCE that was read
 module _ (telling : Telling) (m : Managers) (call : Call) (script : Tables) (brought : ManagerTables) (read : HasRead call.source script brought) (gave : Gave) where
@@ -160,8 +160,8 @@ module _ (telling : Telling) (m : Managers) (call : Call) (script : Tables) (bro
   of_run : (P : Beginning → Type 0) → InRun answering script call.disk P → OfRun m call P
   of_run P h = record { script = script; brought = brought; read = read; opened = h }
 
-  disk_fails : (IsUnrun call.sink gave fault.Disk × IsLeftUnopened call.disk) ⊎ InRun answering script call.disk (λ b. IsCutShort telling b call.disk call.sink gave fault.Disk)
-      → (IsUnrun call.sink gave fault.Disk × IsReadOne call.source × IsLeftUnopened call.disk) ⊎ OfRun m call (λ b. IsCutShort telling b call.disk call.sink gave fault.Disk)
+  disk_fails : (IsUnrun call.sink gave fault.DiskFault × IsLeftUnopened call.disk) ⊎ InRun answering script call.disk (λ b. IsCutShort telling b call.disk call.sink gave fault.DiskFault)
+      → (IsUnrun call.sink gave fault.DiskFault × IsReadOne call.source × IsLeftUnopened call.disk) ⊎ OfRun m call (λ b. IsCutShort telling b call.disk call.sink gave fault.DiskFault)
   disk_fails (inl (unrun, unopened)) = inl (unrun, (script, brought, read), unopened)
   disk_fails (inr run) = inr (of_run _ run)
 
@@ -170,9 +170,9 @@ module _ (telling : Telling) (m : Managers) (call : Call) (script : Tables) (bro
   behind_source Unput h = (of_run _ h.0, h.1)
   behind_source (Stopped (fault.Script refusal)) h = (h.0, inr (script, brought, read, h.1))
   behind_source (Stopped (fault.Foreign block place)) h = (h.0, (script, brought, read), h.1)
-  behind_source (Stopped fault.Disk) h = (h.0, disk_fails h.1)
+  behind_source (Stopped fault.DiskFault) h = (h.0, disk_fails h.1)
   behind_source (Stopped fault.Memory) h = (h.0, inr ((script, brought, read), h.1))
-  behind_source (Stopped (fault.Blocks n)) h = of_run _ h
+  behind_source (Stopped (fault.NoBlocks n)) h = of_run _ h
   behind_source (Stopped fault.Usage) h = absurd h
   behind_source (Stopped fault.Source) h = absurd h
   behind_source (Wrong line want) h = absurd h

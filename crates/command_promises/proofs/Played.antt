@@ -1,6 +1,5 @@
 -- What a kernel leaves of a run, from what it made and what was put.
 use Rattle.std.proofs.Common.{◌≡◌, ◌++◌, ◌<◌, ℕ, List, Option, None, Some, refl, sym, ap, subst, ◌∙◌}
-use Rattle.std.specs.Option.{option_map}
 use Rattle.std.specs.Prelude.{IfErr, Result, ⊤}
 use Rattle.edge_disk.specs.Counts.{Rose}
 use Rattle.edge_disk.specs.declared.disk.Disk.{Ghosts}
@@ -10,13 +9,12 @@ use Rattle.image_facts.specs.model_kernel.State.{AtlasState, KernelState, Text}
 use Rattle.image_facts.specs.model_kernel.Steps.{atlas_in}
 use Rattle.kernel_runs.specs.kernel_commit_facts.Lacking.{IsDue}
 use Rattle.kernel_runs.specs.kernel_commit_facts.Parts.{Parts}
-use Rattle.kernel_runs.specs.kernel_commits.Parts.{stop_of}
 use Rattle.kernel_runs.specs.kernel_commits.Stops.{IsCause}
 use Rattle.kernel_runs.specs.kernel_commits.Telling.{Tells}
 use Rattle.kernel_runs.specs.kernel_commits.declared.stopping.Stop.{Stop}
 use Rattle.kernel_runs.proofs.Caused.{cause_kept}
-use Rattle.kernel_runs.specs.kernel_commits.declared.stopping.Stopped.{Stopped}
-use Rattle.kernel_runs.specs.kernel_commits.declared.stopping.Stopped.TheVariants as reason
+use Rattle.open_kernel.specs.kernel_invariant.declared.stopping.Stopped.{Stopped}
+use Rattle.open_kernel.specs.kernel_invariant.declared.stopping.Stopped.TheVariants as reason
 use Rattle.kernel_runs.specs.kernel_core_facts.Kernels.{Held, Lives}
 use Rattle.open_kernel.specs.kernel_invariant.Beginnings.{Beginning, state_after}
 use Rattle.open_kernel.specs.kernel_invariant.Live.{IsRunning, KernelView}
@@ -33,7 +31,7 @@ use Rattle.command_source.specs.command_outcomes.Faults.{fault_line}
 use Rattle.command_source.specs.command_outcomes.Seen.{Gave, SeenSink}
 use Rattle.command_source.specs.command_outcomes.Statuses.{ending, status_by}
 use Rattle.command_source.specs.command_outcomes.declared.faults.Fault.{Fault}
-use Rattle.command_source.specs.command_outcomes.declared.faults.Fault.TheVariants.{Blocks, Disk}
+use Rattle.command_source.specs.command_outcomes.declared.faults.Fault.TheVariants as fault
 use Rattle.command_source.specs.command_outcomes.declared.statuses.Status.{Status}
 use Rattle.command_source.proofs.command_outcomes_lemmas.Endings.{fault_ends, put_ends}
 use Rattle.command_promises.specs.Runs.{Telling, told}
@@ -75,7 +73,7 @@ module _ {D : Type 0} (disks : Ghosts D) (telling : Telling) (new : Held D) (sin
 
     has_run : LivesNow → HasRun disks b gave disk
     has_run lives =
-        let view : KernelView = view_of disks.reading b new.parts.cells new.parts.store new.parts.noted.entries new.parts.noted.marks (option_map stop_of new.stop) in
+        let view : KernelView = view_of disks.reading b new.parts.cells new.parts.store new.parts.noted.entries new.parts.noted.marks new.stop in
         record { view = view; running = subst (λ (d : D). IsRunning b disks view d) (sym same) lives.live.running; history = sym history; marks = sym marks }
 
     -- they are the run's own
@@ -100,9 +98,9 @@ module _ {D : Type 0} (disks : Ghosts D) (telling : Telling) (new : Held D) (sin
 
     -- for want of blocks
     cut_for : (count : ℕ) (n : NoBlocks) → HasStopped disks b new → new.stop ≡ Some (reason.NoBlocks n) → n.free < n.need → (books new.parts.store).count ≡ count
-        → Gains sink (lines ++ fault_line (Blocks n)) → WasCutForBlocks disks telling b count sink gave disk n
+        → Gains sink (lines ++ fault_line (fault.NoBlocks n)) → WasCutForBlocks disks telling b count sink gave disk n
     cut_for count n stopped at fewer same_count put = record {
-      cut = cut stopped (Blocks n) put;
+      cut = cut stopped (fault.NoBlocks n) put;
       short = record {
         few =
             subst (λ (blocks : ℕ). blocks < enough_blocks (state_after b gave.history)) same_count
@@ -133,11 +131,11 @@ module _ {D : Type 0} (disks : Ghosts D) (telling : Telling) (new : Held D) (sin
     play_by None is ends caused put =
         put_ends sink Whole Stops gave.status (lines) put (λ Puts all told b start. served b ((ends told b start).over is) Puts all)
     play_by (Some (reason.NoBlocks n)) is ends caused put =
-        fault_ends sink Whole Stops gave.status (Blocks n) put.0 (λ told b start. cut_for b count n ((ends told b start).stopped (reason.NoBlocks n) is) is (caused (reason.NoBlocks n) refl) same_count put.1)
+        fault_ends sink Whole Stops gave.status (fault.NoBlocks n) put.0 (λ told b start. cut_for b count n ((ends told b start).stopped (reason.NoBlocks n) is) is (caused (reason.NoBlocks n) refl) same_count put.1)
     play_by (Some reason.ReadFault) is ends caused put =
-        fault_ends sink Whole Stops gave.status Disk put.0 (caused reason.ReadFault refl, λ told b start. cut b ((ends told b start).stopped reason.ReadFault is) Disk put.1)
+        fault_ends sink Whole Stops gave.status fault.DiskFault put.0 (caused reason.ReadFault refl, λ told b start. cut b ((ends told b start).stopped reason.ReadFault is) fault.DiskFault put.1)
     play_by (Some reason.WriteFault) is ends caused put =
-        fault_ends sink Whole Stops gave.status Disk put.0 (caused reason.WriteFault refl, λ told b start. cut b ((ends told b start).stopped reason.WriteFault is) Disk put.1)
+        fault_ends sink Whole Stops gave.status fault.DiskFault put.0 (caused reason.WriteFault refl, λ told b start. cut b ((ends told b start).stopped reason.WriteFault is) fault.DiskFault put.1)
 
     pub play_leaves : Ends → Caused new.stop → IsPutBy new.stop sink (lines) gave.status → PlayLeaves disks telling starts rose count sink gave disk (ending gave.status)
     play_leaves ends caused put = play_by new.stop refl ends caused put

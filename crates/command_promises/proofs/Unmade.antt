@@ -83,9 +83,9 @@ module _ {D : Type 0} (disks : Ghosts D)
         by fault.Memory room = kept
         by fault.Usage never = absurd never
         by (fault.Foreign block place) never = absurd never
-        by fault.Disk never = absurd never
+        by fault.DiskFault never = absurd never
         by fault.Source never = absurd never
-        by (fault.Blocks n) never = absurd never
+        by (fault.NoBlocks n) never = absurd never
 
     -- where it fits what the image means, memory ran out
     pub misfits_complete : disks.tells → (s : Supply) (w : KernelState) → Means s (disks.reading old) w → Fits (atlas_in (w 0).cell) script → (f : Fault) → IsFitFault (atlas_state_in cs) script f → f ≡ fault.Memory
@@ -99,6 +99,6 @@ module _ {D : Type 0} (disks : Ghosts D)
         by fault.Memory room = refl
         by fault.Usage never = absurd never
         by (fault.Foreign block place) never = absurd never
-        by fault.Disk never = absurd never
+        by fault.DiskFault never = absurd never
         by fault.Source never = absurd never
-        by (fault.Blocks n) never = absurd never
+        by (fault.NoBlocks n) never = absurd never

@@ -14,7 +14,7 @@ use Rattle.command_source.specs.command_outcomes.Ends.{IsUnrun, LeavesBy}
 use Rattle.command_source.specs.command_outcomes.Seen.{Call, Gave, SeenSource}
 use Rattle.command_source.specs.command_outcomes.Statuses.{Ending}
 use Rattle.command_source.specs.command_outcomes.declared.faults.Fault.{Fault}
-use Rattle.command_source.specs.command_outcomes.declared.faults.Fault.TheVariants.{Script, Foreign, Disk, Source, Memory, Blocks}
+use Rattle.command_source.specs.command_outcomes.declared.faults.Fault.TheVariants.{Script, Foreign, DiskFault, Source, Memory, NoBlocks}
 use Rattle.command_promises.specs.Openings.{HasOpened, IsKeptImage, Managers, StaysAsRead}
 use Rattle.command_promises.specs.Ready.{HasMisfit}
 use Rattle.command_promises.specs.Booked.{over}
@@ -43,11 +43,11 @@ abbrev pub StopsRun : Telling → Managers → Call → Gave → Fault → Type 
 StopsRun telling m call gave (Script refusal) = IsUnrun call.sink gave (Script refusal) × IsRefused call refusal
 StopsRun telling m call gave (Foreign block place) =
     IsUnrun call.sink gave (Foreign block place) × IsReadOne call.source × (call.disk.tells → IsForeign call.disk.before.reading (record { block = block; place = place }) × StaysAsRead call.disk)
-StopsRun telling m call gave Disk =
-    call.disk.rose × ((IsUnrun call.sink gave Disk × IsReadOne call.source × IsLeftUnopened call.disk) ⊎ OfRun m call (λ b. IsCutShort telling b call.disk call.sink gave Disk))
+StopsRun telling m call gave DiskFault =
+    call.disk.rose × ((IsUnrun call.sink gave DiskFault × IsReadOne call.source × IsLeftUnopened call.disk) ⊎ OfRun m call (λ b. IsCutShort telling b call.disk call.sink gave DiskFault))
 StopsRun telling m call gave Source = call.source.rose × IsUnrun call.sink gave Source × call.disk.same
 StopsRun telling m call gave Memory = IsUnrun call.sink gave Memory × (call.disk.same ⊎ (IsReadOne call.source × IsKeptImage call.disk))
-StopsRun telling m call gave (Blocks n) = OfRun m call (λ b. IsCutForBlocks telling b call.disk call.sink gave n)
+StopsRun telling m call gave (NoBlocks n) = OfRun m call (λ b. IsCutForBlocks telling b call.disk call.sink gave n)
 StopsRun telling m call gave fault = ⊥
 
 -- WHAT `run` LEAVES, by what it puts of its history and by how it ended

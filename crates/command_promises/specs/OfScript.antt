@@ -8,7 +8,7 @@ use Rattle.command_source.specs.command_outcomes.Ends.{IsUnrun, LeavesBy}
 use Rattle.command_source.specs.command_outcomes.Seen.{Gave, SeenDisk, SeenSink}
 use Rattle.command_source.specs.command_outcomes.Statuses.{Ending}
 use Rattle.command_source.specs.command_outcomes.declared.faults.Fault.{Fault}
-use Rattle.command_source.specs.command_outcomes.declared.faults.Fault.TheVariants.{Script, Foreign, Disk, Memory, Blocks}
+use Rattle.command_source.specs.command_outcomes.declared.faults.Fault.TheVariants.{Script, Foreign, DiskFault, Memory, NoBlocks}
 use Rattle.command_promises.specs.Openings.{FailsAtSync, HasOpened, IsKeptImage, KeepsMeaning, Managers, StaysAsRead}
 use Rattle.command_promises.specs.Ready.{HasMisfit}
 use Rattle.command_promises.specs.Runs.{IsCutShort, IsServed, Telling}
@@ -27,9 +27,9 @@ module _ (telling : Telling) (m : Managers) (script : Tables) (sink : SeenSink) 
   abbrev pub StopsScript : Fault → Type 0
   StopsScript (Script refusal) = IsUnrun sink gave (Script refusal) × HasMisfit script disk refusal
   StopsScript (Foreign block place) = IsUnrun sink gave (Foreign block place) × (disk.tells → IsForeign disk.before.reading (record { block = block; place = place }) × StaysAsRead disk)
-  StopsScript Disk = disk.rose × ((IsUnrun sink gave Disk × IsLeftUnopened disk) ⊎ InRun m script disk (λ b. IsCutShort telling b disk sink gave Disk))
+  StopsScript DiskFault = disk.rose × ((IsUnrun sink gave DiskFault × IsLeftUnopened disk) ⊎ InRun m script disk (λ b. IsCutShort telling b disk sink gave DiskFault))
   StopsScript Memory = IsUnrun sink gave Memory × IsKeptImage disk
-  StopsScript (Blocks n) = InRun m script disk (λ b. IsCutForBlocks telling b disk sink gave n)
+  StopsScript (NoBlocks n) = InRun m script disk (λ b. IsCutForBlocks telling b disk sink gave n)
   StopsScript fault = ⊥
 
   -- WHAT IT LEAVES, by how it ended

@@ -6,8 +6,8 @@ use Rattle.edge_disk.specs.declared.disk.NoBlocks.{NoBlocks}
 use Rattle.image_facts.specs.model_kernel.Histories.{Policy}
 use Rattle.image_facts.specs.model_kernel.Scripts.{Script as Tables}
 use Rattle.image_facts.specs.model_kernel.State.{Supply, Text}
-use Rattle.kernel_runs.specs.kernel_commits.declared.stopping.Stopped.{Stopped}
-use Rattle.kernel_runs.specs.kernel_commits.declared.stopping.Stopped.TheVariants as reason
+use Rattle.open_kernel.specs.kernel_invariant.declared.stopping.Stopped.{Stopped}
+use Rattle.open_kernel.specs.kernel_invariant.declared.stopping.Stopped.TheVariants as reason
 use Rattle.kernel_runs.specs.kernel_core_facts.Kernels.{Held, Lives}
 use Rattle.open_kernel.specs.kernel_laws.Opening.{empty_script, with_script}
 use Rattle.open_kernel.specs.kernel_invariant.Beginnings.{Beginning}
@@ -18,7 +18,7 @@ use Rattle.command_source.specs.command_outcomes.Faults.{fault_line}
 use Rattle.command_source.specs.command_outcomes.Seen.{Gave, SeenSink}
 use Rattle.command_source.specs.command_outcomes.Statuses.{Ending, status_by}
 use Rattle.command_source.specs.command_outcomes.declared.faults.Fault.{Fault}
-use Rattle.command_source.specs.command_outcomes.declared.faults.Fault.TheVariants.{Disk, Blocks}
+use Rattle.command_source.specs.command_outcomes.declared.faults.Fault.TheVariants as fault
 use Rattle.command_source.specs.command_outcomes.declared.statuses.Status.{Status}
 use Rattle.command_promises.specs.Runs.{Telling, told}
 use Rattle.command_promises.specs.Short.{IsShortOfBlocks}
@@ -26,9 +26,9 @@ use Rattle.edge_watched.specs.Watching.{IsAsAtStart, Start}
 
 -- what a run that was stopped tells
 abbrev pub fault_of_stop : Stopped → Fault
-fault_of_stop (reason.NoBlocks n) = Blocks n
-fault_of_stop reason.ReadFault = Disk
-fault_of_stop reason.WriteFault = Disk
+fault_of_stop (reason.NoBlocks n) = fault.NoBlocks n
+fault_of_stop reason.ReadFault = fault.DiskFault
+fault_of_stop reason.WriteFault = fault.DiskFault
 
 -- THE LINES of a run were put, and where its kernel has stopped that of the fault behind them; the status says so
 abbrev pub IsPutBy : Option Stopped → SeenSink → Text → Status → Type 0
@@ -71,7 +71,7 @@ module _ {D : Type 0} (disks : Ghosts D) where
 
   -- CUT SHORT for want of blocks, of which the image has so many
   pub record WasCutForBlocks (telling : Telling) (b : Beginning) (count : ℕ) (sink : SeenSink) (gave : Gave) (disk : D) (n : NoBlocks) : Type 0 where
-    pub cut : WasCutShort telling b sink gave disk (Blocks n)
+    pub cut : WasCutShort telling b sink gave disk (fault.NoBlocks n)
     pub short : IsShortOfBlocks b count gave.history n
 
   module _ (telling : Telling) (starts : Beginning → Type 0) (rose : Type 0) (count : ℕ) (sink : SeenSink) (gave : Gave) (disk : D) where
@@ -81,8 +81,8 @@ module _ {D : Type 0} (disks : Ghosts D) where
 
     -- STOPPED by this fault
     abbrev pub StopsPlay : Fault → Type 0
-    StopsPlay Disk = rose × InEach (λ b. WasCutShort telling b sink gave disk Disk)
-    StopsPlay (Blocks n) = InEach (λ b. WasCutForBlocks telling b count sink gave disk n)
+    StopsPlay fault.DiskFault = rose × InEach (λ b. WasCutShort telling b sink gave disk fault.DiskFault)
+    StopsPlay (fault.NoBlocks n) = InEach (λ b. WasCutForBlocks telling b count sink gave disk n)
     StopsPlay fault = ⊥
 
     -- WHAT IT LEAVES, by how it ended

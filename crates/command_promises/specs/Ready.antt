@@ -18,7 +18,7 @@ use Rattle.open_kernel.specs.store_snapshots.declared.opening.OpenWhy.{OpenWhy}
 use Rattle.open_kernel.specs.store_snapshots.declared.opening.OpenWhy.TheVariants as why
 use Rattle.command_source.specs.command_outcomes.Seen.{SeenDisk}
 use Rattle.command_source.specs.command_outcomes.declared.faults.Fault.{Fault}
-use Rattle.command_source.specs.command_outcomes.declared.faults.Fault.TheVariants.{Script, Foreign, Disk, Memory}
+use Rattle.command_source.specs.command_outcomes.declared.faults.Fault.TheVariants.{Script, Foreign, DiskFault, Memory}
 use Rattle.edge_watched.specs.Handing.{next_moment}
 use Rattle.command_promises.specs.Openings.{HasFailedSync, HasOpened, IsKeptImage, KeepsMeaning, Managers, StaysAsRead}
 
@@ -49,7 +49,7 @@ IsUnopened disk = disk.tells → HasTurnLeft disk.before.reading → HasFailedSy
 -- THE IMAGE WAS NOT OPENED FOR THE SCRIPT, for this fault: first the image decides, and then the script against it
 abbrev pub StopsOpening : Tables → SeenDisk → Fault → Type 0
 StopsOpening script disk (Foreign block place) = disk.tells → IsForeign disk.before.reading (record { block = block; place = place }) × StaysAsRead disk
-StopsOpening script disk Disk = disk.rose × IsUnopened disk
+StopsOpening script disk DiskFault = disk.rose × IsUnopened disk
 StopsOpening script disk (Script refusal) = HasMisfit script disk refusal
 StopsOpening script disk Memory = IsKeptImage disk
 StopsOpening script disk fault = ⊥
@@ -57,8 +57,8 @@ StopsOpening script disk fault = ⊥
 -- the fault of an image that isn't opened
 abbrev pub fault_of_opening : OpenWhy → Fault
 fault_of_opening (why.Foreign bad) = Foreign bad.block bad.place
-fault_of_opening why.ReadFault = Disk
-fault_of_opening why.WriteFault = Disk
+fault_of_opening why.ReadFault = DiskFault
+fault_of_opening why.WriteFault = DiskFault
 fault_of_opening why.Memory = Memory
 
 -- the fault of a script that doesn't fit the atlas, or for which memory ran out

@@ -7,7 +7,7 @@ use Rattle.kernel_runs.specs.kernel_commit_facts.Lacking.{IsDue}
 use Rattle.open_kernel.specs.kernel_invariant.Beginnings.{Beginning, state_after}
 use Rattle.open_kernel.specs.kernel_block_laws.Room.{enough_blocks}
 use Rattle.command_source.specs.command_outcomes.Seen.{Gave, SeenDisk, SeenSink}
-use Rattle.command_source.specs.command_outcomes.declared.faults.Fault.TheVariants.{Blocks}
+use Rattle.command_source.specs.command_outcomes.declared.faults.Fault.TheVariants as fault
 use Rattle.command_promises.specs.Runs.{IsCutShort, Telling}
 
 -- TOO FEW BLOCKS: the image has fewer than the pages and the born entities of the state at the stop may need; fewer were free than were needed;
@@ -19,5 +19,5 @@ pub record IsShortOfBlocks (b : Beginning) (count : ℕ) (es : List Entry) (n : 
 
 -- CUT SHORT for want of blocks in the image that was handed in
 pub record IsCutForBlocks (telling : Telling) (b : Beginning) (disk : SeenDisk) (sink : SeenSink) (gave : Gave) (n : NoBlocks) : Type 0 where
-  pub cut : IsCutShort telling b disk sink gave (Blocks n)
+  pub cut : IsCutShort telling b disk sink gave (fault.NoBlocks n)
   pub short : IsShortOfBlocks b (count_in disk.before.reading) gave.history n

@@ -15,7 +15,7 @@ use Rattle.command_source.specs.command_outcomes.Faults.{line, wrong_line}
 use Rattle.command_source.specs.command_outcomes.Seen.{Call, Gave, IsOnlyRead, SeenDisk, SeenSink}
 use Rattle.command_source.specs.command_outcomes.Statuses.{Ending, Stopped, Unput, Whole, Wrong}
 use Rattle.command_source.specs.command_outcomes.declared.faults.Fault.{Fault}
-use Rattle.command_source.specs.command_outcomes.declared.faults.Fault.TheVariants.{Script, Foreign, Disk, Source, Memory}
+use Rattle.command_source.specs.command_outcomes.declared.faults.Fault.TheVariants.{Script, Foreign, DiskFault, Source, Memory}
 use Rattle.command_promises.specs.TraceBooked.{over}
 use Rattle.command_promises.specs.Sources.{MeansTraced, ReadFrom, Traced}
 use Rattle.command_promises.specs.Traces.{HasMisfit, IsLegal, IsWrong}
@@ -51,7 +51,7 @@ module _ (m : Managers) (from : ReadFrom) (sink : SeenSink) (disk : SeenDisk) (g
   StopsTrace (Script refusal) = IsUnrun sink gave (Script refusal) × IsRefused refusal
   StopsTrace (Foreign block place) =
       IsUnrun sink gave (Foreign block place) × from.means (λ t. disk.tells → IsForeign disk.before.reading (record { block = block; place = place }))
-  StopsTrace Disk = IsUnrun sink gave Disk × from.means (λ t. disk.rose)
+  StopsTrace DiskFault = IsUnrun sink gave DiskFault × from.means (λ t. disk.rose)
   StopsTrace Source = IsUnrun sink gave Source × from.rose × disk.same
   StopsTrace Memory = IsUnrun sink gave Memory
   StopsTrace fault = ⊥

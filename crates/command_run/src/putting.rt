@@ -34,8 +34,8 @@ fn fault_of_stop(why: Stopped) -> Fault
     ensures { result ≡ told_stop why }
 {
     match why {
-        Stopped::NoBlocks(blocks) => Fault::Blocks(blocks),
-        Stopped::ReadFault | Stopped::WriteFault => Fault::Disk,
+        Stopped::NoBlocks(blocks) => Fault::NoBlocks(blocks),
+        Stopped::ReadFault | Stopped::WriteFault => Fault::DiskFault,
     }
 }
 

@@ -19,18 +19,18 @@ use Rattle.command_show.specs.Readings.{IsUnread, ReadingLeaves, StopsReading}
 -- why a reading gave no facts, in its own words
 pub record IsReadingFault (disk : SeenDisk) (f : ReadingFault) : Type 0 where
   pub foreign : disk.tells → (bad : Bad) → f ≡ reading.Foreign bad → IsForeign disk.before.reading bad
-  pub cause : f ≡ reading.Disk → disk.rose
+  pub cause : f ≡ reading.ReadFault → disk.rose
 
 module _ (disk : SeenDisk) where
   unread : (f : ReadingFault) → IsReadingFault disk f → IsUnread disk (fault_of_reading f)
   unread (reading.Foreign bad) why = λ told. why.foreign told bad refl
-  unread reading.Disk why = why.cause refl
+  unread reading.ReadFault why = why.cause refl
   unread reading.Memory why = tt
 
   -- of an accepted image, and without a fault of the disk, only for want of memory
   wanted : (f : ReadingFault) → IsReadingFault disk f → disk.tells → Accepted disk.before.reading → (disk.rose → ⊥) → IsComplete (status_by (fault_of_reading f))
   wanted (reading.Foreign bad) why told accepted calm = absurd (not_both disk.before.reading bad accepted (why.foreign told bad refl))
-  wanted reading.Disk why told accepted calm = absurd (calm (why.cause refl))
+  wanted reading.ReadFault why told accepted calm = absurd (calm (why.cause refl))
   wanted reading.Memory why told accepted calm = inr refl
 
   pub unread_complete : (f : ReadingFault) (fault : Fault) (status : Status) → fault ≡ fault_of_reading f → status ≡ status_by fault → IsReadingFault disk f

@@ -6,12 +6,12 @@ use Rattle.command_outcomes.specs.Ends.{IsUnrun, LeavesBy}
 use Rattle.command_outcomes.specs.Seen.{Gave, IsOnlyRead, SeenDisk, SeenSink}
 use Rattle.command_outcomes.specs.Statuses.{Ending}
 use Rattle.command_outcomes.specs.declared.faults.Fault.{Fault}
-use Rattle.command_outcomes.specs.declared.faults.Fault.TheVariants.{Foreign, Disk, Memory}
+use Rattle.command_outcomes.specs.declared.faults.Fault.TheVariants.{Foreign, DiskFault, Memory}
 
 -- WHY THE IMAGE WAS NOT READ: it isn't accepted, with this first bad place; the disk's count of faults rose; or memory ran out
 abbrev pub IsUnread : SeenDisk → Fault → Type 0
 IsUnread disk (Foreign block place) = disk.tells → IsForeign disk.before.reading (record { block = block; place = place })
-IsUnread disk Disk = disk.rose
+IsUnread disk DiskFault = disk.rose
 IsUnread disk Memory = ⊤
 IsUnread disk fault = ⊥
 

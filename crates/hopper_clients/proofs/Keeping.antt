@@ -5,7 +5,7 @@ use Rattle.command_outcomes.specs.Ends.{IsEmpty}
 use Rattle.command_outcomes.specs.Seen.{Call, SeenDisk, gave}
 use Rattle.command_outcomes.specs.Statuses.{Ending, Stopped, Unput, Whole, Wrong, ending}
 use Rattle.command_outcomes.specs.declared.statuses.Status.{Status}
-use Rattle.command_outcomes.specs.declared.faults.Fault.TheVariants.{Blocks, Disk, Foreign as BadImage, Memory, Script, Source, Usage}
+use Rattle.command_outcomes.specs.declared.faults.Fault.TheVariants.{NoBlocks, DiskFault, Foreign as BadImage, Memory, Script, Source, Usage}
 use Rattle.command_words.specs.declared.Command.TheVariants.{Run, Show}
 use Rattle.edge_disk.specs.Image.{Image}
 use Rattle.edge_disk.specs.Kept.{IsTorn, MayLeave}
@@ -154,12 +154,12 @@ module _ (source : Text) (torn : Torn) (after : ℕ) (formatted ran showed : Cal
       let served = run_holds source old ran fresh (λ b. IsServed output_of b disk (gave ran.outcome) _) o in
       record { keeps = keeps_cut _ o (λ b served. served.run); whole = served.whole; lines = runs.put ∙ served.output }
   keeps_by Unput o = keeps_cut _ o.0 (λ b served. served.run)
-  keeps_by (Stopped (Blocks n)) o = keeps_cut _ o (λ b short. short.cut.run)
-  keeps_by (Stopped Disk) (rose, inl unrun) = inr (keeps_nothing unrun.0.empty (elim (unrun.2 tt (turn_left 4096 (reading_of old) fresh.formatted)) [
+  keeps_by (Stopped (NoBlocks n)) o = keeps_cut _ o (λ b short. short.cut.run)
+  keeps_by (Stopped DiskFault) (rose, inl unrun) = inr (keeps_nothing unrun.0.empty (elim (unrun.2 tt (turn_left 4096 (reading_of old) fresh.formatted)) [
     | inl fails ↦ means_failed fails.failed
     | inr kept ↦ means_kept kept
   ]))
-  keeps_by (Stopped Disk) (rose, inr o) = inl (keeps_cut _ o (λ b cut. cut.run))
+  keeps_by (Stopped DiskFault) (rose, inr o) = inl (keeps_cut _ o (λ b cut. cut.run))
   keeps_by (Stopped (Script refusal)) (unrun, inl refused) = keeps_nothing unrun.empty (means_same refused.1)
   keeps_by (Stopped (Script refusal)) (unrun, inr misfit) = keeps_nothing unrun.empty (means_kept_image misfit.3.kept)
   keeps_by (Stopped Source) stopped = keeps_nothing stopped.1.empty (means_same stopped.2)

@@ -18,7 +18,7 @@ use Rattle.hopper_top.specs.command_promises.Runs.{printed}
 use Rattle.hopper_top.specs.command_source.Sources.{IsAccepted}
 use Rattle.hopper_top.specs.model_serial.Serial.{IsWhole}
 use Rattle.command_outcomes.specs.Statuses.{Ending, Stopped, Unput, Whole, Wrong, ending}
-use Rattle.command_outcomes.specs.declared.faults.Fault.TheVariants.{Blocks, Disk, Foreign as BadImage, Memory, Script, Source, Usage}
+use Rattle.command_outcomes.specs.declared.faults.Fault.TheVariants.{NoBlocks, DiskFault, Foreign as BadImage, Memory, Script, Source, Usage}
 use Rattle.command_outcomes.specs.declared.statuses.Status.TheVariants.{Done, Foreign}
 use Rattle.hopper_clients.specs.Calls.{managers}
 use Rattle.hopper_clients.specs.declared.stopping.Shown.{Shown}
@@ -67,8 +67,8 @@ pub record KeepsNothing (torn : Torn) (s : Shown) : Type 0 where
 abbrev pub KeepsBy : Text → Torn → Shown → Ending → Type 0
 KeepsBy source torn s Whole = KeepsWhole source torn s
 KeepsBy source torn s Unput = KeepsCut source torn s
-KeepsBy source torn s (Stopped (Blocks n)) = KeepsCut source torn s
-KeepsBy source torn s (Stopped Disk) = KeepsCut source torn s ⊎ KeepsNothing torn s
+KeepsBy source torn s (Stopped (NoBlocks n)) = KeepsCut source torn s
+KeepsBy source torn s (Stopped DiskFault) = KeepsCut source torn s ⊎ KeepsNothing torn s
 KeepsBy source torn s (Stopped (Script refusal)) = KeepsNothing torn s
 KeepsBy source torn s (Stopped Source) = KeepsNothing torn s
 KeepsBy source torn s (Stopped Memory) = KeepsNothing torn s

@@ -8,7 +8,7 @@ use Rattle.hopper_clients.specs.Images.{HasNewImage}
 use Rattle.hopper_top.specs.command_promises.Booked.{over}
 use Rattle.hopper_top.specs.command_promises.Openings.{run_from}
 use Rattle.command_outcomes.specs.Statuses.{Ending, Stopped, Unput, Whole, Wrong, ending}
-use Rattle.command_outcomes.specs.declared.faults.Fault.TheVariants.{Blocks, Disk, Foreign, Memory, Script, Source, Usage}
+use Rattle.command_outcomes.specs.declared.faults.Fault.TheVariants.{NoBlocks, DiskFault, Foreign, Memory, Script, Source, Usage}
 use Rattle.hopper_top.specs.line_entries.Entries.{trace_of}
 use Rattle.command_outcomes.specs.model_kernel.Scripts.{Script as Tables}
 use Rattle.command_outcomes.specs.model_kernel.State.{Text, empty_state}
@@ -58,11 +58,11 @@ abbrev pub AcceptsBy : MemoryDisk → Checked → Ending → Type 0
 AcceptsBy before c Whole = c.verdict.items ≡ ok_line (length c.history.items)
 AcceptsBy before c Unput = ((count : ℕ) × (c.verdict.items ≡ take count (ok_line (length c.history.items)))) × (0 < c.sink.faults)
 AcceptsBy before c (Stopped Source) = 0 < c.source.faults
-AcceptsBy before c (Stopped Disk) = Rose (faults_of before) (faults_of c.disk)
+AcceptsBy before c (Stopped DiskFault) = Rose (faults_of before) (faults_of c.disk)
 AcceptsBy before c (Stopped Memory) = Unit {0}
 AcceptsBy before c (Stopped (Script refusal)) = ⊥
 AcceptsBy before c (Stopped (Foreign block place)) = ⊥
-AcceptsBy before c (Stopped (Blocks n)) = ⊥
+AcceptsBy before c (Stopped (NoBlocks n)) = ⊥
 AcceptsBy before c (Stopped Usage) = ⊥
 AcceptsBy before c (Wrong line want) = ⊥
 

@@ -60,7 +60,7 @@ fn main(rt: HostRuntime) -> ExitCode {
         return refuse(&mut sink, &mut people, Fault::Usage);
     };
     let Ok(file) = open_file(&rt, path.as_str()) else {
-        let _ = put_fault(&mut sink, &Fault::Disk);
+        let _ = put_fault(&mut sink, &Fault::DiskFault);
         let _ = put_unopened(&mut people, path.as_str());
         return ExitCode::from(Status::DiskFault.number());
     };

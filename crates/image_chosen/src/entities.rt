@@ -32,7 +32,7 @@ fn read_slot<D: Disk>(
     ensures spelt { D.tells → IfOk result (λ e. IsSpelt (D.reading disk.old) e.rec.entity e.rec (part_of e.part)) }
     ensures foreign { D.tells → (bad : BadPlace) → IsErrOf result (ReadingFault.Foreign bad)
         → IsBadSlot (D.reading disk.old) log.now.recs.items log.now.area slot bad }
-    ensures cause { IsErrOf result ReadingFault.Disk → Rose (D.faults disk.old) (D.faults disk.new) }
+    ensures cause { IsErrOf result ReadingFault.ReadFault → Rose (D.faults disk.old) (D.faults disk.new) }
     ensures same { ReadsOnly D.Disk disk.old disk.new }
 {
     let rec = log.recs[slot as usize];
@@ -57,7 +57,7 @@ fn read_entity<D: Disk>(
     ensures spelt { D.tells → IfOk result (λ o. IfSome o (λ e. IsSpelt (D.reading disk.old) x e.rec (part_of e.part))) }
     ensures foreign { D.tells → (bad : BadPlace) → IsErrOf result (ReadingFault.Foreign bad)
         → IsBadEntity (D.reading disk.old) log.now.recs.items log.now.area x bad }
-    ensures cause { IsErrOf result ReadingFault.Disk → Rose (D.faults disk.old) (D.faults disk.new) }
+    ensures cause { IsErrOf result ReadingFault.ReadFault → Rose (D.faults disk.old) (D.faults disk.new) }
     ensures same { ReadsOnly D.Disk disk.old disk.new }
 {
     let Some(slot) = chosen_slot(&log.recs, cut, x) else {
@@ -82,7 +82,7 @@ pub(crate) fn read_entities<D: Disk>(
     ensures spelt { D.tells → IfOk result (λ es. AreSpelt (D.reading disk.old) log.now.recs.items (parts_of es.items)) }
     ensures foreign { D.tells → (bad : BadPlace) → IsErrOf result (ReadingFault.Foreign bad)
         → IsBadBlob (D.reading disk.old) log.now.recs.items log.now.area bad }
-    ensures cause { IsErrOf result ReadingFault.Disk → Rose (D.faults disk.old) (D.faults disk.new) }
+    ensures cause { IsErrOf result ReadingFault.ReadFault → Rose (D.faults disk.old) (D.faults disk.new) }
     ensures same { ReadsOnly D.Disk disk.old disk.new }
 {
     let Ok(mut room) = Blob::new(alloc) else {

@@ -30,7 +30,7 @@ pub struct ImageParts {
 /// of the image. The log is gone through once for each entity, and once more for one that doesn't fit.
 ///
 /// `Foreign` comes exactly where a chosen blob is no spelling with zeros behind it, or a chosen entity doesn't fit the others, with
-/// the first bad place; `Disk` only where a read failed.
+/// the first bad place; `ReadFault` only where a read failed.
 pub fn read_parts<D: Disk>(
     alloc: Global,
     disk: &mut D,
@@ -42,7 +42,7 @@ pub fn read_parts<D: Disk>(
         → IfOk result (λ parts. IsAcceptedWith (D.reading disk.old) log.now.recs.items (parts_of parts.entities.items)) }
     ensures foreign { D.tells → IsLogOf (D.reading disk.old) log.now → (bad : BadPlace) → IsErrOf result (ReadingFault.Foreign bad)
         → IsBadMeaning (D.reading disk.old) bad }
-    ensures cause { IsErrOf result ReadingFault.Disk → Rose (D.faults disk.old) (D.faults disk.new) }
+    ensures cause { IsErrOf result ReadingFault.ReadFault → Rose (D.faults disk.old) (D.faults disk.new) }
     ensures same { ReadsOnly D.Disk disk.old disk.new }
 {
     let cut = choice_of(log.blocks, &log.recs);

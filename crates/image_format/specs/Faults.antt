@@ -5,7 +5,7 @@ use Rattle.image_format.specs.declared.formatting.FormatFault.{FormatFault}
 use Rattle.image_format.specs.declared.formatting.FormatWhy.TheVariants.{Small, WriteFault}
 
 -- the disk has so many blocks, and more were asked for; it is as it was
-pub record TooFew {D : Type 0} (need free : ℕ) (disk : D) (fault : FormatFault D) : Type 0 where
+pub record IsSmall {D : Type 0} (need free : ℕ) (disk : D) (fault : FormatFault D) : Type 0 where
   pub why : fault.why ≡ Small (record { need = need; free = free })
   pub untouched : fault.disk ≡ disk
 

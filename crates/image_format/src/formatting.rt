@@ -82,7 +82,7 @@ fn make_empty<D: Disk>(disk: &mut D, blocks: u32) -> Result<(), DiskFault>
     Ok(())
 }
 
-ghost use Rattle.image_format.specs.Faults.{IsWriteFault, TooFew};
+ghost use Rattle.image_format.specs.Faults.{IsSmall, IsWriteFault};
 
 /// Makes the empty image of so many blocks on a disk: the gates of both areas are written closed, and synced; the superblock,
 /// epoch 1 in area A's header, epoch 0 in area B's and the gate of A's first slot, closed, are written, and synced; A's gate is
@@ -103,7 +103,7 @@ pub fn format<D: Disk>(disk: D, blocks: u32) -> Result<D, FormatFault<D>>
         (λ fault. LeavesOnly D.Disk disk fault.disk (IsFormatting D.may_leave blocks disk)) }
 
     ensures enough { OnOk result (blocks ≤ D.block_count disk) }
-    ensures too_few { D.block_count disk < blocks → IfErr result (TooFew blocks (D.block_count disk) disk) }
+    ensures too_few { D.block_count disk < blocks → IfErr result (IsSmall blocks (D.block_count disk) disk) }
     ensures write_fault { blocks ≤ D.block_count disk → IfErr result (IsWriteFault D.faults disk) }
 
     ensures count { MatchResult result (λ d. D.block_count d ≡ D.block_count disk) (λ fault. D.block_count fault.disk ≡ D.block_count disk) }

@@ -32,7 +32,7 @@ fn container_with<D: Disk, S: Fn(u64, u32, u16) -> u64>(
     requires there { AreOnDisk (D.block_count disk.old) (table_in (part_of (Container container.now))) }
     ensures cell { (x : ℕ) → IfOk result (λ c. IsCellOf D.tells s (block_at (D.reading disk.old)) x (Some (part_of (Container container.now))) (ContainerCell (container_of s c))) }
     ensures sparse { IfOk result (IsSparseContainer s) }
-    ensures cause { IsErrOf result PagesFault.Disk → Rose (D.faults disk.old) (D.faults disk.new) }
+    ensures cause { IsErrOf result PagesFault.ReadFault → Rose (D.faults disk.old) (D.faults disk.new) }
     ensures same { ReadsOnly D.Disk disk.old disk.new }
 {
     let words = words_of(alloc, disk, &container.head, &container.blocks, supply)?;
@@ -54,7 +54,7 @@ fn container_at<D: Disk, S: Fn(u64, u32, u16) -> u64>(
     requires there { AreOnDisk (D.block_count disk.old) (blocks_in (part_in entity.now)) }
     ensures cell { (x : ℕ) → IfOk result (λ c. IsCellOf D.tells s (block_at (D.reading disk.old)) x (part_in entity.now) (ContainerCell (container_of s c))) }
     ensures sparse { IfOk result (IsSparseContainer s) }
-    ensures cause { IsErrOf result PagesFault.Disk → Rose (D.faults disk.old) (D.faults disk.new) }
+    ensures cause { IsErrOf result PagesFault.ReadFault → Rose (D.faults disk.old) (D.faults disk.new) }
     ensures same { ReadsOnly D.Disk disk.old disk.new }
 {
     let Some(entity) = entity else {
@@ -86,7 +86,7 @@ pub(crate) fn containers_of<D: Disk, S: Fn(u64, u32, u16) -> u64>(
     ensures cells { IfOk result (λ cs. (i : ℕ) → i < many
         → IsCellOf D.tells s (block_at (D.reading disk.old)) (i + 1) (parts_of entities.now (i + 1)) (container_cell s (slice_get cs.items i))) }
     ensures sparse { IfOk result (λ cs. All (IsSparseContainer s) cs.items) }
-    ensures cause { IsErrOf result PagesFault.Disk → Rose (D.faults disk.old) (D.faults disk.new) }
+    ensures cause { IsErrOf result PagesFault.ReadFault → Rose (D.faults disk.old) (D.faults disk.new) }
     ensures same { ReadsOnly D.Disk disk.old disk.new }
 {
     let mut containers = Vec::new(alloc);

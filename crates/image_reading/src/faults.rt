@@ -8,18 +8,18 @@ use std::alloc::{AllocError, AllocFailed};
 #[derive(Clone, Copy, Debug, PartialEq, Eq, Drop)]
 pub(crate) enum PagesFault {
     // A read failed.
-    Disk,
+    ReadFault,
     // Memory ran out.
     Memory,
 }
 
 impl From<DiskFault> for PagesFault {
-    ghost use Rattle.image_reading.specs.declared.faults.PagesFault.TheVariants.{Disk};
+    ghost use Rattle.image_reading.specs.declared.faults.PagesFault.TheVariants.{ReadFault};
 
-    ghost from_gives = { λ _ e. e ≡ Disk };
+    ghost from_gives = { λ _ e. e ≡ ReadFault };
 
     fn from(_fault: DiskFault) -> PagesFault {
-        PagesFault::Disk
+        PagesFault::ReadFault
     }
 }
 

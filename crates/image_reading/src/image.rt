@@ -36,7 +36,7 @@ pub struct ImageFacts {
 /// and one for each page with a block: 12,038 at most. The supplier is asked about each word of such a page. It takes memory for the
 /// records, 568 bytes each, for the state, and a byte for each block of the image.
 ///
-/// `Foreign` comes exactly where the image isn't accepted, with its first bad place; `Disk` only where a read failed.
+/// `Foreign` comes exactly where the image isn't accepted, with its first bad place; `ReadFault` only where a read failed.
 pub fn read_image<D: Disk, S: Fn(u64, u32, u16) -> u64>(
     alloc: Global,
     disk: &mut D,
@@ -53,7 +53,7 @@ pub fn read_image<D: Disk, S: Fn(u64, u32, u16) -> u64>(
     ensures low { IfOk result (λ facts. All (λ v. v ≤ 2 ^ 62) facts.cut.0) }
     ensures sparse { IfOk result (λ facts. All (IsSparseContainer s) facts.state.containers.items) }
     ensures foreign { D.tells → (bad : BadPlace) → IsErrOf result (ReadingFault.Foreign bad) → IsForeign (D.reading disk.old) bad }
-    ensures cause { IsErrOf result ReadingFault.Disk → Rose (D.faults disk.old) (D.faults disk.new) }
+    ensures cause { IsErrOf result ReadingFault.ReadFault → Rose (D.faults disk.old) (D.faults disk.new) }
     ensures same { ReadsOnly D.Disk disk.old disk.new }
 {
     let log = read_log(alloc, disk)?;
@@ -64,7 +64,7 @@ pub fn read_image<D: Disk, S: Fn(u64, u32, u16) -> u64>(
             cut: parts.cut,
             state,
         }),
-        Err(PagesFault::Disk) => Err(ReadingFault::Disk),
+        Err(PagesFault::ReadFault) => Err(ReadingFault::ReadFault),
         Err(PagesFault::Memory) => Err(ReadingFault::Memory),
     }
 }

@@ -51,7 +51,7 @@ fn take_page<D: Disk, S: Fn(u64, u32, u16) -> u64>(
     ensures here { D.tells → OnOk result ((k : ℕ) → k < 128
         → words_with s tag words.new (128 * page + k) ≡ word_in s tag (block_at (D.reading disk.old)) block (128 * page + k)) }
     ensures before { OnOk result ((a : ℕ) → a < 128 * page → words_with s tag words.new a ≡ words_with s tag words.old a) }
-    ensures cause { IsErrOf result PagesFault.Disk → Rose (D.faults disk.old) (D.faults disk.new) }
+    ensures cause { IsErrOf result PagesFault.ReadFault → Rose (D.faults disk.old) (D.faults disk.new) }
     ensures same { ReadsOnly D.Disk disk.old disk.new }
 {
     if block == 0 {
@@ -77,7 +77,7 @@ pub(crate) fn words_of<D: Disk, S: Fn(u64, u32, u16) -> u64>(
     ensures sparse { IfOk result (IsSparse s head.now.tag (128 * head.now.pages)) }
     ensures words { D.tells → IfOk result (λ words. (a : ℕ) → words_with s head.now.tag words a
         ≡ words_in s head.now.tag (block_at (D.reading disk.old)) (take head.now.pages blocks.now) a) }
-    ensures cause { IsErrOf result PagesFault.Disk → Rose (D.faults disk.old) (D.faults disk.new) }
+    ensures cause { IsErrOf result PagesFault.ReadFault → Rose (D.faults disk.old) (D.faults disk.new) }
     ensures same { ReadsOnly D.Disk disk.old disk.new }
 {
     let mut words = BTreeMap::new(alloc);

@@ -34,7 +34,7 @@ pub(crate) fn state_of<D: Disk, S: Fn(u64, u32, u16) -> u64>(
     ensures cells { IfOk result (λ plain. (x : ℕ) → IsCellOf D.tells s (block_at (D.reading disk.old)) x (parts_of parts.now.entities.items x) (cells_of s plain x)) }
     ensures sparse { IfOk result (λ plain. All (IsSparseContainer s) plain.containers.items) }
     ensures edges { IfOk result (λ plain. AreEdges plain.atlas.edges.items) }
-    ensures cause { IsErrOf result PagesFault.Disk → Rose (D.faults disk.old) (D.faults disk.new) }
+    ensures cause { IsErrOf result PagesFault.ReadFault → Rose (D.faults disk.old) (D.faults disk.new) }
     ensures same { ReadsOnly D.Disk disk.old disk.new }
 {
     let atlas = atlas_at(alloc, &parts.entities[0])?;

@@ -6,7 +6,7 @@ use Rattle.std.proofs.lemmas.Bool.{cases_lt}
 use Rattle.std.proofs.lemmas.List.Sums.{sum_by_more, sum_by_push}
 use Rattle.std.proofs.lemmas.Option.{slice_get-get_or, slice_get_within}
 use Rattle.edge_disk.specs.declared.disk.Disk.{Ghosts}
-use Rattle.edge_disk.specs.declared.disk.NoBlocks.{NoBlocks as TooFewBlocks}
+use Rattle.edge_disk.specs.declared.disk.NoBlocks.{NoBlocks}
 use Rattle.data_frames.specs.FrameTable.{resident_changed}
 use Rattle.base_types.specs.Edges.{upto}
 use Rattle.image_facts.specs.model_kernel.State.{KernelState, Supply}
@@ -186,7 +186,7 @@ module _ {D : Type 0} (disks : Ghosts D) (b : Beginning) (p : Parts D) (told : d
         omega (arith, free, needs, fewer))
   ]
 
-  pub short_lacks : (x : ℕ) (n : TooFewBlocks) → IsShort disks x p n → LacksBlocks b p
+  pub short_lacks : (x : ℕ) (n : NoBlocks) → IsShort disks x p n → LacksBlocks b p
   short_lacks x n short =
       lacks_blocks (let one = one_within (need_in (kept_names (books p.store))) p.cells x short.cell short.at in let lt = short.short.fewer in omega (arith, one, lt))
 

@@ -5,7 +5,7 @@ use Rattle.std.specs.List.{list_any}
 use Rattle.std.proofs.lemmas.Bool.{and_parts, false≢true, or_cases}
 use Rattle.std.proofs.lemmas.Map.Views.{Contains-from_any}
 use Rattle.edge_disk.specs.declared.disk.Disk.{Ghosts}
-use Rattle.edge_disk.specs.declared.disk.NoBlocks.{NoBlocks as TooFewBlocks}
+use Rattle.edge_disk.specs.declared.disk.NoBlocks.{NoBlocks}
 use Rattle.table_steps.specs.cell_clocks.declared.Clock.{Clock}
 use Rattle.table_steps.specs.page_memory.declared.paged.PagedMemory.{PagedMemory}
 use Rattle.table_steps.specs.page_memory.Words.{block_at, need_below, needs_block}
@@ -30,11 +30,11 @@ use Rattle.kernel_book_laws.proofs.kernel_views_lemmas.Others.{held_at, in_table
 use Rattle.kernel_book_laws.specs.Matching.{newest_of, version_at, version_of}
 use Rattle.kernel_commit_facts.specs.Parts.{Parts}
 use Rattle.kernel_commit_facts.specs.Recording.{HasRecorded, IsShort}
-use Rattle.kernel_commit_facts.specs.Stabilising.{AreTooFew, NeedsFit, needs_in}
+use Rattle.kernel_commit_facts.specs.Stabilising.{AreShort, NeedsFit, needs_in}
 use Rattle.table_steps.proofs.table_laws_lemmas.Needs.{one_replaced, one_within}
 use Rattle.kernel_book_laws.proofs.store_books_lemmas.Owners.{place_in}
 
-abbrev pub no_shortage : Option TooFewBlocks
+abbrev pub no_shortage : Option NoBlocks
 no_shortage = None
 
 -- THE PAGES OF A MEMORY need no more where kept records name no more of its blocks
@@ -170,7 +170,7 @@ module _ {D : Type 0} (disks : Ghosts D) where
         omega (arith, sums, none, was, free, fits)
 
   -- where all needs fit each does
-  pub not_short : (x : ℕ) (p : Parts D) (n : TooFewBlocks) → NeedsFit p → IsShort disks x p n → ⊥
+  pub not_short : (x : ℕ) (p : Parts D) (n : NoBlocks) → NeedsFit p → IsShort disks x p n → ⊥
   not_short x p n fits short =
       let one = one_within (need_in (kept_names (books p.store))) p.cells x short.cell short.at in
       let lt = short.short.fewer in
@@ -178,5 +178,5 @@ module _ {D : Type 0} (disks : Ghosts D) where
 
   -- the answer of what asks first
   pub none_fits : (p : Parts D) (need free : ℕ) → need ≡ needs_in (kept_names (books p.store)) p.cells → free ≡ free_in (books p.store) → need ≤ free
-      → (n : TooFewBlocks) → (no_shortage ≡ Some n) ↔ AreTooFew p n
+      → (n : NoBlocks) → (no_shortage ≡ Some n) ↔ AreShort p n
   none_fits p need free need_is free_is fits n = ((λ is. absurd (cc is)), (λ few. absurd (let lt = few.fewer in omega (arith, need_is, free_is, fits, lt))))

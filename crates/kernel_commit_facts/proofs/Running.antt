@@ -13,7 +13,8 @@ use Rattle.kernel_book_laws.specs.store_facts.Putting.{are_small}
 use Rattle.kernel_book_laws.specs.store_facts.State.{State, books}
 use Rattle.kernel_book_laws.specs.store_books.Between.{Between-stay}
 use Rattle.kernel_book_laws.specs.kernel_invariant.Beginnings.{Beginning, run_of, state_after}
-use Rattle.kernel_book_laws.specs.kernel_invariant.Live.{IsRunning, Stopped}
+use Rattle.kernel_book_laws.specs.kernel_invariant.Live.{IsRunning}
+use Rattle.kernel_book_laws.specs.kernel_invariant.declared.stopping.Stopped.{Stopped}
 use Rattle.kernel_book_laws.proofs.kernel_laws_lemmas.Going.{snap_runs, stop_lives}
 use Rattle.kernel_book_laws.proofs.kernel_laws_lemmas.Numbers.{stamp_small, version_small}
 use Rattle.kernel_book_laws.specs.kernel_records.Committing.{CommitCounts, HasPages}

@@ -10,7 +10,9 @@ use Rattle.table_steps.specs.table_laws.Tables.{IsOrderly}
 use Rattle.kernel_book_laws.specs.store_facts.State.{State, books}
 use Rattle.table_steps.specs.cell_wish_laws.Founded.{IsFoundedCell}
 use Rattle.kernel_book_laws.specs.kernel_invariant.Beginnings.{Beginning, run_of}
-use Rattle.kernel_book_laws.specs.kernel_invariant.Live.{Failed, IsRunning, Stopped, TooFew}
+use Rattle.kernel_book_laws.specs.kernel_invariant.Live.{IsRunning}
+use Rattle.kernel_book_laws.specs.kernel_invariant.declared.stopping.Stopped.{Stopped}
+use Rattle.kernel_book_laws.specs.kernel_invariant.declared.stopping.Stopped.TheVariants.{WriteFault}
 use Rattle.kernel_book_laws.proofs.kernel_laws_lemmas.Going.{tried_lives}
 use Rattle.kernel_book_laws.specs.kernel_records.Committing.{CommitCounts, HasPages}
 use Rattle.kernel_book_laws.specs.kernel_views.Snaps.{LeavesOne}
@@ -39,7 +41,7 @@ module _ {D : Type 0} (disks : Ghosts D)
     d = r.failed.after
 
     abbrev Lives : List Entry → List ℕ → Type 0
-    Lives es marks = Rattle.kernel_book_laws.specs.kernel_invariant.Live.IsLive b disks (view_of disks.reading b new.cells new.store es marks (Some Failed)) new.store.disk
+    Lives es marks = Rattle.kernel_book_laws.specs.kernel_invariant.Live.IsLive b disks (view_of disks.reading b new.cells new.store es marks (Some WriteFault)) new.store.disk
 
     number : c.clock.entity ≡ x
     number = r.failed.commits.number
@@ -71,7 +73,7 @@ module _ {D : Type 0} (disks : Ghosts D)
     lives = tried_lives b disks counts_later only_now (view_of disks.reading b old.cells old.store old.noted.entries old.noted.marks None) _ old.store.disk new.store.disk m.stands.runs (mark Tried c.clock.entity c.clock.version)
         (stopped left m.untried may one r.failed.failed ord)
 
-    pub tried_stops : LivesAs disks b new (Some Failed)
+    pub tried_stops : LivesAs disks b new (Some WriteFault)
     tried_stops =
         subst (λ es. Lives es new.noted.marks) (sym (r.entries ∙ ap (λ e. old.noted.entries ++ e ∷ []) (same_mark disks counts_later only_now b x old new told Tried c number at)))
         (subst (λ marks. Lives (old.noted.entries ++ mark Tried c.clock.entity c.clock.version ∷ []) marks) (sym r.marks) lives)

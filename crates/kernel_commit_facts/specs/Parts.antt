@@ -5,7 +5,8 @@ use Rattle.base_types.specs.declared.histories.Entry.{Entry}
 use Rattle.table_steps.specs.cell_states.declared.cells.Cell.{Cell}
 use Rattle.kernel_book_laws.specs.store_facts.State.{State}
 use Rattle.kernel_book_laws.specs.kernel_invariant.Beginnings.{Beginning}
-use Rattle.kernel_book_laws.specs.kernel_invariant.Live.{IsLive, Stopped as Stop}
+use Rattle.kernel_book_laws.specs.kernel_invariant.Live.{IsLive}
+use Rattle.kernel_book_laws.specs.kernel_invariant.declared.stopping.Stopped.{Stopped}
 use Rattle.kernel_book_laws.specs.kernel_views.Snaps.{Stands}
 use Rattle.kernel_book_laws.specs.kernel_views.Views.{view_of}
 
@@ -30,5 +31,5 @@ module _ {D : Type 0} (disks : Ghosts D) where
   StandsAs b p = Stands disks b p.cells p.store p.noted.entries p.noted.marks
 
   -- it is live, or has stopped for this
-  abbrev pub LivesAs : Beginning → Parts D → Option Stop → Type 0
+  abbrev pub LivesAs : Beginning → Parts D → Option Stopped → Type 0
   LivesAs b p stop = IsLive b disks (view_of disks.reading b p.cells p.store p.noted.entries p.noted.marks stop) p.store.disk

@@ -12,19 +12,19 @@ use Rattle.kernel_book_laws.specs.store_facts.Putting.{are_small}
 use Rattle.kernel_book_laws.specs.store_facts.State.{State, books}
 use Rattle.table_steps.specs.cell_states.declared.cells.Cell.{Cell}
 use Rattle.table_steps.specs.table_laws.Lending.{Lends}
-use Rattle.kernel_book_laws.specs.kernel_records.Committing.{HasCommitted, HasNotCommitted, IsTooFew, StoresKeptOrCell}
+use Rattle.kernel_book_laws.specs.kernel_records.Committing.{HasCommitted, HasNotCommitted, IsCellShort, StoresKeptOrCell}
 use Rattle.kernel_book_laws.specs.kernel_invariant.Beginnings.{Beginning, run_of}
 use Rattle.kernel_book_laws.specs.Matching.{HasRoomFor, MatchesBooks, newest_of, version_of}
 use Rattle.kernel_book_laws.specs.store_snapshots.declared.faults.StoreFault.{StoreFault}
-use Rattle.kernel_book_laws.specs.store_snapshots.declared.faults.StoreFault.TheVariants.{NoBlocks as NoBlocksAre, ReadFault, Shut, WriteFault}
+use Rattle.kernel_book_laws.specs.store_snapshots.declared.faults.StoreFault.TheVariants as fault
 use Rattle.kernel_commit_facts.specs.Parts.{Noted, Parts, StandsAs}
 
 -- what is noted of it: where a call of the disk failed this entry
 abbrev pub with_fault : StoreFault → Entry → Noted → Noted
-with_fault (NoBlocksAre n) e noted = noted
-with_fault WriteFault e noted = record noted { entries = noted.entries ++ e ∷ [] }
-with_fault ReadFault e noted = record noted { entries = noted.entries ++ e ∷ [] }
-with_fault Shut e noted = record noted { entries = noted.entries ++ e ∷ [] }
+with_fault (fault.NoBlocks n) e noted = noted
+with_fault fault.WriteFault e noted = record noted { entries = noted.entries ++ e ∷ [] }
+with_fault fault.ReadFault e noted = record noted { entries = noted.entries ++ e ∷ [] }
+with_fault fault.Shut e noted = record noted { entries = noted.entries ++ e ∷ [] }
 
 module _ {D : Type 0} (disks : Ghosts D) where
   -- A RECORD OF THE ENTITY MAY BE MADE: it has changed since its newest one, and the store works and matches the cells
@@ -79,7 +79,7 @@ module _ {D : Type 0} (disks : Ghosts D) where
   pub record IsShort (x : ℕ) (p : Parts D) (n : NoBlocks) : Type 0 where
     pub cell : Cell
     pub at : slice_get p.cells x ≡ Some cell
-    pub short : IsTooFew cell (books p.store) n
+    pub short : IsCellShort cell (books p.store) n
 
   -- a commit of the entity may be next in the run
   pub record MayRecord (b : Beginning) (x : ℕ) (p : Parts D) : Type 0 where

@@ -22,7 +22,7 @@ abbrev pub NeedsFit : {D : Type 0} → Parts D → Type 0
 NeedsFit p = needs_in (kept_names (books p.store)) p.cells ≤ free_in (books p.store)
 
 -- fewer are free; both numbers
-pub record AreTooFew {D : Type 0} (p : Parts D) (n : NoBlocks) : Type 0 where
+pub record AreShort {D : Type 0} (p : Parts D) (n : NoBlocks) : Type 0 where
   pub fewer : free_in (books p.store) < needs_in (kept_names (books p.store)) p.cells
   pub numbers : n ≡ record { need = needs_in (kept_names (books p.store)) p.cells; free = free_in (books p.store) }
 

@@ -5,7 +5,7 @@ use Rattle.std.proofs.Math.Seq.{take-append_seam}
 use Rattle.std.proofs.lemmas.Bool.{cases_eq}
 use Rattle.edge_disk.specs.Image.{Image}
 use Rattle.edge_disk.specs.Counts.{Rose}
-use Rattle.edge_disk.specs.declared.disk.NoBlocks.{NoBlocks as Shortage}
+use Rattle.edge_disk.specs.declared.disk.NoBlocks.{NoBlocks}
 use Rattle.base_types.specs.declared.histories.Entry.{Entry}
 use Rattle.base_types.specs.declared.histories.Event.TheVariants.{Snap, Tried}
 use Rattle.kernel_commit_facts.specs.model_kernel.Histories.{mark}
@@ -14,16 +14,15 @@ use Rattle.kernel_commit_facts.specs.cell_blobs.Blobs.{is_recorded}
 use Rattle.kernel_commit_facts.specs.table_laws.Lending.{Lends}
 use Rattle.kernel_commit_facts.specs.store_facts.State.{State, books}
 use Rattle.kernel_commit_facts.specs.store_snapshots.declared.faults.StoreFault.{StoreFault}
-use Rattle.kernel_commit_facts.specs.store_snapshots.declared.faults.StoreFault.TheVariants.{NoBlocks, ReadFault, Shut, WriteFault}
-use Rattle.kernel_commit_facts.specs.kernel_records.Committing.{CellFaults, CommitCounts, IsTooFew}
+use Rattle.kernel_commit_facts.specs.store_snapshots.declared.faults.StoreFault.TheVariants as fault
+use Rattle.kernel_commit_facts.specs.kernel_records.Committing.{CellFaults, CommitCounts, IsCellShort}
 use Rattle.kernel_commit_facts.specs.kernel_invariant.Beginnings.{Beginning}
-use Rattle.kernel_commit_facts.specs.kernel_invariant.Live.{TooFew as TooFewStop}
 use Rattle.kernel_commit_facts.specs.kernel_book_laws.Matching.{version_of}
 use Rattle.kernel_commit_facts.specs.Parts.{LivesAs, Noted, Parts, parts_of}
 use Rattle.kernel_commit_facts.specs.Recording.{CanRecord, CommitsAmong, HasMade, HasNotMade, HasRecorded, HasTried, IsShort, MayRecord, with_fault}
 use Rattle.kernel_commits.specs.Recording.{Fails, GoesOnBy, IsOfCommit, why_of}
-use Rattle.kernel_commits.specs.declared.stopping.Stopped.{Stopped}
-use Rattle.kernel_commits.specs.declared.stopping.Stopped.TheVariants as reason
+use Rattle.kernel_commit_facts.specs.kernel_invariant.declared.stopping.Stopped.{Stopped}
+use Rattle.kernel_commit_facts.specs.kernel_invariant.declared.stopping.Stopped.TheVariants as reason
 use Rattle.kernel_commit_facts.proofs.Committing.{not_recorded, recorded}
 use Rattle.kernel_commit_facts.proofs.Running.{snap_stands, still_lives}
 use Rattle.kernel_commit_facts.proofs.Trying.{tried_stops}
@@ -105,23 +104,23 @@ module _ {D : Type 0} (disks : Ghosts D)
     unrecorded : is_recorded c ≡ false
     unrecorded = not_recorded disks x cs0 st0 can0 c at_c0
 
-    pub short_from : (n : Shortage) → r ≡ Err (NoBlocks n) → IsShort disks x old n
+    pub short_from : (n : NoBlocks) → r ≡ Err (fault.NoBlocks n) → IsShort disks x old n
     short_from n is = subst (λ (p : Parts D). IsShort disks x p n) view (record { cell = c; at = at_c0; short = ((fault_is.no_blocks n).0 is).1 })
 
-    pub short_to : (n : Shortage) → IsShort disks x old n → r ≡ Err (NoBlocks n)
+    pub short_to : (n : NoBlocks) → IsShort disks x old n → r ≡ Err (fault.NoBlocks n)
     short_to n short =
         let s : IsShort disks x inside n = subst (λ (p : Parts D). IsShort disks x p n) (sym view) short in
         let same : s.cell ≡ c = same_Some s.cell c (sym s.at ∙ at_c0) in
-        (fault_is.no_blocks n).1 (unrecorded, subst (λ k. IsTooFew k (books st0) n) same s.short)
+        (fault_is.no_blocks n).1 (unrecorded, subst (λ k. IsCellShort k (books st0) n) same s.short)
 
-    pub still : (n : Shortage) → r ≡ Err (NoBlocks n) → parts_of st' cs' n0 ≡ old
+    pub still : (n : NoBlocks) → r ≡ Err (fault.NoBlocks n) → parts_of st' cs' n0 ≡ old
     still n is =
         let both = fault_is.untouched (inr (n, is)) in
         ap (λ st. parts_of st cs' n0) both.1 ∙ (ap (λ cs. parts_of st0 cs n0) (lent_same cs1 cs' c d q.lends both.0 ∙ deref) ∙ view)
 
   -- where a record was made it isn't short of blocks
   pub ok_short : (r : Result Bool StoreFault) → ((c d : Cell) → slice_get cs1 x ≡ Some c → slice_get cs' x ≡ Some d → CellFaults disks.faults (is_recorded c ≡ false) r c d st0 st')
-      → (b : Bool) → r ≡ Ok b → HasMade disks x cs1 cs' st0 st' → (n : Shortage) → (made_result ≡ Err (reason.NoBlocks n)) ↔ IsShort disks x old n
+      → (b : Bool) → r ≡ Ok b → HasMade disks x cs1 cs' st0 st' → (n : NoBlocks) → (made_result ≡ Err (reason.NoBlocks n)) ↔ IsShort disks x old n
   ok_short r faults_at b is made n = (λ same. absurd (cc same), λ short. absurd (let h = short_to r faults_at made.before made.after made.commits n short in cc (is, h)))
 
   -- IT FAILED
@@ -143,42 +142,42 @@ module _ {D : Type 0} (disks : Ghosts D)
         (failed : HasNotMade disks x cs1 cs' st0 st') where
       -- the store works, so that it is want of blocks or a write that failed
       pub of_commit : (f : StoreFault) → r ≡ Err f → IsOfCommit f
-      of_commit (NoBlocks n) is = tt
-      of_commit WriteFault is = tt
-      of_commit ReadFault is = absurd ((fault_is r faults_at failed.before failed.after failed.commits).no_read is)
-      of_commit Shut is =
+      of_commit (fault.NoBlocks n) is = tt
+      of_commit fault.WriteFault is = tt
+      of_commit fault.ReadFault is = absurd ((fault_is r faults_at failed.before failed.after failed.commits).no_read is)
+      of_commit fault.Shut is =
           let shut = ((fault_is r faults_at failed.before failed.after failed.commits).shut.0 is).1 in
           absurd (let works = can0.working in cc (shut, works))
 
       err_tried : (f : StoreFault) → r ≡ Err f → (n1 : Noted) → n1 ≡ with_fault f e n0 → stop_result (why_of f) ≡ Err reason.WriteFault → HasTried disks x old (parts_of st' cs' n1)
-      err_tried (NoBlocks n) is n1 pushed failed_is = absurd (cc failed_is)
-      err_tried WriteFault is n1 pushed failed_is = tried_by n1 pushed failed ((fault_is r faults_at failed.before failed.after failed.commits).write_fault is).1
-      err_tried ReadFault is n1 pushed failed_is = absurd (of_commit ReadFault is)
-      err_tried Shut is n1 pushed failed_is = absurd (of_commit Shut is)
+      err_tried (fault.NoBlocks n) is n1 pushed failed_is = absurd (cc failed_is)
+      err_tried fault.WriteFault is n1 pushed failed_is = tried_by n1 pushed failed ((fault_is r faults_at failed.before failed.after failed.commits).write_fault is).1
+      err_tried fault.ReadFault is n1 pushed failed_is = absurd (of_commit fault.ReadFault is)
+      err_tried fault.Shut is n1 pushed failed_is = absurd (of_commit fault.Shut is)
 
-      pub err_short : (f : StoreFault) → r ≡ Err f → (n : Shortage) → (stop_result (why_of f) ≡ Err (reason.NoBlocks n)) ↔ IsShort disks x old n
+      pub err_short : (f : StoreFault) → r ≡ Err f → (n : NoBlocks) → (stop_result (why_of f) ≡ Err (reason.NoBlocks n)) ↔ IsShort disks x old n
       err_short f is n = (to f is, λ short. back f (sym is ∙ short_to r faults_at failed.before failed.after failed.commits n short))
         where
           to : (f : StoreFault) → r ≡ Err f → stop_result (why_of f) ≡ Err (reason.NoBlocks n) → IsShort disks x old n
-          to (NoBlocks k) is same = short_from r faults_at failed.before failed.after failed.commits n (is ∙ (let e : k ≡ n = cc same in ap (λ z. Err (NoBlocks z)) e))
-          to WriteFault is same = absurd (cc same)
-          to ReadFault is same = absurd (of_commit ReadFault is)
-          to Shut is same = absurd (of_commit Shut is)
+          to (fault.NoBlocks k) is same = short_from r faults_at failed.before failed.after failed.commits n (is ∙ (let e : k ≡ n = cc same in ap (λ z. Err (fault.NoBlocks z)) e))
+          to fault.WriteFault is same = absurd (cc same)
+          to fault.ReadFault is same = absurd (of_commit fault.ReadFault is)
+          to fault.Shut is same = absurd (of_commit fault.Shut is)
 
-          back : (f : StoreFault) → fault_result f ≡ Err (NoBlocks n) → stop_result (why_of f) ≡ Err (reason.NoBlocks n)
-          back f same = ap (λ z. Err (why_of z)) (let e : f ≡ NoBlocks n = cc same in e)
+          back : (f : StoreFault) → fault_result f ≡ Err (fault.NoBlocks n) → stop_result (why_of f) ≡ Err (reason.NoBlocks n)
+          back f same = ap (λ z. Err (why_of z)) (let e : f ≡ fault.NoBlocks n = cc same in e)
 
-      err_still : (f : StoreFault) → r ≡ Err f → (n1 : Noted) → n1 ≡ with_fault f e n0 → (n : Shortage) → stop_result (why_of f) ≡ Err (reason.NoBlocks n) → parts_of st' cs' n1 ≡ old
-      err_still (NoBlocks k) is n1 pushed n same = ap (λ z. parts_of st' cs' z) pushed ∙ still r faults_at failed.before failed.after failed.commits k is
-      err_still WriteFault is n1 pushed n same = absurd (cc same)
-      err_still ReadFault is n1 pushed n same = absurd (of_commit ReadFault is)
-      err_still Shut is n1 pushed n same = absurd (of_commit Shut is)
+      err_still : (f : StoreFault) → r ≡ Err f → (n1 : Noted) → n1 ≡ with_fault f e n0 → (n : NoBlocks) → stop_result (why_of f) ≡ Err (reason.NoBlocks n) → parts_of st' cs' n1 ≡ old
+      err_still (fault.NoBlocks k) is n1 pushed n same = ap (λ z. parts_of st' cs' z) pushed ∙ still r faults_at failed.before failed.after failed.commits k is
+      err_still fault.WriteFault is n1 pushed n same = absurd (cc same)
+      err_still fault.ReadFault is n1 pushed n same = absurd (of_commit fault.ReadFault is)
+      err_still fault.Shut is n1 pushed n same = absurd (of_commit fault.Shut is)
 
       no_reading : (f : StoreFault) → r ≡ Err f → stop_result (why_of f) ≡ Err reason.ReadFault → ⊥
-      no_reading (NoBlocks k) is same = cc same
-      no_reading WriteFault is same = cc same
-      no_reading ReadFault is same = of_commit ReadFault is
-      no_reading Shut is same = of_commit Shut is
+      no_reading (fault.NoBlocks k) is same = cc same
+      no_reading fault.WriteFault is same = cc same
+      no_reading fault.ReadFault is same = of_commit fault.ReadFault is
+      no_reading fault.Shut is same = of_commit fault.Shut is
 
       pub err_fails : (f : StoreFault) → r ≡ Err f → (n1 : Noted) → n1 ≡ with_fault f e n0 → (why : Stopped) → why ≡ why_of f → Fails disks x (stop_result why) old (parts_of st' cs' n1)
       err_fails f is n1 pushed why why_is = subst (λ w. Fails disks x (stop_result w) old (parts_of st' cs' n1)) (sym why_is) (record {
@@ -194,11 +193,11 @@ module _ {D : Type 0} (disks : Ghosts D)
 
         pub err_run : (f : StoreFault) → r ≡ Err f → (n1 : Noted) → n1 ≡ with_fault f e n0 → disks.tells → (b : Beginning) → MayRecord disks b x old
             → GoesOnBy disks b (Err (why_of f)) (parts_of st' cs' n1)
-        err_run (NoBlocks k) is n1 pushed told b may = record {
+        err_run (fault.NoBlocks k) is n1 pushed told b may = record {
           stands = tt;
-          lives = subst (λ p. LivesAs disks b p (Some (TooFewStop k.need k.free))) (sym (ap (λ z. parts_of st' cs' z) pushed ∙ still r faults_at failed.before failed.after failed.commits k is))
-              (still_lives disks counts_later only_now b old (TooFewStop k.need k.free) may.stands);
+          lives = subst (λ p. LivesAs disks b p (Some (reason.NoBlocks k))) (sym (ap (λ z. parts_of st' cs' z) pushed ∙ still r faults_at failed.before failed.after failed.commits k is))
+              (still_lives disks counts_later only_now b old (reason.NoBlocks k) may.stands);
         }
-        err_run WriteFault is n1 pushed told b may = record { stands = tt; lives = tried_stops disks counts_later only_now b x old (parts_of st' cs' n1) told may can (err_tried WriteFault is n1 pushed refl) counts0 }
-        err_run ReadFault is n1 pushed told b may = absurd (of_commit ReadFault is)
-        err_run Shut is n1 pushed told b may = absurd (of_commit Shut is)
+        err_run fault.WriteFault is n1 pushed told b may = record { stands = tt; lives = tried_stops disks counts_later only_now b x old (parts_of st' cs' n1) told may can (err_tried fault.WriteFault is n1 pushed refl) counts0 }
+        err_run fault.ReadFault is n1 pushed told b may = absurd (of_commit fault.ReadFault is)
+        err_run fault.Shut is n1 pushed told b may = absurd (of_commit fault.Shut is)

@@ -15,8 +15,8 @@ use Rattle.kernel_commit_facts.specs.Pieces.{StopsIn}
 use Rattle.kernel_commit_facts.specs.Recording.{HasTried}
 use Rattle.kernel_commit_facts.specs.Through.{IsUnderway}
 use Rattle.kernel_commits.specs.Recording.{Fails}
-use Rattle.kernel_commits.specs.declared.stopping.Stopped.{Stopped}
-use Rattle.kernel_commits.specs.declared.stopping.Stopped.TheVariants as reason
+use Rattle.kernel_commit_facts.specs.kernel_invariant.declared.stopping.Stopped.{Stopped}
+use Rattle.kernel_commit_facts.specs.kernel_invariant.declared.stopping.Stopped.TheVariants as reason
 use Rattle.kernel_commit_facts.proofs.Stabling.{behind_snaps}
 
 -- nothing came

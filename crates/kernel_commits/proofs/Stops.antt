@@ -2,7 +2,7 @@
 use Rattle.std.proofs.Common.{◌≡◌, ℕ, ◌<◌, ◌≤◌, List, length, Err, sym, ap, subst, ◌∙◌, arith, length-append}
 use Rattle.std.specs.Prelude.{Result}
 use Rattle.edge_disk.specs.declared.disk.Disk.{Ghosts}
-use Rattle.edge_disk.specs.declared.disk.NoBlocks.{NoBlocks as Shortage}
+use Rattle.edge_disk.specs.declared.disk.NoBlocks.{NoBlocks}
 use Rattle.base_types.specs.declared.histories.Entry.{Entry}
 use Rattle.kernel_commit_facts.specs.table_laws.Tables.{IsOrderly}
 use Rattle.kernel_commit_facts.specs.store_facts.State.{books}
@@ -12,8 +12,8 @@ use Rattle.kernel_commit_facts.specs.Parts.{Parts}
 use Rattle.kernel_commit_facts.specs.Recording.{HasTried, IsShort}
 use Rattle.kernel_commits.specs.Recording.{Fails}
 use Rattle.kernel_commits.specs.Stops.{LeavesStopped}
-use Rattle.kernel_commits.specs.declared.stopping.Stopped.{Stopped}
-use Rattle.kernel_commits.specs.declared.stopping.Stopped.TheVariants as reason
+use Rattle.kernel_commit_facts.specs.kernel_invariant.declared.stopping.Stopped.{Stopped}
+use Rattle.kernel_commit_facts.specs.kernel_invariant.declared.stopping.Stopped.TheVariants as reason
 use Rattle.edge_disk.proofs.Ticks.{Rose-before}
 
 module _ {D : Type 0} (disks : Ghosts D) (x : ℕ) (mid new : Parts D)
@@ -23,16 +23,16 @@ module _ {D : Type 0} (disks : Ghosts D) (x : ℕ) (mid new : Parts D)
       order disks mid.cells new.cells t.failed.before t.failed.after mid.store new.store ord t.failed.commits.lends
       (subst IsFoundedCell (sym t.failed.failed.only_part) (ord.founded t.failed.before.clock.entity t.failed.before t.failed.commits.lends.stood.0)) t.failed.failed.leaves
 
-  fewer : (n : Shortage) → IsShort disks x mid n → n.free < n.need
+  fewer : (n : NoBlocks) → IsShort disks x mid n → n.free < n.need
   fewer n short =
-      let free = ap (λ (q : Shortage). q.free) short.short.numbers in
-      let need = ap (λ (q : Shortage). q.need) short.short.numbers in
+      let free = ap (λ (q : NoBlocks). q.free) short.short.numbers in
+      let need = ap (λ (q : NoBlocks). q.need) short.short.numbers in
       let lt = short.short.fewer in
       omega (arith, free, need, lt)
 
   -- a record that fails behind others
   module _ (old : Parts D) (marks : length mid.noted.marks ≤ length mid.noted.entries) (before : disks.faults old.store.disk ≤ disks.faults mid.store.disk) (later : disks.faults mid.store.disk ≤ disks.faults new.store.disk)
-      {T : Type 0} (r : Result T Stopped) (fails : Fails disks x r mid new) (short : (n : Shortage) → r ≡ Err (reason.NoBlocks n) → IsShort disks x mid n) where
+      {T : Type 0} (r : Result T Stopped) (fails : Fails disks x r mid new) (short : (n : NoBlocks) → r ≡ Err (reason.NoBlocks n) → IsShort disks x mid n) where
     pub stop_left : (why : Stopped) → r ≡ Err why → LeavesStopped disks.faults old new why
     stop_left (reason.NoBlocks n) is = record {
       orderly = subst (λ (p : Parts D). IsOrderly (books p.store).held p.cells) (sym (fails.untouched n is)) ord;

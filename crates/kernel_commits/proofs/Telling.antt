@@ -5,7 +5,7 @@ use Rattle.std.proofs.lemmas.List.Elements.{All-append, All-cons, All-nil}
 use Rattle.std.specs.Prelude.{IfErr, IsErrOf, OnErr, OnOk, Result, ⊤}
 use Rattle.std.specs.Result.{result_err}
 use Rattle.edge_disk.specs.declared.disk.Disk.{Ghosts}
-use Rattle.edge_disk.specs.declared.disk.NoBlocks.{NoBlocks as Shortage}
+use Rattle.edge_disk.specs.declared.disk.NoBlocks.{NoBlocks}
 use Rattle.base_types.specs.declared.histories.Entry.{Entry}
 use Rattle.base_types.specs.declared.histories.Event.TheVariants.{Tried}
 use Rattle.kernel_commit_facts.specs.Parts.{Parts}
@@ -13,8 +13,8 @@ use Rattle.kernel_commits.specs.Recording.{Fails}
 use Rattle.kernel_commits.specs.Telling.{AddsNoTried, CommitsNote, FailsByWrite, Tells, TriesByAnswer, told_again, told_by}
 use Rattle.kernel_commits.specs.declared.stopping.Stop.{Stop}
 use Rattle.kernel_commits.specs.declared.stopping.Stop.TheVariants as stop
-use Rattle.kernel_commits.specs.declared.stopping.Stopped.{Stopped}
-use Rattle.kernel_commits.specs.declared.stopping.Stopped.TheVariants as reason
+use Rattle.kernel_commit_facts.specs.kernel_invariant.declared.stopping.Stopped.{Stopped}
+use Rattle.kernel_commit_facts.specs.kernel_invariant.declared.stopping.Stopped.TheVariants as reason
 
 abbrev IsNoTried : Entry → Type 0
 IsNoTried e = e.event ≢ Tried
@@ -49,7 +49,7 @@ notes_again T U reason.ReadFault old mid new first more = more
 notes_again T U reason.WriteFault old mid new first more = tt
 
 -- where want of blocks changes nothing, and nothing is read
-pub stops_noting : (why : Stopped) (old new : List Entry) → ((n : Shortage) → IsErrOf {T = ⊤} (Err why) (reason.NoBlocks n) → new ≡ old) → (IsErrOf {T = ⊤} (Err why) reason.ReadFault → ⊥)
+pub stops_noting : (why : Stopped) (old new : List Entry) → ((n : NoBlocks) → IsErrOf {T = ⊤} (Err why) (reason.NoBlocks n) → new ≡ old) → (IsErrOf {T = ⊤} (Err why) reason.ReadFault → ⊥)
     → CommitsNote {T = ⊤} (Err why) old new
 stops_noting (reason.NoBlocks n) old new same no_read = adds_none old new (same n refl)
 stops_noting reason.ReadFault old new same no_read = no_read refl
@@ -72,7 +72,7 @@ tries_by (Err reason.ReadFault) old new notes = absurd notes
 tries_by (Err reason.WriteFault) old new notes = tt
 
 -- where it came to want of blocks, with the same numbers
-pub told_no_blocks : {T : Type 0} (r : Result T Stopped) (n : Shortage) → (IsErrOf r (reason.NoBlocks n)) ↔ (IsErrOf (told_by r) (stop.NoBlocks n))
+pub told_no_blocks : {T : Type 0} (r : Result T Stopped) (n : NoBlocks) → (IsErrOf r (reason.NoBlocks n)) ↔ (IsErrOf (told_by r) (stop.NoBlocks n))
 told_no_blocks (Ok y) n = ((λ is. absurd (cc is)), (λ is. absurd (cc is)))
 told_no_blocks (Err (reason.NoBlocks m)) n = ((λ is. let e : m ≡ n = cc is in ap (λ k. Err (stop.NoBlocks k)) e), (λ is. let e : m ≡ n = cc is in ap (λ k. Err (reason.NoBlocks k)) e))
 told_no_blocks (Err reason.ReadFault) n = ((λ is. absurd (cc is)), (λ is. absurd (cc is)))

@@ -27,17 +27,16 @@ use Rattle.kernel_commit_facts.proofs.kernel_views_lemmas.Fullness.{full_same}
 use Rattle.kernel_commit_facts.proofs.kernel_views_lemmas.Legal.{run_next}
 use Rattle.kernel_commit_facts.specs.kernel_book_laws.Matching.{version_at}
 use Rattle.kernel_commit_facts.specs.Parts.{LivesAs, Parts, StandsAs}
-use Rattle.kernel_commits.specs.Parts.{stop_of}
 use Rattle.kernel_commit_facts.specs.Pieces.{StopsIn}
 use Rattle.kernel_commit_facts.specs.Recording.{HasRecorded, MayRecord}
 use Rattle.kernel_commit_facts.specs.Snapping.{RunsFree, Snaps}
 use Rattle.kernel_commits.specs.Snapping.{SnapsOne}
 use Rattle.kernel_commits.specs.Recording.{Fails}
-use Rattle.kernel_commits.specs.declared.stopping.Stopped.{Stopped}
+use Rattle.kernel_commit_facts.specs.kernel_invariant.declared.stopping.Stopped.{Stopped}
 use Rattle.kernel_commit_facts.specs.Lacking.{LacksBlocks, LacksIn}
 use Rattle.kernel_commit_facts.proofs.Dues.{lacks_first}
 use Rattle.kernel_commits.proofs.Parting.{none_came}
-use Rattle.kernel_commits.specs.declared.stopping.Stopped.TheVariants as reason
+use Rattle.kernel_commit_facts.specs.kernel_invariant.declared.stopping.Stopped.TheVariants as reason
 
 not_first : (a b : Bool) → a ≡ false → (a && b) ≡ false
 not_first true b is = absurd (cc is)
@@ -157,6 +156,6 @@ module _ {D : Type 0} (disks : Ghosts D)
   pub one_lacks : test ≡ true → (new : Parts D) → new ≡ old → LacksBlocks b old → LacksIn b (wished_snap policy r x) old.noted.entries new
   one_lacks is new same lacks = lacks_first b (mark Snap x (version_of r x)) [] (wished_snap policy r x) old new (sym (ap snap_by is)) tt same lacks
 
-  pub one_failed : (new : Parts D) → {T : Type 0} → (res : Result T Stopped) → (why : Stopped) → res ≡ Err why → LivesAs disks b new (Some (stop_of why))
+  pub one_failed : (new : Parts D) → {T : Type 0} → (res : Result T Stopped) → (why : Stopped) → res ≡ Err why → LivesAs disks b new (Some why)
       → SnapsOne disks b policy x res old new
   one_failed new res why err lives = subst (λ q. SnapsOne disks b policy x q old new) (sym err) (record { runs = tt; entries = tt; lives = lives })

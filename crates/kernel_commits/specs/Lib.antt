@@ -1,4 +1,3 @@
-pub mod Parts
 pub mod Recording
 pub mod Snapping
 pub mod Stabilising

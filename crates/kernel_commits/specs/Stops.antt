@@ -4,8 +4,8 @@ use Rattle.edge_disk.specs.Counts.{Rose}
 use Rattle.kernel_commit_facts.specs.table_laws.Tables.{IsOrderly}
 use Rattle.kernel_commit_facts.specs.store_facts.State.{books}
 use Rattle.kernel_commit_facts.specs.Parts.{Parts}
-use Rattle.kernel_commits.specs.declared.stopping.Stopped.{Stopped}
-use Rattle.kernel_commits.specs.declared.stopping.Stopped.TheVariants as reason
+use Rattle.kernel_commit_facts.specs.kernel_invariant.declared.stopping.Stopped.{Stopped}
+use Rattle.kernel_commit_facts.specs.kernel_invariant.declared.stopping.Stopped.TheVariants as reason
 
 -- the cause: fewer blocks were free than were needed, or the disk's count of faults rose, at a read or at a write
 abbrev pub IsCause : {D : Type 0} → (D → ℕ) → Parts D → Parts D → Stopped → Type 0

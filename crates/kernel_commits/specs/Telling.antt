@@ -4,8 +4,8 @@ use Rattle.base_types.specs.declared.histories.Entry.{Entry}
 use Rattle.base_types.specs.declared.histories.Event.TheVariants.{Tried}
 use Rattle.kernel_commits.specs.declared.stopping.Stop.{Stop}
 use Rattle.kernel_commits.specs.declared.stopping.Stop.TheVariants as stop
-use Rattle.kernel_commits.specs.declared.stopping.Stopped.{Stopped}
-use Rattle.kernel_commits.specs.declared.stopping.Stopped.TheVariants as reason
+use Rattle.kernel_commit_facts.specs.kernel_invariant.declared.stopping.Stopped.{Stopped}
+use Rattle.kernel_commit_facts.specs.kernel_invariant.declared.stopping.Stopped.TheVariants as reason
 
 -- what the call that stopped the kernel answers
 abbrev pub told : Stopped → Stop

@@ -11,7 +11,8 @@ mod stopping;
 
 pub use cores::Core;
 pub use kernel_commit_facts::{Idle, OpenFault, OpenWhy, Store};
+pub use kernel_invariant::Stopped;
 pub use notes::Notes;
 pub use snapping::{snap_one, snap_written};
 pub use stabilising::settle;
-pub use stopping::{Stop, Stopped, told_of};
+pub use stopping::{Stop, told_of};

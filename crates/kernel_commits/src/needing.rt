@@ -1,8 +1,7 @@
 // Whether enough blocks are free for the records of all changed cells.
 ghost use Rattle.std.specs.Prelude.{◌≡◌, ◌↔◌, None, Some};
 ghost use Rattle.kernel_commit_facts.specs.table_laws.Tables.{IsOrderly};
-ghost use Rattle.edge_disk.specs.declared.disk.NoBlocks.{NoBlocks as Shortage};
-ghost use Rattle.kernel_commit_facts.specs.Stabilising.{AreTooFew, NeedsFit, needs_in};
+ghost use Rattle.kernel_commit_facts.specs.Stabilising.{AreShort, NeedsFit, needs_in};
 ghost use Rattle.kernel_commit_facts.specs.store_facts.State.{books};
 ghost use Rattle.kernel_commit_facts.specs.store_books.Books.{kept_names};
 
@@ -28,7 +27,7 @@ pub(crate) fn shortage<D: Disk>(core: &mut Core<D>) -> Option<NoBlocks>
     requires { IsOrderly (books core.old.store).held core.old.cells }
     ensures same { core.new ≡ core.old }
     ensures none { result ≡ None → NeedsFit core.old }
-    ensures some { (n : Shortage) → (result ≡ Some n) ↔ AreTooFew core.old n }
+    ensures some { (n : NoBlocks) → (result ≡ Some n) ↔ AreShort core.old n }
 {
     let need = all_needs(&core.cells, &core.store, &mut core.blob);
     let free = core.store.free();

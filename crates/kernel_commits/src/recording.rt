@@ -1,6 +1,5 @@
 // One record of a cell of the kernel.
 ghost use Rattle.std.specs.Prelude.{◌≡◌, ◌↔◌, ◌<◌, false, Some, IsErrOf, OnErr, OnOk, length, slice_get};
-ghost use Rattle.edge_disk.specs.declared.disk.NoBlocks.{NoBlocks as Shortage};
 ghost use Rattle.kernel_commit_facts.specs.kernel_book_laws.Matching.{version_of};
 ghost use Rattle.base_types.specs.declared.histories.Event.TheVariants as AnEvent;
 ghost use Rattle.kernel_commit_facts.specs.model_kernel.Histories.{mark};
@@ -9,17 +8,16 @@ ghost use Rattle.kernel_commit_facts.specs.cell_states.declared.cells.Cell.{Cell
 ghost use Rattle.kernel_commit_facts.specs.Lacking.{LacksBlocks};
 ghost use Rattle.kernel_commit_facts.specs.Recording.{CanRecord, HasMade, HasNotMade, HasRecorded, IsShort, MayRecord, with_fault};
 ghost use Rattle.kernel_commits.specs.Recording.{Fails, GoesOnBy, IsOfCommit, why_of};
-ghost use Rattle.kernel_commits.specs.declared.stopping.Stopped.{Stopped as AStop};
 ghost use Rattle.kernel_commit_facts.specs.kernel_invariant.Beginnings.{Beginning, run_of};
 ghost use Rattle.kernel_commit_facts.specs.kernel_records.Committing.{CellFaults, CommitCounts};
 
 use crate::cores::Core;
 use crate::notes::Notes;
-use crate::stopping::Stopped;
 use base_bytes::Blob;
 use base_types::{Entity, Event};
-use edge_disk::Disk;
+use edge_disk::{Disk, NoBlocks};
 use kernel_commit_facts::{Cell, Store, StoreFault, commit_cell, mark_entry};
+use kernel_invariant::Stopped;
 
 /// Commits a record of one of the cells, which has changed since its newest one.
 fn commit_among<D: Disk>(
@@ -69,12 +67,12 @@ pub(crate) fn record_one<D: Disk>(core: &mut Core<D>, entity: Entity) -> Result<
     requires entry_room { length core.old.noted.entries < core.old.noted.room }
     requires mark_room { length core.old.noted.marks < core.old.noted.room }
     ensures recorded { OnOk result (HasRecorded D.Disk entity core.old core.new) }
-    ensures no_blocks { (n : Shortage) → IsErrOf result (AStop.NoBlocks n) ↔ IsShort D.Disk entity core.old n }
+    ensures no_blocks { (n : NoBlocks) → IsErrOf result (Stopped.NoBlocks n) ↔ IsShort D.Disk entity core.old n }
     ensures fails { Fails D.Disk entity result core.old core.new }
     ensures run { D.tells → (b : Beginning) → MayRecord D.Disk b entity core.old
         → GoesOnBy D.Disk b result core.new }
     ensures enough { D.tells → (b : Beginning) → MayRecord D.Disk b entity core.old
-        → (run_of b core.old.noted.entries).short ≡ false → (n : Shortage) → IsErrOf result (AStop.NoBlocks n) → LacksBlocks b core.old }
+        → (run_of b core.old.noted.entries).short ≡ false → (n : NoBlocks) → IsErrOf result (Stopped.NoBlocks n) → LacksBlocks b core.old }
     ensures counts { CommitCounts D.Disk core.old.store core.new.store }
 {
     let version = version_among(&core.cells, entity);

@@ -8,7 +8,6 @@ ghost use Rattle.kernel_commit_facts.specs.cell_states.Wishes.{HasWish, is_open}
 ghost use Rattle.kernel_commit_facts.specs.cell_states.declared.cells.Cell.{Cell as ACell};
 ghost use Rattle.kernel_commit_facts.specs.kernel_invariant.Beginnings.{run_of};
 ghost use Rattle.kernel_commit_facts.specs.cell_wish_laws.Founded.{IsFoundedCell};
-ghost use Rattle.edge_disk.specs.declared.disk.NoBlocks.{NoBlocks as Shortage};
 ghost use Rattle.kernel_commit_facts.specs.Lacking.{LacksIn};
 ghost use Rattle.kernel_commit_facts.specs.Recording.{HasRecorded, IsShort};
 ghost use Rattle.kernel_commit_facts.specs.Snapping.{CanSnap, RunsFree, Snaps, wants_in};
@@ -17,7 +16,6 @@ ghost use Rattle.kernel_commit_facts.specs.Steady.{IsSteady};
 ghost use Rattle.kernel_commits.specs.Recording.{Fails};
 ghost use Rattle.kernel_commits.specs.Stops.{LeavesStopped};
 ghost use Rattle.kernel_commits.specs.Telling.{CommitsNote};
-ghost use Rattle.kernel_commits.specs.declared.stopping.Stopped.{Stopped as AStop};
 ghost use Rattle.kernel_commit_facts.specs.kernel_invariant.Beginnings.{Beginning};
 ghost use Rattle.kernel_commit_facts.specs.kernel_records.Committing.{CommitCounts};
 ghost use Rattle.kernel_commit_facts.specs.model_serial.Serial.{wished_snap, wished_snaps, written_in};
@@ -27,11 +25,11 @@ ghost use Rattle.kernel_commit_facts.specs.Pieces.{CountsWithin, StopsIn};
 
 use crate::cores::Core;
 use crate::recording::record_one;
-use crate::stopping::Stopped;
 use base_types::{Entity, Entry, Touch};
-use edge_disk::Disk;
+use edge_disk::{Disk, NoBlocks};
 use edge_managers::{Gate, Policy, Supplier};
 use kernel_commit_facts::{Cell, FULL};
+use kernel_invariant::Stopped;
 
 /// Whether a record of one of the cells is wished.
 fn wishes_among<S: Supplier, P: Policy>(cells: &[Cell], entity: Entity, gate: &Gate<S, P>) -> bool
@@ -79,7 +77,7 @@ pub fn snap_one<D: Disk, S: Supplier, P: Policy>(
     ensures made { Snaps (P.wish gate.now.policy) entity core.old true
         → OnOk result ((result ≡ Ok true) × HasRecorded D.Disk entity core.old core.new) }
     ensures none { Snaps (P.wish gate.now.policy) entity core.old false → (result ≡ Ok false) × (core.new ≡ core.old) }
-    ensures no_blocks { (n : Shortage) → IsErrOf result (AStop.NoBlocks n) ↔ (Snaps (P.wish gate.now.policy) entity core.old true × IsShort D.Disk entity core.old n) }
+    ensures no_blocks { (n : NoBlocks) → IsErrOf result (Stopped.NoBlocks n) ↔ (Snaps (P.wish gate.now.policy) entity core.old true × IsShort D.Disk entity core.old n) }
     ensures fails { Fails D.Disk entity result core.old core.new }
     ensures notes { CommitsNote result core.old.noted.entries core.new.noted.entries }
     ensures run { D.tells → (b : Beginning) → RunsFree D.Disk b (P.wish gate.now.policy) core.old
@@ -89,7 +87,7 @@ pub fn snap_one<D: Disk, S: Supplier, P: Policy>(
     ensures clean { D.tells → (s : Supply) → AreClean s (words_on (D.reading core.old.store.disk)) core.old.cells
         → OnOk result (AreClean s (words_on (D.reading core.new.store.disk)) core.new.cells) }
     ensures enough { D.tells → (b : Beginning) → RunsFree D.Disk b (P.wish gate.now.policy) core.old
-        → (n : Shortage) → IsErrOf result (AStop.NoBlocks n) → LacksIn b (wished_snap (P.wish gate.now.policy) (run_of b core.old.noted.entries) entity) core.old.noted.entries core.new }
+        → (n : NoBlocks) → IsErrOf result (Stopped.NoBlocks n) → LacksIn b (wished_snap (P.wish gate.now.policy) (run_of b core.old.noted.entries) entity) core.old.noted.entries core.new }
     ensures counts { CommitCounts D.Disk core.old.store core.new.store }
 {
     if !wants_snap(core, entity, gate) {
@@ -116,7 +114,7 @@ fn snap_touched<D: Disk, S: Supplier, P: Policy>(
     ensures part { D.tells → (b : Beginning) → RunsFree D.Disk b (P.wish gate.now.policy) core.old
         → OnErr result (StopsIn b (wished_snaps b.supply (P.wish gate.now.policy) b.script (run_of b core.old.noted.entries) (written_in touches.now)) core.old.noted.entries core.new.noted.entries) }
     ensures enough { D.tells → (b : Beginning) → RunsFree D.Disk b (P.wish gate.now.policy) core.old
-        → (n : Shortage) → IsErrOf result (AStop.NoBlocks n)
+        → (n : NoBlocks) → IsErrOf result (Stopped.NoBlocks n)
         → LacksIn b (wished_snaps b.supply (P.wish gate.now.policy) b.script (run_of b core.old.noted.entries) (written_in touches.now)) core.old.noted.entries core.new }
     ensures stopped { IfErr result (LeavesStopped D.faults core.old core.new) }
     ensures notes { CommitsNote result core.old.noted.entries core.new.noted.entries }
@@ -150,7 +148,7 @@ pub fn snap_written<D: Disk, S: Supplier, P: Policy>(
     ensures part { D.tells → (b : Beginning) → RunsFree D.Disk b (P.wish gate.now.policy) core.old
         → OnErr result (StopsIn b (wished_snaps b.supply (P.wish gate.now.policy) b.script (run_of b core.old.noted.entries) (written_in entry.now.touched)) core.old.noted.entries core.new.noted.entries) }
     ensures enough { D.tells → (b : Beginning) → RunsFree D.Disk b (P.wish gate.now.policy) core.old
-        → (n : Shortage) → IsErrOf result (AStop.NoBlocks n)
+        → (n : NoBlocks) → IsErrOf result (Stopped.NoBlocks n)
         → LacksIn b (wished_snaps b.supply (P.wish gate.now.policy) b.script (run_of b core.old.noted.entries) (written_in entry.now.touched)) core.old.noted.entries core.new }
     ensures stopped { IfErr result (LeavesStopped D.faults core.old core.new) }
     ensures notes { CommitsNote result core.old.noted.entries core.new.noted.entries }

@@ -3,19 +3,16 @@ ghost use Rattle.std.specs.Prelude.{◌≡◌, ◌↔◌, ◌==◌, ◌*◌, ◌
 ghost use Rattle.kernel_commit_facts.specs.kernel_book_laws.Matching.{newest_of, version_of};
 ghost use Rattle.kernel_commit_facts.specs.Lacking.{LacksIn};
 ghost use Rattle.kernel_commit_facts.specs.Parts.{LivesAs};
-ghost use Rattle.kernel_commits.specs.Parts.{stop_of};
 ghost use Rattle.base_types.specs.declared.histories.Event.TheVariants as AnEvent;
 ghost use Rattle.kernel_commit_facts.specs.model_kernel.Histories.{mark};
-ghost use Rattle.edge_disk.specs.declared.disk.NoBlocks.{NoBlocks as Shortage};
 ghost use Rattle.kernel_commit_facts.specs.Pieces.{CountsWithin, StopsIn};
-ghost use Rattle.kernel_commit_facts.specs.Stabilising.{AreTooFew, HasStabilised, NeedsFit, OwesStable};
+ghost use Rattle.kernel_commit_facts.specs.Stabilising.{AreShort, HasStabilised, NeedsFit, OwesStable};
 ghost use Rattle.kernel_commits.specs.Stabilising.{Stabilises};
 ghost use Rattle.kernel_commit_facts.specs.store_facts.State.{books};
 ghost use Rattle.kernel_commit_facts.specs.Steady.{IsSteady, entries_taken, steps_to_come};
 ghost use Rattle.kernel_commits.specs.Stops.{LeavesStopped};
 ghost use Rattle.kernel_commits.specs.Telling.{CommitsNote};
 ghost use Rattle.kernel_commit_facts.specs.Through.{GoesThrough, RunsThrough};
-ghost use Rattle.kernel_commits.specs.declared.stopping.Stopped.{Stopped as AStop};
 ghost use Rattle.kernel_commit_facts.specs.kernel_invariant.Beginnings.{Beginning};
 ghost use Rattle.kernel_commit_facts.specs.model_kernel.State.{Supply};
 ghost use Rattle.kernel_commit_facts.specs.table_laws.Tables.{AreClean};
@@ -24,10 +21,10 @@ ghost use Rattle.kernel_commit_facts.specs.kernel_record_facts.Cells.{words_on};
 use crate::cores::Core;
 use crate::needing::shortage;
 use crate::recording::record_one;
-use crate::stopping::Stopped;
 use base_types::{Entity, Event};
-use edge_disk::Disk;
+use edge_disk::{Disk, NoBlocks};
 use kernel_commit_facts::{Cell, is_recorded, mark_entry};
+use kernel_invariant::Stopped;
 
 /// Whether one of the cells hasn't changed since its newest record.
 fn recorded_among(cells: &[Cell], entity: Entity) -> bool
@@ -45,12 +42,12 @@ pub(crate) fn record_all<D: Disk>(core: &mut Core<D>) -> Result<(), Stopped>
     ensures run { D.tells → (b : Beginning) (actor : ℕ) → OwesStable D.Disk b actor core.old
         → OnOk result (RunsThrough D.Disk b actor 64 core.old core.new) }
     ensures lives { D.tells → (b : Beginning) (actor : ℕ) → OwesStable D.Disk b actor core.old
-        → IfErr result (λ why. LivesAs D.Disk b core.new (Some (stop_of why))) }
+        → IfErr result (λ why. LivesAs D.Disk b core.new (Some why)) }
     ensures part { D.tells → (b : Beginning) (actor : ℕ) → OwesStable D.Disk b actor core.old
         → OnErr result (StopsIn b (mark AnEvent.Stable actor 0 ∷ []) core.old.noted.entries core.new.noted.entries) }
     ensures stopped { IfErr result (LeavesStopped D.faults core.old core.new) }
     ensures counts { CountsWithin D.Disk (64 * 1556) core.old.store core.new.store }
-    ensures only_writes { IfErr result (λ why. why ≡ AStop.WriteFault) }
+    ensures only_writes { IfErr result (λ why. why ≡ Stopped.WriteFault) }
 {
     for x in 0..64 {
         let entity = Entity::of(x);
@@ -72,12 +69,12 @@ fn record_changed<D: Disk>(core: &mut Core<D>) -> Result<(), Stopped>
     ensures run { D.tells → (b : Beginning) (actor : ℕ) → OwesStable D.Disk b actor core.old
         → OnOk result (RunsThrough D.Disk b actor 64 core.old core.new) }
     ensures lives { D.tells → (b : Beginning) (actor : ℕ) → OwesStable D.Disk b actor core.old
-        → IfErr result (λ why. LivesAs D.Disk b core.new (Some (stop_of why))) }
+        → IfErr result (λ why. LivesAs D.Disk b core.new (Some why)) }
     ensures part { D.tells → (b : Beginning) (actor : ℕ) → OwesStable D.Disk b actor core.old
         → OnErr result (StopsIn b (mark AnEvent.Stable actor 0 ∷ []) core.old.noted.entries core.new.noted.entries) }
-    ensures no_blocks { (n : Shortage) → IsErrOf result (AStop.NoBlocks n) ↔ AreTooFew core.old n }
-    ensures untouched { (n : Shortage) → IsErrOf result (AStop.NoBlocks n) → core.new ≡ core.old }
-    ensures no_read { IsErrOf result AStop.ReadFault → ⊥ }
+    ensures no_blocks { (n : NoBlocks) → IsErrOf result (Stopped.NoBlocks n) ↔ AreShort core.old n }
+    ensures untouched { (n : NoBlocks) → IsErrOf result (Stopped.NoBlocks n) → core.new ≡ core.old }
+    ensures no_read { IsErrOf result Stopped.ReadFault → ⊥ }
     ensures stopped { IfErr result (LeavesStopped D.faults core.old core.new) }
     ensures counts { CountsWithin D.Disk (64 * 1556) core.old.store core.new.store }
 {
@@ -125,10 +122,10 @@ pub fn settle<D: Disk>(core: &mut Core<D>, actor: Entity) -> Result<(), Stopped>
         → Stabilises D.Disk b result core.new }
     ensures part { D.tells → (b : Beginning) → OwesStable D.Disk b actor core.old
         → OnErr result (StopsIn b (mark AnEvent.Stable actor 0 ∷ []) core.old.noted.entries core.new.noted.entries) }
-    ensures no_blocks { (n : Shortage) → IsErrOf result (AStop.NoBlocks n) ↔ AreTooFew core.old n }
-    ensures untouched { (n : Shortage) → IsErrOf result (AStop.NoBlocks n) → core.new ≡ core.old }
+    ensures no_blocks { (n : NoBlocks) → IsErrOf result (Stopped.NoBlocks n) ↔ AreShort core.old n }
+    ensures untouched { (n : NoBlocks) → IsErrOf result (Stopped.NoBlocks n) → core.new ≡ core.old }
     ensures enough { D.tells → (b : Beginning) → OwesStable D.Disk b actor core.old
-        → (n : Shortage) → IsErrOf result (AStop.NoBlocks n) → LacksIn b (mark AnEvent.Stable actor 0 ∷ []) core.old.noted.entries core.new }
+        → (n : NoBlocks) → IsErrOf result (Stopped.NoBlocks n) → LacksIn b (mark AnEvent.Stable actor 0 ∷ []) core.old.noted.entries core.new }
     ensures stopped { IfErr result (LeavesStopped D.faults core.old core.new) }
     ensures notes { CommitsNote result core.old.noted.entries core.new.noted.entries }
     ensures clean { D.tells → (s : Supply) → AreClean s (words_on (D.reading core.old.store.disk)) core.old.cells

@@ -1,20 +1,10 @@
-// Why a kernel's call isn't answered Ok, and why a kernel goes on no more.
+// Why a kernel's call isn't answered Ok.
 ghost use Rattle.std.specs.Prelude.{◌≡◌};
 ghost use Rattle.kernel_commits.specs.Telling.{told, told_again, told_by};
 
 use edge_disk::NoBlocks;
 use kernel_commit_facts::Idle;
-
-/// Why a kernel has stopped: what the call that stopped it met.
-#[derive(Clone, Copy, Debug, PartialEq, Eq)]
-pub enum Stopped {
-    /// Fewer blocks are free than the records or the page need that had to be made; nothing was written for them.
-    NoBlocks(NoBlocks),
-    /// A page could not be read.
-    ReadFault,
-    /// A write or a sync failed.
-    WriteFault,
-}
+use kernel_invariant::Stopped;
 
 /// Why a call of a kernel is not answered Ok.
 #[derive(Clone, Copy, Debug, PartialEq, Eq)]
@@ -31,12 +21,12 @@ pub enum Stop {
     Shut,
 }
 
-impl Stopped {
+impl Stop {
     /// What the call that stopped the kernel answers.
-    pub fn told(self) -> Stop
-        ensures { result ≡ told self }
+    pub fn told(why: Stopped) -> Stop
+        ensures { result ≡ told why }
     {
-        match self {
+        match why {
             Stopped::NoBlocks(blocks) => Stop::NoBlocks(blocks),
             Stopped::ReadFault => Stop::ReadFault,
             Stopped::WriteFault => Stop::WriteFault,
@@ -44,10 +34,10 @@ impl Stopped {
     }
 
     /// What each later call answers: the same numbers where blocks were too few, and Shut behind a fault of the disk.
-    pub fn told_again(self) -> Stop
-        ensures { result ≡ told_again self }
+    pub fn told_again(why: Stopped) -> Stop
+        ensures { result ≡ told_again why }
     {
-        match self {
+        match why {
             Stopped::NoBlocks(numbers) => Stop::NoBlocks(numbers),
             Stopped::ReadFault | Stopped::WriteFault => Stop::Shut,
         }
@@ -60,6 +50,6 @@ pub fn told_of<T>(made: Result<T, Stopped>) -> Result<T, Stop>
 {
     match made {
         Ok(value) => Ok(value),
-        Err(why) => Err(why.told()),
+        Err(why) => Err(Stop::told(why)),
     }
 }

@@ -19,8 +19,8 @@ use Rattle.kernel_core.specs.Stepping.{IfMade, answer_by}
 use Rattle.kernel_core.specs.declared.stepping.Stepping.TheVariants.{Idle, Made}
 use Rattle.kernel_core_facts.specs.kernel_commits.Telling.{FailsByDisk, Tells, TriesAtWrite, TriesByAnswer}
 use Rattle.kernel_core_facts.specs.kernel_commits.declared.stopping.Stop.TheVariants as stop
-use Rattle.kernel_core_facts.specs.kernel_commits.declared.stopping.Stopped.{Stopped}
-use Rattle.kernel_core_facts.specs.kernel_commits.declared.stopping.Stopped.TheVariants as reason
+use Rattle.kernel_core_facts.specs.kernel_invariant.declared.stopping.Stopped.{Stopped}
+use Rattle.kernel_core_facts.specs.kernel_invariant.declared.stopping.Stopped.TheVariants as reason
 use Rattle.kernel_core_facts.proofs.Kept.{while_going}
 
 module _ {D : Type 0} (disks : Ghosts D) (me : ℕ) (old new : Parts D) where

@@ -19,8 +19,8 @@ use Rattle.kernel_core_facts.specs.table_steps.declared.stepping.Made.{Made as S
 use Rattle.kernel_core_facts.specs.kernel_commits.Stops.{IsCause}
 use Rattle.kernel_core_facts.specs.kernel_commits.Telling.{AddsNoTried, CommitsNote, TriesAtWrite}
 use Rattle.kernel_core_facts.proofs.kernel_commits_lemmas.Telling.{adds_none, adds_one, adds_then}
-use Rattle.kernel_core_facts.specs.kernel_commits.declared.stopping.Stopped.{Stopped}
-use Rattle.kernel_core_facts.specs.kernel_commits.declared.stopping.Stopped.TheVariants as reason
+use Rattle.kernel_core_facts.specs.kernel_invariant.declared.stopping.Stopped.{Stopped}
+use Rattle.kernel_core_facts.specs.kernel_invariant.declared.stopping.Stopped.TheVariants as reason
 
 abbrev pub ok_look : Stepping → Result Stepping Stopped
 ok_look look = Ok look

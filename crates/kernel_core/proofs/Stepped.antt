@@ -5,7 +5,7 @@ use Rattle.std.proofs.lemmas.Bool.{and_parts}
 use Rattle.std.proofs.lemmas.Option.{slice_get_within}
 use Rattle.edge_disk.specs.declared.disk.Disk.{Ghosts}
 use Rattle.edge_disk.specs.Image.{Image}
-use Rattle.edge_disk.specs.declared.disk.NoBlocks.{NoBlocks as TooFewBlocks}
+use Rattle.edge_disk.specs.declared.disk.NoBlocks.{NoBlocks}
 use Rattle.base_types.specs.declared.histories.Entry.{Entry}
 use Rattle.base_types.specs.declared.histories.Event.{Event}
 use Rattle.script_types.specs.model_kernel.Histories.{May, Run, goes_on}
@@ -48,7 +48,6 @@ use Rattle.kernel_core_facts.specs.Leaving.{LeavesInOrder}
 use Rattle.kernel_core_facts.specs.kernel_book_laws.Matching.{Rises, newest_of, version_at, version_of}
 use Rattle.kernel_core_facts.proofs.kernel_book_laws_lemmas.Keeping.{rises}
 use Rattle.kernel_core_facts.specs.kernel_commit_facts.Parts.{Noted, Parts, StandsAs, parts_of}
-use Rattle.kernel_core_facts.specs.kernel_commits.Parts.{stop_of}
 use Rattle.kernel_core_facts.specs.kernel_commit_facts.Lacking.{IsDueIn, LacksBlocks, MayWant}
 use Rattle.kernel_core_facts.specs.kernel_commit_facts.Pieces.{CountsWithin}
 use Rattle.kernel_core_facts.specs.kernel_commit_facts.Steady.{IsSteady, entries_taken, steps_to_come}
@@ -56,8 +55,8 @@ use Rattle.kernel_core_facts.specs.Stepping.{HasCause, IsOfOpen, StepsInRun, idl
 use Rattle.kernel_core.specs.Stepping.{StepsOnce}
 use Rattle.kernel_core.specs.declared.stepping.Stepping.{Stepping}
 use Rattle.kernel_core.specs.declared.stepping.Stepping.TheVariants.{Idle as IdleFor, Made}
-use Rattle.kernel_core_facts.specs.kernel_commits.declared.stopping.Stopped.{Stopped}
-use Rattle.kernel_core_facts.specs.kernel_commits.declared.stopping.Stopped.TheVariants as reason
+use Rattle.kernel_core_facts.specs.kernel_invariant.declared.stopping.Stopped.{Stopped}
+use Rattle.kernel_core_facts.specs.kernel_invariant.declared.stopping.Stopped.TheVariants as reason
 use Rattle.kernel_core_facts.proofs.kernel_commit_facts_lemmas.Dues.{due_first}
 use Rattle.kernel_core_facts.proofs.kernel_commit_facts_lemmas.Enough.{none_lacks}
 use Rattle.kernel_core_facts.proofs.kernel_commit_facts_lemmas.Room.{steps_within, taken_next}
@@ -358,7 +357,7 @@ module _ {D : Type 0} (disks : Ghosts D)
   -- a page is short of a block only where the image lacks them
   short_by : (f : PageFault) → IsCausedBy (free_in (books st)) (disks.faults st.disk) (disks.faults st'.disk) (books st).shut (books st').shut f
       → disks.tells → (b : Beginning) → StandsAs disks b old → IsCalm b noted.entries
-      → (n : TooFewBlocks) → err_why (stop_by f) ≡ err_why (reason.NoBlocks n) → LacksBlocks b (parts_of st' cs' noted)
+      → (n : NoBlocks) → err_why (stop_by f) ≡ err_why (reason.NoBlocks n) → LacksBlocks b (parts_of st' cs' noted)
   short_by (page.NoBlocks m) c told b stands calm n is =
       subst (λ count. count < enough_blocks (state_after b noted.entries)) (sym leaves.pages.only.same_count)
       (none_lacks disks b old told stands (calm_whole b noted.entries stands.runs.begins stands.runs.legal calm.nothing_owed) c.0)
@@ -405,7 +404,7 @@ module _ {D : Type 0} (disks : Ghosts D)
     counts = counts_on;
     run = λ told b same stands calm.
         stop_lives b disks counts_later only_now (view_of disks.reading b cs st noted.entries noted.marks None) _ st.disk st'.disk stands.runs
-        (stops disks b cs cs' st st' noted.entries noted.marks (stop_of (stop_by f)) stands (over b told same));
+        (stops disks b cs cs' st st' noted.entries noted.marks (stop_by f) stands (over b told same));
     enough = λ told b same stands calm n is.
         let none : (z : Supply) (ws : ℕ → List ℕ) → idle_at z ws me cs ≡ None = λ z ws. none_by (idle_at z ws me cs) (λ why here. no_idle f why ((idle z ws why).1 here)) in
         record { lacks = short_by f cause told b stands calm n is; due = step_due none at_word b stands };

@@ -16,13 +16,12 @@ use Rattle.kernel_core_facts.specs.model_serial.Serial.{look}
 use Rattle.kernel_core_facts.specs.kernel_commit_facts.Lacking.{LacksIn}
 use Rattle.kernel_core_facts.specs.kernel_commit_facts.Pieces.{CountsWithin}
 use Rattle.kernel_core_facts.specs.kernel_commit_facts.Parts.{LivesAs, Parts, StandsAs}
-use Rattle.kernel_core_facts.specs.kernel_commits.Parts.{stop_of}
 use Rattle.kernel_core_facts.specs.kernel_commit_facts.Steady.{IsSteady}
 use Rattle.kernel_core_facts.specs.kernel_commits.Telling.{told}
 use Rattle.kernel_core_facts.specs.kernel_commits.declared.stopping.Stop.{Stop}
 use Rattle.kernel_core_facts.specs.kernel_commits.declared.stopping.Stop.TheVariants as stop
-use Rattle.kernel_core_facts.specs.kernel_commits.declared.stopping.Stopped.{Stopped}
-use Rattle.kernel_core_facts.specs.kernel_commits.declared.stopping.Stopped.TheVariants as reason
+use Rattle.kernel_core_facts.specs.kernel_invariant.declared.stopping.Stopped.{Stopped}
+use Rattle.kernel_core_facts.specs.kernel_invariant.declared.stopping.Stopped.TheVariants as reason
 use Rattle.kernel_core.specs.declared.stepping.Stepping.{Stepping}
 use Rattle.kernel_core.specs.declared.stepping.Stepping.TheVariants.{Idle as IdleFor, Made}
 use Rattle.kernel_core_facts.specs.Stepping.{idle_at, HasStepped, StopsStep, StepsInRun}
@@ -45,7 +44,7 @@ module _ {D : Type 0} (disks : Ghosts D) where
   abbrev pub RunsStep : Beginning → ℕ → Parts D → Parts D → Result Stepping Stopped → Type 0
   RunsStep b me old new (Ok (Made m)) = StepsInRun disks b me m.entry old new
   RunsStep b me old new (Ok (IdleFor why)) = can_step b.script (run_of b old.noted.entries) me ≡ false
-  RunsStep b me old new (Err why) = LivesAs disks b new (Some (stop_of why))
+  RunsStep b me old new (Err why) = LivesAs disks b new (Some why)
 
   -- WHAT A STEP LEAVES of the parts
   pub record StepsOnce (supply : Supply) (me : ℕ) (old new : Parts D) (result : Result Stepping Stopped) : Type 0 where

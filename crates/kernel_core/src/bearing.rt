@@ -13,7 +13,6 @@ ghost use Rattle.kernel_core_facts.specs.kernel_commit_facts.Steady.{IsSteady};
 ghost use Rattle.kernel_core_facts.specs.kernel_commits.Stops.{LeavesStopped};
 ghost use Rattle.kernel_core_facts.specs.kernel_commits.Telling.{CommitsNote};
 ghost use Rattle.kernel_core_facts.specs.Bearing.{HasBorne, HasBorneAll, HasOpened, IsInBirths, IsShortBehind, OpensRun, RunsInBirths};
-ghost use Rattle.kernel_core_facts.specs.kernel_commits.declared.stopping.Stopped.{Stopped as AStop};
 ghost use Rattle.kernel_core_facts.specs.kernel_invariant.Beginnings.{Beginning};
 
 use base_types::Entity;
@@ -100,7 +99,7 @@ pub(crate) fn open_core<D: Disk>(core: &mut Core<D>, script: &Script) -> Result<
     requires fits { Fits (atlas_state_in core.old.cells) (tables_of script.now) }
     ensures steady { OnOk result (IsSteady D.Disk core.new) }
     ensures made { OnOk result (HasOpened (tables_of script.now) core.old core.new) }
-    ensures no_blocks { IsShortBehind (tables_of script.now) (λ n. IsErrOf result (AStop.NoBlocks n)) core.old core.new }
+    ensures no_blocks { IsShortBehind (tables_of script.now) (λ n. IsErrOf result (Stopped.NoBlocks n)) core.old core.new }
     ensures stopped { IfErr result (LeavesStopped D.faults core.old core.new) }
     ensures notes { CommitsNote result core.old.noted.entries core.new.noted.entries }
     ensures run { D.tells → (b : Beginning) → b.script ≡ tables_of script.now → RunsInBirths D.Disk b core.old

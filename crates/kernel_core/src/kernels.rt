@@ -1,7 +1,6 @@
 // A running kernel.
 ghost use Rattle.std.specs.Prelude.{◌≡◌, ◌↔◌, ◌+◌, ◌*◌, ◌^◌, ◌≤◌, ℕ, List, [], true, false, None, Some, Ok, Err, IfErr, IfOk, IfSome, IsErrOf, OnOk, length, slice_get};
 ghost use Rattle.script_types.specs.model_kernel.State.{Supply};
-ghost use Rattle.edge_disk.specs.declared.disk.NoBlocks.{NoBlocks as Shortage};
 ghost use Rattle.kernel_core_facts.specs.cell_states.declared.cells.Cell.{Cell as ACell};
 ghost use Rattle.kernel_core_facts.specs.cell_states.declared.cells.Part.{Part as APart};
 ghost use Rattle.kernel_core_facts.specs.model_births.Fitting.{Fits};
@@ -19,7 +18,6 @@ ghost use Rattle.kernel_core_facts.specs.kernel_commit_facts.Snapping.{Snaps};
 ghost use Rattle.kernel_core_facts.specs.Stepping.{idle_at};
 ghost use Rattle.kernel_core_facts.specs.cell_plans.declared.idle.Idle.{Idle as AnIdle};
 ghost use Rattle.kernel_core_facts.specs.kernel_commits.Telling.{FailsByDisk, FailsByWrite, Tells, TriesByAnswer, told_again};
-ghost use Rattle.kernel_core_facts.specs.kernel_commits.declared.stopping.Stop.{Stop as AStop};
 ghost use Rattle.kernel_core_facts.specs.kernel_invariant.Beginnings.{Beginning, run_of};
 ghost use Rattle.kernel_core_facts.specs.kernel_records.Committing.{CommitCounts};
 ghost use Rattle.kernel_core_facts.specs.model_serial.Serial.{look, opening, wished_snap};
@@ -30,7 +28,7 @@ use crate::stepping::{answered, why_stopped};
 use base_bytes::Blob;
 use base_types::{Entity, Entry};
 use data_atlas::Atlas;
-use edge_disk::Disk;
+use edge_disk::{Disk, NoBlocks};
 use edge_managers::{Gate, Policy, Supplier};
 use kernel_core_facts::{
     Cell, Core, Notes, OpenFault, OpenWhy, Part, Stop, Stopped, Store, snap_one, told_of,
@@ -197,9 +195,9 @@ impl<D: Disk> Kernel<D> {
             → OnOk result ((result ≡ Ok true) × HasRecorded D.Disk entity self.old.parts self.new.parts) }
         ensures none { self.old.stop ≡ None → Snaps (P.wish gate.now.policy) entity self.old.parts false → (result ≡ Ok false) × (self.new ≡ self.old) }
         ensures fails { self.old.stop ≡ None → IfErr result (FailsByWrite (HasTried D.Disk entity self.old.parts self.new.parts)) }
-        ensures no_blocks { (n : Shortage) → self.old.stop ≡ None
-            → IsErrOf result (AStop.NoBlocks n) ↔ (Snaps (P.wish gate.now.policy) entity self.old.parts true × IsShort D.Disk entity self.old.parts n) }
-        ensures untouched { (n : Shortage) → IsErrOf result (AStop.NoBlocks n) → self.new.parts ≡ self.old.parts }
+        ensures no_blocks { (n : NoBlocks) → self.old.stop ≡ None
+            → IsErrOf result (Stop.NoBlocks n) ↔ (Snaps (P.wish gate.now.policy) entity self.old.parts true × IsShort D.Disk entity self.old.parts n) }
+        ensures untouched { (n : NoBlocks) → IsErrOf result (Stop.NoBlocks n) → self.new.parts ≡ self.old.parts }
         ensures run { D.tells → (b : Beginning) → b.policy ≡ P.wish gate.now.policy → Lives D.Disk b self.old
             → Lives D.Disk b self.new }
         ensures notes { D.tells → (b : Beginning) → b.policy ≡ P.wish gate.now.policy → Lives D.Disk b self.old → self.old.stop ≡ None
@@ -209,7 +207,7 @@ impl<D: Disk> Kernel<D> {
         ensures counts { CommitCounts D.Disk self.old.parts.store self.new.parts.store }
     {
         if let Some(why) = self.stopped {
-            return Err(why.told_again());
+            return Err(Stop::told_again(why));
         }
         let made = snap_one(&mut self.core, entity, gate);
         self.stopped = made.err();
@@ -234,7 +232,7 @@ impl<D: Disk> Kernel<D> {
         ensures was_stopped { IfSome self.old.stop (λ why. (result ≡ Err (told_again why)) × (self.new ≡ self.old)) }
         ensures ends { self.old.stop ≡ None → Tells result self.new.stop }
         ensures made { self.old.stop ≡ None → OnOk result (HasOpened (tables_of script.now) self.old.parts self.new.parts) }
-        ensures no_blocks { self.old.stop ≡ None → IsShortBehind (tables_of script.now) (λ n. IsErrOf result (AStop.NoBlocks n)) self.old.parts self.new.parts }
+        ensures no_blocks { self.old.stop ≡ None → IsShortBehind (tables_of script.now) (λ n. IsErrOf result (Stop.NoBlocks n)) self.old.parts self.new.parts }
         ensures fails { self.old.stop ≡ None → IfErr result (FailsByWrite (Rose (D.faults self.old.parts.store.disk) (D.faults self.new.parts.store.disk))) }
         ensures run { D.tells → (b : Beginning) → b.script ≡ tables_of script.now
             → Lives D.Disk (with_script b (empty_script b.script.steps)) self.old
@@ -247,7 +245,7 @@ impl<D: Disk> Kernel<D> {
         ensures counts { CountsWithin D.Disk (64 * 1556) self.old.parts.store self.new.parts.store }
     {
         if let Some(cause) = self.stopped {
-            return Err(cause.told_again());
+            return Err(Stop::told_again(cause));
         }
         let opened = open_core(&mut self.core, script);
         self.stopped = opened.err();
@@ -275,8 +273,8 @@ impl<D: Disk> Kernel<D> {
         requires clean { StaysClean D.Disk (S.word gate.now.supply) self.old }
         ensures was_stopped { IfSome self.old.stop (λ why. (result ≡ Err (told_again why)) × (self.new ≡ self.old)) }
         ensures ends { self.old.stop ≡ None → Tells result self.new.stop }
-        ensures idle { (s : Supply) (words : ℕ → List ℕ) (why : AnIdle) → self.old.stop ≡ None → (idle_at s words me self.old.parts.cells ≡ Some why) ↔ (result ≡ Err (AStop.Idle why)) }
-        ensures still { (why : AnIdle) → result ≡ Err (AStop.Idle why) → self.new ≡ self.old }
+        ensures idle { (s : Supply) (words : ℕ → List ℕ) (why : AnIdle) → self.old.stop ≡ None → (idle_at s words me self.old.parts.cells ≡ Some why) ↔ (result ≡ Err (Stop.Idle why)) }
+        ensures still { (why : AnIdle) → result ≡ Err (Stop.Idle why) → self.new ≡ self.old }
         ensures made { IfOk result (LooksOnce D.Disk me self.old.parts self.new.parts) }
         ensures stopped { self.old.stop ≡ None → IfSome self.new.stop (StopsLook D.Disk me self.old.parts self.new.parts) }
         ensures fails { self.old.stop ≡ None → IfErr result (FailsByDisk (Rose (D.faults self.old.parts.store.disk) (D.faults self.new.parts.store.disk))) }
@@ -290,7 +288,7 @@ impl<D: Disk> Kernel<D> {
         ensures counts { CountsWithin D.Disk (1 + 64 * 1556) self.old.parts.store self.new.parts.store }
     {
         if let Some(stop) = self.stopped {
-            return Err(stop.told_again());
+            return Err(Stop::told_again(stop));
         }
         let looked = look_core(&mut self.core, me, gate);
         self.stopped = why_stopped(&looked);

@@ -1,7 +1,6 @@
 // One look at a locus.
 ghost use Rattle.std.specs.Prelude.{◌≡◌, ◌↔◌, ◌⊎◌, ◌<◌, ◌*◌, ◌+◌, ◌∷◌, [], ℕ, List, true, false, if◌then◌else◌, None, Some, IfErr, IfOk, IsErrOf, Ok, OnErr, OnOk};
 ghost use Rattle.edge_disk.specs.Counts.{Rose};
-ghost use Rattle.edge_disk.specs.declared.disk.NoBlocks.{NoBlocks as Shortage};
 ghost use Rattle.base_types.specs.declared.histories.Event.TheVariants as AnEvent;
 ghost use Rattle.script_types.specs.model_kernel.Histories.{mark};
 ghost use Rattle.script_types.specs.model_kernel.State.{Supply};
@@ -17,7 +16,6 @@ ghost use Rattle.kernel_core_facts.specs.kernel_commits.Stabilising.{Stabilises}
 ghost use Rattle.kernel_core_facts.specs.kernel_commit_facts.Steady.{IsSteady, entries_taken, steps_to_come};
 ghost use Rattle.kernel_core_facts.specs.kernel_commits.Stops.{LeavesStopped};
 ghost use Rattle.kernel_core_facts.specs.kernel_commits.Telling.{CommitsNote, TriesAtWrite};
-ghost use Rattle.kernel_core_facts.specs.kernel_commits.declared.stopping.Stopped.{Stopped as AStop};
 ghost use Rattle.kernel_core_facts.specs.Stepping.{idle_at};
 ghost use Rattle.kernel_core.specs.declared.stepping.Stepping.TheVariants as AStep;
 ghost use Rattle.kernel_core.specs.Stepping.{IfMade};
@@ -30,7 +28,7 @@ ghost use Rattle.kernel_core_facts.specs.model_serial.Serial.{kept_behind, look,
 use crate::owing::owes_stable;
 use crate::stepping::{Stepping, step_core};
 use base_types::{Entity, Entry};
-use edge_disk::Disk;
+use edge_disk::{Disk, NoBlocks};
 use edge_managers::{Gate, Policy, Supplier};
 use kernel_core_facts::{Core, Stopped, settle, snap_written};
 
@@ -59,7 +57,7 @@ fn keep_behind<D: Disk, S: Supplier, P: Policy>(
     ensures enough { D.tells → (b : Beginning)
         → (owes ≡ true → OwesStable D.Disk b entry.now.actor core.old)
         → (owes ≡ false → RunsFree D.Disk b (P.wish gate.now.policy) core.old)
-        → (n : Shortage) → IsErrOf result (AStop.NoBlocks n)
+        → (n : NoBlocks) → IsErrOf result (Stopped.NoBlocks n)
         → LacksIn b (kept_behind b.supply (P.wish gate.now.policy) b.script (run_of b core.old.noted.entries) (written_in entry.now.touched) (if owes then Some entry.now.actor else None)) core.old.noted.entries core.new }
     ensures clean { D.tells → (s : Supply) → AreClean s (words_on (D.reading core.old.store.disk)) core.old.cells
         → OnOk result (AreClean s (words_on (D.reading core.new.store.disk)) core.new.cells) }
@@ -95,8 +93,8 @@ pub(crate) fn look_core<D: Disk, S: Supplier, P: Policy>(
         → OnErr result (StopsIn b (look b.supply b.policy b.script (run_of b core.old.noted.entries) me) core.old.noted.entries core.new.noted.entries) }
     ensures enough { D.tells → (b : Beginning) → b.supply ≡ S.word gate.now.supply → b.policy ≡ P.wish gate.now.policy
         → StandsAs D.Disk b core.old → IsCalm b core.old.noted.entries
-        → (n : Shortage) → IsErrOf result (AStop.NoBlocks n) → LacksIn b (look b.supply b.policy b.script (run_of b core.old.noted.entries) me) core.old.noted.entries core.new }
-    ensures faults { IsErrOf result AStop.ReadFault ⊎ IsErrOf result AStop.WriteFault → Rose (D.faults core.old.store.disk) (D.faults core.new.store.disk) }
+        → (n : NoBlocks) → IsErrOf result (Stopped.NoBlocks n) → LacksIn b (look b.supply b.policy b.script (run_of b core.old.noted.entries) me) core.old.noted.entries core.new }
+    ensures faults { IsErrOf result Stopped.ReadFault ⊎ IsErrOf result Stopped.WriteFault → Rose (D.faults core.old.store.disk) (D.faults core.new.store.disk) }
     ensures clean { D.tells → OnOk result (AreClean (S.word gate.now.supply) (words_on (D.reading core.new.store.disk)) core.new.cells) }
     ensures counts { CountsWithin D.Disk (1 + 64 * 1556) core.old.store core.new.store }
 {

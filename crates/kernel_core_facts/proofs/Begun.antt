@@ -13,7 +13,8 @@ use Rattle.table_births.specs.table_laws.Tables.{AreClean, IsOrderly, state_in}
 use Rattle.kernel_commits.specs.kernel_record_facts.Cells.{words_on}
 use Rattle.kernel_commits.specs.store_facts.State.{books}
 use Rattle.kernel_commits.specs.kernel_invariant.Beginnings.{Beginning, BeginsRight, state_after}
-use Rattle.kernel_commits.specs.kernel_invariant.Live.{IsRunning, Stopped}
+use Rattle.kernel_commits.specs.kernel_invariant.Live.{IsRunning}
+use Rattle.kernel_commits.specs.kernel_invariant.declared.stopping.Stopped.{Stopped}
 use Rattle.kernel_commits.specs.kernel_laws.Opening.{empty_script, with_script}
 use Rattle.kernel_commits.proofs.kernel_laws_lemmas.Starting.{script_runs}
 use Rattle.kernel_commits.specs.kernel_views.Views.{view_of}

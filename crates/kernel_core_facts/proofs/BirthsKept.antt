@@ -20,11 +20,10 @@ use Rattle.kernel_commits.specs.kernel_commit_facts.Parts.{Parts}
 use Rattle.kernel_commits.specs.kernel_commit_facts.Pieces.{StopsIn}
 use Rattle.kernel_commits.specs.model_serial.Serial.{opening}
 use Rattle.kernel_commits.proofs.Telling.{err_of_kept, when_stopped}
-use Rattle.kernel_commits.specs.Parts.{stop_of}
 use Rattle.kernel_commits.specs.kernel_commit_facts.Steady.{IsSteady}
 use Rattle.kernel_commits.specs.Stops.{LeavesStopped}
-use Rattle.kernel_commits.specs.declared.stopping.Stopped.{Stopped}
-use Rattle.kernel_commits.specs.declared.stopping.Stopped.TheVariants as reason
+use Rattle.kernel_commits.specs.kernel_invariant.declared.stopping.Stopped.{Stopped}
+use Rattle.kernel_commits.specs.kernel_invariant.declared.stopping.Stopped.TheVariants as reason
 use Rattle.kernel_core_facts.proofs.Begun.{begins_births, goes_on_with}
 use Rattle.kernel_core_facts.proofs.Kept.{while_going}
 
@@ -86,7 +85,7 @@ module _ {D : Type 0} (disks : Ghosts D) where
     pub stopped_lives : (why : Stopped) → stop ≡ Some why → Lives disks b k
     stopped_lives why is = subst (Lives disks b) (ap (λ o. record { parts = p; stop = o }) (sym is) ∙ view) (record {
       live = record {
-        running = goes_on_with disks b script same rules p nothing fits_parts (Some (stop_of why)) (was (Some why) is).live.running;
+        running = goes_on_with disks b script same rules p nothing fits_parts (Some why) (was (Some why) is).live.running;
         calm = λ none. absurd (cc none);
       };
       clean = λ none. absurd (cc none);

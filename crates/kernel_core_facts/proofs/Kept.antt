@@ -19,8 +19,8 @@ use Rattle.kernel_commits.specs.kernel_commit_facts.Snapping.{RunsFree, wants_in
 use Rattle.kernel_commits.specs.Recording.{Fails}
 use Rattle.kernel_commits.specs.Snapping.{SnapsOne}
 use Rattle.kernel_commits.specs.kernel_commit_facts.Steady.{IsSteady}
-use Rattle.kernel_commits.specs.declared.stopping.Stopped.{Stopped}
-use Rattle.kernel_commits.specs.declared.stopping.Stopped.TheVariants as reason
+use Rattle.kernel_commits.specs.kernel_invariant.declared.stopping.Stopped.{Stopped}
+use Rattle.kernel_commits.specs.kernel_invariant.declared.stopping.Stopped.TheVariants as reason
 use Rattle.kernel_commits.proofs.Stops.{tried_orderly}
 
 -- what holds where a call ended well holds while the kernel goes on

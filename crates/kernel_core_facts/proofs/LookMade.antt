@@ -29,7 +29,6 @@ use Rattle.kernel_commits.proofs.kernel_commit_facts_lemmas.Dues.{lacks_behind}
 use Rattle.kernel_commits.proofs.Parting.{none_came}
 use Rattle.kernel_commits.specs.kernel_commit_facts.Lacking.{LacksIn}
 use Rattle.kernel_commits.specs.kernel_commit_facts.Parts.{LivesAs, Noted, Parts, StandsAs}
-use Rattle.kernel_commits.specs.Parts.{stop_of}
 use Rattle.kernel_commits.specs.kernel_commit_facts.Pieces.{StopsIn}
 use Rattle.kernel_core_facts.specs.Looking.{LooksInRun}
 use Rattle.kernel_commits.specs.kernel_commit_facts.Snapping.{RunsFree}
@@ -37,7 +36,7 @@ use Rattle.kernel_commits.specs.Snapping.{SnapsAll}
 use Rattle.kernel_commits.specs.kernel_commit_facts.Stabilising.{HasStabilised, OwesStable}
 use Rattle.kernel_commits.specs.Stabilising.{Stabilises}
 use Rattle.kernel_core_facts.specs.Stepping.{HasStepped, StepsInRun, is_ok}
-use Rattle.kernel_commits.specs.declared.stopping.Stopped.{Stopped}
+use Rattle.kernel_commits.specs.kernel_invariant.declared.stopping.Stopped.{Stopped}
 use Rattle.kernel_core_facts.proofs.StableOwed.{owed_next, owes_by}
 
 module _ {D : Type 0} (disks : Ghosts D)
@@ -122,7 +121,7 @@ module _ {D : Type 0} (disks : Ghosts D)
     -- or its Stable, with which the run is at rest
     pub look_stable : (actor : ℕ) → (run_of b mid.noted.entries).owed ≡ Some actor → (r : Result ⊤ Stopped) → (new : Parts D)
         → OnOk r (new.noted.entries ≡ mid.noted.entries ++ mark Stable actor 0 ∷ []) → OnOk r (StandsAs disks b new) → OnOk r (IsQuiet b.policy (run_of b new.noted.entries))
-        → Rattle.std.specs.Prelude.IfErr r (λ why. LivesAs disks b new (Some (stop_of why)))
+        → Rattle.std.specs.Prelude.IfErr r (λ why. LivesAs disks b new (Some why))
         → LooksInRun disks b policy me r old new
     look_stable actor owes (Err why) new entries on quiet lives = record { stands = tt; calm = tt; entries = tt; lives = lives }
     look_stable actor owes (Ok y) new entries on quiet lives =

@@ -28,15 +28,15 @@ use Rattle.table_births.specs.Births.{NoBirthLeft}
 use Rattle.kernel_commits.specs.kernel_commit_facts.Parts.{Noted, Parts}
 use Rattle.kernel_commits.specs.kernel_commit_facts.Lacking.{LacksIn}
 use Rattle.kernel_commits.specs.kernel_commit_facts.Pieces.{CountsWithin, StopsIn}
-use Rattle.kernel_commits.specs.kernel_commit_facts.Stabilising.{AreTooFew, HasStabilised, OwesStable}
+use Rattle.kernel_commits.specs.kernel_commit_facts.Stabilising.{AreShort, HasStabilised, OwesStable}
 use Rattle.kernel_commits.specs.Stabilising.{Stabilises}
 use Rattle.kernel_commits.specs.kernel_commit_facts.Steady.{entries_taken, steps_to_come}
 use Rattle.kernel_commits.specs.Stops.{LeavesStopped}
 use Rattle.kernel_commits.specs.Telling.{AddsNoTried, told_by}
 use Rattle.kernel_commits.specs.declared.stopping.Stop.TheVariants as stop
 use Rattle.kernel_commits.proofs.Telling.{told_no_blocks}
-use Rattle.kernel_commits.specs.declared.stopping.Stopped.{Stopped}
-use Rattle.kernel_commits.specs.declared.stopping.Stopped.TheVariants as reason
+use Rattle.kernel_commits.specs.kernel_invariant.declared.stopping.Stopped.{Stopped}
+use Rattle.kernel_commits.specs.kernel_invariant.declared.stopping.Stopped.TheVariants as reason
 use Rattle.kernel_commits.proofs.kernel_commit_facts_lemmas.Counting.{CountsWithin-stay}
 use Rattle.kernel_commits.proofs.kernel_commit_facts_lemmas.Dues.{lacks_behind}
 use Rattle.kernel_commits.proofs.kernel_commit_facts_lemmas.Room.{steps_within}
@@ -104,7 +104,7 @@ module _ {D : Type 0} (script : Script) (old mid : Parts D) (borne : HasBorneAll
     opened_stable (Ok u) made = record { mid = mid; borne = borne; nothing = λ none. absurd (some none); stabilised = λ _. made }
     opened_stable (Err why) made = tt
 
-    pub short_stable : (result : Result ⊤ Stopped) → ((n : NoBlocks) → IsErrOf result (reason.NoBlocks n) ↔ AreTooFew mid n) → ((n : NoBlocks) → IsErrOf result (reason.NoBlocks n) → new ≡ mid)
+    pub short_stable : (result : Result ⊤ Stopped) → ((n : NoBlocks) → IsErrOf result (reason.NoBlocks n) ↔ AreShort mid n) → ((n : NoBlocks) → IsErrOf result (reason.NoBlocks n) → new ≡ mid)
         → IsShortBehind script (λ n. IsErrOf result (reason.NoBlocks n)) old new
     short_stable result exact untouched = record {
       mid = mid;

@@ -15,13 +15,12 @@ use Rattle.kernel_commits.specs.kernel_invariant.Beginnings.{Beginning, run_of}
 use Rattle.kernel_commits.specs.kernel_invariant.Live.{IsCalm}
 use Rattle.table_births.specs.Births.{BearsQuietly, NoBirthLeft, atlas_state_in, count_born}
 use Rattle.kernel_commits.specs.kernel_commit_facts.Parts.{LivesAs, Noted, Parts, StandsAs}
-use Rattle.kernel_commits.specs.Parts.{stop_of}
 use Rattle.kernel_commits.specs.kernel_commit_facts.Lacking.{LacksIn}
 use Rattle.kernel_commits.specs.kernel_commit_facts.Pieces.{StopsIn}
-use Rattle.kernel_commits.specs.kernel_commit_facts.Stabilising.{AreTooFew, HasStabilised}
+use Rattle.kernel_commits.specs.kernel_commit_facts.Stabilising.{AreShort, HasStabilised}
 use Rattle.kernel_commits.specs.kernel_commit_facts.Steady.{IsSteady, entries_to_come}
-use Rattle.kernel_commits.specs.declared.stopping.Stopped.{Stopped}
-use Rattle.kernel_commits.specs.declared.stopping.Stopped.TheVariants as reason
+use Rattle.kernel_commits.specs.kernel_invariant.declared.stopping.Stopped.{Stopped}
+use Rattle.kernel_commits.specs.kernel_invariant.declared.stopping.Stopped.TheVariants as reason
 
 -- ONE BIRTH of the script, with its entry noted
 pub record HasBorne (script : Script) (cs cs' : List Cell) (noted noted' : Noted) : Type 0 where
@@ -58,7 +57,7 @@ pub record HasOpened {D : Type 0} (script : Script) (old new : Parts D) : Type 0
 pub record IsShortBehind {D : Type 0} (script : Script) (short : NoBlocks → Type 0) (old new : Parts D) : Type 0 where
   pub mid : Parts D
   pub borne : HasBorneAll script old mid
-  pub exact : (n : NoBlocks) → short n ↔ ((mid.noted.entries ≢ []) × AreTooFew mid n)
+  pub exact : (n : NoBlocks) → short n ↔ ((mid.noted.entries ≢ []) × AreShort mid n)
   pub untouched : (n : NoBlocks) → short n → new ≡ mid
 
 -- THE KERNEL IS IN ITS BIRTHS, whatever the disk tells: it is steady, has noted no more entries than there are entities, and has the
@@ -94,4 +93,4 @@ module _ {D : Type 0} (disks : Ghosts D) where
     pub complete : OnOk result (new.noted.entries ≡ opening b.supply b.script b.state)
     pub part : OnErr result (StopsIn b (opening b.supply b.script b.state) [] new.noted.entries)
     pub enough : (n : NoBlocks) → IsErrOf result (reason.NoBlocks n) → LacksIn b (opening b.supply b.script b.state) [] new
-    pub lives : IfErr result (λ why. LivesAs disks b new (Some (stop_of why)))
+    pub lives : IfErr result (λ why. LivesAs disks b new (Some why))

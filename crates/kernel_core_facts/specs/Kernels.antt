@@ -1,6 +1,5 @@
 -- A kernel, as contracts see it.
 use Rattle.std.specs.Prelude.{◌≡◌, ℕ, ◌+◌, ◌≤◌, ◌^◌, false, List, [], ◌++◌, Option, Some, None, slice_get}
-use Rattle.std.specs.Option.{option_map}
 use Rattle.edge_disk.specs.declared.disk.Disk.{Ghosts}
 use Rattle.edge_disk.specs.declared.disk.NoBlocks.{NoBlocks}
 use Rattle.base_types.specs.declared.histories.Entry.{Entry}
@@ -14,10 +13,9 @@ use Rattle.kernel_commits.specs.kernel_book_laws.Matching.{version_of}
 use Rattle.kernel_commits.specs.kernel_commit_facts.Lacking.{LacksIn}
 use Rattle.kernel_commits.specs.kernel_commit_facts.Parts.{LivesAs, Parts}
 use Rattle.kernel_commits.specs.kernel_commit_facts.Pieces.{StopsIn}
-use Rattle.kernel_commits.specs.Parts.{stop_of}
 use Rattle.kernel_commits.specs.kernel_commit_facts.Steady.{IsSound, IsSteady}
-use Rattle.kernel_commits.specs.declared.stopping.Stopped.{Stopped}
-use Rattle.kernel_commits.specs.declared.stopping.Stopped.TheVariants as reason
+use Rattle.kernel_commits.specs.kernel_invariant.declared.stopping.Stopped.{Stopped}
+use Rattle.kernel_commits.specs.kernel_invariant.declared.stopping.Stopped.TheVariants as reason
 
 -- its parts, and why it has stopped, if it has
 pub record Held (D : Type 0) : Type 0 where
@@ -48,7 +46,7 @@ StaysClean disks supply k = disks.tells → k.stop ≡ None → AreClean supply 
 module _ {D : Type 0} (disks : Ghosts D) where
   -- THE KERNEL IS LIVE in a run, and while it goes on its pages are clean
   pub record Lives (b : Beginning) (k : Held D) : Type 0 where
-    pub live : LivesAs disks b k.parts (option_map stop_of k.stop)
+    pub live : LivesAs disks b k.parts k.stop
     pub clean : k.stop ≡ None → AreClean b.supply (words_on (disks.reading k.parts.store.disk)) k.parts.cells
 
 -- WHAT A CALL NOTED IN A RUN of a kernel that went on: where it goes on still, the whole of this piece; where it has stopped, a part of it, and for

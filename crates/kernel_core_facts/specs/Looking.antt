@@ -7,11 +7,10 @@ use Rattle.kernel_commits.specs.kernel_invariant.Beginnings.{Beginning, run_of}
 use Rattle.kernel_commits.specs.kernel_invariant.Live.{IsCalm}
 use Rattle.kernel_commits.specs.model_serial.Serial.{look}
 use Rattle.kernel_commits.specs.kernel_commit_facts.Parts.{LivesAs, Parts, StandsAs}
-use Rattle.kernel_commits.specs.Parts.{stop_of}
 use Rattle.kernel_core_facts.specs.Stepping.{HasStepped, StopsStep}
 use Rattle.kernel_commits.specs.Stops.{LeavesStopped}
 use Rattle.kernel_commits.specs.Telling.{AddsNoTried}
-use Rattle.kernel_commits.specs.declared.stopping.Stopped.{Stopped}
+use Rattle.kernel_commits.specs.kernel_invariant.declared.stopping.Stopped.{Stopped}
 
 module _ {D : Type 0} (disks : Ghosts D) where
   -- WHERE A LOOK STOPPED, whatever the disk tells: at its step, or behind a step that was made
@@ -35,4 +34,4 @@ module _ {D : Type 0} (disks : Ghosts D) where
     pub stands : OnOk result (StandsAs disks b new)
     pub calm : OnOk result (IsCalm b new.noted.entries)
     pub entries : OnOk result (new.noted.entries ≡ old.noted.entries ++ look b.supply policy b.script (run_of b old.noted.entries) me)
-    pub lives : IfErr result (λ why. LivesAs disks b new (Some (stop_of why)))
+    pub lives : IfErr result (λ why. LivesAs disks b new (Some why))

@@ -23,8 +23,8 @@ use Rattle.kernel_commits.specs.kernel_invariant.Beginnings.{Beginning, run_of}
 use Rattle.kernel_commits.specs.model_serial.Serial.{IsBehind, written_in}
 use Rattle.kernel_commits.specs.kernel_commit_facts.Parts.{Parts, StandsAs}
 use Rattle.kernel_commits.specs.kernel_commit_facts.Steady.{entries_taken, steps_to_come}
-use Rattle.kernel_commits.specs.declared.stopping.Stopped.{Stopped}
-use Rattle.kernel_commits.specs.declared.stopping.Stopped.TheVariants as reason
+use Rattle.kernel_commits.specs.kernel_invariant.declared.stopping.Stopped.{Stopped}
+use Rattle.kernel_commits.specs.kernel_invariant.declared.stopping.Stopped.TheVariants as reason
 
 -- why a locus can't step, if it can't, whatever the blocks hold
 abbrev pub idle_at : Supply → (ℕ → List ℕ) → ℕ → List Cell → Option Idle

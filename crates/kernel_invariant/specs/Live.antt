@@ -10,11 +10,7 @@ use Rattle.kernel_invariant.specs.Beginnings.{Beginning, BeginsRight, IsLegal, c
 use Rattle.kernel_invariant.specs.Left.{LeavesCuts}
 use Rattle.kernel_invariant.specs.Marks.{AreMarks, is_step}
 use Rattle.kernel_invariant.specs.Records.{AreKeptRecords}
-
--- why a kernel has stopped
-pub data Stopped : Type 0 where
-  TooFew : (need free : ℕ) → Stopped
-  Failed : Stopped
+use Rattle.kernel_invariant.specs.declared.stopping.Stopped.{Stopped}
 
 -- THE KERNEL as contracts see it: each entity as its cell holds it, a container's words by frames, blocks and supplier; the page table
 -- of each container; per entity the version of its newest record, what its wish comes from, and the steps left; the history with its

@@ -21,7 +21,10 @@ ghost use Rattle.kernel_invariant.specs.Records.{AreKeptRecords, ArePagesApart, 
 ghost use Rattle.kernel_invariant.specs.Owning.{IsApartNew};
 ghost use Rattle.kernel_invariant.specs.Telling.{TellsOf};
 
+mod stopping;
+
 use edge_disk::Disk;
+pub use stopping::Stopped;
 
 /// An image that stores the first commits of a legal run means the state after the part that their greatest closed choice makes.
 pub fn cut_image_law()

@@ -2,7 +2,7 @@
 use Rattle.std.proofs.Common.{◌≡◌, ◌⊎◌, inl, inr, ℕ, ◌<◌, Bool, true, false, ◌&&◌, ◌||◌, ◌==◌, List, nat_lt, refl, arith}
 use Rattle.std.specs.Prelude.{IsErrOf, Result}
 use Rattle.std.proofs.lemmas.Bool.Decides.{nat_tests}
-use Rattle.edge_disk.specs.declared.disk.NoBlocks.{NoBlocks as TooFew}
+use Rattle.edge_disk.specs.declared.disk.NoBlocks.{NoBlocks}
 use Rattle.page_store.specs.model_kernel.Histories.{Policy}
 use Rattle.page_store.specs.model_kernel.State.{Supply}
 use Rattle.cell_wish_laws.specs.cell_states.declared.cells.Cell.{Cell}
@@ -13,27 +13,27 @@ use Rattle.kernel_record_facts.specs.cell_blobs.Blobs.{is_recorded}
 use Rattle.kernel_block_laws.specs.store_books.Books.{Books, kept_in}
 use Rattle.store_snapshots.specs.store_facts.Shelves.{records_of}
 use Rattle.store_snapshots.specs.store_facts.State.{State}
-use Rattle.store_snapshots.specs.declared.faults.StoreFault.{StoreFault as Fault}
-use Rattle.store_snapshots.specs.declared.faults.StoreFault.TheVariants.{NoBlocks, ReadFault, Shut, WriteFault}
+use Rattle.store_snapshots.specs.declared.faults.StoreFault.{StoreFault}
+use Rattle.store_snapshots.specs.declared.faults.StoreFault.TheVariants as fault
 use Rattle.kernel_records.specs.Committing.{CellFaults}
 use Rattle.kernel_records.specs.Snapping.{is_snapped}
 use Rattle.std.proofs.lemmas.Bool.{and_from}
 use Rattle.page_store.proofs.model_kernel_lemmas.Basics.{and_left, and_right}
 
 -- a call that hands on the faults of another, and makes a record where that does
-pub handed_on : {D T U : Type 0} (faults : D → ℕ) (P Q : Type 0) (r : Result T Fault) (r' : Result U Fault) (c d : Cell) (old new : State D) → (P → Q) → (Q → P) → ((f : Fault) → IsErrOf r f → IsErrOf r' f) → ((f : Fault) → IsErrOf r' f → IsErrOf r f)
+pub handed_on : {D T U : Type 0} (faults : D → ℕ) (P Q : Type 0) (r : Result T StoreFault) (r' : Result U StoreFault) (c d : Cell) (old new : State D) → (P → Q) → (Q → P) → ((f : StoreFault) → IsErrOf r f → IsErrOf r' f) → ((f : StoreFault) → IsErrOf r' f → IsErrOf r f)
     → CellFaults faults P r c d old new → CellFaults faults Q r' c d old new
 handed_on faults P Q r r' c d old new to from on back h = record {
-  shut = ((λ is. let both = h.shut.0 (back Shut is) in (to both.0, both.1)), (λ both. on Shut (h.shut.1 (from both.0, both.1))));
-  no_blocks = λ b. ((λ is. let both = (h.no_blocks b).0 (back (NoBlocks b) is) in (to both.0, both.1)), (λ both. on (NoBlocks b) ((h.no_blocks b).1 (from both.0, both.1))));
+  shut = ((λ is. let both = h.shut.0 (back fault.Shut is) in (to both.0, both.1)), (λ both. on fault.Shut (h.shut.1 (from both.0, both.1))));
+  no_blocks = λ b. ((λ is. let both = (h.no_blocks b).0 (back (fault.NoBlocks b) is) in (to both.0, both.1)), (λ both. on (fault.NoBlocks b) ((h.no_blocks b).1 (from both.0, both.1))));
   untouched = λ is. h.untouched (each is);
-  write_fault = λ is. let all = h.write_fault (back WriteFault is) in (to all.0, all.1, all.2);
-  no_read = λ is. h.no_read (back ReadFault is);
+  write_fault = λ is. let all = h.write_fault (back fault.WriteFault is) in (to all.0, all.1, all.2);
+  no_read = λ is. h.no_read (back fault.ReadFault is);
 }
   where
-    each : IsErrOf r' Shut ⊎ ((b : TooFew) × IsErrOf r' (NoBlocks b)) → IsErrOf r Shut ⊎ ((b : TooFew) × IsErrOf r (NoBlocks b))
-    each (inl is) = inl (back Shut is)
-    each (inr is) = inr (is.0, back (NoBlocks is.0) is.1)
+    each : IsErrOf r' fault.Shut ⊎ ((b : NoBlocks) × IsErrOf r' (fault.NoBlocks b)) → IsErrOf r fault.Shut ⊎ ((b : NoBlocks) × IsErrOf r (fault.NoBlocks b))
+    each (inl is) = inl (back fault.Shut is)
+    each (inr is) = inr (is.0, back (fault.NoBlocks is.0) is.1)
 
 -- WHERE A SNAPSHOT IS MADE
 

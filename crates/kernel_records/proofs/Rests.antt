@@ -17,8 +17,8 @@ use Rattle.store_snapshots.specs.CommitAnswers.{CommitAnswers}
 use Rattle.store_snapshots.specs.store_facts.Committed.{CommitsInFreeBlocks, HasFailedShut, HasNewRecord}
 use Rattle.store_snapshots.specs.store_facts.Putting.{are_small}
 use Rattle.store_snapshots.specs.store_facts.State.{State, books}
-use Rattle.store_snapshots.specs.declared.faults.StoreFault.{StoreFault as Fault}
-use Rattle.store_snapshots.specs.declared.faults.StoreFault.TheVariants.{NoBlocks, ReadFault, Shut, WriteFault}
+use Rattle.store_snapshots.specs.declared.faults.StoreFault.{StoreFault}
+use Rattle.store_snapshots.specs.declared.faults.StoreFault.TheVariants as fault
 use Rattle.kernel_block_laws.specs.store_books.Books.{Logged, free_in, kept_in}
 use Rattle.kernel_records.specs.Committing.{HasRecord}
 
@@ -29,12 +29,12 @@ held_pages held (part.Container b) sound page some = sound.held_blocks page some
 held_pages held (part.Locus l) sound page some = absurd (some (no_blocks page))
 
 -- where the store works and has room only a write fails
-pub only_write : {D : Type 0} (faults : D → ℕ) (length : ℕ) (r : Result (Unit {0}) Fault) (old new : State D) → CommitAnswers faults length r old new → (books old).shut ≡ false → blocks_for length ≤ free_in (books old)
-    → (e : Fault) → IsErrOf r e → (e ≡ WriteFault) × Rose (faults old.disk) (faults new.disk) × HasFailedShut (books old) (books new)
-only_write faults length r old new answers working room (NoBlocks b) h = absurd (let less = ((answers.no_blocks b).0 h).fewer in omega (arith, less, room))
-only_write faults length r old new answers working room ReadFault h = absurd (answers.no_read h)
-only_write faults length r old new answers working room WriteFault h = let both = answers.write_fault h in (refl, both.0, both.1)
-only_write faults length r old new answers working room Shut h = absurd (false≢true (sym working ∙ answers.shut.1 h))
+pub only_write : {D : Type 0} (faults : D → ℕ) (length : ℕ) (r : Result (Unit {0}) StoreFault) (old new : State D) → CommitAnswers faults length r old new → (books old).shut ≡ false → blocks_for length ≤ free_in (books old)
+    → (e : StoreFault) → IsErrOf r e → (e ≡ fault.WriteFault) × Rose (faults old.disk) (faults new.disk) × HasFailedShut (books old) (books new)
+only_write faults length r old new answers working room (fault.NoBlocks b) h = absurd (let less = ((answers.no_blocks b).0 h).fewer in omega (arith, less, room))
+only_write faults length r old new answers working room fault.ReadFault h = absurd (answers.no_read h)
+only_write faults length r old new answers working room fault.WriteFault h = let both = answers.write_fault h in (refl, both.0, both.1)
+only_write faults length r old new answers working room fault.Shut h = absurd (false≢true (sym working ∙ answers.shut.1 h))
 
 -- THE NEW RECORD is the same for the disk and in memory: the last of the log
 last_is : (a b now : List Logged) (k l : Logged) → now ≡ a ++ k ∷ [] → now ≡ b ++ l ∷ [] → k ≡ l
@@ -60,7 +60,7 @@ module _ {D : Type 0} (disks : Ghosts D) (c : Cell) (old new : State D) where
   }
 
   -- with the blob and the table as they were handed over
-  pub record_made : (r : Result (Unit {0}) Fault) (blob table : List ℕ) → blob ≡ bytes_of (spelt_in c.part) → table ≡ table_of c.part
+  pub record_made : (r : Result (Unit {0}) StoreFault) (blob table : List ℕ) → blob ≡ bytes_of (spelt_in c.part) → table ≡ table_of c.part
       → OnOk r (HasNewRecord c.clock.entity c.clock.version (length blob) c.clock.stamp.0 table (books old) (books new))
       → (disks.tells → OnOk r (CommitsInFreeBlocks c.clock.entity c.clock.version c.clock.stamp.0 blob table (disks.reading new.disk) (books old) (books new)))
       → OnOk r ((books new).small ≡ ((books old).small && are_small c.clock.version c.clock.stamp.0)) → OnOk r (HasRecord disks c old new)

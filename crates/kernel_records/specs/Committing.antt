@@ -4,7 +4,7 @@ use Rattle.edge_disk.specs.declared.disk.Disk.{Ghosts}
 use Rattle.edge_tally.specs.Counts.{CountsOn}
 use Rattle.edge_disk.specs.Counts.{Rose}
 use Rattle.edge_disk.specs.Image.{Image}
-use Rattle.edge_disk.specs.declared.disk.NoBlocks.{NoBlocks as TooFew}
+use Rattle.edge_disk.specs.declared.disk.NoBlocks.{NoBlocks}
 use Rattle.base_types.specs.declared.records.Rec.{Rec}
 use Rattle.page_store.specs.model_kernel.State.{Supply}
 use Rattle.kernel_block_laws.specs.image_facts.Bodies.{blob_in}
@@ -17,7 +17,7 @@ use Rattle.store_snapshots.specs.store_facts.Committed.{HasNewRecord, SameUsed, 
 use Rattle.store_snapshots.specs.store_facts.Putting.{are_small}
 use Rattle.store_snapshots.specs.store_facts.State.{HoldsPoolBlocks, State, books}
 use Rattle.store_snapshots.specs.declared.faults.StoreFault.{StoreFault}
-use Rattle.store_snapshots.specs.declared.faults.StoreFault.TheVariants.{NoBlocks, ReadFault, Shut, WriteFault}
+use Rattle.store_snapshots.specs.declared.faults.StoreFault.TheVariants as fault
 use Rattle.data_stamps.specs.Stamps.{component}
 use Rattle.cell_wish_laws.specs.cell_states.declared.cells.Cell.{Cell}
 use Rattle.cell_wish_laws.specs.cell_states.declared.cells.Part.{Part}
@@ -119,7 +119,7 @@ pub record CommitCounts {D : Type 0} (disks : Ghosts D) (old new : State D) : Ty
   pub same_count : (books new).count ≡ (books old).count
 
 -- fewer blocks are free in a store that works than a record of the cell needs; both numbers
-pub record IsTooFew (c : Cell) (b : Books) (n : TooFew) : Type 0 where
+pub record IsCellShort (c : Cell) (b : Books) (n : NoBlocks) : Type 0 where
   pub working : b.shut ≡ false
   pub fewer : free_in b < need_in (kept_names b) c
   pub numbers : n ≡ record { need = need_in (kept_names b) c; free = free_in b }
@@ -128,8 +128,8 @@ pub record IsTooFew (c : Cell) (b : Books) (n : TooFew) : Type 0 where
 -- fewer blocks are free than are needed, and then nothing is changed; WriteFault only where the count of faults rose, and then the store is
 -- shut; nothing else goes wrong
 pub record CellFaults {D T : Type 0} (faults : D → ℕ) (is_made : Type 0) (result : Result T StoreFault) (c d : Cell) (old new : State D) : Type 0 where
-  pub shut : IsErrOf result Shut ↔ (is_made × ((books old).shut ≡ true))
-  pub no_blocks : (b : TooFew) → IsErrOf result (NoBlocks b) ↔ (is_made × IsTooFew c (books old) b)
-  pub untouched : IsErrOf result Shut ⊎ ((b : TooFew) × IsErrOf result (NoBlocks b)) → (d ≡ c) × (new ≡ old)
-  pub write_fault : IsErrOf result WriteFault → is_made × Rose (faults old.disk) (faults new.disk) × ((books new).shut ≡ true)
-  pub no_read : IsErrOf result ReadFault → ⊥
+  pub shut : IsErrOf result fault.Shut ↔ (is_made × ((books old).shut ≡ true))
+  pub no_blocks : (b : NoBlocks) → IsErrOf result (fault.NoBlocks b) ↔ (is_made × IsCellShort c (books old) b)
+  pub untouched : IsErrOf result fault.Shut ⊎ ((b : NoBlocks) × IsErrOf result (fault.NoBlocks b)) → (d ≡ c) × (new ≡ old)
+  pub write_fault : IsErrOf result fault.WriteFault → is_made × Rose (faults old.disk) (faults new.disk) × ((books new).shut ≡ true)
+  pub no_read : IsErrOf result fault.ReadFault → ⊥

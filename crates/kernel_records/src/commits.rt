@@ -7,7 +7,6 @@ ghost use Rattle.kernel_record_facts.specs.cell_blobs.Blobs.{blob_need, is_recor
 ghost use Rattle.kernel_records.specs.Committing.{CellFaults, CommitCounts, HasCommitted, HasNotCommitted, MayCommit, StoresKeptOrCell};
 ghost use Rattle.store_snapshots.specs.store_facts.Putting.{are_small};
 ghost use Rattle.store_snapshots.specs.store_facts.State.{books};
-ghost use Rattle.store_snapshots.specs.declared.faults.StoreFault.{StoreFault as Fault};
 ghost use Rattle.kernel_block_laws.specs.store_books.Books.{AreSmall, AreTrue, free_in, kept_names};
 
 use crate::flushing::flush_part;
@@ -33,7 +32,7 @@ fn put_cell<D: Disk>(
     ensures stable { D.tells → OnOk result (IsStable D.Disk store.new.disk) }
     ensures any_moment { D.tells → AreSmall (books store.old) → are_small cell.old.clock.version cell.old.clock.stamp.0 ≡ true
         → LeavesOnly D.Disk store.old.disk store.new.disk (StoresKeptOrCell D.Disk cell.old cell.new store.old) }
-    ensures failed { (e : Fault) → IsErrOf result e → (e ≡ StoreFault.WriteFault) × Rose (D.faults store.old.disk) (D.faults store.new.disk) × ((books store.new).shut ≡ true) }
+    ensures failed { (e : StoreFault) → IsErrOf result e → (e ≡ StoreFault.WriteFault) × Rose (D.faults store.old.disk) (D.faults store.new.disk) × ((books store.new).shut ≡ true) }
     ensures counts { CommitCounts D.Disk store.old store.new }
 {
     let flushed = flush_part(&mut cell.part, store);

@@ -10,7 +10,6 @@ ghost use Rattle.kernel_records.specs.Committing.{HasRecord, IsSpelt, MayCommit}
 ghost use Rattle.store_snapshots.specs.store_facts.Committed.{HasFailedShut, SameUsed, StoresKeptOrMore};
 ghost use Rattle.store_snapshots.specs.store_facts.Putting.{are_small};
 ghost use Rattle.store_snapshots.specs.store_facts.State.{books};
-ghost use Rattle.store_snapshots.specs.declared.faults.StoreFault.{StoreFault as Fault};
 ghost use Rattle.kernel_block_laws.specs.store_books.Books.{AreSmall, AreTrue, free_in};
 
 use base_bytes::Blob;
@@ -53,7 +52,7 @@ pub(crate) fn record_cell<D: Disk>(
     ensures same_used { D.tells → SameUsed (books store.old) (D.reading store.old.disk) (D.reading store.new.disk) }
     ensures any_moment { D.tells → AreSmall (books store.old) → are_small cell.now.clock.version cell.now.clock.stamp.0 ≡ true
         → LeavesOnly D.Disk store.old.disk store.new.disk (StoresKeptOrMore (D.reading store.old.disk) (books store.old) cell.now.clock.entity cell.now.clock.version cell.now.clock.stamp.0 (bytes_of (spelt_in cell.now.part)) (table_of cell.now.part)) }
-    ensures failed { (e : Fault) → IsErrOf result e → (e ≡ StoreFault.WriteFault) × Rose (D.faults store.old.disk) (D.faults store.new.disk) × HasFailedShut (books store.old) (books store.new) }
+    ensures failed { (e : StoreFault) → IsErrOf result e → (e ≡ StoreFault.WriteFault) × Rose (D.faults store.old.disk) (D.faults store.new.disk) × HasFailedShut (books store.old) (books store.new) }
     ensures begins { Begins 1300 (shown D.Disk store.old.disk (books store.old).begun) (shown D.Disk store.new.disk (books store.new).begun) }
 {
     write_part(&cell.part, blob);

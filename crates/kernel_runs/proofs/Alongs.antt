@@ -1,7 +1,7 @@
 -- A kernel along its course: by one pick, by one locus, and to its end.
 use Rattle.std.proofs.Common.{◌≡◌, ℕ, ◌+◌, ◌<◌, ◌≤◌, List, [], ◌∷◌, ◌++◌, length, Some, slice_get, sym, ap, subst, ◌∙◌}
 use Rattle.edge_disk.specs.declared.disk.Disk.{Ghosts}
-use Rattle.edge_disk.specs.declared.disk.NoBlocks.{NoBlocks as Shortage}
+use Rattle.edge_disk.specs.declared.disk.NoBlocks.{NoBlocks}
 use Rattle.base_types.specs.declared.histories.Entry.{Entry}
 use Rattle.script_types.specs.model_kernel.Histories.{Policy}
 use Rattle.script_types.specs.model_kernel.Scripts.{Script, locus_named}
@@ -23,8 +23,8 @@ use Rattle.kernel_core.specs.kernel_invariant.Beginnings.{Beginning, run_of, sta
 use Rattle.kernel_core.specs.kernel_core_facts.Kernels.{Held, Lives, NotesAlong}
 use Rattle.kernel_core.specs.kernel_commit_facts.Lacking.{LacksIn}
 use Rattle.kernel_core.specs.kernel_commit_facts.Pieces.{StopsIn}
-use Rattle.kernel_core.specs.kernel_commits.declared.stopping.Stopped.{Stopped}
-use Rattle.kernel_core.specs.kernel_commits.declared.stopping.Stopped.TheVariants as reason
+use Rattle.kernel_core.specs.kernel_invariant.declared.stopping.Stopped.{Stopped}
+use Rattle.kernel_core.specs.kernel_invariant.declared.stopping.Stopped.TheVariants as reason
 use Rattle.kernel_core.proofs.kernel_commit_facts_lemmas.Dues.{due_looks, due_opening}
 use Rattle.kernel_runs.specs.Running.{HasStopped, IsOver, IsRunBy, RunsAlong, TakesOn, opened_in}
 use Rattle.kernel_runs.proofs.Course.{one_look, over, part_of_look}
@@ -85,7 +85,7 @@ module _ {D : Type 0} (disks : Ghosts D) (supply : Supply) (policy : Policy) whe
       → HasStopped disks b k
   stops_opening b k0 k lives first notes why is =
       let p = subst (λ (es : List Entry). StopsIn b (opening b.supply b.script b.state) es k.parts.noted.entries) first (notes.part why is) in
-      let lacks : (n : Shortage) → k.stop ≡ Some (reason.NoBlocks n) → LacksIn b (opening b.supply b.script b.state) [] k.parts =
+      let lacks : (n : NoBlocks) → k.stop ≡ Some (reason.NoBlocks n) → LacksIn b (opening b.supply b.script b.state) [] k.parts =
       λ n at. subst (λ (es : List Entry). LacksIn b (opening b.supply b.script b.state) es k.parts) first (notes.enough n at) in
       record {
         lives = lives;

@@ -9,13 +9,13 @@ use Rattle.base_types.specs.declared.histories.Entry.{Entry}
 use Rattle.script_types.specs.model_kernel.Scripts.{Script}
 use Rattle.kernel_core.specs.kernel_core_facts.cell_plans.declared.idle.Idle.{Idle as AnIdle}
 use Rattle.kernel_core.specs.kernel_commit_facts.Parts.{Parts}
-use Rattle.kernel_core.specs.kernel_commit_facts.Stabilising.{AreTooFew}
+use Rattle.kernel_core.specs.kernel_commit_facts.Stabilising.{AreShort}
 use Rattle.kernel_core.specs.kernel_commits.Stops.{IsCause}
 use Rattle.kernel_core.specs.kernel_commits.Telling.{FailsByDisk, FailsByWrite, Tells, TriesByAnswer}
 use Rattle.kernel_core.specs.kernel_commits.declared.stopping.Stop.{Stop}
 use Rattle.kernel_core.specs.kernel_commits.declared.stopping.Stop.TheVariants as stop
-use Rattle.kernel_core.specs.kernel_commits.declared.stopping.Stopped.{Stopped}
-use Rattle.kernel_core.specs.kernel_commits.declared.stopping.Stopped.TheVariants as reason
+use Rattle.kernel_core.specs.kernel_invariant.declared.stopping.Stopped.{Stopped}
+use Rattle.kernel_core.specs.kernel_invariant.declared.stopping.Stopped.TheVariants as reason
 use Rattle.kernel_core.specs.kernel_core_facts.Bearing.{IsShortBehind}
 use Rattle.kernel_core.specs.kernel_core_facts.Looking.{StopsLook}
 use Rattle.kernel_runs.specs.Running.{IsCauseOf, past_idle}
@@ -87,7 +87,7 @@ pub births_cause : {D : Type 0} (faults : D → ℕ) (script : Script) (old new 
 births_cause faults script old new (stop.Idle why) short fails = fails
 births_cause faults script old new (stop.NoBlocks n) short fails = few (((short.exact n).0 refl).1)
   where
-    few : {D : Type 0} {p : Parts D} → AreTooFew p n → n.free < n.need
+    few : {D : Type 0} {p : Parts D} → AreShort p n → n.free < n.need
     few t = fewer_by _ _ n t.numbers t.fewer
 births_cause faults script old new stop.ReadFault short fails = absurd fails
 births_cause faults script old new stop.WriteFault short fails = fails

@@ -15,8 +15,8 @@ use Rattle.kernel_core.specs.kernel_commit_facts.Lacking.{IsDue, LacksBlocks}
 use Rattle.kernel_core.specs.kernel_commit_facts.Parts.{Parts}
 use Rattle.kernel_core.specs.kernel_commits.declared.stopping.Stop.{Stop}
 use Rattle.kernel_core.specs.kernel_commits.declared.stopping.Stop.TheVariants as stop
-use Rattle.kernel_core.specs.kernel_commits.declared.stopping.Stopped.{Stopped}
-use Rattle.kernel_core.specs.kernel_commits.declared.stopping.Stopped.TheVariants as reason
+use Rattle.kernel_core.specs.kernel_invariant.declared.stopping.Stopped.{Stopped}
+use Rattle.kernel_core.specs.kernel_invariant.declared.stopping.Stopped.TheVariants as reason
 
 -- these managers answer in the run, and its script fits the atlas of its state
 pub record IsRunBy (supply : Supply) (policy : Policy) (b : Beginning) : Type 0 where

@@ -141,7 +141,7 @@ pub fn play<D: Disk, S: Supplier, P: Policy>(
         → TakesOn D.Disk b (looks_of b.script (opened_in b) 0) kernel.new }
 {
     if let Some(why) = kernel.stopped() {
-        return Err(why.told_again());
+        return Err(Stop::told_again(why));
     }
     look_for_all(kernel, order, gate)
 }

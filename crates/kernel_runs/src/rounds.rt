@@ -112,7 +112,7 @@ pub fn finish<D: Disk, S: Supplier, P: Policy>(
         → EndsRun D.Disk b kernel.new }
 {
     if let Some(why) = kernel.stopped() {
-        return Err(why.told_again());
+        return Err(Stop::told_again(why));
     }
     go_round(kernel, gate)
 }

@@ -17,7 +17,8 @@ use Rattle.table_laws.specs.Tables.{AreNumbered, entity_in}
 use Rattle.kernel_records.specs.kernel_record_facts.Cells.{words_on}
 use Rattle.kernel_laws.specs.store_books.Books.{Books}
 use Rattle.kernel_laws.specs.kernel_invariant.Beginnings.{Beginning, IsLegal, run_of}
-use Rattle.kernel_laws.specs.kernel_invariant.Live.{Follows, Stopped}
+use Rattle.kernel_laws.specs.kernel_invariant.Live.{Follows}
+use Rattle.kernel_laws.specs.kernel_invariant.declared.stopping.Stopped.{Stopped}
 use Rattle.kernel_views.specs.Views.{FollowsRun, asked_at, by_step_at, left_at, newest_at, view_in}
 
 -- an entity without an open mark and a newest record at no version

@@ -6,7 +6,7 @@ use Rattle.kernel_records.specs.store_facts.State.{State, books}
 use Rattle.kernel_records.specs.cell_states.declared.cells.Cell.{Cell}
 use Rattle.kernel_records.specs.kernel_record_facts.Cells.{words_on}
 use Rattle.kernel_laws.specs.kernel_invariant.Beginnings.{Beginning, run_of}
-use Rattle.kernel_laws.specs.kernel_invariant.Live.{Stopped}
+use Rattle.kernel_laws.specs.kernel_invariant.declared.stopping.Stopped.{Stopped}
 use Rattle.kernel_laws.specs.Going.{StoppedBetween}
 use Rattle.kernel_views.specs.Events.{StopsOver}
 use Rattle.kernel_views.specs.Snaps.{Stands}

@@ -13,7 +13,7 @@ use Rattle.kernel_records.specs.kernel_record_facts.Cells.{words_on}
 use Rattle.kernel_records.specs.Committing.{HasNotCommitted, HasPages, StoresKeptOrCell}
 use Rattle.kernel_laws.specs.kernel_invariant.Beginnings.{Beginning, IsLegal, run_of}
 use Rattle.kernel_laws.specs.kernel_invariant.Left.{StoresNext}
-use Rattle.kernel_laws.specs.kernel_invariant.Live.{Failed}
+use Rattle.kernel_laws.specs.kernel_invariant.declared.stopping.Stopped.TheVariants.{WriteFault}
 use Rattle.kernel_laws.proofs.kernel_invariant_lemmas.Stretches.{leaves_map}
 use Rattle.kernel_laws.specs.Going.{StoppedAtCommit}
 use Rattle.kernel_views.specs.Views.{FollowsRun, view_in}
@@ -83,15 +83,15 @@ module _ {D : Type 0} {disks : Ghosts D}
 
   -- THE KERNEL STOPS
   pub stopped : StoppedAtCommit b disks (view_in b.supply b.script.steps (disks.reading old.disk) cs (books old) es marks None)
-      (view_in b.supply b.script.steps (disks.reading new.disk) cs' (books new) (es ++ e ∷ []) marks (Some Failed)) old.disk new.disk e
+      (view_in b.supply b.script.steps (disks.reading new.disk) cs' (books new) (es ++ e ∷ []) marks (Some WriteFault)) old.disk new.disk e
   stopped = record {
     was_going = refl;
-    why = Failed;
+    why = WriteFault;
     stop = refl;
     history = refl;
     marks = refl;
     event = refl;
-    right = record { legal = legal'; follows = follows b (es ++ e ∷ []) (disks.reading new.disk) cs' (numbered_after q) legal' follow' (books new) marks (Some Failed) };
+    right = record { legal = legal'; follows = follows b (es ++ e ∷ []) (disks.reading new.disk) cs' (numbered_after q) legal' follow' (books new) marks (Some WriteFault) };
     left = λ _. leaves_map disks old.disk new.disk (StoresKeptOrCell disks c d old) (StoresNext b es e (books old).count) left_next k.moments;
     counts = k.counts.counts;
   }

@@ -11,7 +11,8 @@ use Rattle.table_laws.specs.Steps.{GoesOn}
 use Rattle.table_laws.specs.Tables.{AreClean, AreNumbered, HasNews, HasTableWishes, IsOrderly, state_in, tables_in}
 use Rattle.kernel_records.specs.kernel_record_facts.Cells.{words_on}
 use Rattle.kernel_laws.specs.kernel_invariant.Beginnings.{Beginning}
-use Rattle.kernel_laws.specs.kernel_invariant.Live.{IsCalm, Stopped}
+use Rattle.kernel_laws.specs.kernel_invariant.Live.{IsCalm}
+use Rattle.kernel_laws.specs.kernel_invariant.declared.stopping.Stopped.{Stopped}
 use Rattle.kernel_laws.specs.Going.{MadeEvent, StoppedBetween}
 use Rattle.kernel_views.specs.Snaps.{Stands}
 use Rattle.kernel_views.specs.Views.{view_of}

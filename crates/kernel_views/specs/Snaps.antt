@@ -15,7 +15,8 @@ use Rattle.kernel_records.specs.cell_wish_laws.Founded.{IsFoundedCell}
 use Rattle.kernel_records.specs.Committing.{CommitCounts, HasCommitted, HasNotCommitted, LeavesCell, StoresKeptOrCell}
 use Rattle.kernel_records.specs.Snapping.{has_room}
 use Rattle.kernel_laws.specs.kernel_invariant.Beginnings.{Beginning, run_of}
-use Rattle.kernel_laws.specs.kernel_invariant.Live.{Failed, IsRunning}
+use Rattle.kernel_laws.specs.kernel_invariant.Live.{IsRunning}
+use Rattle.kernel_laws.specs.kernel_invariant.declared.stopping.Stopped.TheVariants.{WriteFault}
 use Rattle.kernel_laws.specs.Going.{MadeSnap, StoppedAtCommit}
 use Rattle.kernel_views.specs.Views.{view_of}
 
@@ -55,7 +56,7 @@ module _ {D : Type 0} (disks : Ghosts D) where
       → Stands b cs old es marks → (run_of b es).tried ≡ None → MayCommit b.policy (run_of b es) c.clock.entity
       → LeavesOne cs cs' c d old new → HasNotCommitted disks c d old new
       → StoppedAtCommit b disks (view_of disks.reading b cs old es marks None)
-      (view_of disks.reading b cs' new (es ++ mark Tried c.clock.entity c.clock.version ∷ []) marks (Some Failed))
+      (view_of disks.reading b cs' new (es ++ mark Tried c.clock.entity c.clock.version ∷ []) marks (Some WriteFault))
       old.disk new.disk (mark Tried c.clock.entity c.clock.version)
 
   -- THE LAW: whatever came of it, and whatever the disk tells, the cells are in order

@@ -9,7 +9,8 @@ use Rattle.kernel_records.specs.kernel_record_facts.Cells.{words_on}
 use Rattle.kernel_laws.specs.store_books.Books.{Books}
 use Rattle.kernel_records.specs.store_facts.State.{State, books}
 use Rattle.kernel_laws.specs.kernel_invariant.Beginnings.{Beginning, run_of}
-use Rattle.kernel_laws.specs.kernel_invariant.Live.{KernelView, Stopped}
+use Rattle.kernel_laws.specs.kernel_invariant.Live.{KernelView}
+use Rattle.kernel_laws.specs.kernel_invariant.declared.stopping.Stopped.{Stopped}
 
 abbrev pub newest_at : Option Cell → ℕ
 newest_at (Some c) = c.wish.newest

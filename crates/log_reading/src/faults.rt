@@ -11,18 +11,18 @@ pub enum ReadingFault {
     /// The disk holds no image with a log: its first bad place.
     Foreign(Bad),
     /// A read failed.
-    Disk,
+    ReadFault,
     /// Memory ran out.
     Memory,
 }
 
 impl From<DiskFault> for ReadingFault {
-    ghost use Rattle.log_reading.specs.declared.faults.ReadingFault.TheVariants.{Disk};
+    ghost use Rattle.log_reading.specs.declared.faults.ReadingFault.TheVariants.{ReadFault};
 
-    ghost from_gives = { λ _ e. e ≡ Disk };
+    ghost from_gives = { λ _ e. e ≡ ReadFault };
 
     fn from(_fault: DiskFault) -> ReadingFault {
-        ReadingFault::Disk
+        ReadingFault::ReadFault
     }
 }
 

@@ -25,12 +25,12 @@ pub struct ImageLog {
 /// Reads the log of the image that a disk holds. It begins no write and no sync, reads 1,286 blocks at most, and takes memory
 /// for the records, 568 bytes each. Each body is compared with the records before it.
 ///
-/// `Foreign` comes exactly where a check refuses the image, with its first bad place; `Disk` only where a read failed.
+/// `Foreign` comes exactly where a check refuses the image, with its first bad place; `ReadFault` only where a read failed.
 pub fn read_log<D: Disk>(alloc: Global, disk: &mut D) -> Result<ImageLog, ReadingFault>
     ensures log { D.tells → IfOk result (IsLogOf (D.reading disk.old)) }
     ensures foreign { D.tells → (bad : BadPlace) → IsErrOf result (ReadingFault.Foreign bad) → records_fault (D.reading disk.old) ≡ Some bad }
     ensures known { IfOk result (IsKnown (D.block_count disk.old)) }
-    ensures cause { IsErrOf result ReadingFault.Disk → Rose (D.faults disk.old) (D.faults disk.new) }
+    ensures cause { IsErrOf result ReadingFault.ReadFault → Rose (D.faults disk.old) (D.faults disk.new) }
     ensures same { ReadsOnly D.Disk disk.old disk.new }
 {
     let blocks = match front_of(disk)? {

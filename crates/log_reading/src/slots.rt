@@ -49,7 +49,7 @@ pub(crate) fn records_of<D: Disk>(
     ensures few { IfOk result (λ recs. length recs.items ≤ slot_count) }
     ensures in_range { IfOk result (λ recs. AreInRange count recs.items) }
     ensures ascending { IfOk result (λ recs. AllPairs IsOlder recs.items) }
-    ensures cause { IsErrOf result ReadingFault.Disk → Rose (D.faults disk.old) (D.faults disk.new) }
+    ensures cause { IsErrOf result ReadingFault.ReadFault → Rose (D.faults disk.old) (D.faults disk.new) }
     ensures same { ReadsOnly D.Disk disk.old disk.new }
 {
     let mut recs = Vec::new(alloc);

@@ -37,7 +37,7 @@ use Rattle.edge_disk.proofs.Ticks.{Rose-before}
 use Rattle.edge_tally.specs.declared.Tally.{Tally}
 use Rattle.table_opened.specs.log_facts.Reads.{ReadsOnly}
 use Rattle.table_opened.specs.log_reading.declared.faults.ReadingFault.{ReadingFault}
-use Rattle.table_opened.specs.log_reading.declared.faults.ReadingFault.TheVariants.{Disk as OfDisk, Foreign as OfForeign, Memory as OfMemory}
+use Rattle.table_opened.specs.log_reading.declared.faults.ReadingFault.TheVariants as reading
 use Rattle.table_opened.specs.image_meaning.Foreign.{IsBadMeaning}
 use Rattle.kernel_views.proofs.store_facts_lemmas.Keep.{rows_recs}
 use Rattle.table_opened.specs.store_books.Books.{AreTrue, IsBeforePool, logged_recs, recs_in}
@@ -135,11 +135,11 @@ module _ {D : Type 0} (log : ImageLog) (parts : ImageParts) (tables : List Shado
 
 -- why the parts could not be read
 pub parts_cause : (tells : Type 0) (image : Image) (log : ImageLog) (before now : ℕ) (fault : ReadingFault)
-    → (tells → IsLogOf image log → (bad : Bad) → IsErrOf {T = ImageParts} {E = ReadingFault} (Err fault) (OfForeign bad) → IsBadMeaning image bad) → (IsErrOf {T = ImageParts} {E = ReadingFault} (Err fault) OfDisk → Rose before now)
+    → (tells → IsLogOf image log → (bad : Bad) → IsErrOf {T = ImageParts} {E = ReadingFault} (Err fault) (reading.Foreign bad) → IsBadMeaning image bad) → (IsErrOf {T = ImageParts} {E = ReadingFault} (Err fault) reading.ReadFault → Rose before now)
     → HasPartsCause tells image log before now (why_of fault)
-parts_cause tells image log before now (OfForeign bad) foreign cause = λ t is. foreign t is bad refl
-parts_cause tells image log before now OfDisk foreign cause = cause refl
-parts_cause tells image log before now OfMemory foreign cause = tt
+parts_cause tells image log before now (reading.Foreign bad) foreign cause = λ t is. foreign t is bad refl
+parts_cause tells image log before now reading.ReadFault foreign cause = cause refl
+parts_cause tells image log before now reading.Memory foreign cause = tt
 
 -- FROM THE SYNC ON
 

@@ -1,7 +1,6 @@
 -- What comes of a beginning over the cells and the store of an image that was opened.
 use Rattle.std.proofs.Common.{◌≡◌, ℕ, ◌-◌, ◌<◌, ◌≤◌, ◌^◌, false, List, [], Option, None, refl, sym, ap, subst, ⊎_elim, arith}
 use Rattle.std.specs.Prelude.{Err, IfErr, IfOk, MatchResult, Ok, Result}
-use Rattle.std.specs.Option.{option_map}
 use Rattle.std.proofs.lemmas.Bool.{cases_lt}
 use Rattle.edge_disk.specs.declared.disk.Disk.{Ghosts}
 use Rattle.edge_tally.specs.Counts.{Begins}
@@ -16,8 +15,7 @@ use Rattle.kernel_core.specs.cell_states.declared.cells.Cell.{Cell}
 use Rattle.open_image.specs.table_laws.Tables.{AreClean}
 use Rattle.open_image.specs.open_facts.Images.{AreOfImage, IsOpenedTable, StartsFrom}
 use Rattle.kernel_core.specs.kernel_core_facts.Kernels.{Held, StaysClean}
-use Rattle.kernel_core.specs.kernel_commits.Parts.{stop_of}
-use Rattle.kernel_core.specs.kernel_commits.declared.stopping.Stopped.{Stopped}
+use Rattle.kernel_core.specs.kernel_invariant.declared.stopping.Stopped.{Stopped}
 use Rattle.open_image.specs.kernel_laws.Opening.{HasNoBirths, empty_script}
 use Rattle.open_image.proofs.kernel_laws_lemmas.Opening.{meant_unwritten}
 use Rattle.open_image.proofs.kernel_laws_lemmas.Starting.{empty_names, empty_rules, start_lives}
@@ -84,7 +82,7 @@ module _ {D : Type 0} (st : State D) (cs : List Cell) where
   lives_new disks frames steps old k new t starts b first right births same_steps m low at ticks after later =
       let before : b.first ≤ disks.clock st.disk = subst (λ (s : State D). b.first ≤ disks.clock s.disk) new.parts.0 later in
       record {
-        live = of_new k new (λ s c es ms o. IsLive b disks (view_of disks.reading b c s es ms (option_map stop_of o)) s.disk)
+        live = of_new k new (λ s c es ms o. IsLive b disks (view_of disks.reading b c s es ms o) s.disk)
             (start_lives b disks (view_of disks.reading b cs st [] [] None) st.disk right births (starts b first right same_steps m low at ticks after before));
         clean = λ _. of_new k new (λ s c es ms o. AreClean b.supply (words_on (disks.reading s.disk)) c) (t.clean b.supply (words_on (disks.reading st.disk)));
       }

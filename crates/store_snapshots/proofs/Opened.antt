@@ -5,7 +5,7 @@ use Rattle.edge_disk.specs.Counts.{Rose}
 use Rattle.edge_disk.specs.Image.{Image}
 use Rattle.store_facts.specs.image_blocks.Checks.{Bad as BadPlace, records_fault}
 use Rattle.store_facts.specs.log_reading.declared.faults.ReadingFault.{ReadingFault}
-use Rattle.store_facts.specs.log_reading.declared.faults.ReadingFault.TheVariants.{Disk as OfDisk, Foreign as OfForeign, Memory as OfMemory}
+use Rattle.store_facts.specs.log_reading.declared.faults.ReadingFault.TheVariants as reading
 use Rattle.store_facts.specs.log_reading.declared.log.ImageLog.{ImageLog}
 use Rattle.store_snapshots.specs.OpenFaults.{HasOpenCause, why}
 use Rattle.store_snapshots.specs.declared.opening.OpenWhy.{OpenWhy}
@@ -17,8 +17,8 @@ why_not (Err e) P w is h = subst P (sym is) h
 
 -- why the log could not be read, behind the sync
 pub read_cause : (tells : Type 0) (a b : Image) (before mid now : ℕ) (fault : ReadingFault) → (tells → b ≡ a) → before ≤ mid → mid ≤ now
-    → (tells → (bad : BadPlace) → IsErrOf {T = ImageLog} {E = ReadingFault} (Err fault) (OfForeign bad) → records_fault b ≡ Some bad) → (IsErrOf {T = ImageLog} {E = ReadingFault} (Err fault) OfDisk → Rose mid now)
+    → (tells → (bad : BadPlace) → IsErrOf {T = ImageLog} {E = ReadingFault} (Err fault) (reading.Foreign bad) → records_fault b ≡ Some bad) → (IsErrOf {T = ImageLog} {E = ReadingFault} (Err fault) reading.ReadFault → Rose mid now)
     → HasOpenCause tells a before now (why fault)
-read_cause tells a b before mid now (OfForeign bad) same one two foreign read = λ t. subst (λ (i : Image). records_fault i ≡ Some bad) (same t) (foreign t bad refl)
-read_cause tells a b before mid now OfDisk same one two foreign read = Rose-before before mid now one two (read refl)
-read_cause tells a b before mid now OfMemory same one two foreign read = tt
+read_cause tells a b before mid now (reading.Foreign bad) same one two foreign read = λ t. subst (λ (i : Image). records_fault i ≡ Some bad) (same t) (foreign t bad refl)
+read_cause tells a b before mid now reading.ReadFault same one two foreign read = Rose-before before mid now one two (read refl)
+read_cause tells a b before mid now reading.Memory same one two foreign read = tt

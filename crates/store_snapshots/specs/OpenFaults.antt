@@ -5,7 +5,7 @@ use Rattle.edge_disk.specs.Counts.{Rose}
 use Rattle.edge_disk.specs.Image.{Image}
 use Rattle.store_facts.specs.image_blocks.Checks.{records_fault}
 use Rattle.store_facts.specs.log_reading.declared.faults.ReadingFault.{ReadingFault}
-use Rattle.store_facts.specs.log_reading.declared.faults.ReadingFault.TheVariants.{Disk as OfDisk, Foreign as OfForeign, Memory as OfMemory}
+use Rattle.store_facts.specs.log_reading.declared.faults.ReadingFault.TheVariants as reading
 use Rattle.store_snapshots.specs.declared.opening.OpenWhy.{OpenWhy}
 use Rattle.store_snapshots.specs.declared.opening.OpenWhy.TheVariants.{Foreign, Memory, ReadFault, WriteFault}
 
@@ -18,9 +18,9 @@ HasOpenCause tells image before now Memory = Unit {0}
 
 -- why, where the log could not be read
 abbrev pub why : ReadingFault → OpenWhy
-why (OfForeign bad) = Foreign bad
-why OfDisk = ReadFault
-why OfMemory = Memory
+why (reading.Foreign bad) = Foreign bad
+why reading.ReadFault = ReadFault
+why reading.Memory = Memory
 
 -- the same, of a disk before the reads and behind them
 abbrev pub HasOpenCauseIn : {D : Type 0} → Ghosts D → D → D → OpenWhy → Type 0

@@ -1,14 +1,14 @@
 -- Which answer of a read comes when.
 use Rattle.std.specs.Prelude.{◌≡◌, Bool, true, Result, IsErrOf, OnOk}
-use Rattle.edge_disk.specs.declared.disk.NoBlocks.{NoBlocks as TooFew}
+use Rattle.edge_disk.specs.declared.disk.NoBlocks.{NoBlocks}
 use Rattle.store_snapshots.specs.declared.faults.StoreFault.{StoreFault}
-use Rattle.store_snapshots.specs.declared.faults.StoreFault.TheVariants.{NoBlocks, ReadFault, Shut, WriteFault}
+use Rattle.store_snapshots.specs.declared.faults.StoreFault.TheVariants as fault
 
 -- Shut exactly of a store that is shut, ReadFault only from its cause, and then the store is shut; nothing else goes wrong
 pub record ReadAnswers {T : Type 0} (was_shut is_shut : Bool) (cause : Type 0) (result : Result T StoreFault) : Type 0 where
-  pub shut : was_shut ≡ true → IsErrOf result Shut
-  pub only_shut : IsErrOf result Shut → was_shut ≡ true
-  pub read : IsErrOf result ReadFault → cause × (is_shut ≡ true)
+  pub shut : was_shut ≡ true → IsErrOf result fault.Shut
+  pub only_shut : IsErrOf result fault.Shut → was_shut ≡ true
+  pub read : IsErrOf result fault.ReadFault → cause × (is_shut ≡ true)
   pub ok : OnOk result (is_shut ≡ was_shut)
-  pub no_write : IsErrOf result WriteFault → ⊥
-  pub no_blocks : (b : TooFew) → IsErrOf result (NoBlocks b) → ⊥
+  pub no_write : IsErrOf result fault.WriteFault → ⊥
+  pub no_blocks : (b : NoBlocks) → IsErrOf result (fault.NoBlocks b) → ⊥

@@ -15,7 +15,6 @@ ghost use Rattle.store_facts.specs.Committed.{CommitsInFreeBlocks, HasFailedShut
 ghost use Rattle.store_facts.specs.Naming.{IsPlaced};
 ghost use Rattle.store_facts.specs.Putting.{HasFailed, HasPut, are_small};
 ghost use Rattle.store_facts.specs.State.{books};
-ghost use Rattle.store_snapshots.specs.declared.faults.StoreFault.{StoreFault as Fault};
 ghost use Rattle.store_facts.specs.store_books.Books.{AreHeldPages, AreSmall, AreTrue, free_in, kept_in, logged_recs, recs_in};
 
 use crate::StoreFault;
@@ -107,7 +106,7 @@ impl<D: Disk> Store<D> {
         ensures small { OnOk result ((books self.new).small ≡ ((books self.old).small && are_small version stamp.now)) }
         ensures any_moment { D.tells → AreSmall (books self.old) → are_small version stamp.now ≡ true
             → LeavesOnly D.Disk self.old.disk self.new.disk (StoresKeptOrMore (D.reading self.old.disk) (books self.old) entity version stamp.now bytes.now table.now) }
-        ensures only_write_fault { (e : Fault) → IsErrOf result e → e ≡ StoreFault.WriteFault }
+        ensures only_write_fault { (e : StoreFault) → IsErrOf result e → e ≡ StoreFault.WriteFault }
         ensures failed { OnErr result (Rose (D.faults self.old.disk) (D.faults self.new.disk) × HasFailedShut (books self.old) (books self.new)) }
         ensures pages { self.new.read_calls ≡ self.old.read_calls }
         ensures begins { Begins 1300 (shown D.Disk self.old.disk (books self.old).begun) (shown D.Disk self.new.disk (books self.new).begun) }

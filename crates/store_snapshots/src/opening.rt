@@ -48,7 +48,7 @@ impl From<ReadingFault> for OpenWhy {
     fn from(fault: ReadingFault) -> OpenWhy {
         match fault {
             ReadingFault::Foreign(bad) => OpenWhy::Foreign(bad),
-            ReadingFault::Disk => OpenWhy::ReadFault,
+            ReadingFault::ReadFault => OpenWhy::ReadFault,
             ReadingFault::Memory => OpenWhy::Memory,
         }
     }

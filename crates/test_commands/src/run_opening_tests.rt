@@ -126,7 +126,10 @@ fn each_call_of_an_opening_may_fail(rt: HostRuntime) -> Result<(), Fail> {
         let unopened = stopped(rt.alloc(), A_AND_L, formatted(rt.alloc(), &[failing])?)?.ok_or(
             "a fault",
         )?;
-        assert!(rt; matches!(&unopened.fault, Fault::Disk), "call {failing}");
+        assert!(rt;
+            matches!(&unopened.fault, Fault::DiskFault),
+            "call {failing}"
+        );
     }
     Ok(())
 }

@@ -59,7 +59,7 @@ fn a_failed_read_is_told(rt: HostRuntime) -> Result<(), Fail> {
     // The log takes thirteen reads, and each blob one.
     for &read in &[14, 15, 16] {
         let mut disk = image(rt.alloc(), &[WRITES + read])?;
-        assert!(rt; fault_of(rt.alloc(), &mut disk) == Some(ReadingFault::Disk));
+        assert!(rt; fault_of(rt.alloc(), &mut disk) == Some(ReadingFault::ReadFault));
     }
     let mut disk = image(rt.alloc(), &[WRITES + 17])?;
     assert!(rt; fault_of(rt.alloc(), &mut disk) == None);

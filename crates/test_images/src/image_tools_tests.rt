@@ -117,7 +117,7 @@ fn failed_reads_are_told(rt: HostRuntime) -> Result<(), Fail> {
     // Thirteen reads of the log, one of each of three blobs, and one of each of two pages.
     for read in 1..=18 {
         let mut disk = image(rt.alloc(), &[WRITES + read])?;
-        assert!(rt; fault_of(rt.alloc(), &mut disk) == Some(ReadingFault::Disk));
+        assert!(rt; fault_of(rt.alloc(), &mut disk) == Some(ReadingFault::ReadFault));
     }
     let mut disk = image(rt.alloc(), &[WRITES + 19])?;
     assert!(rt; fault_of(rt.alloc(), &mut disk) == None);

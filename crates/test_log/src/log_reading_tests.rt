@@ -78,7 +78,7 @@ fn a_log_is_read(rt: HostRuntime) -> Result<(), Fail> {
         Err(fault) => assert!(rt; false, "{fault:?}"),
     }
     let mut failing = image(rt.alloc(), &[10])?;
-    assert!(rt; fault_of(rt.alloc(), &mut failing) == Some(ReadingFault::Disk));
+    assert!(rt; fault_of(rt.alloc(), &mut failing) == Some(ReadingFault::ReadFault));
     Ok(())
 }
 

@@ -3,12 +3,12 @@ use Rattle.std.proofs.Common.{◌≡◌, ℕ, zero, suc, replicate, ◌+◌, ◌
 use Rattle.std.specs.Prelude.{Err, IsErrOf, slice_index}
 use Rattle.std.proofs.lemmas.Bool.{false≢true}
 use Rattle.edge_disk.specs.declared.disk.Disk.{Ghosts}
-use Rattle.edge_disk.specs.declared.disk.NoBlocks.{NoBlocks as TooFew}
+use Rattle.edge_disk.specs.declared.disk.NoBlocks.{NoBlocks}
 use Rattle.store_snapshots.specs.store_books.Books.{AreTrue}
 use Rattle.store_snapshots.specs.store_facts.Committed.{HasFailedShut, HasNewRecord}
 use Rattle.store_snapshots.specs.store_facts.State.{State, books}
-use Rattle.store_snapshots.specs.declared.faults.StoreFault.{StoreFault as Fault}
-use Rattle.store_snapshots.specs.declared.faults.StoreFault.TheVariants.{NoBlocks, ReadFault, Shut, WriteFault}
+use Rattle.store_snapshots.specs.declared.faults.StoreFault.{StoreFault}
+use Rattle.store_snapshots.specs.declared.faults.StoreFault.TheVariants as fault
 use Rattle.test_store.specs.Own.{IsOwn}
 
 pub none_of : {A : Type 0} (xs : List A) → length xs ≡ 0 → xs ≡ []
@@ -44,9 +44,9 @@ module _ {D : Type 0} (disks : Ghosts D) (st new : State D) (n : ℕ) (own : IsO
     };
   }
 
-  pub own_failed : (Q : Type 0) (fault : Fault) → (IsErrOf {T = Unit {0}} {E = Fault} (Err fault) Shut ⊎ ((b : TooFew) × IsErrOf {T = Unit {0}} {E = Fault} (Err fault) (NoBlocks b)) → new ≡ st)
-      → (IsErrOf {T = Unit {0}} {E = Fault} (Err fault) WriteFault → Q × HasFailedShut (books st) (books new)) → (IsErrOf {T = Unit {0}} {E = Fault} (Err fault) ReadFault → ⊥) → IsOwn disks new (n + 1)
-  own_failed Q Shut same write read = subst (λ (s : State D). IsOwn disks s (n + 1)) (sym (same (inl refl))) own_later
-  own_failed Q (NoBlocks b) same write read = subst (λ (s : State D). IsOwn disks s (n + 1)) (sym (same (inr (b, refl)))) own_later
-  own_failed Q WriteFault same write read = own_shut (write refl).1
-  own_failed Q ReadFault same write read = absurd (read refl)
+  pub own_failed : (Q : Type 0) (why : StoreFault) → (IsErrOf {T = Unit {0}} {E = StoreFault} (Err why) fault.Shut ⊎ ((b : NoBlocks) × IsErrOf {T = Unit {0}} {E = StoreFault} (Err why) (fault.NoBlocks b)) → new ≡ st)
+      → (IsErrOf {T = Unit {0}} {E = StoreFault} (Err why) fault.WriteFault → Q × HasFailedShut (books st) (books new)) → (IsErrOf {T = Unit {0}} {E = StoreFault} (Err why) fault.ReadFault → ⊥) → IsOwn disks new (n + 1)
+  own_failed Q fault.Shut same write read = subst (λ (s : State D). IsOwn disks s (n + 1)) (sym (same (inl refl))) own_later
+  own_failed Q (fault.NoBlocks b) same write read = subst (λ (s : State D). IsOwn disks s (n + 1)) (sym (same (inr (b, refl)))) own_later
+  own_failed Q fault.WriteFault same write read = own_shut (write refl).1
+  own_failed Q fault.ReadFault same write read = absurd (read refl)

@@ -34,11 +34,11 @@ fn each_fault_has_its_last_line(rt: HostRuntime) -> Result<(), Fail> {
             },
             "fault 4 1285 0\n",
         ),
-        (Fault::Disk, "fault 5 disk\n"),
+        (Fault::DiskFault, "fault 5 disk\n"),
         (Fault::Source, "fault 6 source\n"),
         (Fault::Memory, "fault 8 memory\n"),
         (
-            Fault::Blocks(NoBlocks {
+            Fault::NoBlocks(NoBlocks {
                 need: u32::MAX,
                 free: 1281,
             }),

@@ -2,7 +2,7 @@ use Rattle.std.proofs.Common.{◌≡◌, List, Option, Some, subst}
 use Rattle.edge_disk.specs.Counts.{Rose}
 use Rattle.base_types.specs.declared.histories.Entry.{Entry}
 use Rattle.cell_states.specs.declared.cells.Cell.{Cell}
-use Rattle.command_open.specs.kernel_commits.declared.stopping.Stopped.{Stopped}
+use Rattle.command_open.specs.kernel_invariant.declared.stopping.Stopped.{Stopped}
 use Rattle.script_types.specs.Scripts.{tables_of}
 use Rattle.command_open.specs.store_facts.State.{books}
 use Rattle.command_open.specs.table_births.Births.{atlas_state_in}

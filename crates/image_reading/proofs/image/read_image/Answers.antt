@@ -73,8 +73,8 @@ returns-in-Ok-clause-same g c =
     let disk = g.met.D.Disk in
     ReadsOnly-trans _ _ _ (λ t d s b. disk.counts_now d s b t) (ReadsOnly-trans _ _ _ (λ t d s b. disk.counts_now d s b t) c.in_ok-log.ensures.same c.in_ok-parts.ensures.same) c.state_of.ensures.same
 
-pub returns-in-Err-Disk-clause-same : goal.returns-in-Err-Disk-clause-same
-returns-in-Err-Disk-clause-same g c =
+pub returns-in-Err-ReadFault-clause-same : goal.returns-in-Err-ReadFault-clause-same
+returns-in-Err-ReadFault-clause-same g c =
     let disk = g.met.D.Disk in
     ReadsOnly-trans _ _ _ (λ t d s b. disk.counts_now d s b t) (ReadsOnly-trans _ _ _ (λ t d s b. disk.counts_now d s b t) c.in_ok-log.ensures.same c.in_ok-parts.ensures.same) c.state_of.ensures.same
 

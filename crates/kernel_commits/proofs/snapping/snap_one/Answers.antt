@@ -1,5 +1,5 @@
 use Rattle.std.specs.Prelude.{⊤}
-use Rattle.kernel_commits.specs.declared.stopping.Stopped.TheVariants as reason
+use Rattle.kernel_commit_facts.specs.kernel_invariant.declared.stopping.Stopped.TheVariants as reason
 use Rattle.std.proofs.Common.{Bool, true, false, Ok, Err, sym, ap, ◌∙◌, subst, refl}
 use Rattle.std.proofs.lemmas.Bool.{false≢true}
 use Rattle.kernel_commit_facts.specs.Snapping.{Snaps}

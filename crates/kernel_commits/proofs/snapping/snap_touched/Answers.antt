@@ -5,7 +5,7 @@ use Rattle.kernel_commit_facts.specs.kernel_record_facts.Cells.{words_on}
 use Rattle.kernel_commit_facts.specs.Parts.{Parts}
 use Rattle.kernel_commit_facts.specs.Steady.{IsSteady}
 use Rattle.kernel_commits.specs.Telling.{AddsNoTried}
-use Rattle.kernel_commits.specs.declared.stopping.Stopped.TheVariants as reason
+use Rattle.kernel_commit_facts.specs.kernel_invariant.declared.stopping.Stopped.TheVariants as reason
 use Rattle.kernel_commits.proofs.Along.{SnapsAlong, begins_along, ends_along, lacks_along, next_touch, none_left, place_low, skip, stops_along, take_one}
 use Rattle.kernel_commit_facts.proofs.Counting.{CountsAlong, counts_begin, counts_end, counts_next, counts_skip, past_cells}
 use Rattle.kernel_commits.proofs.snapping.snap_touched.Goals.{then-touch+in_default, else-touch}

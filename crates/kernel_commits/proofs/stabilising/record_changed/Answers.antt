@@ -1,7 +1,7 @@
 use Rattle.std.proofs.Common.{◌*◌, [], ◌∷◌, OnOk, OnErr, Some, sym, ap, subst}
 use Rattle.base_types.specs.declared.histories.Event.TheVariants.{Stable}
 use Rattle.kernel_commit_facts.specs.model_kernel.Histories.{mark}
-use Rattle.kernel_commit_facts.specs.kernel_invariant.Live.{TooFew as TooFewStop}
+use Rattle.kernel_commit_facts.specs.kernel_invariant.declared.stopping.Stopped.TheVariants as reason
 use Rattle.kernel_commit_facts.specs.Parts.{LivesAs, Parts}
 use Rattle.kernel_commit_facts.specs.Pieces.{CountsWithin, StopsIn}
 use Rattle.kernel_commit_facts.specs.Stabilising.{OwesStable}
@@ -15,7 +15,7 @@ use Rattle.kernel_commits.proofs.stabilising.record_changed.Goals as goal
 pub returns-in-Some-clause-lives : goal.returns-in-Some-clause-lives
 returns-in-Some-clause-lives g c = λ told b actor owes.
     let d = g.D.Disk in
-    let why = TooFewStop c.in-Some.blocks.need c.in-Some.blocks.free in
+    let why = reason.NoBlocks c.in-Some.blocks in
     subst (λ p. LivesAs d b p (Some why)) (sym c.shortage.ensures.same)
     (still_lives d g.met.D.Disk.counts_later g.met.D.Disk.only_now b c.args.core.now why owes.stands)
 

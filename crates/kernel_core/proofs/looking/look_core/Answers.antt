@@ -6,7 +6,7 @@ use Rattle.kernel_core.specs.declared.stepping.Stepping.TheVariants.{Idle, Made}
 use Rattle.kernel_core_facts.specs.kernel_commit_facts.Parts.{Noted, Parts}
 use Rattle.kernel_core.specs.Stepping.{StepsOnce}
 use Rattle.kernel_core_facts.specs.Stepping.{idle_at}
-use Rattle.kernel_core_facts.specs.kernel_commits.declared.stopping.Stopped.TheVariants as reason
+use Rattle.kernel_core_facts.specs.kernel_invariant.declared.stopping.Stopped.TheVariants as reason
 use Rattle.kernel_core_facts.proofs.kernel_commits_lemmas.Telling.{adds_none, adds_then}
 use Rattle.kernel_core_facts.proofs.kernel_commits_lemmas.Wishing.{err_over}
 use Rattle.kernel_core_facts.proofs.kernel_commit_facts_lemmas.Counting.{CountsWithin-then}

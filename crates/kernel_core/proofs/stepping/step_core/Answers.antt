@@ -5,7 +5,7 @@ use Rattle.kernel_core_facts.specs.kernel_record_facts.Cells.{words_on}
 use Rattle.kernel_core.specs.Stepping.{StepsOnce}
 use Rattle.kernel_core.specs.declared.stepping.Stepping.TheVariants.{Made}
 use Rattle.kernel_core_facts.specs.cell_plans.declared.idle.Idle.TheVariants.{Absent}
-use Rattle.kernel_core_facts.specs.kernel_commits.declared.stopping.Stopped.{Stopped}
+use Rattle.kernel_core_facts.specs.kernel_invariant.declared.stopping.Stopped.{Stopped}
 use Rattle.kernel_core_facts.proofs.Paired.{few_writes}
 use Rattle.kernel_core_facts.proofs.Stepping.{leaves, stays_clean, steps_over, stops_over}
 use Rattle.kernel_core_facts.proofs.kernel_commits_lemmas.Answering.{refilled}

@@ -16,7 +16,7 @@ use Rattle.kernel_core_facts.proofs.Kept.{while_going}
 use Rattle.kernel_core_facts.specs.kernel_commits.Telling.{CommitsNote, FailsByWrite, Tells, TriesByAnswer}
 use Rattle.kernel_core_facts.specs.kernel_commits.declared.stopping.Stop.{Stop}
 use Rattle.kernel_core_facts.specs.kernel_commits.declared.stopping.Stop.TheVariants as stop
-use Rattle.kernel_core_facts.specs.kernel_commits.declared.stopping.Stopped.TheVariants as reason
+use Rattle.kernel_core_facts.specs.kernel_invariant.declared.stopping.Stopped.TheVariants as reason
 use Rattle.kernel_core_facts.proofs.Opened.{short_told}
 use Rattle.kernel_core_facts.proofs.kernel_commits_lemmas.Telling.{fails_by, no_reading, on_ok_told, tells_by, tries_again, tries_by}
 use Rattle.kernel_core.proofs.kernels.Kernel.births.Goals as goal

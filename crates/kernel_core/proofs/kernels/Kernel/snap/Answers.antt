@@ -9,7 +9,7 @@ use Rattle.kernel_core_facts.specs.kernel_commit_facts.Recording.{HasRecorded, H
 use Rattle.kernel_core_facts.specs.kernel_commit_facts.Snapping.{Snaps}
 use Rattle.kernel_core_facts.specs.kernel_commits.Telling.{CommitsNote, FailsByWrite, Tells, TriesByAnswer}
 use Rattle.kernel_core_facts.specs.kernel_commits.declared.stopping.Stop.{Stop}
-use Rattle.kernel_core_facts.specs.kernel_commits.declared.stopping.Stopped.TheVariants as reason
+use Rattle.kernel_core_facts.specs.kernel_invariant.declared.stopping.Stopped.TheVariants as reason
 use Rattle.kernel_core_facts.proofs.kernel_commits_lemmas.Telling.{err_of_kept, fails_by, ok_told, tells_by, told_no_blocks, tries_again, tries_by, when_stopped}
 use Rattle.kernel_core_facts.proofs.Kept.{kept_after, lives_after, runs_free, while_going}
 use Rattle.kernel_core.proofs.kernels.Kernel.snap.Goals as goal

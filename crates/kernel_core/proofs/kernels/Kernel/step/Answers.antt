@@ -15,8 +15,8 @@ use Rattle.kernel_core.specs.declared.stepping.Stepping.TheVariants.{Idle}
 use Rattle.kernel_core_facts.specs.kernel_commit_facts.Parts.{Parts}
 use Rattle.kernel_core_facts.specs.kernel_commits.Telling.{FailsByDisk, Tells, TriesAtWrite, TriesByAnswer}
 use Rattle.kernel_core_facts.specs.kernel_commits.declared.stopping.Stop.{Stop}
-use Rattle.kernel_core_facts.specs.kernel_commits.declared.stopping.Stopped.{Stopped}
-use Rattle.kernel_core_facts.specs.kernel_commits.declared.stopping.Stopped.TheVariants as reason
+use Rattle.kernel_core_facts.specs.kernel_invariant.declared.stopping.Stopped.{Stopped}
+use Rattle.kernel_core_facts.specs.kernel_invariant.declared.stopping.Stopped.TheVariants as reason
 use Rattle.kernel_core_facts.proofs.kernel_commits_lemmas.Telling.{err_of_kept, tries_again, when_stopped}
 use Rattle.kernel_core_facts.proofs.Kept.{runs_free, while_going}
 use Rattle.kernel_core.proofs.LookKept.{fails_look, idle_look, look_entries, look_kept, look_lives, made_look, stopped_look, tells_look, tries_answer}

@@ -1,6 +1,6 @@
 use Rattle.std.proofs.Common.{◌≡◌, ◌+◌, ◌/◌, ◌<◌, ◌≤◌, length, inl, sym, ap, ◌∙◌, arith}
 use Rattle.edge_disk.proofs.Phases.{LeavesOnly-start, told}
-use Rattle.edge_disk.specs.declared.disk.NoBlocks.{NoBlocks as TooFew}
+use Rattle.edge_disk.specs.declared.disk.NoBlocks.{NoBlocks}
 use Rattle.store_facts.specs.image_facts.Bodies.{blocks_for}
 use Rattle.store_facts.specs.store_books.Between.{stored_each}
 use Rattle.store_facts.specs.store_books.Books.{free_in, kept_of, recs_in}
@@ -29,8 +29,8 @@ returns-then-free-need-clause-answers g c =
     let st : State g.row.D.Denot = state_of i.disk i.areas i.log i.kept i.cut i.blocks i.small i.shut i.read_calls in
     let free : c.free-free.result ≡ free_in (books st) = c.free-free.ensures ∙ free_is g.D.Disk.block_count st c.self.invariant in
     let need : (c.len.result + 1023) / 1024 ≡ blocks_for (length c.args.blob.now) = ap blocks_for c.len.ensures.len in
-    let x : TooFew = record { need = (c.len.result + 1023) / 1024; free = c.free-free.result } in
-    let y : TooFew = record { need = blocks_for (length c.args.blob.now); free = free_in (books st) } in
+    let x : NoBlocks = record { need = (c.len.result + 1023) / 1024; free = c.free-free.result } in
+    let y : NoBlocks = record { need = blocks_for (length c.args.blob.now); free = free_in (books st) } in
     let same : x ≡ y = λ k. record { need = need k; free = free k } in
     let less : free_in (books st) < blocks_for (length c.args.blob.now) = (let lt = c.if-free-need.true in omega (arith, lt, free, need)) in
     rw (← c.self.view_is) (short_answers g.D.Disk.faults (length c.args.blob.now) st x (record { working = c.if-self.false; fewer = less; numbers = same }))
