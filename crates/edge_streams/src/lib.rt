@@ -11,7 +11,7 @@ mod standard;
 
 pub use files::FileDisk;
 pub use memory::{MemorySink, MemorySource};
-pub use reading::{ReadStop, read_all};
+pub use reading::{PIECE_BYTES, ReadStop, read_all};
 pub use sink::{Sink, SinkFault};
 pub use source::{Source, SourceFault};
 pub use standard::{ReadSource, WriteSink};

@@ -1,8 +1,8 @@
 // Reading a source to its end.
-ghost use Rattle.std.specs.Prelude.{◌≡◌, ◌<◌, ◌≤◌, ℕ, List, length, vec_len, IfOk, IfErr, IfSome, OnOk, OnErr, IsErrOf};
+ghost use Rattle.std.specs.Prelude.{◌≡◌, ◌<◌, ◌≤◌, length, vec_len, IfOk, IfErr, IfSome, OnOk, IsErrOf};
 ghost use Rattle.std.specs.Io.KnownBytes.{Consumes, IsAtEnd};
 ghost use Rattle.edge_disk.specs.Counts.{Rose};
-ghost use Rattle.edge_streams.specs.Reading.{IsFault};
+ghost use Rattle.edge_streams.specs.Reading.{IsFault, TakesAtMost, most_taken};
 ghost use Rattle.edge_streams.specs.declared.reading.ReadStop.TheVariants.{Source as FromSource, Memory as OutOfMemory};
 
 use crate::{Source, SourceFault};
@@ -10,8 +10,8 @@ use std::alloc::{AllocError, Global};
 use std::error::Error;
 use std::fmt;
 
-/// How many bytes are asked for at a time.
-const PIECE: usize = 4096;
+/// How many bytes are asked for at a time, so how many at most are taken past a limit.
+pub const PIECE_BYTES: usize = 4096;
 
 /// Why a source was not read to its end.
 #[derive(Clone, Copy, Debug, PartialEq, Eq)]
@@ -51,7 +51,8 @@ impl From<AllocError> for ReadStop {
 }
 
 /// Reads a source to its end, which has to come within `limit` bytes. It reserves `limit` bytes before it takes the
-/// first, so nothing is taken where memory is wanting. After `Long` or a fault what was taken is lost.
+/// first, so nothing is taken where memory is wanting. Where more bytes come it stops: no byte is taken behind the piece
+/// that goes past the limit, and no fault from there is met. After `Long` or a fault what was taken is lost.
 pub fn read_all<R: Source>(alloc: Global, source: &mut R, limit: usize) -> Result<Vec<u8>, ReadStop>
     // All that was left, and nothing is left now.
     ensures whole { IfOk result (λ bytes. IfSome (R.left source.old) (λ left. bytes.items ≡ left)) }
@@ -59,17 +60,18 @@ pub fn read_all<R: Source>(alloc: Global, source: &mut R, limit: usize) -> Resul
     ensures end { OnOk result (IfSome (R.left source.old) (λ _. IsAtEnd (R.left source.new))) }
     ensures within { IfOk result (λ bytes. vec_len bytes ≤ limit) }
 
-    // When each error comes.
+    // When each error comes, and how much was taken then.
     ensures long { IsErrOf result ReadStop.Long → IfSome (R.left source.old) (λ left. limit < length left) }
     ensures fault { IfErr result (λ stop. IsFault stop → Rose (R.faults source.old) (R.faults source.new)) }
     ensures memory { IsErrOf result ReadStop.Memory → source.new ≡ source.old }
 
+    ensures stops { IfErr result (λ stop. TakesAtMost (R.left source.old) (R.left source.new) (most_taken limit stop)) }
+
     // At any outcome.
-    ensures front { (taken : List ℕ) × Consumes (R.left source.old) (R.left source.new) taken }
     ensures count { R.faults source.old ≤ R.faults source.new }
 {
     let mut bytes = Vec::with_capacity(alloc, limit)?;
-    let mut piece = [0u8; PIECE];
+    let mut piece = [0u8; PIECE_BYTES];
     loop {
         let n = source.take(&mut piece)?;
         if n == 0 {
