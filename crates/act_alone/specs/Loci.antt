@@ -1,6 +1,11 @@
 -- What a locus and the head of a container are in the model.
-use Rattle.std.specs.Prelude.{ℕ}
+use Rattle.std.specs.Prelude.{◌≡◌, ℕ}
+use Rattle.base_types.specs.Instructions.{IsInstruction}
+use Rattle.model_kernel.specs.Acts.{wanted}
+use Rattle.model_kernel.specs.Refusals.{instr_at}
 use Rattle.model_kernel.specs.State.{ContainerState, LocusState}
+use Rattle.model_acts.specs.Views.{act_of, seen_by}
+use Rattle.model_acts.specs.declared.choice.Act.{Act}
 use Rattle.act_alone.specs.declared.loci.Locus.{Locus}
 use Rattle.act_alone.specs.declared.loci.Head.{Head}
 
@@ -31,3 +36,10 @@ container_with words h = record {
   caps = h.caps;
   words = words;
 }
+
+-- this is the act that the locus wants, whichever number it has
+pub record WantsAct (l : LocusState) (act : Act) : Type 0 where
+  pub is : act_of act ≡ wanted 64 l
+  pub instr : act.instr ≡ instr_at l
+  pub seen : (me : ℕ) → wanted me l ≡ seen_by me (act_of act)
+  pub instruction : IsInstruction act.instr

@@ -7,4 +7,4 @@ mod loci;
 
 pub use lists::{Chain, Code, MOST_INSTRS, Privates};
 pub use loci::{Head, Locus};
-pub use model_acts::{fetch, named_entity, named_rights, new_region, next_address, next_walk};
+pub use model_acts::{Act, named_entity, named_rights, new_region, next_address, next_walk};

@@ -8,12 +8,12 @@ ghost use Rattle.model_kernel.specs.State.{Supply, AtlasState, Cell};
 ghost use Rattle.model_kernel.specs.Outcomes.{local_act, outcome};
 ghost use Rattle.model_kernel.specs.Refusals.{refusal};
 ghost use Rattle.model_acts.specs.Views.{IsReadyLocus};
-ghost use Rattle.act_alone.specs.Loci.{locus_of};
+ghost use Rattle.act_alone.specs.Loci.{WantsAct, locus_of};
 ghost use Rattle.model_act_facts.specs.Loci.{touches_alone, IsAlone};
 
 use crate::loci::Locus;
 use base_types::{Answer, Condition, Instr, MOST_PRINTED, Private, Reply, Rights};
-use model_acts::new_region;
+use model_acts::{Act, new_region};
 
 /// A register gets a value, and the place is the next.
 #[tactic(auto, unfolding(model_kernel::specs::Outcomes::local_act))]
@@ -186,7 +186,24 @@ pub(crate) fn carry_out(l: &mut Locus, instr: Instr) -> Answer
 }
 
 impl Locus {
-    /// An act that touches the locus alone, a refused one included.
+    /// Carries out the act that it wants, which this is, and which touches the locus alone; a refused one included.
+    pub fn perform(&mut self, act: Act) -> Answer
+        requires ready { IsReadyLocus (locus_of self.old) }
+        requires wants { WantsAct (locus_of self.old) act }
+        requires alone { IsAlone (wanted 64 (locus_of self.old)) }
+        ensures locus { (me : ℕ) → (s : Supply) → (a : AtlasState) → (cell : Cell)
+            → locus_of self.new ≡ (outcome s (locus_of self.old) (wanted me (locus_of self.old)) a cell).locus }
+        ensures answer { (me : ℕ) → (s : Supply) → (a : AtlasState) → (cell : Cell)
+            → result ≡ (outcome s (locus_of self.old) (wanted me (locus_of self.old)) a cell).answer }
+        ensures ready { IsReadyLocus (locus_of self.new) }
+    {
+        match act.refused {
+            Some(reply) => self.finish(reply),
+            None => carry_out(self, act.instr),
+        }
+    }
+
+    /// Chooses its act, which touches the locus alone, and carries it out.
     pub fn local(&mut self) -> Answer
         requires running { self.old.condition ≡ RunningNow }
         requires ready { IsReadyLocus (locus_of self.old) }
@@ -198,9 +215,6 @@ impl Locus {
         ensures ready { IsReadyLocus (locus_of self.new) }
     {
         let act = self.wants();
-        match act.refused {
-            Some(reply) => self.finish(reply),
-            None => carry_out(self, act.instr),
-        }
+        self.perform(act)
     }
 }

@@ -10,7 +10,7 @@ ghost use Rattle.act_alone.specs.Loci.{locus_of, container_with};
 ghost use Rattle.act_invoke.specs.Entries.{is_invoke, is_leave, is_return, WantsBeside, Invoked};
 
 pub use act_alone::{
-    Chain, Code, Head, Locus, MOST_INSTRS, Privates, named_entity, named_rights, new_region,
+    Act, Chain, Code, Head, Locus, MOST_INSTRS, Privates, named_entity, named_rights, new_region,
     next_address, next_walk,
 };
 use base_types::{Call, Entity, MOST_CALLS, Reply};

@@ -16,7 +16,7 @@ ghost use Rattle.act_look.specs.Looks.{address_of, comes_to_word, is_look, is_st
 use crate::aim::aim_of;
 use crate::shown::shown;
 use crate::word::at_word;
-pub use act_invoke::{Head, Locus};
+pub use act_invoke::{Act, Head, Locus};
 use base_types::{Answer, Instr, PAGE_WORDS};
 use edge_managers::{Gate, Policy, Supplier};
 use page_memory::{PageFault, PageStore, PagedMemory};

@@ -7,13 +7,13 @@ use Rattle.act_look.specs.model_kernel.Acts.{wanted}
 use Rattle.act_look.specs.model_kernel.Refusals.{instr_at}
 use Rattle.act_look.specs.model_kernel.State.{LocusState, Cell, NotBorn, AtlasCell, ContainerCell, LocusCell}
 use Rattle.act_look.specs.model_acts.Views.{may_name_itself}
-use Rattle.act_look.specs.model_act_facts.Loci.{IsAlone}
 use Rattle.act_look.specs.act_alone.Loci.{locus_of}
 use Rattle.act_look.specs.act_alone.declared.loci.Locus.{Locus}
 use Rattle.act_look.specs.act_invoke.Entries.{WantsBeside}
 use Rattle.act_look.specs.Looks.{is_look}
 use Rattle.cell_calls.specs.act_calls.Calls.{WantsBirth, is_make, is_spawn}
 use Rattle.cell_calls.specs.cell_states.Cells.{IsRunning}
+use Rattle.cell_calls.specs.cell_states.Steps.{ActsAlone}
 use Rattle.cell_calls.specs.cell_states.declared.cells.Cell.{Cell as LentCell}
 use Rattle.cell_calls.specs.Besides.{WantsOther, calls_container}
 use Rattle.cell_calls.specs.Mapping.{WantsMapping}
@@ -42,7 +42,7 @@ pub record IsCallBeside (me : ℕ) (l : LocusState) (i : Instr) (x : ℕ) : Type
 
 -- the locus with this number wants an act that touches this, by the instruction where it is one beside another entity
 abbrev pub PlansFor : ℕ → LocusState → Instr → Reach → Type 0
-PlansFor me l i reach.Alone = IsAlone (wanted me l)
+PlansFor me l i (reach.Alone act) = ActsAlone me l act
 PlansFor me l i (reach.Beside x) = IsCallBeside me l i x
 PlansFor me l i (reach.Look x) = WantsBeside is_look l x
 PlansFor me l i (reach.Mapping x) = WantsMapping l i x

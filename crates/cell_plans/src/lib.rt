@@ -4,7 +4,7 @@
 mod idle;
 mod plans;
 
-pub use act_look::Locus;
+pub use act_look::{Act, Locus};
 pub use cell_calls::{step_beside, step_mapping};
 pub use idle::{Idle, why_idle};
 pub use plans::{Plan, Reach, next_plan};

@@ -5,14 +5,14 @@ ghost use Rattle.act_look.specs.model_kernel.Acts.{wanted};
 ghost use Rattle.act_look.specs.model_kernel.Refusals.{instr_at};
 ghost use Rattle.act_look.specs.model_kernel.State.{LocusState, Supply};
 ghost use Rattle.act_look.specs.model_acts.Views.{may_name_itself, IsReadyLocus};
-ghost use Rattle.act_look.specs.act_alone.Loci.{locus_of};
+ghost use Rattle.act_look.specs.act_alone.Loci.{WantsAct, locus_of};
 ghost use Rattle.act_look.specs.act_alone.declared.loci.Locus.{Locus as ALocus};
 ghost use Rattle.cell_calls.specs.Besides.{WantsOther};
 ghost use Rattle.cell_calls.specs.cell_states.Cells.{part_of, IsRunning};
 ghost use Rattle.cell_plans.specs.Plans.{idle_of, BearsNone, IsPlanned, PlansFor};
 
 use crate::idle::{Idle, why_idle};
-use act_look::Locus;
+use act_look::{Act, Locus};
 use base_types::{Entity, Instr};
 use cell_calls::{Cell, Part};
 
@@ -26,8 +26,8 @@ pub struct Plan {
 /// What a step of a locus touches besides the locus.
 #[derive(Clone, Copy, Debug)]
 pub enum Reach {
-    /// Nothing.
-    Alone,
+    /// Nothing, by this act.
+    Alone(Act),
     /// Another entity, by an instruction that is neither a look nor a mapping.
     Beside(Entity),
     /// A container, of which a word may be looked at.
@@ -55,13 +55,13 @@ fn is_itself(me: Entity, instr: Instr, other: Entity) -> bool
 }
 
 /// What an act beside an entity touches.
-fn reach_beside(me: Entity, instr: Instr, other: Entity) -> Reach
-    ensures { (l : LocusState) → WantsOther l instr other → PlansFor me l instr result }
+fn reach_beside(me: Entity, act: Act, other: Entity) -> Reach
+    ensures { (l : LocusState) → WantsAct l act → WantsOther l act.instr other → PlansFor me l act.instr result }
 {
-    if is_itself(me, instr, other) {
-        return Reach::Alone;
+    if is_itself(me, act.instr, other) {
+        return Reach::Alone(act);
     }
-    match instr {
+    match act.instr {
         Instr::Load(..) => Reach::Look(other),
         Instr::Store(..) => Reach::Look(other),
         Instr::Map(..) => Reach::Mapping(other),
@@ -71,13 +71,13 @@ fn reach_beside(me: Entity, instr: Instr, other: Entity) -> Reach
 }
 
 /// What an act beside no entity touches.
-fn reach_alone(me: Entity, instr: Instr) -> Reach
-    ensures { (l : LocusState) → BearsNone l instr → PlansFor me l instr result }
+fn reach_alone(me: Entity, act: Act) -> Reach
+    ensures { (l : LocusState) → WantsAct l act → BearsNone l act.instr → PlansFor me l act.instr result }
 {
-    match instr {
+    match act.instr {
         Instr::Make(..) => Reach::Make,
         Instr::Spawn(..) => Reach::Spawn,
-        _ => Reach::Alone,
+        _ => Reach::Alone(act),
     }
 }
 
@@ -93,17 +93,17 @@ fn plan_of(me: Entity, locus: &Locus) -> Plan
     if act.refused.is_some() {
         return Plan {
             instr,
-            reach: Reach::Alone,
+            reach: Reach::Alone(act),
         };
     }
     match act.other {
         Some(other) => Plan {
             instr,
-            reach: reach_beside(me, instr, other),
+            reach: reach_beside(me, act, other),
         },
         None => Plan {
             instr,
-            reach: reach_alone(me, instr),
+            reach: reach_alone(me, act),
         },
     }
 }

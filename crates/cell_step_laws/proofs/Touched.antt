@@ -231,7 +231,7 @@ module _ (s : Supply) (me : ℕ) (w : KernelState) (l : LocusState) (x : ℕ) wh
   made = outcome_in s l act w
 
   by_reach : (i : Instr) (r : Reach) → PlansFor me l i r → IsOneOf me act.atlas act.other made.newborn x → (x ≡ me) ⊎ IsTouchedBy r (atlas_in (w 0).cell) x
-  by_reach i reach.Alone wants h = only_own me x (written_as me x _ _ _ _ _ _ wants.atlas wants.other (alone_bears s me l _ _ wants) h)
+  by_reach i (reach.Alone own) wants h = only_own me x (written_as me x _ _ _ _ _ _ wants.alone.atlas wants.alone.other (alone_bears s me l _ _ wants.alone) h)
   by_reach i (reach.Beside y) wants h =
       let t = call_touches me y l i wants in
       own_or_other me x y (written_as me x _ _ _ _ _ _ t.0 t.1 (none_beside s me l _ _ y t.1) h)

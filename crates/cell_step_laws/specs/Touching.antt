@@ -11,7 +11,7 @@ use Rattle.cell_plans.specs.declared.plans.Reach.TheVariants as reach
 -- What a step may write besides the locus, by what its plan says that it touches: the entity that it names, and the atlas or what is
 -- born, which has the lowest number that is free by the atlas before the step.
 abbrev pub IsTouchedBy : Reach → AtlasState → ℕ → Type 0
-IsTouchedBy reach.Alone a x = ⊥
+IsTouchedBy (reach.Alone act) a x = ⊥
 IsTouchedBy (reach.Beside y) a x = x ≡ y
 IsTouchedBy (reach.Look y) a x = x ≡ y
 IsTouchedBy (reach.Mapping y) a x = (x ≡ 0) ⊎ (x ≡ y)

@@ -9,17 +9,17 @@ ghost use Rattle.cell_steps.specs.Advances.{StepsCells};
 use crate::noting::{named_by_snap, note};
 use base_types::{Entry, Instr};
 use cell_looks::{Cell, step_alone};
-use cell_plans::step_beside;
+use cell_plans::{Act, step_beside};
 
-/// The step of a locus that touches it alone, by this instruction.
-pub fn advance_alone(locus: &mut Cell, instr: Instr) -> Entry
-    requires planned { IsPlanned locus.old instr reach.Alone }
+/// The step of a locus by this act, which touches it alone.
+pub fn advance_alone(locus: &mut Cell, act: Act) -> Entry
+    requires planned { IsPlanned locus.old act.instr (reach.Alone act) }
     requires few { locus.old.clock.version < 2 ^ 63 }
     ensures step { (s : Supply) → (words : ℕ → List ℕ) → StepsCells s words words locus.old.clock.entity (locus.old ∷ []) (locus.new ∷ []) result }
     ensures entity { locus.new.clock.entity ≡ locus.old.clock.entity }
 {
-    let named = named_by_snap(locus, instr);
-    let entry = step_alone(locus);
+    let named = named_by_snap(locus, act.instr);
+    let entry = step_alone(locus, act);
     note(locus, &entry, &named);
     entry
 }

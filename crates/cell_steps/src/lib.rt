@@ -10,6 +10,6 @@ mod noting;
 pub use advances::{advance_alone, advance_beside};
 pub use bearings::{advance_barren, advance_making, advance_mapping, advance_spawning};
 pub use cell_looks::{Cell, Part};
-pub use cell_plans::{Idle, Plan, Reach, next_plan};
+pub use cell_plans::{Act, Idle, Plan, Reach, next_plan};
 pub use laws::{kept_memory_law, noting_law, unlent_cells_law};
 pub use lookings::advance_looking;

@@ -7,6 +7,7 @@ use Rattle.cell_steps.specs.model_kernel.State.{NotBorn, LocusState, LocusCell, 
 use Rattle.cell_steps.specs.cell_states.declared.cells.Cell.{Cell}
 use Rattle.cell_steps.specs.cell_calls.Besides.{FitsBeside, KeepsMemory}
 use Rattle.cell_steps.specs.act_alone.Loci.{locus_of}
+use Rattle.cell_steps.specs.model_acts.declared.choice.Act.{Act}
 use Rattle.cell_steps.specs.cell_plans.declared.plans.Reach.TheVariants as reach
 use Rattle.cell_steps.specs.Advances.{StepsCells}
 use Rattle.table_laws.specs.Lending.{Lends}
@@ -77,11 +78,11 @@ module _ (held : ℕ → Bool) (cs : List Cell) (orderly : IsOrderly held cs) (m
 
 -- A QUIET STEP OF THE LOCUS ALONE, or beside another
 module _ (held : ℕ → Bool) (cs : List Cell) (orderly : IsOrderly held cs) (me : ℕ) where
-  pub alone_quiet : (i : Instr) (planned : IsPlannedAt cs me i reach.Alone) (a a' : Cell) (e : Entry) → slice_get cs me ≡ Some a
+  pub alone_quiet : (i : Instr) (own : Act) (planned : IsPlannedAt cs me i (reach.Alone own)) (a a' : Cell) (e : Entry) → slice_get cs me ≡ Some a
       → ((s : Supply) (words : ℕ → List ℕ) → StepsCells s words words a.clock.entity (a ∷ []) (a' ∷ []) e) → a'.clock.entity ≡ a.clock.entity → StepsQuietly me cs (slice_set cs me a') e
-  alone_quiet i planned a a' e is_a steps same =
+  alone_quiet i own planned a a' e is_a steps same =
       let at : a.clock.entity ≡ me = orderly.numbers.each me a is_a in
-      let p = plan_of held cs orderly me i reach.Alone planned a is_a in
+      let p = plan_of held cs orderly me i (reach.Alone own) planned a is_a in
       let lends : Lends cs (slice_set cs me a') (a ∷ []) (a' ∷ []) =
       subst (λ n. Lends cs (slice_set cs n a') (a ∷ []) (a' ∷ [])) at (lends_one cs a a' orderly.numbers (ap (slice_get cs) at ∙ is_a) same) in
       let high : 40 < me = high_at held cs orderly me a p.locus is_a p.runs.is in

@@ -15,7 +15,7 @@ ghost use Rattle.table_laws.specs.Tables.{AreNumbered};
 
 pub use cell_blob_laws::{is_recorded, need_cell};
 pub use cell_steps::{
-    Cell, Idle, Part, Plan, Reach, advance_alone, advance_barren, advance_beside, advance_looking,
+    Act, Cell, Idle, Part, Plan, Reach, advance_alone, advance_barren, advance_beside, advance_looking,
     advance_making, advance_mapping, advance_spawning, next_plan,
 };
 

@@ -10,6 +10,8 @@ use Rattle.table_laws.specs.cell_plans.Plans.{IsPlanned, idle_of}
 use Rattle.table_laws.specs.cell_plans.declared.idle.Idle.{Idle}
 use Rattle.table_laws.specs.cell_plans.declared.plans.Plan.{Plan}
 use Rattle.table_laws.specs.cell_plans.declared.plans.Reach.{Reach}
+use Rattle.table_laws.specs.cell_plans.declared.plans.Reach.TheVariants as reach
+use Rattle.table_laws.specs.cell_steps.model_acts.declared.choice.Act.{Act}
 use Rattle.table_laws.specs.Steps.{IsPlannedAt}
 use Rattle.table_laws.specs.Tables.{entity_in, left_of, state_in}
 use Rattle.table_steps.specs.Wanting.{HasNext}
@@ -29,6 +31,14 @@ module _ (s : Supply) (words : ℕ → List ℕ) (cs : List Cell) (me : ℕ) (ce
 pub planned_here : (cs : List Cell) (me : ℕ) (cell : Cell) → slice_get cs me ≡ Some cell → (r : Result Plan Idle) → IfOk r (λ p. IsPlanned cell p.instr p.reach) → IfOk r (λ p. IsPlannedAt cs me p.instr p.reach)
 planned_here cs me cell here (Ok p) h = record { cell = cell; is = here; plan = h }
 planned_here cs me cell here (Err why) h = h
+
+-- the instruction of an act that touches the locus alone is that of the plan
+pub own_planned : (cs : List Cell) (me : ℕ) (i : Instr) (own : Act) → IsPlannedAt cs me i (reach.Alone own) → IsPlannedAt cs me own.instr (reach.Alone own)
+own_planned cs me i own p = record {
+  cell = p.cell;
+  is = p.is;
+  plan = record { locus = p.plan.locus; runs = p.plan.runs; left = p.plan.left; instr = p.plan.wants.wants.instr; wants = p.plan.wants };
+}
 
 -- the locus has the instruction of its plan next
 pub has_next : (cs : List Cell) (me : ℕ) (i : Instr) (r : Reach) → IsPlannedAt cs me i r → HasNext me cs i

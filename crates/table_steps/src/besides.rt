@@ -5,16 +5,16 @@ ghost use Rattle.table_laws.specs.Steps.{IsInOrder, IsPlannedAt, StepsQuietly};
 ghost use Rattle.table_laws.specs.Tables.{AreFewWrites};
 
 use base_types::{Entity, Entry, Instr};
-use table_laws::{Cell, advance_alone, advance_beside};
+use table_laws::{Act, Cell, advance_alone, advance_beside};
 
-/// A step that touches the locus alone.
-pub(crate) fn go_alone(cells: &mut [Cell], me: Entity, instr: Instr) -> Entry
+/// A step by this act, which touches the locus alone.
+pub(crate) fn go_alone(cells: &mut [Cell], me: Entity, act: Act) -> Entry
     requires order { IsInOrder cells.old }
-    requires planned { IsPlannedAt cells.old me instr reach.Alone }
+    requires planned { IsPlannedAt cells.old me act.instr (reach.Alone act) }
     requires few { AreFewWrites cells.old }
     ensures { StepsQuietly me cells.old cells.new result }
 {
-    advance_alone(&mut cells[me.number() as usize], instr)
+    advance_alone(&mut cells[me.number() as usize], act)
 }
 
 /// A step beside an entity with a lower number.

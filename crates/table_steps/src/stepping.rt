@@ -69,7 +69,7 @@ fn go<B: PageStore, S: Supplier, P: Policy>(
     ensures pages { PagesOnce B.PageStore store.old store.new result }
 {
     match reach {
-        Reach::Alone => Ok(go_alone(cells, me, instr)),
+        Reach::Alone(act) => Ok(go_alone(cells, me, act)),
         Reach::Beside(other) => Ok(go_beside(cells, me, other, instr)),
         Reach::Look(other) => go_look(cells, me, other, instr, store, gate),
         Reach::Mapping(other) => Ok(go_mapping(cells, me, other, instr)),

@@ -5,8 +5,10 @@ use Rattle.cell_states.proofs.alone.act_alone.Goals as goal
 
 pub on_itself-requires-clause-wants : goal.on_itself-requires-clause-wants
 on_itself-requires-clause-wants c =
-    (itself_at c.args.me _ (locus_of c.args.locus.now) (act_of c.wants-act.result) c.wants-act.ensures.act (c.wants-act.ensures.seen c.args.me) c.requires.alone c.in-Some.is).1
+    let own = c.requires.acts in
+    (itself_at c.args.me _ (locus_of c.args.locus.now) (act_of c.args.act) own.wants.is (own.wants.seen c.args.me) own.alone c.in-Some.is).1
 
-pub local-requires-clause-alone : goal.local-requires-clause-alone
-local-requires-clause-alone c =
-    alone_at c.args.me (locus_of c.args.locus.now) (act_of c.wants-act.result) c.wants-act.ensures.act (c.wants-act.ensures.seen c.args.me) c.requires.alone c.in-None.is
+pub perform-requires-clause-alone : goal.perform-requires-clause-alone
+perform-requires-clause-alone c =
+    let own = c.requires.acts in
+    alone_at c.args.me (locus_of c.args.locus.now) (act_of c.args.act) own.wants.is (own.wants.seen c.args.me) own.alone c.in-None.is

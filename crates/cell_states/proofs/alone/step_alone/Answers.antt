@@ -12,6 +12,6 @@ returns-clause-step c s words w has =
     let l = locus_of run.0 in
     let act = wanted c.args.cell.now.clock.entity l in
     let is = ap (part_of s words) run.1.is in
-    stepped_alone s words w c.args.cell.now _ l c.act_in_part-answer.result c.write_one.result has is run.1.runs run.2
+    stepped_alone s words w c.args.cell.now _ l c.act_in_part-answer.result c.write_one.result has is run.1.runs run.2.alone
     (c.act_in_part-answer.ensures s words l (seen_atlas w act.atlas) (seen_other w act.other) is)
     c.write_one.ensures.entity (λ j. c.write_one.ensures.carries w has.clock j)
