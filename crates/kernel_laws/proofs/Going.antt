@@ -20,7 +20,8 @@ use Rattle.kernel_invariant.specs.store_books.Between.{OnlyPages, stores_left}
 use Rattle.kernel_invariant.specs.store_books.Books.{kept_of}
 use Rattle.kernel_invariant.specs.Beginnings.{Beginning, IsLegal, completed, run_of, with_tried}
 use Rattle.kernel_invariant.specs.Left.{LeavesCuts, marks_with}
-use Rattle.kernel_invariant.specs.Live.{HasMarks, HoldsCommits, IsLive, IsRunning, KernelView, Stopped}
+use Rattle.kernel_invariant.specs.Live.{HasMarks, HoldsCommits, IsLive, IsRunning, KernelView}
+use Rattle.kernel_invariant.specs.declared.stopping.Stopped.{Stopped}
 use Rattle.kernel_invariant.specs.Records.{AreKeptRecords, StoresCommits}
 use Rattle.kernel_invariant.proofs.Apart.{kept_apart}
 use Rattle.kernel_invariant.proofs.Leaving.{last_may}

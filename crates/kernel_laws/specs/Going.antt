@@ -10,7 +10,8 @@ use Rattle.kernel_invariant.specs.store_books.Owning.{AreOwned}
 use Rattle.kernel_invariant.specs.Beginnings.{Beginning, IsLegal, completed}
 use Rattle.kernel_invariant.specs.Left.{StoresNext}
 use Rattle.kernel_invariant.specs.Marks.{completes, is_step}
-use Rattle.kernel_invariant.specs.Live.{Follows, HoldsCommits, KernelView, Stopped}
+use Rattle.kernel_invariant.specs.Live.{Follows, HoldsCommits, KernelView}
+use Rattle.kernel_invariant.specs.declared.stopping.Stopped.{Stopped}
 
 -- the history is a legal run, and the cells are what it makes
 pub record IsRight (b : Beginning) (k : KernelView) : Type 0 where
