@@ -27,7 +27,7 @@ is_above cut x c = c.entity == x && nat_le (cut x) c.version
 pub above_cons : (c : Commit) (cs : List Commit) (cut : ℕ → ℕ) (x : ℕ) → commits_above (c ∷ cs) cut x ≡ cond (is_above cut x c) 1 0 + commits_above cs cut x
 above_cons c cs cut x = sum_by-cons (λ (c : Commit). cond (is_above cut x c) 1 0) c cs
 
-above_append : (cs ds : List Commit) (cut : ℕ → ℕ) (x : ℕ) → commits_above (cs ++ ds) cut x ≡ commits_above cs cut x + commits_above ds cut x
+pub above_append : (cs ds : List Commit) (cut : ℕ → ℕ) (x : ℕ) → commits_above (cs ++ ds) cut x ≡ commits_above cs cut x + commits_above ds cut x
 above_append cs ds cut x = sum_by-append (λ (c : Commit). cond (is_above cut x c) 1 0) cs ds
 
 fewer_one : (e : Bool) (p q v : ℕ) → p ≤ q → cond (e && nat_le q v) 1 0 ≤ cond (e && nat_le p v) 1 0
@@ -38,7 +38,7 @@ fewer_one true p q v h = elim (nat_le q v) as (λ b. nat_le q v ≡ b → cond b
 ] refl
 
 -- a higher cut has fewer above it
-above_fewer : (cs : List Commit) (p q : ℕ → ℕ) (x : ℕ) → IsBelow p q → commits_above cs q x ≤ commits_above cs p x
+pub above_fewer : (cs : List Commit) (p q : ℕ → ℕ) (x : ℕ) → IsBelow p q → commits_above cs q x ≤ commits_above cs p x
 above_fewer [] p q x below = omega arith
 above_fewer (c ∷ cs) p q x below =
     let a = above_cons c cs p x in

@@ -2,12 +2,13 @@
 //! the course, a Snap at a time, and what stands where a call was stopped. The functions do nothing: the contract of each is a law.
 #![tactic(auto)]
 
-ghost use Rattle.std.specs.Prelude.{◌≡◌, ◌≤◌, ◌<◌, ◌+◌, ◌*◌, ◌++◌, ◌∷◌, [], ◌&&◌, ◌⊎◌, not, true, false, ℕ, List, length, drop, slice_get, if◌then◌else◌, None, Some};
+ghost use Rattle.std.specs.Prelude.{◌≡◌, ◌≤◌, ◌<◌, ◌+◌, ◌*◌, ◌++◌, ◌∷◌, [], ◌&&◌, ◌⊎◌, not, true, false, ℕ, List, length, drop, filter, slice_get, if◌then◌else◌, None, Some};
+ghost use Rattle.base_types.specs.Edges.{upto};
 ghost use Rattle.base_types.specs.declared.histories.Entry.{Entry};
 ghost use Rattle.base_types.specs.declared.histories.Event.TheVariants.{Snap, Stable, Tried};
 ghost use Rattle.base_types.specs.declared.histories.Touch.{Touch};
 ghost use Rattle.model_serial.specs.model_kernel.Births.{next_birth};
-ghost use Rattle.model_serial.specs.model_kernel.Histories.{May, Policy, Run, births_owed, goes_on, has_wish, is_full, mark, next_changed, run_after, start_run, version_of};
+ghost use Rattle.model_serial.specs.model_kernel.Histories.{May, Policy, Run, births_owed, commits_of, goes_on, has_changed, has_wish, is_full, mark, next_changed, run_after, start_run, version_of};
 ghost use Rattle.model_serial.specs.model_kernel.Scripts.{Script, locus_named};
 ghost use Rattle.model_serial.specs.model_kernel.Serial.{all_loci, can_step, looks_of};
 ghost use Rattle.model_serial.specs.model_kernel.Soundness.{IsSound};
@@ -16,6 +17,7 @@ ghost use Rattle.model_serial.specs.model_kernel.Steps.{atlas_in, step};
 ghost use Rattle.model_serial.specs.script_types.Rules.{IsScript};
 ghost use Rattle.model_serial.specs.model_births.Fitting.{Fits};
 ghost use Rattle.model_serial.specs.Serial.{IsBehind, IsCalm, IsFront, IsStopped, IsWhole, first_snaps, look, looks, opening, serial_history, steps_left, wished_snap, wished_snaps, written_in};
+ghost use Rattle.model_serial_turns.specs.Rising.{MakesRising, Rises, entities_of};
 ghost use Rattle.model_serial_turns.specs.Turns.{ComeFirst, HasLooked, IsAtRest, IsBearing, IsStoppedIn, before_locus, before_pick, opened};
 
 /// The births, one after another. The run begins in the middle of them, with none made. Each birth is one more, as long as a name is still
@@ -85,6 +87,13 @@ pub fn snaps_law()
     ensures written { (touched : List Touch) (i : ℕ) (t : Touch) → slice_get touched i ≡ Some t
         → written_in (drop i touched) ≡ (if t.wrote then t.entity ∷ written_in (drop (i + 1) touched) else written_in (drop (i + 1) touched)) }
     ensures last { (touched : List Touch) → written_in (drop (length touched) touched) ≡ [] }
+{}
+
+/// The commits that a look adds ascend by entity, one of each at most; and so do those of a Stable, as at the end of the births. So who follows
+/// a run finds its new commits, in their order, by asking each entity in turn for its newest.
+pub fn look_commits_law()
+    ensures look { (s : Supply) (policy : Policy) (script : Script) (r : Run) (l : ℕ) → MakesRising s script r (look s policy script r l) }
+    ensures stable { (r : Run) → Rises (entities_of (commits_of r (filter (has_changed r) (upto 64)))) }
 {}
 
 /// The course of looks: the picks of the order, one after another, and then the loci by number, 41 to 63, round after round.

@@ -120,6 +120,20 @@ pub fn bounded_run_law()
         → commits_above (commits_in s script w es) (run_after s script (start_run w) es).cut x ≤ 4 }
 {}
 
+/// Of each front of a run's commits, wherever it ends, at most five of each entity and so 320 in all are at or above its own cut: also where it
+/// ends in the middle of a Stable, or in the records of the start; and also over choices that begin with nothing, as an image's do (`image`).
+pub fn front_room_law()
+    ensures five { (s : Supply) (policy : Policy) (script : Script) (w : KernelState) (es : List Entry) (cs later : List Commit) (x : ℕ)
+        → IsSoundRun s policy script w es → commits_in s script w es ≡ cs ++ later
+        → commits_above cs (greatest (λ x. (w x).version) cs) x ≤ 5 }
+    ensures few { (s : Supply) (policy : Policy) (script : Script) (w : KernelState) (es : List Entry) (cs later : List Commit)
+        → IsSoundRun s policy script w es → commits_in s script w es ≡ cs ++ later
+        → count_by (λ c. nat_le (greatest (λ x. (w x).version) cs c.entity) c.version) cs ≤ 320 }
+    ensures image { (s : Supply) (policy : Policy) (script : Script) (w : KernelState) (es : List Entry) (cs later : List Commit) (q : ℕ → ℕ)
+        → IsSoundRun s policy script w es → commits_in s script w es ≡ cs ++ later → IsGreatest nothing cs q
+        → count_by (λ c. nat_le (q c.entity) c.version) cs ≤ 320 }
+{}
+
 /// Over the records of the start and whatever commits follow them, the greatest closed choice is the same where choices begin with the
 /// versions of the start, as a run's do, and where they begin with nothing, as an image's do.
 pub fn opened_choice_law()

@@ -99,13 +99,17 @@ module _ (cut : ℕ → ℕ) where
             omega (arith, rest, count, more))
       ] refl count
 
+-- where at most five of each are at or above it, 320 of all are
+pub few_by_five : (cut : ℕ → ℕ) (cs : List Commit) → AreSmall cs → ((x : ℕ) → commits_above cs cut x ≤ 5) → count_by (is_kept cut) cs ≤ 320
+few_by_five cut cs small five =
+    let sum = kept_sum cut cs small in
+    let most : total (λ x. commits_above cs cut x) 64 ≤ total (λ _. 5) 64 = total_mono (λ x. commits_above cs cut x) (λ _. 5) five 64 in
+    let all : total (λ _. 5) 64 ≡ 64 * 5 = total_const 5 64 in
+    omega (arith, sum, most, all)
+
 pub kept_few : (s : Supply) (policy : Policy) (script : Script) (w : KernelState) (es : List Entry) → IsScript script → All (NotLocus (atlas_in (w 0).cell)) script.containers → IsSound (λ x. (w x).cell)
     → StampsBelow w → OnlyBelow64 (λ x. (w x).version) → IsLegalRun s policy w script es
     → count_by (is_kept (run_after s script (start_run w) es).cut) (run_after s script (start_run w) es).commits ≤ 320
 kept_few s policy script w es rules kinds sound below none legal =
-    let r = run_after s script (start_run w) es in
-    let low = legal_below s policy script rules w es kinds sound legal in
-    let sum = kept_sum r.cut r.commits (small_after s policy script rules w es kinds sound legal) in
-    let most : total (λ x. commits_above r.commits r.cut x) 64 ≤ total (λ _. 5) 64 = total_mono (λ x. commits_above r.commits r.cut x) (λ _. 5) (λ x. at_most_five s policy script w es x below none low legal) 64 in
-    let all : total (λ _. 5) 64 ≡ 64 * 5 = total_const 5 64 in
-    omega (arith, sum, most, all)
+    few_by_five (run_after s script (start_run w) es).cut (run_after s script (start_run w) es).commits (small_after s policy script rules w es kinds sound legal)
+    (λ x. at_most_five s policy script w es x below none (legal_below s policy script rules w es kinds sound legal) legal)
