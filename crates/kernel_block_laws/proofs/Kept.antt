@@ -102,7 +102,7 @@ count_key x (l ∷ ls) =
     let rest = count_key x ls in
     omega (arith, a, b, rest)
 
-kept_list : (image : Image) (ls : List Logged) → recs_of (map (kept_for image) ls) ≡ logged_recs ls
+pub kept_list : (image : Image) (ls : List Logged) → recs_of (map (kept_for image) ls) ≡ logged_recs ls
 kept_list image [] = refl
 kept_list image (l ∷ ls) = ap (λ (rs : List Rec). l.rec ∷ rs) (kept_list image ls)
 
@@ -132,11 +132,11 @@ count_from q x (c ∷ cs) =
     by_test true = count_more (λ (d : Commit). d.entity == x) c (from_cut q cs)
     by_test false = refl
 
-small_filter : (q : ℕ → ℕ) (cs : List Commit) → AllCommits (λ c. c.entity < 64) cs → AllCommits (λ c. c.entity < 64) (from_cut q cs)
-small_filter q [] all = tt
-small_filter q (c ∷ cs) all = by_test (is_from q c) (small_filter q cs all.1)
+pub all_from : (P : Commit → Type 0) (q : ℕ → ℕ) (cs : List Commit) → AllCommits P cs → AllCommits P (from_cut q cs)
+all_from P q [] all = tt
+all_from P q (c ∷ cs) all = by_test (is_from q c) (all_from P q cs all.1)
   where
-    by_test : (t : Bool) → AllCommits (λ c. c.entity < 64) (from_cut q cs) → AllCommits (λ c. c.entity < 64) (if t then c ∷ from_cut q cs else from_cut q cs)
+    by_test : (t : Bool) → AllCommits P (from_cut q cs) → AllCommits P (if t then c ∷ from_cut q cs else from_cut q cs)
     by_test true rest = (all.0, rest)
     by_test false rest = rest
 
@@ -148,7 +148,7 @@ each_filter P f (l ∷ ls) (one, all) = by_test (f l) (each_filter P f ls all)
     by_test true rest = (one, rest)
     by_test false rest = rest
 
-long_list : (ls : List Logged) → length ls ≡ length (commits_of (logged_recs ls))
+pub long_list : (ls : List Logged) → length ls ≡ length (commits_of (logged_recs ls))
 long_list [] = refl
 long_list (l ∷ ls) = ap suc (long_list ls)
 
@@ -209,7 +209,7 @@ module _ (b : Beginning) (es : List Entry) (right : BeginsRight b) (legal : IsLe
 
   kept_small : AllCommits (λ c. c.entity < 64) (commits_of (logged_recs (kept_in bk)))
   kept_small =
-      subst (AllCommits (λ c. c.entity < 64)) (sym kept_is) (small_filter (run_of b es).cut (completed b es) (small_after b.supply b.policy b.script right.script b.state es right.names right.sound.sound legal))
+      subst (AllCommits (λ c. c.entity < 64)) (sym kept_is) (all_from (λ c. c.entity < 64) (run_of b es).cut (completed b es) (small_after b.supply b.policy b.script right.script b.state es right.names right.sound.sound legal))
 
   abbrev room_now : ℕ → ℕ
   room_now x = cell_room (state_after b es x).cell

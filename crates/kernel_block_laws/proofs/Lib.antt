@@ -6,4 +6,6 @@ pub mod Sums
 pub mod Kept
 pub mod Enough
 pub mod Owned
+pub mod Next
 pub use Rattle.kernel_invariant.proofs.store_books_lemmas
+pub use Rattle.kernel_invariant.proofs as kernel_invariant_lemmas

@@ -2,8 +2,11 @@
 //! nothing: the contract of each is a law.
 #![tactic(auto)]
 
-ghost use Rattle.std.specs.Prelude.{◌==◌, count_by, [], ◌∷◌, ◌++◌, ◌≡◌, ◌≤◌, ◌+◌, ◌*◌, ◌⊎◌, ℕ, Contains, List, None, false, length};
+ghost use Rattle.std.specs.Prelude.{◌==◌, count_by, [], ◌∷◌, ◌++◌, ◌≡◌, ◌≤◌, ◌<◌, ◌+◌, ◌*◌, ◌⊎◌, ℕ, All, Contains, List, None, false, length};
 ghost use Rattle.base_types.specs.declared.histories.Entry.{Entry};
+ghost use Rattle.kernel_invariant.specs.model_cut_laws.Agreeing.{AgreeFromCut, nothing};
+ghost use Rattle.kernel_invariant.specs.model_cut_laws.Records.{commit_of, commits_of};
+ghost use Rattle.kernel_invariant.specs.model_kernel.Choices.{Commit, IsNarrow};
 ghost use Rattle.kernel_invariant.specs.model_kernel.Histories.{commits_above};
 ghost use Rattle.kernel_invariant.specs.image_facts.Layout.{pool_at};
 ghost use Rattle.kernel_invariant.specs.image_facts.Logs.{AreFitting};
@@ -54,4 +57,19 @@ pub fn room_law<D: Disk>()
         → all_pages (state_after b k.history) + 8 * all_born (state_after b k.history) ≤ free_in k.books }
     ensures calm { (b : Beginning) (es : List Entry) → BeginsRight b → IsLegal b es → (run_of b es).owed ≡ None
         → (run_of b es).short ≡ false }
+{}
+
+/// Of a store whose log has the first commits of a run, as a second node's that follows it: it keeps at most 320 records (`room`); each record of its
+/// log of the next commit's entity, kept or not, has a lower version (`newer`); and behind a record of the next commit, with a turn of the log or
+/// without, the log has the commits and that one (`grows`). This is said of the log in memory alone, so it holds over each disk.
+pub fn next_record_law()
+    ensures room { (b : Beginning) (es : List Entry) (cs later : List Commit) (bk : Books) → BeginsRight b → IsLegal b es
+        → completed b es ≡ cs ++ later → AgreeFromCut nothing cs (commits_of (recs_in bk)) → IsNarrow (commits_of (recs_in bk))
+        → length (kept_in bk) ≤ 320 }
+    ensures newer { (b : Beginning) (es : List Entry) (cs later : List Commit) (c : Commit) (bk : Books) → IsLegal b es
+        → completed b es ≡ cs ++ c ∷ later → AgreeFromCut nothing cs (commits_of (recs_in bk)) → IsNarrow (commits_of (recs_in bk))
+        → All (λ r. r.entity ≡ c.entity → r.version < c.version) (recs_in bk) }
+    ensures grows { (cs : List Commit) (l : Logged) (bk new : Books) → AgreeFromCut nothing cs (commits_of (recs_in bk))
+        → IsNarrow (commits_of (recs_in bk)) → (new.logged ≡ bk.logged ++ l ∷ []) ⊎ (new.logged ≡ kept_in bk ++ l ∷ [])
+        → IsNarrow (commits_of (recs_in new)) → AgreeFromCut nothing (cs ++ commit_of l.rec ∷ []) (commits_of (recs_in new)) }
 {}

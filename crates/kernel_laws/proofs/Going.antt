@@ -27,7 +27,7 @@ use Rattle.kernel_invariant.proofs.Apart.{kept_apart}
 use Rattle.kernel_invariant.proofs.Leaving.{last_may}
 use Rattle.kernel_invariant.proofs.Staying.{records_stay}
 use Rattle.kernel_invariant.proofs.Stretches.{cuts_over_entry, cuts_over_event, cuts_over_pages, leaves_map}
-use Rattle.kernel_laws.specs.Going.{MadeEvent, MadeSnap, StoppedAtCommit, StoppedBetween}
+use Rattle.kernel_laws.specs.Going.{MadeEvent, MadeSnap, OnlyReads, StoppedAtCommit, StoppedBetween}
 use Rattle.kernel_laws.proofs.Marking.{Marked, get_more, marks_grow, marks_stay}
 
 pub count_steps : (fs gs : List Entry) → count_by is_step (fs ++ gs) ≡ count_by is_step fs + count_by is_step gs
@@ -251,6 +251,51 @@ module _ {D : Type 0} (b : Beginning) (disks : Ghosts D)
                 (subst (λ (ms : List ℕ). LeavesCuts b disks old.history ms after) (sym m.marks) (pages_cuts told m.was_going m.pages.0 m.pages.1 p));
           };
           calm = λ none. stopped_not m.why m.stop none;
+        }
+
+    -- READS
+
+    reads_hold : OnlyReads b disks old new disk after → disks.tells → Holds new after
+    reads_hold m told =
+        let p = m.pages.2 in
+        let h = r.stored told m.was_going in
+        record {
+          working = m.working;
+          looked = p.same_found ∙ h.looked;
+          books = p.true_books told h.books;
+          small = record { recs = p.same_small ∙ h.small.recs; epoch = subst (λ q. q.epoch < last_number) (sym p.same_place) h.small.epoch };
+          epoch = (
+              let low = h.epoch in
+              let place = ap (λ (q : Place). q.epoch) p.same_place in
+              let commits : length (completed b new.history) ≡ length (completed b old.history) = ap (λ (es : List Entry). length (completed b es)) m.history in
+              omega (arith, low, place, commits));
+          owned = m.owned;
+          records = subst (λ (es : List Entry). AreKeptRecords b es (completed b es) (kept_of (disks.reading after) new.books)) (sym m.history)
+              (subst (AreKeptRecords b old.history (completed b old.history)) (sym (p.same_kept told)) h.records);
+        }
+
+    pub reads_run : OnlyReads b disks old new disk after → Runs new after
+    reads_run m =
+        let p = m.pages.2 in
+        record {
+          begins = r.begins;
+          legal = subst (IsLegal b) (sym m.history) r.legal;
+          follows = m.follows;
+          marks = record {
+            each = subst (λ (es : List Entry). Marked b es new.marks) (sym m.history) (subst (λ (ms : List ℕ). Marked b old.history ms) (sym m.marks) r.marks.each);
+            top = λ i a is. (let low = r.marks.top i a (subst (λ (ms : List ℕ). slice_get ms i ≡ Some a) m.marks is) in let rise = p.begun in omega (arith, low, rise));
+            few = λ none. (
+                let few = r.marks.few m.was_going in
+                let same = m.none_written in
+                let commits : length (completed b new.history) ≡ length (completed b old.history) = ap (λ (es : List Entry). length (completed b es)) m.history in
+                let steps : count_by is_step new.history ≡ count_by is_step old.history = ap (count_by is_step) m.history in
+                omega (arith, few, same, commits, steps));
+          };
+          stored = λ told _. reads_hold m told;
+          time = λ short. p.counts.same b.since (r.time (let le = p.later in omega (arith, le, short))) short;
+          later = (let low = r.later in let le = p.later in omega (arith, low, le));
+          moments = λ told. subst (λ (es : List Entry). LeavesCuts b disks es new.marks after) (sym m.history)
+              (subst (λ (ms : List ℕ). LeavesCuts b disks old.history ms after) (sym m.marks) (pages_cuts told m.was_going m.pages.0 m.pages.1 p));
         }
 
     module _ (e : Entry) (m : StoppedAtCommit b disks old new disk after e) where

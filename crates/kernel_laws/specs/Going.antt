@@ -60,6 +60,18 @@ module _ {D : Type 0} (b : Beginning) (disks : Ghosts D) (old new : KernelView) 
     pub follows : Follows b new
     pub pages : WentByPages
 
+  -- PAGES AND BLOBS WERE READ: nothing was written, and the kernel holds what it did
+  pub record OnlyReads : Type 0 where
+    pub was_going : old.stop ≡ None
+    pub going : new.stop ≡ None
+    pub history : new.history ≡ old.history
+    pub marks : new.marks ≡ old.marks
+    pub follows : Follows b new
+    pub pages : WentByPages
+    pub working : new.books.shut ≡ false
+    pub owned : AreOwned new.books new.tables
+    pub none_written : new.books.begun ≡ old.books.begun
+
   -- A COMMIT THAT FAILED: its record may or may not be found, and the history ends with its Tried
   pub record StoppedAtCommit (e : Entry) : Type 0 where
     pub was_going : old.stop ≡ None

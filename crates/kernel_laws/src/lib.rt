@@ -17,14 +17,14 @@ ghost use Rattle.kernel_invariant.specs.Beginnings.{Beginning, BeginsRight, IsLe
 ghost use Rattle.kernel_invariant.specs.Left.{HoldAcknowledged, IsCutImage};
 ghost use Rattle.kernel_invariant.specs.Live.{IsLive, IsRunning, KernelView};
 ghost use Rattle.kernel_invariant.specs.Records.{AreKeptRecords, StoresSome};
-ghost use Rattle.kernel_laws.specs.Going.{MadeEvent, MadeSnap, MadeStable, StoppedAtCommit, StoppedBetween};
+ghost use Rattle.kernel_laws.specs.Going.{MadeEvent, MadeSnap, MadeStable, OnlyReads, StoppedAtCommit, StoppedBetween};
 ghost use Rattle.kernel_laws.specs.Opening.{HasNoBirths, KeepsChosen, StandsAtStart, empty_script, with_script};
 
 use edge_disk::Disk;
 use image_state_laws::meant_state_law;
 
-/// A kernel's record goes on: over a birth or a step; over a commit with its Snap; and over a Stable, in the place of the Snaps of its
-/// records. A kernel that stops, between entries or at a commit that failed, is live.
+/// A kernel's record goes on: over a birth or a step; over a commit with its Snap; over a Stable, in the place of the Snaps of its
+/// records; and over reads of what is stored. A kernel that stops, between entries or at a commit that failed, is live.
 pub fn going_law<D: Disk>()
     ensures event { (b : Beginning) (old new : KernelView) (disk after : D) (e : Entry)
         → IsRunning b D.Disk old disk
@@ -40,6 +40,10 @@ pub fn going_law<D: Disk>()
     ensures stop { (b : Beginning) (old new : KernelView) (disk after : D)
         → IsRunning b D.Disk old disk
         → StoppedBetween b D.Disk old new disk after
+        → IsLive b D.Disk new after }
+    ensures reads { (b : Beginning) (old new : KernelView) (disk after : D)
+        → IsLive b D.Disk old disk
+        → OnlyReads b D.Disk old new disk after
         → IsLive b D.Disk new after }
     ensures tried { (b : Beginning) (old new : KernelView) (disk after : D) (e : Entry)
         → IsRunning b D.Disk old disk
