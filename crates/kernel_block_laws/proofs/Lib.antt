@@ -7,5 +7,6 @@ pub mod Kept
 pub mod Enough
 pub mod Owned
 pub mod Next
+pub mod Unchanged
 pub use Rattle.kernel_invariant.proofs.store_books_lemmas
 pub use Rattle.kernel_invariant.proofs as kernel_invariant_lemmas

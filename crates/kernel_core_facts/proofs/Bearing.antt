@@ -25,7 +25,7 @@ use Rattle.kernel_commits.specs.kernel_views.Snaps.{Stands}
 use Rattle.kernel_commits.specs.kernel_views.Views.{FollowsRun, view_in}
 use Rattle.kernel_commits.proofs.kernel_views_lemmas.Flushing.{owned_again}
 use Rattle.kernel_commits.proofs.kernel_views_lemmas.Following.{cells_follow, follows}
-use Rattle.kernel_commits.proofs.kernel_views_lemmas.Keeping.{blob_high}
+use Rattle.kernel_commits.proofs.kernel_block_laws_lemmas.Unchanged.{blob_high}
 use Rattle.kernel_commits.proofs.kernel_views_lemmas.Legal.{legal_then, run_next}
 use Rattle.kernel_core_facts.specs.Births.{BearsOver}
 

@@ -18,7 +18,7 @@ use Rattle.table_laws.specs.Tables.{HasNews, IsOrderly, blocks_by, memory_at, ta
 use Rattle.table_laws.specs.Lending.{Lends}
 use Rattle.kernel_laws.proofs.kernel_invariant_lemmas.Apart.{page_names}
 use Rattle.kernel_records.specs.Flushing.{Flushes}
-use Rattle.kernel_views.proofs.Keeping.{blob_named, kept_named}
+use Rattle.kernel_records.proofs.kernel_block_laws_lemmas.Unchanged.{blob_named, kept_named}
 use Rattle.kernel_views.proofs.Others.{held_at}
 use Rattle.kernel_laws.proofs.store_books_lemmas.Owners.{place_in}
 

@@ -1,7 +1,6 @@
 pub mod Following
 pub mod Words
 pub mod Others
-pub mod Keeping
 pub mod Flushing
 pub mod Legal
 pub mod Ordering

@@ -37,7 +37,7 @@ use Rattle.kernel_records.proofs.cell_wish_laws_lemmas.Recorded.{other_wish, sna
 use Rattle.kernel_views.specs.Views.{FollowsRun, view_in}
 use Rattle.kernel_views.specs.Snaps.{CommitsOne}
 use Rattle.kernel_views.proofs.Following.{follows}
-use Rattle.kernel_views.proofs.Keeping.{blob_high, kept_same}
+use Rattle.kernel_records.proofs.kernel_block_laws_lemmas.Unchanged.{blob_high, kept_same}
 use Rattle.kernel_views.proofs.Legal.{legal_then, run_next}
 use Rattle.kernel_views.proofs.Leaving.{LeftCell, clean_after, clean_before, follows_before, had, kept_clock, kept_entity, numbered, numbered_after, place_of, small_both, state_same, stood, version_is}
 use Rattle.kernel_views.proofs.Storing.{IsNextEntry, hold, kept_record, next_commits, owned_by_pages, records0, same_books, stored, stores_next, stores_still, table_there}

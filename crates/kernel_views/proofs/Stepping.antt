@@ -25,7 +25,7 @@ use Rattle.kernel_views.specs.Snaps.{Stands}
 use Rattle.kernel_views.specs.Views.{FollowsRun, view_in}
 use Rattle.kernel_views.proofs.Flushing.{owned_again}
 use Rattle.kernel_views.proofs.Following.{cells_follow, follows}
-use Rattle.kernel_views.proofs.Keeping.{blob_high}
+use Rattle.kernel_records.proofs.kernel_block_laws_lemmas.Unchanged.{blob_high}
 use Rattle.kernel_views.proofs.Legal.{legal_then, run_next}
 use Rattle.kernel_records.specs.model_run_laws.StepEntries.{is_step as is_step_event}
 

@@ -38,7 +38,7 @@ use Rattle.kernel_laws.proofs.kernel_invariant_lemmas.Staying.{records_stay}
 use Rattle.kernel_laws.proofs.kernel_invariant_lemmas.Telling.{told_record as kept_told}
 use Rattle.kernel_views.specs.Views.{view_in}
 use Rattle.kernel_views.proofs.Flushing.{goes, one_news, owned_again, within_at}
-use Rattle.kernel_views.proofs.Keeping.{blob_high}
+use Rattle.kernel_records.proofs.kernel_block_laws_lemmas.Unchanged.{blob_high}
 use Rattle.kernel_views.proofs.Leaving.{LeftCell, clean_before, had, kept_clock, kept_entity, place_of, same_table, stood, version_is}
 use Rattle.kernel_laws.proofs.store_books_lemmas.Owners.{place_in}
 

@@ -4,14 +4,13 @@ use Rattle.std.specs.Prelude.{Contains}
 use Rattle.std.proofs.lemmas.Bool.{cases_lt, false≢true, or_left, or_right}
 use Rattle.std.specs.List.{AllByRecursion, concat, flat_map, list_any}
 use Rattle.edge_disk.specs.Image.{Image, block_at}
-use Rattle.kernel_laws.specs.image_facts.Bodies.{blob_blocks, blob_in}
-use Rattle.kernel_laws.specs.image_facts.Layout.{pool_at}
-use Rattle.kernel_laws.specs.image_meaning.Stores.{Kept, Page}
-use Rattle.kernel_laws.proofs.kernel_invariant_lemmas.Apart.{any_passes}
-use Rattle.kernel_laws.proofs.kernel_invariant_lemmas.Naming.{behind, first_in}
-use Rattle.kernel_laws.specs.store_books.Books.{AreApartFrom, Books, IsApart, IsBeforePool, Logged, is_used, kept_for, kept_in, kept_names, kept_of, names, page_for}
-use Rattle.kernel_laws.specs.store_books.Owning.{NamesPage}
-use Rattle.kernel_records.specs.store_facts.Committed.{SameUsed}
+use Rattle.kernel_invariant.specs.image_facts.Bodies.{blob_blocks, blob_in}
+use Rattle.kernel_invariant.specs.image_facts.Layout.{pool_at}
+use Rattle.kernel_invariant.specs.image_meaning.Stores.{Kept, Page}
+use Rattle.kernel_invariant.proofs.Apart.{any_passes, page_names}
+use Rattle.kernel_invariant.proofs.Naming.{behind, first_in}
+use Rattle.kernel_invariant.specs.store_books.Books.{AreApartFrom, Books, IsApart, IsBeforePool, Logged, is_used, kept_for, kept_in, kept_names, kept_of, names, page_for}
+use Rattle.kernel_invariant.specs.store_books.Owning.{NamesPage}
 
 -- A BLOCK OF A KEPT RECORD IS IN USE
 
@@ -22,14 +21,10 @@ not_zero n high = by_test (n == 0) refl
     by_test true is = absurd (let zero_is = eqb-true n 0 is in omega (arith, high, zero_is))
     by_test false is = refl
 
-named_by : (n : ℕ) (l : Logged) → pool_at ≤ n → (list_any (λ m. m == n) (blob_blocks l.rec) || list_any (λ m. m == n) l.table) ≡ true → names n l ≡ true
-named_by n l high is = ap (λ t. not t && (list_any (λ m. m == n) (blob_blocks l.rec) || list_any (λ m. m == n) l.table)) (not_zero n high) ∙ is
-
 pub blob_named : (n : ℕ) (l : Logged) → pool_at ≤ n → Contains (blob_blocks l.rec) n → names n l ≡ true
-blob_named n l high within = named_by n l high (or_left _ _ (any_passes (λ (m : ℕ). m == n) (blob_blocks l.rec) n within (eq-eqb n n refl)))
-
-page_named : (n : ℕ) (l : Logged) → pool_at ≤ n → Contains l.table n → names n l ≡ true
-page_named n l high within = named_by n l high (or_right _ _ (any_passes (λ (m : ℕ). m == n) l.table n within (eq-eqb n n refl)))
+blob_named n l high within =
+    let there : list_any (λ (m : ℕ). m == n) (blob_blocks l.rec) ≡ true = any_passes (λ (m : ℕ). m == n) (blob_blocks l.rec) n within (eq-eqb n n refl) in
+    ap (λ t. not t && (list_any (λ m. m == n) (blob_blocks l.rec) || list_any (λ m. m == n) l.table)) (not_zero n high) ∙ or_left _ (list_any (λ m. m == n) l.table) there
 
 pub kept_named : (b : Books) (n : ℕ) (l : Logged) → Contains (kept_in b) l → names n l ≡ true → kept_names b n ≡ true
 kept_named b n l within is = or_right b.found (list_any (names n) (kept_in b)) (any_passes (names n) (kept_in b) l within is)
@@ -91,15 +86,16 @@ high_of n not_low = elim (cases_lt n pool_at) [
 pub blob_high : (b : Books) (image : Image) → AreApartFrom IsBeforePool (kept_of image b) → (l : Logged) (n : ℕ) → Contains (kept_in b) l → Contains (blob_blocks l.rec) n → pool_at ≤ n
 blob_high b image blobs l n kept within = high_of n (each_in (λ n. n < pool_at → ⊥) (blob_blocks l.rec) n (each_map (kept_for image) (IsApart IsBeforePool) (kept_in b) l blobs kept).blob within)
 
-module _ (b : Books) (old new : Image) (same : SameUsed b old new) (blobs : (l : Logged) (n : ℕ) → Contains (kept_in b) l → Contains (blob_blocks l.rec) n → pool_at ≤ n)
+module _ (b : Books) (old new : Image) (same : (n : ℕ) → pool_at ≤ n → is_used b n ≡ true → block_at new n ≡ block_at old n)
+    (blobs : (l : Logged) (n : ℕ) → Contains (kept_in b) l → Contains (blob_blocks l.rec) n → pool_at ≤ n)
     (pages : (l : Logged) (n : ℕ) → Contains (kept_in b) l → NamesPage l.table n → pool_at ≤ n) where
   used_by : (n : ℕ) (l : Logged) → Contains (kept_in b) l → names n l ≡ true → is_used b n ≡ true
   used_by n l within is = or_right (b.held n) (kept_names b n) (kept_named b n l within is)
 
-  -- the kept records as they were held are held so again
+  -- where the blocks in use are the same, the kept records as they were held are held so again
   pub kept_same : kept_of new b ≡ kept_of old b
   kept_same = kept_all old new (kept_in b) (λ l kept. kept_one old new l
       (λ n within. (let high = blobs l n kept within in same n high (used_by n l kept (blob_named n l high within))))
       (λ n within some. (
-      let high = pages l n kept ((λ zero_is. false≢true (sym some ∙ eq-eqb n 0 zero_is)), within) in
-      same n high (used_by n l kept (page_named n l high within)))))
+      let page : NamesPage l.table n = ((λ zero_is. false≢true (sym some ∙ eq-eqb n 0 zero_is)), within) in
+      same n (pages l n kept page) (used_by n l kept (page_names l n page)))))
