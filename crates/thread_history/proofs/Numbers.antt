@@ -22,19 +22,19 @@ without_nil : (n : ℕ) → without n [] ≡ []
 unfolding without
 without_nil n = refl
 
-or_first : (a b : Bool) → (a || b) ≡ false → a ≡ false
+pub or_first : (a b : Bool) → (a || b) ≡ false → a ≡ false
 or_first true b e = e
 or_first false b e = refl
 
-or_second : (a b : Bool) → (a || b) ≡ false → b ≡ false
+pub or_second : (a b : Bool) → (a || b) ≡ false → b ≡ false
 or_second true b e = absurd (true≢false e)
 or_second false b e = e
 
-or_none : (a b : Bool) → a ≡ false → b ≡ false → (a || b) ≡ false
+pub or_none : (a b : Bool) → a ≡ false → b ≡ false → (a || b) ≡ false
 or_none true b p q = p
 or_none false b p q = q
 
-not_same : (x y : ℕ) → eqb x y ≡ false → x ≢ y
+pub not_same : (x y : ℕ) → eqb x y ≡ false → x ≢ y
 not_same x y e same = true≢false (sym (eq-eqb x y same) ∙ e)
 
 among_without : (n y : ℕ) (xs : List ℕ) → is_among y xs ≡ false → is_among y (without n xs) ≡ false

@@ -10,7 +10,7 @@ use Rattle.atomic_table.specs.Table.{step, keeps, opening, Allows, Splits}
 use Rattle.atomic_table.proofs.Lists.{set_again}
 use Rattle.thread_history.specs.Rules.{Story, Knows, Fits, AllFit, IsTold, IsKept, IsChroniclers, opening_view, Looked, Shows, concerning, note_left, note_right, note_role, note_list, AllDiffer}
 use Rattle.thread_history.proofs.Lists.{prefix_self, prefix_nil, prefix_trans, set_same, concerning_prefix}
-use Rattle.thread_history.proofs.Fitting.{off, all_fit_set, known, chronicle_set, chronicle_more}
+use Rattle.thread_history.proofs.Fitting.{at_end, off, all_fit_set, known, chronicle_set, chronicle_more}
 
 module _ {A : Type 0} (concerns : A → ℕ → Bool) where
   -- MAKING
@@ -77,12 +77,6 @@ module _ {A : Type 0} (concerns : A → ℕ → Bool) where
   -- the seat that may enrol, after the seat id cut off the seat next
   abbrev enroller_after : Bool → ℕ → ℕ → ℕ
   enroller_after b next was = cond b next was
-
-  at_end : {A : Type 0} (l : List A) (a b : A) (j : ℕ) → get_elem? (l ++ a ∷ []) j ≡ some b → (get_elem? l j ≡ some b) ⊎ ((j ≡ length l) × (a ≡ b))
-  at_end [] a b zero e = inr (refl, some-injective a b e)
-  at_end [] a b (suc j) e = absurd (some-ne-none b (sym e))
-  at_end (x ∷ xs) a b zero e = inl e
-  at_end (x ∷ xs) a b (suc j) e = ⊎_elim (λ h. inl h) (λ (h : (j ≡ length xs) × (a ≡ b)). inr (ap suc h.0, h.1)) (at_end xs a b j e)
 
   module _ (t : Story A) (views : List (View A)) (id : ℕ) (v : View A) (all : AllFit t views) (at : get_elem? views id ≡ some v) where
     -- the others may not enrol where this one may

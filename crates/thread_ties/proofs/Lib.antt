@@ -1,0 +1,5 @@
+mod Giving
+mod Holding
+mod Lists
+mod Meeting
+mod Sharing
