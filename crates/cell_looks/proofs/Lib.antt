@@ -1,3 +1,4 @@
+pub mod Short
 pub mod Stored
 pub mod Actors
 pub mod LookSteps

@@ -1,5 +1,6 @@
 -- Looks over the cells of a locus and a container.
-use Rattle.std.specs.Prelude.{◌≡◌, ◌≤◌, ℕ, ◌*◌, Bool, true, false, List, Option, Some, None, unwrap_or}
+use Rattle.std.specs.Prelude.{◌≡◌, ◌≤◌, ℕ, ◌*◌, ◌/◌, Bool, true, false, List, Option, Some, None, unwrap_or}
+use Rattle.act_look.specs.edge_disk.declared.disk.NoBlocks.{NoBlocks}
 use Rattle.act_look.specs.page_store.declared.store.PageStore.{Ghosts}
 use Rattle.base_types.specs.declared.histories.Answer.{Answer}
 use Rattle.base_types.specs.declared.histories.Answer.TheVariants.{Read, Reply as Replied}
@@ -10,13 +11,14 @@ use Rattle.cell_states.specs.model_kernel.Acts.{wanted}
 use Rattle.cell_states.specs.model_kernel.Outcomes.{Outcome, outcome}
 use Rattle.cell_states.specs.model_kernel.State.{Supply, AtlasState, Cell, LocusState, NotBorn, AtlasCell, ContainerCell, LocusCell, KernelState}
 use Rattle.cell_states.specs.model_kernel.Steps.{running, step}
-use Rattle.act_look.specs.act_alone.Loci.{container_with}
+use Rattle.act_look.specs.act_alone.Loci.{container_with, locus_of}
 use Rattle.act_look.specs.act_alone.declared.loci.Head.{Head}
+use Rattle.act_look.specs.act_alone.declared.loci.Locus.{Locus}
 use Rattle.cell_states.specs.act_calls.Calls.{atlas_state}
 use Rattle.act_look.specs.page_memory.declared.paged.PagedMemory.{PagedMemory}
 use Rattle.act_look.specs.page_memory.Words.{AreCleanTrue, IsSoundTable}
-use Rattle.act_look.specs.page_memory.Calls.{Keeps, KeepsBlocks}
-use Rattle.act_look.specs.Looks.{IsMemoryOf, is_look}
+use Rattle.act_look.specs.page_memory.Calls.{IsPageShort, Keeps, KeepsBlocks, TurnsClock}
+use Rattle.act_look.specs.Looks.{IsMemoryOf, address_of, comes_to_word, is_look}
 use Rattle.cell_states.specs.cell_clocks.Clocks.{HasClock}
 use Rattle.cell_states.specs.Cells.{HasCell, locus_cell, part_of}
 use Rattle.cell_states.specs.Steps.{Steps}
@@ -130,6 +132,27 @@ ComesToWord l p = (me : ℕ) (s : Supply) (words : ℕ → List ℕ) (a : AtlasS
 abbrev pub LooksAtWord : KernelCell → KernelCell → Type 0
 LooksAtWord c d = (s : Supply) (words : ℕ → List ℕ) (w : KernelState) (made : Entry × KernelState) → HasCell s words w c → HasCell s words w d → step s c.clock.entity w ≡ Some made → IsWordStep w made.0
 
+-- WANT OF A BLOCK
+
+-- THE LOOK of the locus at the container IS SHORT of a block: it comes to a word, and the word's page is short of one. Both numbers.
+pub record IsLookShort (kept : ℕ → Bool) (free : ℕ) (l p : Part) (n : NoBlocks) : Type 0 where
+  pub locus : Locus
+  pub looks : l ≡ part.Locus (Some locus)
+  pub head : Head
+  pub memory : PagedMemory
+  pub is : p ≡ part.Container (record { head = Some head; memory = memory })
+  pub comes : comes_to_word head (address_of (locus_of locus)) ≡ true
+  pub short : IsPageShort kept free memory (address_of (locus_of locus) / 128) n
+
+-- NOTHING BUT THE CLOCK of the container's frames HAS MOVED
+pub record TurnsPart (p p' : Part) : Type 0 where
+  pub head : Head
+  pub before : PagedMemory
+  pub after : PagedMemory
+  pub was : p ≡ part.Container (record { head = Some head; memory = before })
+  pub is : p' ≡ part.Container (record { head = Some head; memory = after })
+  pub turns : TurnsClock before after
+
 -- OF A STORE OF ANY TYPE, by the ghost members of that type as one record
 
 abbrev pub MayLookIn : {B : Type 0} → Supply → Ghosts B → B → Part → Type 0
@@ -137,3 +160,6 @@ MayLookIn s stores b p = MayLook s stores.tells (stores.held b) (stores.words b)
 
 abbrev pub LeavesMemoryIn : {B : Type 0} → Supply → Ghosts B → Part → Part → B → B → Type 0
 LeavesMemoryIn s stores p p' b b' = LeavesMemory s stores.tells stores.held stores.kept_names stores.words p p' b b'
+
+abbrev pub IsLookShortIn : {B : Type 0} → Ghosts B → B → Part → Part → NoBlocks → Type 0
+IsLookShortIn stores b l p n = IsLookShort (stores.kept_names b) (stores.free b) l p n

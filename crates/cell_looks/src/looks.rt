@@ -1,17 +1,18 @@
 // The step of a locus that looks at a container.
-ghost use Rattle.std.specs.Prelude.{◌≡◌, ◌<◌, ◌^◌, ℕ, List, [], ◌∷◌, Option, is_some, IfOk, OnErr};
+ghost use Rattle.std.specs.Prelude.{◌≡◌, ◌↔◌, ◌<◌, ◌^◌, ℕ, List, [], ◌∷◌, Option, is_some, IfOk, IsErrOf, OnErr};
 ghost use Rattle.base_types.specs.declared.histories.Event.TheVariants.{Step as StepEvent};
 ghost use Rattle.cell_states.specs.model_kernel.Refusals.{instr_at};
 ghost use Rattle.cell_states.specs.model_kernel.State.{Cell as ModelCell, KernelState};
 ghost use Rattle.act_look.specs.act_alone.Loci.{locus_of};
 ghost use Rattle.act_look.specs.act_alone.declared.loci.Locus.{Locus as ALocus};
 ghost use Rattle.act_look.specs.act_invoke.Entries.{WantsBeside};
+ghost use Rattle.act_look.specs.edge_disk.declared.disk.NoBlocks.{NoBlocks};
 ghost use Rattle.act_look.specs.page_memory.Calls.{PagesOnce};
 ghost use Rattle.act_look.specs.Looks.{is_look};
 ghost use Rattle.cell_states.specs.cell_clocks.Clocks.{writing, CarriesTwo, HasClock};
 ghost use Rattle.cell_states.specs.Cells.{part_of, HasCell, IsRunning};
 ghost use Rattle.cell_states.specs.Steps.{Steps};
-ghost use Rattle.cell_looks.specs.Looking.{is_stored, looking, LooksAtWord, StepsSomehow, LeavesMemoryIn, MayLookIn};
+ghost use Rattle.cell_looks.specs.Looking.{is_stored, looking, IsLookShortIn, LooksAtWord, StepsSomehow, LeavesMemoryIn, MayLookIn, TurnsPart};
 
 use crate::parts::look_in_parts;
 use base_types::{Answer, Entry, Event, Instr, Reply};
@@ -45,7 +46,8 @@ fn write_look(locus: &mut Clock, other: &mut Clock, answer: Answer) -> Entry
 
 /// The step of a running locus that makes one look of a load or a store, which is this instruction, at a container. On a fault
 /// of paging no cell has changed in the model, so that the same look can be tried again; it comes only of a look that reads or
-/// writes a word. Wishes and steps left are as before.
+/// writes a word, and `NoBlocks` exactly where that word's page is short of a block (`IsLookShort`). Wishes and steps left are as
+/// before.
 pub fn step_look<B: PageStore, S: Supplier, P: Policy>(
     locus: &mut Cell,
     other: &mut Cell,
@@ -63,6 +65,8 @@ pub fn step_look<B: PageStore, S: Supplier, P: Policy>(
         → Steps (S.word gate.now.supply) locus.old.clock.entity w e (λ v. HasCell (S.word gate.now.supply) (B.words store.new) v locus.new × HasCell (S.word gate.now.supply) (B.words store.new) v other.new)) }
     ensures somehow { IfOk result (StepsSomehow locus.old locus.new other.old other.new) }
     ensures at_word { OnErr result (LooksAtWord locus.old other.old) }
+    ensures no_blocks { (n : NoBlocks) → IsErrOf result (PageFault.NoBlocks n) ↔ IsLookShortIn B.PageStore store.old locus.old.part other.old.part n }
+    ensures turned { (n : NoBlocks) → IsErrOf result (PageFault.NoBlocks n) → TurnsPart other.old.part other.new.part }
     ensures locus_stays { OnErr result (locus.new ≡ locus.old) }
     ensures other_stays { OnErr result ((other.new.clock ≡ other.old.clock) × (B.tells → part_of (S.word gate.now.supply) (B.words store.new) other.new.part ≡ part_of (S.word gate.now.supply) (B.words store.old) other.old.part)) }
     ensures memory { LeavesMemoryIn (S.word gate.now.supply) B.PageStore other.old.part other.new.part store.old store.new }

@@ -10,6 +10,7 @@ pub use Rattle.cell_plans.specs as cell_plans
 pub use Rattle.cell_looks.specs.cell_states
 pub use Rattle.cell_newborns.specs.data_atlas_facts
 pub use Rattle.cell_looks.specs.data_frames
+pub use Rattle.cell_looks.specs.edge_disk
 pub use Rattle.cell_looks.specs.data_stamps
 pub use Rattle.model_acts.specs as model_acts
 pub use Rattle.page_store.specs.model_kernel

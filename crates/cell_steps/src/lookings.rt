@@ -1,8 +1,9 @@
 // The step of a locus that looks at a container.
-ghost use Rattle.std.specs.Prelude.{◌≡◌, ◌<◌, ◌^◌, ℕ, [], ◌∷◌, IfOk, OnErr};
+ghost use Rattle.std.specs.Prelude.{◌≡◌, ◌↔◌, ◌<◌, ◌^◌, ℕ, [], ◌∷◌, IfOk, IsErrOf, OnErr};
+ghost use Rattle.cell_looks.specs.edge_disk.declared.disk.NoBlocks.{NoBlocks};
 ghost use Rattle.cell_looks.specs.page_memory.Calls.{PagesOnce};
 ghost use Rattle.cell_looks.specs.cell_states.Cells.{part_of};
-ghost use Rattle.cell_looks.specs.Looking.{LeavesMemoryIn, LooksAtWord, MayLookIn};
+ghost use Rattle.cell_looks.specs.Looking.{IsLookShortIn, LeavesMemoryIn, LooksAtWord, MayLookIn, TurnsPart};
 ghost use Rattle.cell_plans.specs.Plans.{IsPlanned};
 ghost use Rattle.cell_plans.specs.declared.plans.Reach.TheVariants as reach;
 ghost use Rattle.cell_steps.specs.Advances.{AdvancesSomehow, StepsCells};
@@ -14,7 +15,8 @@ use edge_managers::{Gate, Policy, Supplier};
 use page_store::{PageFault, PageStore};
 
 /// The step of a locus that makes one look of a load or a store, which is this instruction, at a container. On a fault of
-/// paging nothing has changed in the model, so that the same step can be tried again.
+/// paging nothing has changed in the model, so that the same step can be tried again. `NoBlocks` comes exactly where the look
+/// comes to a word whose page is short of a block.
 pub fn advance_looking<B: PageStore, S: Supplier, P: Policy>(
     locus: &mut Cell,
     other: &mut Cell,
@@ -30,6 +32,8 @@ pub fn advance_looking<B: PageStore, S: Supplier, P: Policy>(
     ensures step { B.tells → IfOk result (StepsCells (S.word gate.now.supply) (B.words store.old) (B.words store.new) locus.old.clock.entity (locus.old ∷ other.old ∷ []) (locus.new ∷ other.new ∷ [])) }
     ensures somehow { IfOk result (AdvancesSomehow locus.old locus.new other.old other.new) }
     ensures at_word { OnErr result (LooksAtWord locus.old other.old) }
+    ensures no_blocks { (n : NoBlocks) → IsErrOf result (PageFault.NoBlocks n) ↔ IsLookShortIn B.PageStore store.old locus.old.part other.old.part n }
+    ensures turned { (n : NoBlocks) → IsErrOf result (PageFault.NoBlocks n) → TurnsPart other.old.part other.new.part }
     ensures locus_stays { OnErr result (locus.new ≡ locus.old) }
     ensures other_stays { OnErr result ((other.new.clock ≡ other.old.clock) × (other.new.wish ≡ other.old.wish) × (other.new.left ≡ other.old.left)) }
     ensures same_part { OnErr result (B.tells → part_of (S.word gate.now.supply) (B.words store.new) other.new.part ≡ part_of (S.word gate.now.supply) (B.words store.old) other.old.part) }

@@ -3,9 +3,9 @@ use Rattle.std.proofs.Common.{◌≡◌, ◌≢◌, ◌↔◌, ℕ, ◌+◌, ◌
 use Rattle.std.proofs.lemmas.Bool.{cases_eq, cases_lt, or_left, or_right}
 use Rattle.page_store.specs.model_kernel.State.{Supply}
 use Rattle.data_blocks.specs.edge_disk.Disk.{Ticks}
-use Rattle.data_blocks.specs.edge_disk.declared.disk.NoBlocks.{NoBlocks as Shortage}
+use Rattle.data_blocks.specs.edge_disk.declared.disk.NoBlocks.{NoBlocks}
 use Rattle.page_store.specs.declared.faults.PageFault.{PageFault}
-use Rattle.page_store.specs.declared.faults.PageFault.TheVariants.{NoBlocks, ReadFault, WriteFault, Shut}
+use Rattle.page_store.specs.declared.faults.PageFault.TheVariants as fault
 use Rattle.page_store.specs.Pages.{IsReadFault, SameWords}
 use Rattle.data_frames.specs.FrameTable.{FrameTable, HasEmptyFrame, Resident, IsResident, Places, changed_at, page_at, resident_changed, resident_count, unmarked}
 use Rattle.data_frames.proofs.Pages.{count-set_new, not_some}
@@ -124,22 +124,22 @@ reads_never m m' page before now evicts stay same = record {
 }
 
 pub cause_after : (free free' before between now : ℕ) (was mid is : Bool) (e : PageFault) → IsReadFault e → before ≤ between → between ≤ now → mid ≡ was → IsCausedBy free' between now mid is e → IsCausedBy free before now was is e
-cause_after free free' before between now was mid is (NoBlocks n) (inl e) rise later same cause = absurd (cc e)
-cause_after free free' before between now was mid is (NoBlocks n) (inr e) rise later same cause = absurd (cc e)
-cause_after free free' before between now was mid is ReadFault read rise later same cause =
+cause_after free free' before between now was mid is (fault.NoBlocks n) (inl e) rise later same cause = absurd (cc e)
+cause_after free free' before between now was mid is (fault.NoBlocks n) (inr e) rise later same cause = absurd (cc e)
+cause_after free free' before between now was mid is fault.ReadFault read rise later same cause =
     (λ below. rose below cause.0, sym same ∙ cause.1, cause.2)
   where
     rose : before < 2 ^ 64 - 1 → (between < 2 ^ 64 - 1 → between < now) → before < now
     rose below up = elim (cases_lt between (2 ^ 64 - 1)) [ inl lower ↦ (let more = up lower in omega arith) | inr end ↦ omega arith ]
-cause_after free free' before between now was mid is WriteFault (inl e) rise later same cause = absurd (cc e)
-cause_after free free' before between now was mid is WriteFault (inr e) rise later same cause = absurd (cc e)
-cause_after free free' before between now was mid is Shut read rise later same cause = sym same ∙ cause
+cause_after free free' before between now was mid is fault.WriteFault (inl e) rise later same cause = absurd (cc e)
+cause_after free free' before between now was mid is fault.WriteFault (inr e) rise later same cause = absurd (cc e)
+cause_after free free' before between now was mid is fault.Shut read rise later same cause = sym same ∙ cause
 
-pub read_not_wanting : {T : Type 0} (e : PageFault) (n : Shortage) → IsReadFault e → IsErrOf {T = T} (Err e) (NoBlocks n) → ⊥
-read_not_wanting e n (inl is) none = let clash : ReadFault ≡ NoBlocks n = (let k : e ≡ NoBlocks n = cc in sym is ∙ k) in cc clash
-read_not_wanting e n (inr is) none = let clash : Shut ≡ NoBlocks n = (let k : e ≡ NoBlocks n = cc in sym is ∙ k) in cc clash
+pub read_not_wanting : {T : Type 0} (e : PageFault) (n : NoBlocks) → IsReadFault e → IsErrOf {T = T} (Err e) (fault.NoBlocks n) → ⊥
+read_not_wanting e n (inl is) none = let clash : fault.ReadFault ≡ fault.NoBlocks n = (let k : e ≡ fault.NoBlocks n = cc in sym is ∙ k) in cc clash
+read_not_wanting e n (inr is) none = let clash : fault.Shut ≡ fault.NoBlocks n = (let k : e ≡ fault.NoBlocks n = cc in sym is ∙ k) in cc clash
 
-pub shut_not : {T : Type 0} (x : T) → IsErrOf {T = T} (Ok x) Shut → ⊥
+pub shut_not : {T : Type 0} (x : T) → IsErrOf {T = T} (Ok x) fault.Shut → ⊥
 shut_not x e = cc
 
 -- where the same pages are resident the same reads were due
@@ -154,7 +154,7 @@ module _ {T U : Type 0} (kept : ℕ → Bool) (free : ℕ) (was_shut : Bool) (m 
   err_back e f is = let same : e ≡ f = cc in ap Err same
 
   -- the victim left, and the read behind it failed
-  pub chooses_read : (x : T) (e : PageFault) (reads : Type 0) → IsReadFault e → (IsErrOf {T = U} (Err e) Shut ↔ ((was_shut ≡ true) × reads)) → Chooses {T = T} kept free was_shut ⊥ m m' (Ok x) → Chooses {T = U} kept free was_shut reads m m' (Err e)
+  pub chooses_read : (x : T) (e : PageFault) (reads : Type 0) → IsReadFault e → (IsErrOf {T = U} (Err e) fault.Shut ↔ ((was_shut ≡ true) × reads)) → Chooses {T = T} kept free was_shut ⊥ m m' (Ok x) → Chooses {T = U} kept free was_shut reads m m' (Err e)
   chooses_read x e reads read shut c = record {
     victim = c.victim;
     after = c.after;
@@ -163,6 +163,7 @@ module _ {T U : Type 0} (kept : ℕ → Bool) (free : ℕ) (was_shut : Bool) (m 
     gone = tt;
     others_stay = c.others_stay;
     exact = (λ none. absurd (read_not_wanting e _ read none), λ both. let clash = c.exact.1 both in absurd (cc clash));
+    turned = λ none. absurd (read_not_wanting e _ read none);
     shut = (
       λ is. let both = shut.0 is in (both.0, inr both.1),
       λ both. elim both.1 [
@@ -182,6 +183,7 @@ module _ {T U : Type 0} (kept : ℕ → Bool) (free : ℕ) (was_shut : Bool) (m 
     gone = tt;
     others_stay = c.others_stay;
     exact = (λ none. c.exact.0 (err_back e _ none), λ both. err_as e _ (c.exact.1 both));
+    turned = λ none. c.turned (err_back e _ none);
     shut = (
       λ is. let both = c.shut.0 (err_back e _ is) in
           (both.0, elim both.1 [ inl w ↦ inl w | inr never ↦ absurd never ]),
@@ -205,6 +207,7 @@ module _ {T U : Type 0} (kept : ℕ → Bool) (free : ℕ) (was_shut : Bool) (m 
       | inr differs ↦ ap is_some (other p differs) ∙ c.others_stay p apart was
     ];
     exact = (λ none. absurd (cc none), λ both. let clash = c.exact.1 both in absurd (cc clash));
+    turned = λ none. absurd (cc none);
     shut = (
       λ is. absurd (shut_not y is),
       λ both. elim both.1 [
@@ -223,13 +226,14 @@ module _ {T U : Type 0} (kept : ℕ → Bool) (free : ℕ) (was_shut : Bool) (m 
     gone = tt;
     others_stay = c.others_stay;
     exact = (λ none. c.exact.0 (err_back e _ none), λ both. err_as e _ (c.exact.1 both));
+    turned = λ none. c.turned (err_back e _ none);
     shut = (λ is. c.shut.0 (err_back e _ is), λ both. err_as e _ (c.shut.1 both));
   }
 
   -- the page could not be brought: room was made as far as the first answer tells
   pub room_err : (page : ℕ) (e : PageFault) → (IsResident m.frames page → IsOk {T = T} (Err e)) → ((Evicts m page → ⊥) → AllStay m m') → (Evicts m page → Chooses {T = T} kept free was_shut (IsRead m m' page) m m' (Err e))
-      → ((n : Shortage) → IsErrOf {T = T} (Err e) (NoBlocks n) → Evicts m page)
-      → ((Evicts m page → ⊥) → IsErrOf {T = T} (Err e) Shut ↔ ((was_shut ≡ true) × IsRead m m' page)) → MakesRoom {T = U} kept free was_shut m m' page (Err e)
+      → ((n : NoBlocks) → IsErrOf {T = T} (Err e) (fault.NoBlocks n) → Evicts m page)
+      → ((Evicts m page → ⊥) → IsErrOf {T = T} (Err e) fault.Shut ↔ ((was_shut ≡ true) × IsRead m m' page)) → MakesRoom {T = U} kept free was_shut m m' page (Err e)
   room_err page e had stay chooses wanting shut = record {
     had = λ there. let clash : false ≡ true = had there in absurd (cc clash);
     stay = stay;
@@ -249,6 +253,7 @@ module _ {T U : Type 0} (kept : ℕ → Bool) (free : ℕ) (was_shut : Bool) (m 
       gone = not_some (page_at m''.frames c.victim) (same c.victim ∙ ap is_some c.gone);
       others_stay = λ p apart was. same p ∙ c.others_stay p apart was;
       exact = (λ none. absurd (cc none), λ both. let clash = c.exact.1 both in absurd (cc clash));
+      turned = λ none. absurd (cc none);
       shut = (
         λ is. absurd (shut_not y is),
         λ both. elim both.1 [
@@ -259,7 +264,7 @@ module _ {T U : Type 0} (kept : ℕ → Bool) (free : ℕ) (was_shut : Bool) (m 
     }
 
     pub room_ok : (x : T) (y : U) → ((Evicts m page → ⊥) → AllStay m m') → (Evicts m page → Chooses {T = T} kept free was_shut (IsRead m m' page) m m' (Ok x))
-        → ((Evicts m page → ⊥) → IsErrOf {T = T} (Ok x) Shut ↔ ((was_shut ≡ true) × IsRead m m' page)) → MakesRoom {T = U} kept free was_shut m m'' page (Ok y)
+        → ((Evicts m page → ⊥) → IsErrOf {T = T} (Ok x) fault.Shut ↔ ((was_shut ≡ true) × IsRead m m' page)) → MakesRoom {T = U} kept free was_shut m m'' page (Ok y)
     room_ok x y stay chooses shut = record {
       had = λ _. refl;
       stay = λ none p there. same p ∙ stay none p there;
@@ -273,9 +278,9 @@ pub fetched_read : (m m' : PagedMemory) (page : ℕ) → page_at m.frames page �
 fetched_read m m' page absent gone block some = (absent, λ z. some (block ∙ z), λ both. gone both.0.1 both.1)
 
 -- the answer of a fetch is Shut exactly where the store was shut and the page is read
-pub fetched_shut : {T U : Type 0} (m m' : PagedMemory) (page : ℕ) (was mid : Bool) (e : PageFault) → page_at m.frames page ≡ None → ((HasEmptyFrame m.frames → ⊥) → AllStay m m' → ⊥) → block_at m' page ≡ block_at m page → mid ≡ was → (IsErrOf {T = T} (Err e) Shut ↔ ((mid ≡ true) × (block_at m' page ≢ 0))) → IsErrOf {T = U} (Err e) Shut ↔ ((was ≡ true) × IsRead m m' page)
+pub fetched_shut : {T U : Type 0} (m m' : PagedMemory) (page : ℕ) (was mid : Bool) (e : PageFault) → page_at m.frames page ≡ None → ((HasEmptyFrame m.frames → ⊥) → AllStay m m' → ⊥) → block_at m' page ≡ block_at m page → mid ≡ was → (IsErrOf {T = T} (Err e) fault.Shut ↔ ((mid ≡ true) × (block_at m' page ≢ 0))) → IsErrOf {T = U} (Err e) fault.Shut ↔ ((was ≡ true) × IsRead m m' page)
 fetched_shut m m' page was mid e absent gone block same shut = (
-  λ is. let k : e ≡ Shut = cc in let both = shut.0 (ap Err k) in
+  λ is. let k : e ≡ fault.Shut = cc in let both = shut.0 (ap Err k) in
       (sym same ∙ both.0, fetched_read m m' page absent gone block both.1),
-  λ both. let done = shut.1 (same ∙ both.0, λ z. both.1.1 (sym block ∙ z)) in let k : e ≡ Shut = cc in ap Err k,
+  λ both. let done = shut.1 (same ∙ both.0, λ z. both.1.1 (sym block ∙ z)) in let k : e ≡ fault.Shut = cc in ap Err k,
 )

@@ -3,7 +3,7 @@ use Rattle.std.proofs.Common.{◌≡◌, ◌≢◌, ◌↔◌, ℕ, ◌+◌, ◌
 use Rattle.std.proofs.lemmas.Bool.{cases_eq}
 use Rattle.page_store.specs.model_kernel.State.{Supply}
 use Rattle.page_store.specs.declared.faults.PageFault.{PageFault}
-use Rattle.page_store.specs.declared.faults.PageFault.TheVariants.{NoBlocks, Shut}
+use Rattle.page_store.specs.declared.faults.PageFault.TheVariants as fault
 use Rattle.data_frames.specs.FrameTable.{FrameTable, Resident, HasEmptyFrame, IsResident, IsVictim, Removes, changed_at, page_at, page_taken, resident_changed, resident_count, unmarked}
 use Rattle.data_frames.proofs.Pages.{count-set_gone, not_some}
 use Rattle.page_memory.specs.declared.paged.PagedMemory.{PagedMemory}
@@ -153,10 +153,11 @@ pub chooses_from :
     {T : Type 0} (m m' : PagedMemory) (t : FrameTable) (kept : ℕ → Bool) (free : ℕ) (was_shut : Bool) (page : ℕ) (result : Result T PageFault) → IsVictim page m.frames t → IsResident m.frames page
     → OnOk result (page_at m'.frames page ≡ None)
     → ((p : ℕ) → p ≢ page → IsResident m.frames p → IsResident m'.frames p)
-    → (IsErrOf result (NoBlocks (record { need = 1; free = 0 })) ↔ ((needs_block kept (record m { frames = t }) page ≡ true) × (free ≡ 0)))
-    → (IsErrOf result Shut ↔ ((was_shut ≡ true) × IsWritten kept free (record m { frames = t }) page))
+    → (IsErrOf result (fault.NoBlocks (record { need = 1; free = 0 })) ↔ ((needs_block kept (record m { frames = t }) page ≡ true) × (free ≡ 0)))
+    → (IsErrOf result (fault.NoBlocks (record { need = 1; free = 0 })) → m' ≡ record m { frames = t })
+    → (IsErrOf result fault.Shut ↔ ((was_shut ≡ true) × IsWritten kept free (record m { frames = t }) page))
     → Chooses kept free was_shut ⊥ m m' result
-chooses_from m m' t kept free was_shut page result is there gone stay exact shut =
+chooses_from m m' t kept free was_shut page result is there gone stay exact turned shut =
     let written = marked_written m t is.same_pages kept free page in
     record {
       victim = page;
@@ -169,6 +170,7 @@ chooses_from m m' t kept free was_shut page result is there gone stay exact shut
         λ none. let both = exact.0 none in (sym (marked_needs m t is.same_pages kept page) ∙ both.0, both.1),
         λ both. exact.1 (marked_needs m t is.same_pages kept page ∙ both.0, both.1),
       );
+      turned = turned;
       shut = (
         λ e. let both = shut.0 e in (both.0, inl (written.0 both.1)),
         λ both. elim both.1 [

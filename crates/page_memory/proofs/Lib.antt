@@ -6,3 +6,4 @@ pub mod Evictions
 pub mod Pages
 pub mod Resident
 pub mod Saved
+pub mod Wanting

@@ -1,9 +1,9 @@
 -- All pages are saved, one after the other, and the blocks suffice.
 use Rattle.std.proofs.Common.{◌≡◌, ◌≢◌, ℕ, zero, suc, ◌+◌, ◌-◌, ◌^◌, ◌<◌, ◌≤◌, Bool, true, false, ◌&&◌, ◌||◌, ◌==◌, if◌then◌else◌, List, Err, IsErrOf, subst, refl, sym, ap, ◌∙◌, inl, inr, add-one, arith}
 use Rattle.std.proofs.lemmas.Bool.{cases_eq, cases_lt}
-use Rattle.data_blocks.specs.edge_disk.declared.disk.NoBlocks.{NoBlocks as Shortage}
+use Rattle.data_blocks.specs.edge_disk.declared.disk.NoBlocks.{NoBlocks}
 use Rattle.page_store.specs.declared.faults.PageFault.{PageFault}
-use Rattle.page_store.specs.declared.faults.PageFault.TheVariants.{NoBlocks, ReadFault, WriteFault, Shut}
+use Rattle.page_store.specs.declared.faults.PageFault.TheVariants as fault
 use Rattle.page_store.specs.Pages.{IsWriteFault}
 use Rattle.data_frames.specs.FrameTable.{changed_at, resident_changed}
 use Rattle.page_memory.specs.declared.paged.PagedMemory.{PagedMemory}
@@ -47,11 +47,11 @@ none_wanting kept kept' m m' page free within same room both =
     absurd (omega (arith, one, upto, need_more kept m page, both.1))
 
 -- a fault that no read gives and that isn't want of blocks is a write's
-pub write_fault : (e : PageFault) → IsNoRead e → ((n : Shortage) → e ≡ NoBlocks n → ⊥) → IsWriteFault e
-write_fault (NoBlocks n) fault never = absurd (never n refl)
-write_fault ReadFault fault never = absurd fault
-write_fault WriteFault fault never = inl refl
-write_fault Shut fault never = inr refl
+pub write_fault : (e : PageFault) → IsNoRead e → ((n : NoBlocks) → e ≡ fault.NoBlocks n → ⊥) → IsWriteFault e
+write_fault (fault.NoBlocks n) fault never = absurd (never n refl)
+write_fault fault.ReadFault fault never = absurd fault
+write_fault fault.WriteFault fault never = inl refl
+write_fault fault.Shut fault never = inr refl
 
 -- past the end no page is changed
 pub none_past_end : (held : ℕ → Bool) (m : PagedMemory) → IsSoundTable held m → ((p : ℕ) → p < 256 → changed_at m.frames p ≡ false) → (p : ℕ) → changed_at m.frames p ≡ false
@@ -84,18 +84,18 @@ one_more_clean m m' page clean others before p below = elim (cases_eq p page) [
 ]
 
 -- a fault isn't want of blocks where it isn't the one that a call gives
-pub never_wanting : (free before now : ℕ) (was is : Bool) (e : PageFault) → IsCausedBy free before now was is e → (IsErrOf {T = Unit {0}} (Err e) (NoBlocks (record { need = 1; free = 0 })) → ⊥) → (n : Shortage) → e ≡ NoBlocks n → ⊥
+pub never_wanting : (free before now : ℕ) (was is : Bool) (e : PageFault) → IsCausedBy free before now was is e → (IsErrOf {T = Unit {0}} (Err e) (fault.NoBlocks (record { need = 1; free = 0 })) → ⊥) → (n : NoBlocks) → e ≡ fault.NoBlocks n → ⊥
 never_wanting free before now was is e cause never n same =
     let known : (free ≡ 0) × (n ≡ record { need = 1; free = 0 }) = subst (λ x. IsCausedBy free before now was is x) same cause in
-    never (ap Err (same ∙ ap NoBlocks known.1))
+    never (ap Err (same ∙ ap fault.NoBlocks known.1))
 
 -- a write's fault after other calls that didn't fail
 pub write_cause : (free free' before between now : ℕ) (was mid is : Bool) (e : PageFault) → IsWriteFault e → before ≤ between → between ≤ now → mid ≡ was → IsCausedBy free' between now mid is e → IsCausedBy free before now was is e
-write_cause free free' before between now was mid is (NoBlocks n) (inl e) rise later same cause = absurd (cc e)
-write_cause free free' before between now was mid is (NoBlocks n) (inr e) rise later same cause = absurd (cc e)
-write_cause free free' before between now was mid is ReadFault (inl e) rise later same cause = absurd (cc e)
-write_cause free free' before between now was mid is ReadFault (inr e) rise later same cause = absurd (cc e)
-write_cause free free' before between now was mid is WriteFault write rise later same cause =
+write_cause free free' before between now was mid is (fault.NoBlocks n) (inl e) rise later same cause = absurd (cc e)
+write_cause free free' before between now was mid is (fault.NoBlocks n) (inr e) rise later same cause = absurd (cc e)
+write_cause free free' before between now was mid is fault.ReadFault (inl e) rise later same cause = absurd (cc e)
+write_cause free free' before between now was mid is fault.ReadFault (inr e) rise later same cause = absurd (cc e)
+write_cause free free' before between now was mid is fault.WriteFault write rise later same cause =
     (λ below. rose below cause.0, sym same ∙ cause.1, cause.2)
   where
     rose : before < 2 ^ 64 - 1 → (between < 2 ^ 64 - 1 → between < now) → before < now
@@ -103,7 +103,7 @@ write_cause free free' before between now was mid is WriteFault write rise later
       | inl lower ↦ (let more = up lower in omega arith)
       | inr end ↦ omega arith
     ]
-write_cause free free' before between now was mid is Shut write rise later same cause = sym same ∙ cause
+write_cause free free' before between now was mid is fault.Shut write rise later same cause = sym same ∙ cause
 
 -- a page more is saved: none is newly marked, and blocks changed only where one was needed at first
 pub pages_more : (kept kept' : ℕ → Bool) (m m' m'' : PagedMemory) (page : ℕ) → KeepsPages kept m m' → KeepsPages kept' m' m'' → Saves page m' m'' → needs_block kept' m' page ≡ needs_block kept m page → KeepsPages kept m m''
@@ -127,9 +127,9 @@ not_written kept free m page block never =
     ] refl
 
 -- a write's fault of a store that was shut
-pub shut_fault : (free before now : ℕ) (was is : Bool) (e : PageFault) → IsWriteFault e → IsCausedBy free before now was is e → was ≡ true → e ≡ Shut
+pub shut_fault : (free before now : ℕ) (was is : Bool) (e : PageFault) → IsWriteFault e → IsCausedBy free before now was is e → was ≡ true → e ≡ fault.Shut
 shut_fault free before now was is e (inr same) cause shut = same
 shut_fault free before now was is e (inl same) cause shut =
-    let known : IsCausedBy free before now was is WriteFault = subst (λ x. IsCausedBy free before now was is x) same cause in
+    let known : IsCausedBy free before now was is fault.WriteFault = subst (λ x. IsCausedBy free before now was is x) same cause in
     let clash : true ≡ false = sym shut ∙ known.1 in
     absurd (cc clash)

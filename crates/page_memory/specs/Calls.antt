@@ -5,9 +5,9 @@ use Rattle.page_store.specs.declared.store.PageStore.{Ghosts}
 use Rattle.page_store.specs.model_kernel.State.{Supply}
 use Rattle.data_blocks.specs.edge_disk.Counts.{Rose}
 use Rattle.data_blocks.specs.edge_disk.Disk.{Ticks}
-use Rattle.data_blocks.specs.edge_disk.declared.disk.NoBlocks.{NoBlocks as Shortage}
+use Rattle.data_blocks.specs.edge_disk.declared.disk.NoBlocks.{NoBlocks}
 use Rattle.page_store.specs.declared.faults.PageFault.{PageFault}
-use Rattle.page_store.specs.declared.faults.PageFault.TheVariants.{NoBlocks, ReadFault, WriteFault, Shut}
+use Rattle.page_store.specs.declared.faults.PageFault.TheVariants as fault
 use Rattle.data_frames.specs.FrameTable.{FrameTable, HasEmptyFrame, IsResident, IsVictim, changed_at, page_at}
 use Rattle.page_memory.specs.declared.paged.PagedMemory.{PagedMemory}
 use Rattle.page_memory.specs.Words.{block_at, words_of, AreCleanTrue, needs_block}
@@ -43,17 +43,17 @@ pub record Moves (held kept held' : ℕ → Bool) (block fresh : ℕ) : Type 0 w
 
 -- the cause of a fault: no block was free, a count of faults that rose and shut the store, or a store that was shut
 abbrev pub IsCausedBy : ℕ → ℕ → ℕ → Bool → Bool → PageFault → Type 0
-IsCausedBy free before now was_shut is_shut (NoBlocks n) = (free ≡ 0) × (n ≡ record { need = 1; free = 0 })
-IsCausedBy free before now was_shut is_shut ReadFault = Rose before now × (was_shut ≡ false) × (is_shut ≡ true)
-IsCausedBy free before now was_shut is_shut WriteFault = Rose before now × (was_shut ≡ false) × (is_shut ≡ true)
-IsCausedBy free before now was_shut is_shut Shut = was_shut ≡ true
+IsCausedBy free before now was_shut is_shut (fault.NoBlocks n) = (free ≡ 0) × (n ≡ record { need = 1; free = 0 })
+IsCausedBy free before now was_shut is_shut fault.ReadFault = Rose before now × (was_shut ≡ false) × (is_shut ≡ true)
+IsCausedBy free before now was_shut is_shut fault.WriteFault = Rose before now × (was_shut ≡ false) × (is_shut ≡ true)
+IsCausedBy free before now was_shut is_shut fault.Shut = was_shut ≡ true
 
 -- a fault that no read gives
 abbrev pub IsNoRead : PageFault → Type 0
-IsNoRead (NoBlocks n) = Unit {0}
-IsNoRead ReadFault = ⊥
-IsNoRead WriteFault = Unit {0}
-IsNoRead Shut = Unit {0}
+IsNoRead (fault.NoBlocks n) = Unit {0}
+IsNoRead fault.ReadFault = ⊥
+IsNoRead fault.WriteFault = Unit {0}
+IsNoRead fault.Shut = Unit {0}
 
 -- the count of faults doesn't fall, and a store that is shut stays so
 pub record Later {B : Type 0} (stores : Ghosts B) (b b' : B) : Type 0 where
@@ -92,8 +92,27 @@ pub record Chooses {T : Type 0} (kept : ℕ → Bool) (free : ℕ) (was_shut : B
   pub was_there : IsResident m.frames victim
   pub gone : OnOk result (page_at m'.frames victim ≡ None)
   pub others_stay : (p : ℕ) → p ≢ victim → IsResident m.frames p → IsResident m'.frames p
-  pub exact : IsErrOf result (NoBlocks (record { need = 1; free = 0 })) ↔ ((needs_block kept m victim ≡ true) × (free ≡ 0))
-  pub shut : IsErrOf result Shut ↔ ((was_shut ≡ true) × (IsWritten kept free m victim ⊎ reads))
+  pub exact : IsErrOf result (fault.NoBlocks (record { need = 1; free = 0 })) ↔ ((needs_block kept m victim ≡ true) × (free ≡ 0))
+  -- and then nothing but the clock has moved
+  pub turned : IsErrOf result (fault.NoBlocks (record { need = 1; free = 0 })) → m' ≡ record m { frames = after }
+  pub shut : IsErrOf result fault.Shut ↔ ((was_shut ≡ true) × (IsWritten kept free m victim ⊎ reads))
+
+-- A PAGE IS SHORT OF A BLOCK: it isn't resident and no frame is empty, the clock's victim is changed and has no block or one that a kept
+-- record names, and none is free. Both numbers.
+pub record IsPageShort (kept : ℕ → Bool) (free : ℕ) (m : PagedMemory) (page : ℕ) (n : NoBlocks) : Type 0 where
+  pub evicts : Evicts m page
+  pub victim : ℕ
+  pub after : FrameTable
+  pub is : IsVictim victim m.frames after
+  pub needs : needs_block kept m victim ≡ true
+  pub none_free : free ≡ 0
+  pub numbers : n ≡ record { need = 1; free = 0 }
+
+-- NOTHING BUT THE CLOCK HAS MOVED, to its next victim
+pub record TurnsClock (m m' : PagedMemory) : Type 0 where
+  pub victim : ℕ
+  pub is : IsVictim victim m.frames m'.frames
+  pub same : m' ≡ record m { frames = m'.frames }
 
 -- Room for the page that is looked for. One that is resident is had. Every page stays in its frame where no eviction is
 -- tried, and only where one is tried a block may be wanting. Without one the answer is Shut exactly where the store was shut
@@ -102,8 +121,8 @@ pub record MakesRoom {T : Type 0} (kept : ℕ → Bool) (free : ℕ) (was_shut :
   pub had : IsResident m.frames page → IsOk result
   pub stay : (Evicts m page → ⊥) → AllStay m m'
   pub chooses : Evicts m page → Chooses kept free was_shut (IsRead m m' page) m m' result
-  pub no_blocks : (n : Shortage) → IsErrOf result (NoBlocks n) → Evicts m page
-  pub shut : (Evicts m page → ⊥) → IsErrOf result Shut ↔ ((was_shut ≡ true) × IsRead m m' page)
+  pub no_blocks : (n : NoBlocks) → IsErrOf result (fault.NoBlocks n) → Evicts m page
+  pub shut : (Evicts m page → ⊥) → IsErrOf result fault.Shut ↔ ((was_shut ≡ true) × IsRead m m' page)
 
 -- The counts of a store after a load or a store: at most one page write is begun, and the page is read where it has to be.
 -- Where the page is resident, the store is as before.
@@ -124,7 +143,7 @@ pub record FlushCounts {B T : Type 0} (stores : Ghosts B) (m : PagedMemory) (res
   pub few_writes : stores.written b' ≤ stores.written b + 256
   pub no_read : stores.read_calls b' ≡ stores.read_calls b
   pub untouched : IsUnchanged m → IsOk result × (b' ≡ b)
-  pub shut : IsErrOf result Shut ↔ ((stores.is_shut b ≡ true) × ((page : ℕ) × (changed_at m.frames page ≡ true)))
+  pub shut : IsErrOf result fault.Shut ↔ ((stores.is_shut b ≡ true) × ((page : ℕ) × (changed_at m.frames page ≡ true)))
 
 -- what a call does to the pages: the same container, no page newly changed, and blocks change only where one was needed
 pub record KeepsPages (kept : ℕ → Bool) (m m' : PagedMemory) : Type 0 where
@@ -181,10 +200,11 @@ WordsStay stores these old new = SameWords stores.held stores.kept_names stores.
 abbrev pub WordsStayBut : {B : Type 0} → Ghosts B → ℕ → B → B → Type 0
 WordsStayBut stores block old new = (n : ℕ) → IsTrue (stores.held old n || stores.kept_names old n) → (block ≢ 0 → n ≡ block → stores.kept_names old n ≡ true) → stores.words new n ≡ stores.words old n
 
--- A call that makes at most one page write: a fault has its cause, a call that succeeds leaves the store open or shut as it was, and
--- nothing but calls of the store lie between.
+-- A call that makes at most one page write: a fault has its cause, want of blocks changes nothing, a call that succeeds leaves the store
+-- open or shut as it was, and nothing but calls of the store lie between.
 pub record PagesOnce {B T : Type 0} (stores : Ghosts B) (b b' : B) (result : Result T PageFault) : Type 0 where
   pub cause : IfErr result (IsCausedIn stores b b')
+  pub wanting : (n : NoBlocks) → IsErrOf result (fault.NoBlocks n) → b' ≡ b
   pub same_shut : OnOk result (stores.is_shut b' ≡ stores.is_shut b)
   pub one_write : stores.written b' ≤ stores.written b + 1
   pub between : stores.Pages b b'

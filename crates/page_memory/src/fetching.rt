@@ -4,7 +4,7 @@ ghost use Rattle.data_blocks.specs.edge_disk.Disk.{Ticks};
 ghost use Rattle.page_store.specs.Pages.{IsReadFault, SameBlocks};
 ghost use Rattle.data_frames.specs.FrameTable.{HasEmptyFrame, IsResident, page_at};
 ghost use Rattle.page_memory.specs.Words.{AreCleanTrue, IsSoundTable, block_at, stored_word};
-ghost use Rattle.page_memory.specs.Calls.{AllStay, ChoosesIn, Evicts, IsCausedIn, IsNoRead, IsRead, KeepsIn, KeepsPages, Later, Reads, Stands, WordsStay};
+ghost use Rattle.page_memory.specs.Calls.{AllStay, ChoosesIn, Evicts, IsCausedIn, IsNoRead, IsRead, KeepsIn, KeepsPages, Later, PagesOnce, Reads, Stands, WordsStay};
 
 use crate::paged::PagedMemory;
 use data_blocks::NoBlocks;
@@ -23,6 +23,7 @@ impl PagedMemory {
         ensures not_needed { HasEmptyFrame self.old.frames → IsOk result }
         ensures same { HasEmptyFrame self.old.frames → self.new ≡ self.old }
         ensures chooses { (HasEmptyFrame self.old.frames → ⊥) → ChoosesIn B.PageStore store.old ⊥ self.old self.new result }
+        ensures wanting { (n : NoBlocks) → IsErrOf result (PageFault.NoBlocks n) → store.new ≡ store.old }
         ensures stay { OnErr result (AllStay self.old self.new) }
         ensures gone { OnOk result ((HasEmptyFrame self.old.frames → ⊥) → AllStay self.old self.new → ⊥) }
         ensures absent { (p : ℕ) → page_at self.old.frames p ≡ None → page_at self.new.frames p ≡ None }
@@ -97,11 +98,8 @@ impl PagedMemory {
         ensures shut { (Evicts self.old page → ⊥) → IsErrOf result PageFault.Shut ↔ ((B.is_shut store.old ≡ true) × IsRead self.old self.new page) }
         ensures no_blocks { (n : NoBlocks) → IsErrOf result (PageFault.NoBlocks n) → Evicts self.old page }
         ensures reads { Reads (B.read_calls store.old) (B.read_calls store.new) self.old self.new page }
-        ensures cause { IfErr result (IsCausedIn B.PageStore store.old store.new) }
         ensures later { Later B.PageStore store.old store.new }
-        ensures same_shut { OnOk result (B.is_shut store.new ≡ B.is_shut store.old) }
-        ensures one_write { B.written store.new ≤ B.written store.old + 1 }
-        ensures between { B.Pages store.old store.new }
+        ensures calls { PagesOnce B.PageStore store.old store.new result }
     {
         if self.frames.find(page).is_some() {
             return Ok(());

@@ -1,8 +1,8 @@
-ghost use Rattle.std.specs.Prelude.{◌≡◌, ◌<◌, ◌*◌, ◌/◌, true, IfOk, IfErr, OnOk, OnErr};
+ghost use Rattle.std.specs.Prelude.{◌≡◌, ◌<◌, ◌*◌, ◌/◌, true, IfOk, OnOk, OnErr};
 ghost use Rattle.page_store.specs.model_kernel.Words.{put};
 ghost use Rattle.data_frames.specs.FrameTable.{IsResident};
 ghost use Rattle.page_memory.specs.Words.{AreCleanTrue, IsSoundTable, words_of};
-ghost use Rattle.page_memory.specs.Calls.{Counts, IsCausedIn, KeepsBlocks, KeepsIn, KeepsPages, MakesRoomIn, MarksOne, Stands};
+ghost use Rattle.page_memory.specs.Calls.{Counts, KeepsBlocks, KeepsIn, KeepsPages, MakesRoomIn, MarksOne, PagesOnce, Stands};
 
 use crate::paged::PagedMemory;
 use edge_managers::{Gate, Policy, Supplier};
@@ -37,9 +37,7 @@ impl PagedMemory {
         ensures resident { OnOk result (IsResident self.new.frames (address / 128)) }
         ensures room { MakesRoomIn B.PageStore store.old self.old self.new (address / 128) result }
         ensures counts { Counts B.PageStore self.old self.new (address / 128) store.old store.new }
-        ensures cause { IfErr result (IsCausedIn B.PageStore store.old store.new) }
-        ensures same_shut { OnOk result (B.is_shut store.new ≡ B.is_shut store.old) }
-        ensures between { B.Pages store.old store.new }
+        ensures calls { PagesOnce B.PageStore store.old store.new result }
     {
         let page = (address / 128) as u8;
         let place = (address % 128) as u8;
@@ -70,9 +68,7 @@ impl PagedMemory {
         ensures marks { MarksOne true self.old self.new (address / 128) result }
         ensures room { MakesRoomIn B.PageStore store.old self.old self.new (address / 128) result }
         ensures counts { Counts B.PageStore self.old self.new (address / 128) store.old store.new }
-        ensures cause { IfErr result (IsCausedIn B.PageStore store.old store.new) }
-        ensures same_shut { OnOk result (B.is_shut store.new ≡ B.is_shut store.old) }
-        ensures between { B.Pages store.old store.new }
+        ensures calls { PagesOnce B.PageStore store.old store.new result }
     {
         let page = (address / 128) as u8;
         let place = (address % 128) as u8;

@@ -1,5 +1,6 @@
-ghost use Rattle.std.specs.Prelude.{◌≡◌, ◌≢◌, ◌≤◌, ◌+◌, ◌↔◌, true, false, IfOk, IfErr, OnOk, OnErr, IsErrOf, IsOk};
+ghost use Rattle.std.specs.Prelude.{◌≡◌, ◌≢◌, ◌≤◌, ◌+◌, ◌↔◌, ℕ, true, false, IfOk, IfErr, OnOk, OnErr, IsErrOf, IsOk};
 ghost use Rattle.page_store.specs.model_kernel.State.{Supply};
+ghost use Rattle.data_blocks.specs.edge_disk.declared.disk.NoBlocks.{NoBlocks};
 ghost use Rattle.data_frames.specs.FrameTable.{changed_at};
 ghost use Rattle.page_memory.specs.Words.{AreCleanTrue, IsSoundTable, need_at, needs_block};
 ghost use Rattle.page_memory.specs.Calls.{IsCausedIn, IsNoRead, IsWrittenIn, KeepsIn, KeepsPages, Later, Moves, Saves, Stands, WordsStayBut};
@@ -23,6 +24,7 @@ pub(crate) fn write_anew<B: PageStore>(
     ensures free { OnOk result (B.free store.old ≤ B.free store.new + 1) }
     ensures fault { IfErr result IsNoRead }
     ensures some_free { OnOk result (B.free store.old ≢ 0) }
+    ensures wanting { (n : NoBlocks) → IsErrOf result (PageFault.NoBlocks n) → store.new ≡ store.old }
     ensures needs { B.free store.old ≡ 0 → IsErrOf result (PageFault.NoBlocks (record { need = 1; free = 0 })) }
     ensures cause { IfErr result (IsCausedIn B.PageStore store.old store.new) }
     ensures later { Later B.PageStore store.old store.new }
@@ -60,6 +62,7 @@ impl PagedMemory {
         ensures pages { KeepsPages (B.kept_names store.old) self.old self.new }
         ensures free { OnOk result (B.free store.old ≤ B.free store.new + need_at (B.kept_names store.old) self.old page) }
         ensures exact { IsErrOf result (PageFault.NoBlocks (record { need = 1; free = 0 })) ↔ ((needs_block (B.kept_names store.old) self.old page ≡ true) × (B.free store.old ≡ 0)) }
+        ensures wanting { (n : NoBlocks) → IsErrOf result (PageFault.NoBlocks n) → store.new ≡ store.old }
         ensures still { changed_at self.old.frames page ≡ false → IsOk result × (self.new ≡ self.old) × (store.new ≡ store.old) }
         ensures shut { IsErrOf result PageFault.Shut ↔ ((B.is_shut store.old ≡ true) × IsWrittenIn B.PageStore store.old self.old page) }
         ensures fault { IfErr result IsNoRead }

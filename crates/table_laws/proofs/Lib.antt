@@ -27,3 +27,4 @@ pub use Rattle.cell_step_laws.proofs as cell_step_laws_lemmas
 pub use Rattle.model_sound_states.proofs.model_sound_runs_lemmas
 pub use Rattle.model_sound_states.proofs as model_sound_states_lemmas
 pub use Rattle.cell_step_laws.proofs.plain_states_lemmas
+pub use Rattle.cell_steps.proofs.cell_plans_lemmas

@@ -14,5 +14,6 @@ pub use Rattle.cell_steps.specs.cell_states
 pub use Rattle.cell_steps.specs as cell_steps
 pub use Rattle.cell_step_laws.specs.cell_wish_laws
 pub use Rattle.cell_steps.specs.data_atlas_facts
+pub use Rattle.cell_steps.specs.edge_disk
 pub use Rattle.model_sound_states.specs as model_sound_states
 pub use Rattle.cell_steps.specs.page_memory

@@ -1,10 +1,11 @@
 // The step of a locus over the table that looks at a container.
-ghost use Rattle.std.specs.Prelude.{◌≡◌, IfOk, OnErr};
+ghost use Rattle.std.specs.Prelude.{◌≡◌, ◌↔◌, IfOk, IsErrOf, OnErr};
+ghost use Rattle.table_laws.specs.edge_disk.declared.disk.NoBlocks.{NoBlocks};
 ghost use Rattle.table_laws.specs.page_memory.Calls.{PagesOnce};
 ghost use Rattle.table_laws.specs.cell_plans.declared.plans.Reach.TheVariants as reach;
 ghost use Rattle.table_laws.specs.Steps.{EntersStep, GoesOn, IsPlannedAt, StaysAtFault};
 ghost use Rattle.table_laws.specs.Tables.{tables_in, AreClean, AreFewWrites, HasNews, IsOrderly};
-ghost use Rattle.table_steps.specs.Wanting.{WantsWord};
+ghost use Rattle.table_steps.specs.Wanting.{IsStepShortIn, TurnsOne, WantsWord};
 
 use base_types::{Entity, Entry, Instr};
 use edge_managers::{Gate, Policy, Supplier};
@@ -30,6 +31,8 @@ pub(crate) fn go_look<B: PageStore, S: Supplier, P: Policy>(
     ensures enters { IfOk result (EntersStep me cells.old cells.new) }
     ensures faulted { OnErr result (StaysAtFault B.tells (S.word gate.now.supply) (B.words store.old) (B.words store.new) cells.old cells.new) }
     ensures at_word { OnErr result (WantsWord me cells.old) }
+    ensures no_blocks { (n : NoBlocks) → IsErrOf result (PageFault.NoBlocks n) ↔ IsStepShortIn B.PageStore store.old me cells.old n }
+    ensures turned { (n : NoBlocks) → IsErrOf result (PageFault.NoBlocks n) → TurnsOne cells.old cells.new }
     ensures kept { B.kept_names store.new ≡ B.kept_names store.old }
     ensures news { HasNews (B.kept_names store.old) (tables_in cells.old) (tables_in cells.new) }
     ensures pages { PagesOnce B.PageStore store.old store.new result }

@@ -2,12 +2,13 @@
 ghost use Rattle.std.specs.Prelude.{◌≡◌, ◌≤◌, ◌+◌, ◌↔◌, ℕ, List, None, Some, IfErr, IfOk, IsErrOf, OnErr, OnOk, slice_get};
 ghost use Rattle.page_store.specs.model_kernel.State.{Supply};
 ghost use Rattle.page_store.specs.declared.faults.PageFault.{PageFault as AFault};
+ghost use Rattle.table_laws.specs.edge_disk.declared.disk.NoBlocks.{NoBlocks};
 ghost use Rattle.table_laws.specs.page_memory.Calls.{IsCausedIn, PagesOnce};
 ghost use Rattle.table_laws.specs.cell_plans.Plans.{idle_of};
 ghost use Rattle.table_laws.specs.cell_plans.declared.idle.Idle.{Idle as AnIdle};
 ghost use Rattle.table_laws.specs.Steps.{EntersStep, GoesOn, IsInOrder, IsPlannedAt, StaysAtFault};
 ghost use Rattle.table_laws.specs.Tables.{left_of, state_in, tables_in, AreClean, AreFewWrites, HasNews, IsOrderly};
-ghost use Rattle.table_steps.specs.Wanting.{HasNext, WantsWord};
+ghost use Rattle.table_steps.specs.Wanting.{HasNext, IsStepShortIn, TurnsOne, WantsWord};
 
 use crate::bearings::{go_making, go_mapping, go_spawning};
 use crate::besides::{go_alone, go_beside};
@@ -64,6 +65,8 @@ fn go<B: PageStore, S: Supplier, P: Policy>(
     ensures enters { IfOk result (EntersStep me cells.old cells.new) }
     ensures faulted { OnErr result (StaysAtFault B.tells (S.word gate.now.supply) (B.words store.old) (B.words store.new) cells.old cells.new) }
     ensures at_word { OnErr result (WantsWord me cells.old) }
+    ensures no_blocks { (n : NoBlocks) → IsErrOf result (PageFault.NoBlocks n) ↔ IsStepShortIn B.PageStore store.old me cells.old n }
+    ensures turned { (n : NoBlocks) → IsErrOf result (PageFault.NoBlocks n) → TurnsOne cells.old cells.new }
     ensures kept { B.kept_names store.new ≡ B.kept_names store.old }
     ensures news { HasNews (B.kept_names store.old) (tables_in cells.old) (tables_in cells.new) }
     ensures pages { PagesOnce B.PageStore store.old store.new result }
@@ -82,7 +85,8 @@ fn go<B: PageStore, S: Supplier, P: Policy>(
 ///
 /// `Idle` comes exactly where the locus can't step: it isn't born or no locus, it is halted or stopped, or it has no step left, in this
 /// order; then nothing is changed. `Paging` comes of a load or a store alone that reads or writes a word, and changes nothing in the
-/// model, so that the same step can be tried again. The instruction that was carried out is told with the entry. It takes no memory, and
+/// model, so that the same step can be tried again; it is `NoBlocks` exactly where the word's page is short of a block, and then
+/// nothing but the clock of the container's frames has moved. The instruction that was carried out is told with the entry. It takes no memory, and
 /// looks at no other cell.
 pub fn advance<B: PageStore, S: Supplier, P: Policy>(
     cells: &mut [Cell],
@@ -104,6 +108,8 @@ pub fn advance<B: PageStore, S: Supplier, P: Policy>(
     ensures faulted { (f : AFault) → IsErrOf result (StepFault.Paging f)
         → StaysAtFault B.tells (S.word gate.now.supply) (B.words store.old) (B.words store.new) cells.old cells.new }
     ensures at_word { (f : AFault) → IsErrOf result (StepFault.Paging f) → WantsWord me cells.old }
+    ensures no_blocks { (n : NoBlocks) → IsErrOf result (StepFault.Paging (PageFault.NoBlocks n)) ↔ IsStepShortIn B.PageStore store.old me cells.old n }
+    ensures turned { (n : NoBlocks) → IsErrOf result (StepFault.Paging (PageFault.NoBlocks n)) → TurnsOne cells.old cells.new × (store.new ≡ store.old) }
     ensures kept { B.kept_names store.new ≡ B.kept_names store.old }
     ensures news { HasNews (B.kept_names store.old) (tables_in cells.old) (tables_in cells.new) }
     ensures cause { (f : AFault) → IsErrOf result (StepFault.Paging f)

@@ -1,6 +1,7 @@
 use Rattle.std.proofs.Common.{refl, sym, subst}
 use Rattle.std.proofs.lemmas.Result.{err_from_is_err_and}
 use Rattle.page_memory.proofs.Bringing.{room_err, room_ok}
+use Rattle.page_memory.proofs.Wanting.{pages_err, pages_ok}
 use Rattle.base_types.specs.declared.histories.Answer.TheVariants.{Read}
 use Rattle.act_invoke.specs.act_alone.Loci.{locus_of}
 use Rattle.act_look.specs.Looks.{ReachesSomehow}
@@ -18,6 +19,22 @@ returns-in_err-store-in-Store-clause-room g c =
     let p = err_from_is_err_and c.from_residual-in_err-store-in-Store.result c.from_residual-in_err-store-in-Store.ensures.1 in
     let room = c.in_err-store-in-Store.ensures.room in
     rw (p.1, p.2) (room_err _ _ _ c.args.memory.now c.store.new.self _ _ room.had room.stay room.chooses room.no_blocks room.shut)
+
+pub returns-in_err-word-in-Load-clause-pages : goal.returns-in_err-word-in-Load-clause-pages
+returns-in_err-word-in-Load-clause-pages g c =
+    let p = err_from_is_err_and c.from_residual.result c.from_residual.ensures.1 in
+    rw (p.1, p.2) (pages_err g.B.PageStore c.args.store.now c.load.new.store _ c.in_err-word-in-Load.ensures.calls)
+
+pub returns-in_err-store-in-Store-clause-pages : goal.returns-in_err-store-in-Store-clause-pages
+returns-in_err-store-in-Store-clause-pages g c =
+    let p = err_from_is_err_and c.from_residual-in_err-store-in-Store.result c.from_residual-in_err-store-in-Store.ensures.1 in
+    rw (p.1, p.2) (pages_err g.B.PageStore c.args.store.now c.store.new.store _ c.in_err-store-in-Store.ensures.calls)
+
+pub returns-in_ok-word-in-Load-clause-pages : goal.returns-in_ok-word-in-Load-clause-pages
+returns-in_ok-word-in-Load-clause-pages g c = pages_ok g.B.PageStore c.args.store.now c.load.new.store _ _ c.in_ok-word-in-Load.ensures.calls
+
+pub returns-in_ok-store-in-Store-clause-pages : goal.returns-in_ok-store-in-Store-clause-pages
+returns-in_ok-store-in-Store-clause-pages g c = pages_ok g.B.PageStore c.args.store.now c.store.new.store _ _ c.in_ok-store-in-Store.ensures.calls
 
 pub returns-in_ok-word-in-Load-clause-room : goal.returns-in_ok-word-in-Load-clause-room
 returns-in_ok-word-in-Load-clause-room g c =

@@ -1,4 +1,5 @@
 use Rattle.std.proofs.Common.{sym, ap, subst}
+use Rattle.std.proofs.lemmas.Result.{err_from_is_err_and}
 use Rattle.cell_states.specs.model_kernel.Acts.{wanted}
 use Rattle.cell_states.specs.model_kernel.Outcomes.{outcome}
 use Rattle.cell_states.specs.model_kernel.State.{no_atlas}
@@ -6,6 +7,7 @@ use Rattle.act_look.specs.act_alone.Loci.{locus_of}
 use Rattle.cell_states.specs.Cells.{part_of}
 use Rattle.cell_looks.specs.Looking.{part_with}
 use Rattle.cell_looks.proofs.AtWord.{on_any_fault, word_step}
+use Rattle.cell_looks.proofs.Short.{short_err, short_ok, turned_err}
 use Rattle.cell_looks.proofs.Stored.{TellsStores, look_tells}
 use Rattle.cell_looks.proofs.LookSteps.{look_touches, stepped_at}
 use Rattle.cell_looks.proofs.looks.step_look.Goals as goal
@@ -49,3 +51,16 @@ pub returns-in_err-answer-clause-at_word : goal.returns-in_err-answer-clause-at_
 returns-in_err-answer-clause-at_word g c =
     let run = c.requires.wants in
     on_any_fault c.from_residual.result (word_step c.args.locus.now c.args.other.now run.0 run.1 run.2 c.in_err-answer.ensures.at_word)
+
+pub returns-in_err-answer-clause-no_blocks : goal.returns-in_err-answer-clause-no_blocks
+returns-in_err-answer-clause-no_blocks g c =
+    let p = err_from_is_err_and c.from_residual.result c.from_residual.ensures.1 in
+    rw (p.1, p.2) (short_err _ c.in_err-answer.ensures.no_blocks)
+
+pub returns-in_err-answer-clause-turned : goal.returns-in_err-answer-clause-turned
+returns-in_err-answer-clause-turned g c =
+    let p = err_from_is_err_and c.from_residual.result c.from_residual.ensures.1 in
+    rw (p.1, p.2) (turned_err _ c.in_err-answer.ensures.turned)
+
+pub returns-clause-no_blocks : goal.returns-clause-no_blocks
+returns-clause-no_blocks g c = short_ok _ _ c.in_ok-answer.ensures.no_blocks

@@ -1,4 +1,6 @@
 use Rattle.std.proofs.Common.{arith}
+use Rattle.std.proofs.lemmas.Result.{err_from_is_err_and}
+use Rattle.cell_looks.proofs.Short.{short_err, short_ok, turned_err}
 use Rattle.cell_steps.proofs.Taking.{takes_somehow, takes_two}
 use Rattle.cell_steps.proofs.lookings.advance_looking.Goals as goal
 
@@ -23,3 +25,16 @@ returns-clause-somehow g c =
     let mid = c.step_look.new in
     takes_somehow c.args.locus.now c.args.other.now mid.locus mid.other c.note.new.cell c.note-2.new.cell c.in_ok-entry.entry c.named_by_snap-named.result made.somehow c.note.ensures c.note-2.ensures
     (record { entity = made.entities.0; wish = made.rest.0; left = made.rest.1 }) (record { entity = made.entities.1; wish = made.rest.2; left = made.rest.3 }) c.named_by_snap-named.ensures
+
+pub returns-in_err-entry-clause-no_blocks : goal.returns-in_err-entry-clause-no_blocks
+returns-in_err-entry-clause-no_blocks g c =
+    let p = err_from_is_err_and c.from_residual.result c.from_residual.ensures.1 in
+    rw (p.1, p.2) (short_err _ c.in_err-entry.ensures.no_blocks)
+
+pub returns-in_err-entry-clause-turned : goal.returns-in_err-entry-clause-turned
+returns-in_err-entry-clause-turned g c =
+    let p = err_from_is_err_and c.from_residual.result c.from_residual.ensures.1 in
+    rw (p.1, p.2) (turned_err _ c.in_err-entry.ensures.turned)
+
+pub returns-clause-no_blocks : goal.returns-clause-no_blocks
+returns-clause-no_blocks g c = short_ok _ _ c.in_ok-entry.ensures.no_blocks

@@ -7,6 +7,7 @@ use Rattle.table_steps.proofs.FacingLook.{faces_look, look_below, wants_word}
 use Rattle.table_laws.proofs.LookDone.{look_leaves}
 use Rattle.table_laws.proofs.Pairs.{lends_high}
 use Rattle.table_laws.proofs.Places.{read_back, read_front, set_two, write_two}
+use Rattle.table_steps.proofs.Short.{short_look, turns_one}
 use Rattle.table_steps.proofs.looks.go_look.Goals as goal
 
 pub bounds-front-number : goal.bounds-front-number
@@ -100,6 +101,11 @@ returns g c =
       enters = left.enters;
       faulted = left.faulted;
       at_word = on_err_weaker c.advance_looking.result (wants_word cs c.args.me c.args.other a b is_a is_b at_a at_b) made.at_word;
+      no_blocks = λ n. (
+        λ none. record { locus = a; container = c.args.other; other = b; instr = c.args.instr; at = is_a; there = is_b; planned = q; short = (made.no_blocks n).0 none },
+        λ short. (made.no_blocks n).1 (short_look _ _ c.args.me cs n short c.args.other c.args.instr a b is_a is_b c.requires.planned),
+      );
+      turned = λ n none. turns_one cs cs' c.args.me c.args.other a b mid.locus mid.other two c.advance_looking.result made.locus_stays made.other_stays n none (made.turned n none);
       news = left.news;
       kept = made.memory.others.same_kept;
       pages = made.pages;

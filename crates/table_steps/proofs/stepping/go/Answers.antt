@@ -1,6 +1,7 @@
-use Rattle.std.proofs.Common.{inl, subst}
+use Rattle.std.proofs.Common.{inl, sym, subst, ◌∙◌}
 use Rattle.table_laws.specs.Steps.{IsPlannedAt}
 use Rattle.table_steps.proofs.Planning.{own_planned}
+use Rattle.table_steps.proofs.Short.{never_short}
 use Rattle.table_steps.proofs.stepping.go.Goals as goal
 
 pub go_alone-requires-clause-planned : goal.go_alone-requires-clause-planned
@@ -51,3 +52,23 @@ returns-in-Spawn-clause-orderly g c = c.go_spawning.ensures.orderly (g.B.PageSto
 
 pub returns-in-Spawn-clause-news : goal.returns-in-Spawn-clause-news
 returns-in-Spawn-clause-news g c x page = inl (c.go_spawning.ensures.blocks (g.B.PageStore.held c.args.store.now) c.requires.orderly x page)
+
+pub returns-in-Alone-clause-no_blocks : goal.returns-in-Alone-clause-no_blocks
+returns-in-Alone-clause-no_blocks g c =
+    never_short _ (g.B.PageStore.kept_names c.args.store.now) (g.B.PageStore.free c.args.store.now) c.args.me c.args.cells.now c.args.instr c.args.reach c.requires.planned (λ x look. let clash = sym c.in-Alone.is ∙ look in absurd (cc clash))
+
+pub returns-in-Beside-clause-no_blocks : goal.returns-in-Beside-clause-no_blocks
+returns-in-Beside-clause-no_blocks g c =
+    never_short _ (g.B.PageStore.kept_names c.args.store.now) (g.B.PageStore.free c.args.store.now) c.args.me c.args.cells.now c.args.instr c.args.reach c.requires.planned (λ x look. let clash = sym c.in-Beside.is ∙ look in absurd (cc clash))
+
+pub returns-in-Mapping-clause-no_blocks : goal.returns-in-Mapping-clause-no_blocks
+returns-in-Mapping-clause-no_blocks g c =
+    never_short _ (g.B.PageStore.kept_names c.args.store.now) (g.B.PageStore.free c.args.store.now) c.args.me c.args.cells.now c.args.instr c.args.reach c.requires.planned (λ x look. let clash = sym c.in-Mapping.is ∙ look in absurd (cc clash))
+
+pub returns-in-Make-clause-no_blocks : goal.returns-in-Make-clause-no_blocks
+returns-in-Make-clause-no_blocks g c =
+    never_short _ (g.B.PageStore.kept_names c.args.store.now) (g.B.PageStore.free c.args.store.now) c.args.me c.args.cells.now c.args.instr c.args.reach c.requires.planned (λ x look. let clash = sym c.in-Make.is ∙ look in absurd (cc clash))
+
+pub returns-in-Spawn-clause-no_blocks : goal.returns-in-Spawn-clause-no_blocks
+returns-in-Spawn-clause-no_blocks g c =
+    never_short _ (g.B.PageStore.kept_names c.args.store.now) (g.B.PageStore.free c.args.store.now) c.args.me c.args.cells.now c.args.instr c.args.reach c.requires.planned (λ x look. let clash = sym c.in-Spawn.is ∙ look in absurd (cc clash))

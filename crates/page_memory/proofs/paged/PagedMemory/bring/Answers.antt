@@ -43,10 +43,19 @@ returns-in_err-words-clause-reads g c =
     let absent : page_at c.args.self.now.frames c.args.page ≡ None = not_some _ (first_of (cc, search rules)) in
     fetched_reads c.args.self.now c.evict.new.self c.args.page _ _ _ absent c.in_ok-evict.ensures.gone c.in_ok-evict.ensures.reads (c.in_ok-evict.ensures.absent_blocks c.args.page absent) c.in_err-words.ensures.once c.in_err-words.ensures.never
 
-pub returns-in_err-words-clause-cause : goal.returns-in_err-words-clause-cause
-returns-in_err-words-clause-cause g c =
+pub returns-in_err-words-clause-calls : goal.returns-in_err-words-clause-calls
+returns-in_err-words-clause-calls g c =
     let p = err_from_is_err_and c.from_residual-in_err-words.result c.from_residual-in_err-words.ensures.1 in
-    rw (p.1, p.2) (cause_after _ _ _ _ _ _ _ _ _ c.in_err-words.ensures.fault c.in_ok-evict.ensures.later.faults_rise c.in_err-words.ensures.later.faults_rise c.in_ok-evict.ensures.same_shut c.in_err-words.ensures.cause)
+    rw (p.1, p.2) (record {
+      cause = cause_after _ _ _ _ _ _ _ _ _ c.in_err-words.ensures.fault c.in_ok-evict.ensures.later.faults_rise c.in_err-words.ensures.later.faults_rise c.in_ok-evict.ensures.same_shut c.in_err-words.ensures.cause;
+      wanting = λ n none. absurd (read_not_wanting _ n c.in_err-words.ensures.fault none);
+      same_shut = tt;
+      one_write = omega (arith, c.in_err-words.ensures.writes, c.in_ok-evict.ensures.one_write);
+      between = g.met.B.PageStore.goes_on c.args.store.now c.evict.new.store c.fetch.new.store c.in_ok-evict.ensures.between c.in_err-words.ensures.between;
+    })
+
+pub returns-in_err-evict-clause-stands : goal.returns-in_err-evict-clause-stands
+returns-in_err-evict-clause-stands g c told = c.in_err-evict.ensures.stands told (g.S.Supplier.word c.args.gate.now.supply)
 
 pub returns-clause-stands : goal.returns-clause-stands
 returns-clause-stands g c =

@@ -20,7 +20,7 @@ returns-in_err-save-clause-pages g c =
 pub returns-in_err-save-clause-chooses : goal.returns-in_err-save-clause-chooses
 returns-in_err-save-clause-chooses g c =
     let p = err_from_is_err_and c.from_residual.result c.from_residual.ensures.1 in
-    rw (p.1, p.2) (λ _. chooses_from c.args.self.now c.save.new.self c.victim.new.self _ _ _ c.in-Some.page _ c.in-Some.ensures.victim c.in-Some.ensures.resident tt (λ q _ was. ap (λ (x : PagedMemory). is_some (page_at x.frames q)) c.in_err-save.ensures.failed ∙ marked_some c.args.self.now c.victim.new.self c.in-Some.ensures.victim.same_pages q was) c.in_err-save.ensures.exact c.in_err-save.ensures.shut)
+    rw (p.1, p.2) (λ _. chooses_from c.args.self.now c.save.new.self c.victim.new.self _ _ _ c.in-Some.page _ c.in-Some.ensures.victim c.in-Some.ensures.resident tt (λ q _ was. ap (λ (x : PagedMemory). is_some (page_at x.frames q)) c.in_err-save.ensures.failed ∙ marked_some c.args.self.now c.victim.new.self c.in-Some.ensures.victim.same_pages q was) c.in_err-save.ensures.exact (λ _. c.in_err-save.ensures.failed) c.in_err-save.ensures.shut)
 
 pub save-requires : goal.save-requires
 save-requires g c =
@@ -59,7 +59,7 @@ pub returns-clause-chooses : goal.returns-clause-chooses
 returns-clause-chooses g c =
     let here = left_here g.B.PageStore.tells g.B.PageStore.held g.B.PageStore.kept_names g.B.PageStore.words c.args.self.now c.victim.new.self c.in-Some.page c.in-Some.ensures.victim c.in-Some.ensures.resident c.args.store.now c.save.new.store c.save.new.self c.in_ok-save.ensures.saves c.remove.new.self (on_taken _ c.remove.result c.remove.ensures.value (c.in_ok-save.ensures.saves.residents c.in-Some.page ∙ marked_some c.args.self.now c.victim.new.self c.in-Some.ensures.victim.same_pages c.in-Some.page c.in-Some.ensures.resident) c.remove.ensures.gone) in
     let others = left_others g.B.PageStore.tells g.B.PageStore.held g.B.PageStore.kept_names g.B.PageStore.words c.args.self.now c.victim.new.self c.in-Some.page c.in-Some.ensures.victim c.in-Some.ensures.resident c.args.store.now c.save.new.store c.save.new.self c.in_ok-save.ensures.saves c.remove.new.self (on_taken _ c.remove.result c.remove.ensures.value (c.in_ok-save.ensures.saves.residents c.in-Some.page ∙ marked_some c.args.self.now c.victim.new.self c.in-Some.ensures.victim.same_pages c.in-Some.page c.in-Some.ensures.resident) c.remove.ensures.gone) in
-    λ _. chooses_from c.args.self.now (record c.save.new.self { frames = c.remove.new.self }) c.victim.new.self _ _ _ c.in-Some.page _ c.in-Some.ensures.victim c.in-Some.ensures.resident here others c.in_ok-save.ensures.exact c.in_ok-save.ensures.shut
+    λ _. chooses_from c.args.self.now (record c.save.new.self { frames = c.remove.new.self }) c.victim.new.self _ _ _ c.in-Some.page _ c.in-Some.ensures.victim c.in-Some.ensures.resident here others c.in_ok-save.ensures.exact (λ none. absurd (cc none)) c.in_ok-save.ensures.shut
 
 pub returns-clause-gone : goal.returns-clause-gone
 returns-clause-gone g c =

@@ -34,7 +34,7 @@ returns-clause-room g c =
 pub returns-clause-counts : goal.returns-clause-counts
 returns-clause-counts g c = record {
   later = c.in_ok-bring.ensures.later;
-  one_write = c.in_ok-bring.ensures.one_write;
+  one_write = c.in_ok-bring.ensures.calls.one_write;
   reads = reads_same c.args.self.now c.bring.new.self (record c.bring.new.self { frames = c.word.new.self }) (c.args.address / 128) _ _ (same_residents c.bring.new.self (c.args.address / 128) c.in_ok-bring.ensures.resident c.word.new.self _ _ c.word.ensures.marked) c.in_ok-bring.ensures.reads;
   untouched = λ there. (c.in_ok-bring.ensures.had there).1;
 }
@@ -47,7 +47,7 @@ returns-in_err-bring-clause-room g c =
 pub returns-in_err-bring-clause-counts : goal.returns-in_err-bring-clause-counts
 returns-in_err-bring-clause-counts g c = record {
   later = c.in_err-bring.ensures.later;
-  one_write = c.in_err-bring.ensures.one_write;
+  one_write = c.in_err-bring.ensures.calls.one_write;
   reads = c.in_err-bring.ensures.reads;
   untouched = λ there. (c.in_err-bring.ensures.had there).1;
 }
