@@ -75,6 +75,6 @@ pub(crate) fn answered(came: &Result<Stepping, Stopped>) -> Result<Entry, Stop>
     match came {
         Ok(Stepping::Made(made)) => Ok(made.entry),
         Ok(Stepping::Idle(why)) => Err(Stop::Idle(*why)),
-        Err(why) => Err(Stop::told(why)),
+        Err(why) => Err(Stop::told(*why)),
     }
 }
