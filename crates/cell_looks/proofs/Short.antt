@@ -65,7 +65,7 @@ module _ {T : Type 0} (kept : ℕ → Bool) (free before now : ℕ) (was is : Bo
     after = m';
     was = ap (λ o. part.Container (record b { head = o })) head;
     is = ap (λ o. part.Container (record { head = o; memory = m' })) head;
-    turns = short_turns kept free before now was is b.memory m' (address_of (locus_of l) / 128) n r (room (comes n none)) cause;
+    turns = short_turns kept free before now was is b.memory m' (address_of (locus_of l) / 128) n r (room (comes n none)) cause none;
   }
 
 -- AN ERROR THAT IS HANDED ON says what the call said

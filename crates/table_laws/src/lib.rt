@@ -15,8 +15,8 @@ ghost use Rattle.table_laws.specs.Tables.{AreNumbered};
 
 pub use cell_blob_laws::{is_recorded, need_cell};
 pub use cell_steps::{
-    Act, Cell, Idle, Part, Plan, Reach, advance_alone, advance_barren, advance_beside, advance_looking,
-    advance_making, advance_mapping, advance_spawning, next_plan,
+    Act, Cell, Idle, Part, Plan, Reach, advance_alone, advance_barren, advance_beside,
+    advance_looking, advance_making, advance_mapping, advance_spawning, next_plan,
 };
 
 /// A step over at most three cells that are lent from a table, which leaves all blocks as they are, is the step over the table, which it leaves in order.
