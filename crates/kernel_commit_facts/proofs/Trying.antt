@@ -10,8 +10,6 @@ use Rattle.table_steps.specs.table_laws.Tables.{IsOrderly}
 use Rattle.kernel_book_laws.specs.store_facts.State.{State, books}
 use Rattle.table_steps.specs.cell_wish_laws.Founded.{IsFoundedCell}
 use Rattle.kernel_book_laws.specs.kernel_invariant.Beginnings.{Beginning, run_of}
-use Rattle.kernel_book_laws.specs.kernel_invariant.Live.{IsRunning}
-use Rattle.kernel_book_laws.specs.kernel_invariant.declared.stopping.Stopped.{Stopped}
 use Rattle.kernel_book_laws.specs.kernel_invariant.declared.stopping.Stopped.TheVariants.{WriteFault}
 use Rattle.kernel_book_laws.proofs.kernel_laws_lemmas.Going.{tried_lives}
 use Rattle.kernel_book_laws.specs.kernel_records.Committing.{CommitCounts, HasPages}
