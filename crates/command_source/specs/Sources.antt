@@ -1,6 +1,8 @@
--- Which sources are accepted, and why the others are refused.
-use Rattle.std.specs.Prelude.{◌≡◌, ℕ, Ok, codes, string_bytes, Option, IfSome, ⊤}
+-- Which sources are accepted, why the others are refused, and where reading stops.
+use Rattle.std.specs.Prelude.{◌≡◌, ℕ, ◌+◌, Ok, codes, string_bytes, Option, IfSome, ⊤}
 use Rattle.std.specs.Io.KnownBytes.{IsAtEnd}
+use Rattle.edge_streams.specs.Reading.{TakesAtMost}
+use Rattle.edge_streams.specs.declared.reading.TheConstants.{PIECE_BYTES}
 use Rattle.edge_streams.specs.declared.reading.ReadStop.{ReadStop}
 use Rattle.edge_streams.specs.declared.reading.ReadStop.TheVariants.{Source as FromSource, Memory as NoRoom, Long as TooMuch}
 use Rattle.script_types.specs.model_kernel.State.{Text}
@@ -42,6 +44,15 @@ StopsSource source (Script refusal) = IsRefusalOf source.before refusal
 StopsSource source Source = source.rose
 StopsSource source Memory = ⊤
 StopsSource source fault = ⊥
+
+-- at most so many bytes of the source were taken, where they are told
+abbrev pub IsTakenTo : SeenSource → ℕ → Type 0
+IsTakenTo source most = TakesAtMost source.before source.after most
+
+-- HOW MUCH WAS TAKEN of a source that may have so many bytes and was not read: at most one piece more, and not that where it failed
+abbrev pub StopsInTime : ℕ → SeenSource → Fault → Type 0
+StopsInTime most source Source = IsTakenTo source most
+StopsInTime most source fault = IsTakenTo source (most + PIECE_BYTES)
 
 -- the fault is that of a source that is too long, unless memory ran out
 abbrev pub IsLongFault : Fault → Type 0

@@ -4,7 +4,7 @@ ghost use Rattle.base_managers.specs.Managing.{AreScriptManagers, managers_of};
 ghost use Rattle.script_types.specs.Rules.{IsScript};
 ghost use Rattle.script_types.specs.Scripts.{tables_of};
 ghost use Rattle.command_outcomes.specs.Seen.{seen_source};
-ghost use Rattle.command_source.specs.Sources.{HasRead, IsFaultOfStop, MeansScript, StopsSource};
+ghost use Rattle.command_source.specs.Sources.{HasRead, IsFaultOfStop, MeansScript, StopsInTime, StopsSource};
 
 use base_types::MOST_SCRIPT_BYTES;
 use command_outcomes::Fault;
@@ -44,6 +44,7 @@ pub fn read_source<R: Source>(alloc: Global, source: &mut R) -> Result<ManagedSc
     ensures frames { IfOk result (λ read. (1 ≤ read.script.frames) × (read.script.frames ≤ 256)) }
     ensures managers { IfOk result (λ read. AreScriptManagers (managers_of read.managers)) }
     ensures fault { IfErr result (StopsSource (seen_source R.left R.faults source.old source.new)) }
+    ensures stops { IfErr result (StopsInTime MOST_SCRIPT_BYTES (seen_source R.left R.faults source.old source.new)) }
     ensures count { R.faults source.old ≤ R.faults source.new }
 {
     let bytes = match read_all(alloc, source, MOST_SCRIPT_BYTES) {
