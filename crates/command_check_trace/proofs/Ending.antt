@@ -1,7 +1,7 @@
 -- How a command ends with its verdict, and what that says of what was read before.
-use Rattle.std.proofs.Common.{◌≡◌, inl, inr, Option, Some, None, ap, sym, subst, ◌∙◌, refl}
+use Rattle.std.proofs.Common.{◌≡◌, ◌≤◌, inl, inr, Option, Some, None, ap, length, sym, subst, ◌∙◌, refl, arith}
 use Rattle.std.specs.Prelude.{IfSome, string_bytes}
-use Rattle.std.specs.Io.KnownBytes.{IsAtEnd}
+use Rattle.std.specs.Io.KnownBytes.{Consumes, IsAtEnd}
 use Rattle.edge_disk.specs.declared.disk.Disk.{Ghosts}
 use Rattle.plain_states.specs.model_kernel.State.{Text}
 use Rattle.script_types.specs.declared.refusals.Refusal.{Refusal}
@@ -13,9 +13,10 @@ use Rattle.command_outcomes.specs.Statuses.{Ending, Stopped as StoppedBy, Unput,
 use Rattle.command_outcomes.specs.declared.faults.Fault.{Fault}
 use Rattle.command_outcomes.specs.declared.faults.Fault.TheVariants.{Script, Foreign, DiskFault, Source, Memory}
 use Rattle.command_outcomes.proofs.Endings.{by_done, by_fault, by_sink}
+use Rattle.command_source.specs.Sources.{StopsInTime}
 use Rattle.command_promises.specs.TraceBooked.{over}
 use Rattle.command_promises.specs.TraceLeaving.{StopsTrace, TraceEnds, TraceLeaves}
-use Rattle.command_promises.specs.Sources.{IsRefusalOf, MeansTraced, OfBytes, OfSource, ReadFrom, StopsTraced, Traced, from_parts, from_source, traced_meaning}
+use Rattle.command_promises.specs.Sources.{IsRefusalOf, MeansTraced, OfBytes, OfSource, ReadFrom, StopsTraced, Traced, from_parts, from_source, most_bytes, traced_meaning}
 use Rattle.command_check_trace.specs.Verdicts.{EndsWith, IsJudged}
 use Rattle.command_check_trace.specs.declared.judging.Verdict.{Verdict}
 use Rattle.command_check_trace.specs.declared.judging.Verdict.TheVariants.{Legal, Wrong, Stopped}
@@ -31,7 +32,7 @@ module _ (m : Managers) (t : Traced) (sink : SeenSink) (disk : SeenDisk) (gave :
   stops (Script refusal) told unrun = (unrun, inr told)
   stops (Foreign block place) told unrun = (unrun, told)
   stops DiskFault told unrun = (unrun, told)
-  stops Memory told unrun = unrun
+  stops Memory told unrun = (unrun, tt)
   stops fault told unrun = absurd told
 
   pub ends_by : (v : Verdict) → IsJudgedRight v → EndsWith sink gave v → Ends (ending gave.status)
@@ -42,14 +43,15 @@ module _ (m : Managers) (t : Traced) (sink : SeenSink) (disk : SeenDisk) (gave :
 
 -- WHAT IS SAID of what was read is said of what it was read from
 module _ (m : Managers) (from to : ReadFrom) (sink : SeenSink) (disk : SeenDisk) (gave : Gave)
-    (means : (P : Traced → Type 0) → from.means P → to.means P) (refused : (refusal : Refusal) → from.refused refusal → to.refused refusal) (rose : from.rose → to.rose) where
+    (means : (P : Traced → Type 0) → from.means P → to.means P) (refused : (refusal : Refusal) → from.refused refusal → to.refused refusal) (rose : from.rose → to.rose)
+    (in_time : (fault : Fault) → from.in_time fault → to.in_time fault) where
   stops_from : (fault : Fault) → StopsTrace m from sink disk gave fault → StopsTrace m to sink disk gave fault
-  stops_from (Script refusal) (unrun, inl (is, same)) = (unrun, inl (refused refusal is, same))
+  stops_from (Script refusal) (unrun, inl (is, same, time)) = (unrun, inl (refused refusal is, same, in_time (Script refusal) time))
   stops_from (Script refusal) (unrun, inr misfit) = (unrun, inr (means _ misfit))
   stops_from (Foreign block place) (unrun, foreign) = (unrun, means _ foreign)
   stops_from DiskFault (unrun, failed) = (unrun, means _ failed)
-  stops_from Source (unrun, failed, same) = (unrun, rose failed, same)
-  stops_from Memory unrun = unrun
+  stops_from Source (unrun, failed, same, time) = (unrun, rose failed, same, in_time Source time)
+  stops_from Memory (unrun, time) = (unrun, in_time Memory time)
   stops_from fault stopped = absurd stopped
 
   ends_from : (e : Ending) → TraceEnds m from sink disk gave e → TraceEnds m to sink disk gave e
@@ -82,14 +84,18 @@ module _ (source : SeenSource) (bytes read : Text) (whole : IfSome source.before
   pub refused_source : (refusal : Refusal) → traced_meaning read ≡ refused refusal.why (string_bytes refusal.key) → IsRefusalOf source.before refusal
   refused_source refusal is = all_of (λ left. traced_meaning left ≡ refused refusal.why (string_bytes refusal.key)) is
 
+  pub in_time_source : Consumes source.before source.after bytes → length bytes ≤ most_bytes → (fault : Fault) → StopsInTime most_bytes source fault
+  in_time_source consumed short Source = record { taken = bytes; consumed = consumed; within = short }
+  in_time_source consumed short fault = record { taken = bytes; consumed = consumed; within = omega arith }
+
 -- NOTHING WAS READ of a source
 module _ (m : Managers) (source : SeenSource) (sink : SeenSink) (disk : SeenDisk) (gave : Gave) where
-  unread_stops : (fault : Fault) → StopsTraced source fault → IsUnrun sink gave fault → disk.same → StopsTrace m (from_source source) sink disk gave fault
-  unread_stops (Script refusal) why unrun same = (unrun, inl (why, same))
-  unread_stops Source why unrun same = (unrun, why, same)
-  unread_stops Memory why unrun same = unrun
-  unread_stops fault why unrun same = absurd why
+  unread_stops : (fault : Fault) → StopsTraced source fault → StopsInTime most_bytes source fault → IsUnrun sink gave fault → disk.same → StopsTrace m (from_source source) sink disk gave fault
+  unread_stops (Script refusal) why time unrun same = (unrun, inl (why, same, time))
+  unread_stops Source why time unrun same = (unrun, why, same, time)
+  unread_stops Memory why time unrun same = (unrun, time)
+  unread_stops fault why time unrun same = absurd why
 
-  pub unread_leaves : (fault : Fault) → gave.status ≡ status_by fault → StopsTraced source fault → IsUnrun sink gave fault → disk.same → IsOnlyRead disk → TraceLeaves m (from_source source) sink disk gave (ending gave.status)
-  unread_leaves fault is why unrun same only =
-      record { only_read = only; ends = by_fault (TraceEnds m (from_source source) sink disk gave) gave.status fault is (unread_stops fault why unrun same) }
+  pub unread_leaves : (fault : Fault) → gave.status ≡ status_by fault → StopsTraced source fault → StopsInTime most_bytes source fault → IsUnrun sink gave fault → disk.same → IsOnlyRead disk → TraceLeaves m (from_source source) sink disk gave (ending gave.status)
+  unread_leaves fault is why time unrun same only =
+      record { only_read = only; ends = by_fault (TraceEnds m (from_source source) sink disk gave) gave.status fault is (unread_stops fault why time unrun same) }

@@ -1,11 +1,12 @@
 // A source, read to a script and a trace.
 ghost use Rattle.std.specs.Prelude.{◌≡◌, ◌≤◌, ◌<◌, IfErr, IfOk, IfSome, OnOk, Some, codes, length, true, vec_len};
-ghost use Rattle.std.specs.Io.KnownBytes.{IsAtEnd};
+ghost use Rattle.std.specs.Io.KnownBytes.{Consumes, IsAtEnd};
 ghost use Rattle.base_managers.specs.Managing.{AreScriptManagers, managers_of};
 ghost use Rattle.script_types.specs.Rules.{IsScript};
 ghost use Rattle.script_types.specs.Scripts.{tables_of};
 ghost use Rattle.command_promises.specs.script_meaning.Reading.{IsBlamed, IsFaultOf};
 ghost use Rattle.command_outcomes.specs.Seen.{seen_source};
+ghost use Rattle.command_source.specs.Sources.{StopsInTime};
 ghost use Rattle.command_promises.specs.SourceParts.{rule_from};
 ghost use Rattle.command_promises.specs.Sources.{MeansTraced, StopsTraced, most_bytes, traced_meaning};
 ghost use Rattle.command_check_trace.specs.Sources.{traced_of};
@@ -41,9 +42,11 @@ fn no_rule(alloc: Global) -> ScriptFault
 /// All bytes of a source, of which there may be so many.
 pub(crate) fn read_bytes<R: Source>(alloc: Global, source: &mut R) -> Result<Vec<u8>, Fault>
     ensures whole { IfOk result (λ bytes. IfSome (R.left source.old) (λ left. bytes.items ≡ left)) }
+    ensures taken { IfOk result (λ bytes. Consumes (R.left source.old) (R.left source.new) bytes.items) }
     ensures end { OnOk result (IfSome (R.left source.old) (λ _. IsAtEnd (R.left source.new))) }
     ensures short { IfOk result (λ bytes. vec_len bytes ≤ most_bytes) }
     ensures fault { IfErr result (StopsTraced (seen_source R.left R.faults source.old source.new)) }
+    ensures stops { IfErr result (StopsInTime most_bytes (seen_source R.left R.faults source.old source.new)) }
     ensures count { R.faults source.old ≤ R.faults source.new }
 {
     match read_all(alloc, source, MOST_BYTES) {

@@ -29,7 +29,7 @@ use Rattle.command_promises.specs.Keeping.{IsKept}
 use Rattle.command_promises.specs.Runs.{IsCutShort, IsRun, IsServed, Telling}
 use Rattle.command_promises.proofs.Returning.{kept}
 use Rattle.command_promises.specs.Booked.{over}
-use Rattle.command_promises.specs.Leaving.{IsReadOne, OfRun, RunLeaves, StopsRun}
+use Rattle.command_promises.specs.Leaving.{IsLeftInTime, IsReadOne, OfRun, RunLeaves, StopsRun}
 use Rattle.command_promises.specs.OfScript.{InRun, IsLeftUnopened, ScriptLeaves, StopsScript}
 use Rattle.command_promises.specs.Playing.{HasRun, HasServed, IsHandedIn, PlayLeaves, StartsRun, WasCutForBlocks, WasCutShort}
 use Rattle.command_promises.specs.Short.{IsCutForBlocks, IsShortOfBlocks}
@@ -55,14 +55,14 @@ module _ {D : Type 0} (disks : Ghosts D)
       back t c (inr since) = inr since
 
 -- the source was refused, or could not be read
-pub source_stops : (telling : Telling) (m : Managers) (call : Call) (gave : Gave) (f : Fault) → StopsSource call.source f → IsUnrun call.sink gave f → call.disk.same → StopsRun telling m call gave f
-source_stops telling m call gave (fault.Script refusal) why unrun same = (unrun, inl (why, same))
-source_stops telling m call gave fault.Source why unrun same = (why, unrun, same)
-source_stops telling m call gave fault.Memory why unrun same = (unrun, inl same)
-source_stops telling m call gave fault.Usage why unrun same = absurd why
-source_stops telling m call gave (fault.Foreign block place) why unrun same = absurd why
-source_stops telling m call gave fault.DiskFault why unrun same = absurd why
-source_stops telling m call gave (fault.NoBlocks n) why unrun same = absurd why
+pub source_stops : (telling : Telling) (m : Managers) (call : Call) (gave : Gave) (f : Fault) → StopsSource call.source f → IsLeftInTime call f → IsUnrun call.sink gave f → call.disk.same → StopsRun telling m call gave f
+source_stops telling m call gave (fault.Script refusal) why time unrun same = (unrun, inl (why, same, time))
+source_stops telling m call gave fault.Source why time unrun same = (why, unrun, same, time)
+source_stops telling m call gave fault.Memory why time unrun same = (unrun, inl (same, time))
+source_stops telling m call gave fault.Usage why time unrun same = absurd why
+source_stops telling m call gave (fault.Foreign block place) why time unrun same = absurd why
+source_stops telling m call gave fault.DiskFault why time unrun same = absurd why
+source_stops telling m call gave (fault.NoBlocks n) why time unrun same = absurd why
 
 -- a fault that stopped the call says how it ended
 pub ended_by : (telling : Telling) (m : Managers) (call : Call) (gave : Gave) (status : Status) (f : Fault) → status ≡ status_by f → StopsRun telling m call gave f → RunLeaves telling m call gave (ending status)

@@ -83,7 +83,7 @@ module _ (m : Managers) (call : Call) (can : CanCheck m call) where
   may_end gave (status.Script refusal) leaves = by_why leaves.ends.1
     where
       by_why : IsRefused m (from_source call.source) call.sink call.disk gave refusal → ⊥
-      by_why (inl (refuses, same)) =
+      by_why (inl (refuses, same, time)) =
           not_refused can.bytes can.traced refusal can.read (of_known call.source.before can.bytes (λ bytes. traced_meaning bytes ≡ refused refusal.why (string_bytes refusal.key)) can.known refuses)
       by_why (inr misfit) = not_misfit refusal misfit
   may_end gave (status.Foreign block place) leaves = not_both call.disk.before.reading _ can.means.accepted (leaves.ends.1.holds can.told)

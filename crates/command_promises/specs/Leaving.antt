@@ -1,5 +1,6 @@
 -- What the command `run` leaves.
 use Rattle.std.specs.Prelude.{◌≡◌, ◌⊎◌, Some}
+use Rattle.base_types.specs.declared.limits.TheConstants.{MOST_SCRIPT_BYTES}
 use Rattle.model_serial.specs.model_births.Fitting.{Fits}
 use Rattle.image_facts.specs.model_kernel.Scripts.{Script as Tables}
 use Rattle.image_facts.specs.model_kernel.State.{KernelState, Text}
@@ -9,7 +10,7 @@ use Rattle.image_format.specs.image_meaning.Meaning.{Means}
 use Rattle.open_kernel.specs.kernel_invariant.Beginnings.{Beginning}
 use Rattle.base_managers.specs.Managing.{ManagerTables}
 use Rattle.script_drill.specs.script_types.declared.refusals.Refusal.{Refusal}
-use Rattle.command_source.specs.Sources.{HasRead, IsAccepted, IsRefusalOf}
+use Rattle.command_source.specs.Sources.{HasRead, IsAccepted, IsRefusalOf, StopsInTime}
 use Rattle.command_source.specs.command_outcomes.Ends.{IsUnrun, LeavesBy}
 use Rattle.command_source.specs.command_outcomes.Seen.{Call, Gave, SeenSource}
 use Rattle.command_source.specs.command_outcomes.Statuses.{Ending}
@@ -34,9 +35,13 @@ pub record OfRun (m : Managers) (call : Call) (P : Beginning → Type 0) : Type 
 abbrev pub IsReadOne : SeenSource → Type 0
 IsReadOne source = (script : Tables) × (brought : ManagerTables) × HasRead source script brought
 
+-- no more was taken of a source that was not read than of one that is too long
+abbrev pub IsLeftInTime : Call → Fault → Type 0
+IsLeftInTime call = StopsInTime MOST_SCRIPT_BYTES call.source
+
 -- refused: the source, before any call of the disk; or its script, which doesn't fit the image
 abbrev pub IsRefused : Call → Refusal → Type 0
-IsRefused call refusal = (IsRefusalOf call.source.before refusal × call.disk.same) ⊎ ((script : Tables) × (brought : ManagerTables) × HasRead call.source script brought × HasMisfit script call.disk refusal)
+IsRefused call refusal = (IsRefusalOf call.source.before refusal × call.disk.same × IsLeftInTime call (Script refusal)) ⊎ ((script : Tables) × (brought : ManagerTables) × HasRead call.source script brought × HasMisfit script call.disk refusal)
 
 -- STOPPED by this fault. What stops first decides: the source, the image, the script against it, the run.
 abbrev pub StopsRun : Telling → Managers → Call → Gave → Fault → Type 0
@@ -45,8 +50,8 @@ StopsRun telling m call gave (Foreign block place) =
     IsUnrun call.sink gave (Foreign block place) × IsReadOne call.source × (call.disk.tells → IsForeign call.disk.before.reading (record { block = block; place = place }) × StaysAsRead call.disk)
 StopsRun telling m call gave DiskFault =
     call.disk.rose × ((IsUnrun call.sink gave DiskFault × IsReadOne call.source × IsLeftUnopened call.disk) ⊎ OfRun m call (λ b. IsCutShort telling b call.disk call.sink gave DiskFault))
-StopsRun telling m call gave Source = call.source.rose × IsUnrun call.sink gave Source × call.disk.same
-StopsRun telling m call gave Memory = IsUnrun call.sink gave Memory × (call.disk.same ⊎ (IsReadOne call.source × IsKeptImage call.disk))
+StopsRun telling m call gave Source = call.source.rose × IsUnrun call.sink gave Source × call.disk.same × IsLeftInTime call Source
+StopsRun telling m call gave Memory = IsUnrun call.sink gave Memory × ((call.disk.same × IsLeftInTime call Memory) ⊎ (IsReadOne call.source × IsKeptImage call.disk))
 StopsRun telling m call gave (NoBlocks n) = OfRun m call (λ b. IsCutForBlocks telling b call.disk call.sink gave n)
 StopsRun telling m call gave fault = ⊥
 

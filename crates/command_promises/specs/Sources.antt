@@ -11,6 +11,7 @@ use Rattle.script_meaning.specs.Reading.{Reading, ◌>>=◌, or_refused, refused
 use Rattle.command_source.specs.command_outcomes.Seen.{SeenSource}
 use Rattle.command_source.specs.command_outcomes.declared.faults.Fault.{Fault}
 use Rattle.command_source.specs.command_outcomes.declared.faults.Fault.TheVariants.{Script, Source, Memory}
+use Rattle.command_source.specs.Sources.{StopsInTime}
 use Rattle.command_promises.specs.SourceParts.{Parts, parts_of}
 
 -- bytes of a source at most
@@ -44,12 +45,13 @@ MeansTraced bytes traced = traced_meaning bytes ≡ Ok traced
 abbrev pub IsRefusalOf : Option Text → Refusal → Type 0
 IsRefusalOf left refusal = IfSome left (λ bytes. traced_meaning bytes ≡ refused refusal.why (string_bytes refusal.key))
 
--- WHAT IS KNOWN OF WHAT WAS READ: what holds of the script, its managers and the trace that it means, why it is refused, and that a count of
--- faults rose
+-- WHAT IS KNOWN OF WHAT WAS READ: what holds of the script, its managers and the trace that it means, why it is refused, that a count of
+-- faults rose, and how much was taken where it was not read
 pub record ReadFrom : Type 1 where
   pub means : (Traced → Type 0) → Type 0
   pub refused : Refusal → Type 0
   pub rose : Type 0
+  pub in_time : Fault → Type 0
 
 -- THE SOURCE WAS READ to its end, and means a script with its managers, and a trace, of which this holds
 pub record OfSource (source : SeenSource) (P : Traced → Type 0) : Type 0 where
@@ -60,7 +62,7 @@ pub record OfSource (source : SeenSource) (P : Traced → Type 0) : Type 0 where
 
 -- of a source
 abbrev pub from_source : SeenSource → ReadFrom
-from_source source = record { means = OfSource source; refused = IsRefusalOf source.before; rose = source.rose }
+from_source source = record { means = OfSource source; refused = IsRefusalOf source.before; rose = source.rose; in_time = StopsInTime most_bytes source }
 
 -- the bytes mean a script with its managers, and a trace, of which this holds
 pub record OfBytes (bytes : Text) (P : Traced → Type 0) : Type 0 where
@@ -70,11 +72,11 @@ pub record OfBytes (bytes : Text) (P : Traced → Type 0) : Type 0 where
 
 -- of bytes
 abbrev pub from_bytes : Text → ReadFrom
-from_bytes bytes = record { means = OfBytes bytes; refused = λ refusal. traced_meaning bytes ≡ refused refusal.why (string_bytes refusal.key); rose = ⊥ }
+from_bytes bytes = record { means = OfBytes bytes; refused = λ refusal. traced_meaning bytes ≡ refused refusal.why (string_bytes refusal.key); rose = ⊥; in_time = λ fault. ⊤ }
 
 -- of a script, its managers and a trace
 abbrev pub from_parts : Traced → ReadFrom
-from_parts traced = record { means = λ P. P traced; refused = λ refusal. ⊥; rose = ⊥ }
+from_parts traced = record { means = λ P. P traced; refused = λ refusal. ⊥; rose = ⊥; in_time = λ fault. ⊤ }
 
 -- WHY NONE WAS READ: the source is refused so, its count of faults rose, or memory ran out
 abbrev pub StopsTraced : SeenSource → Fault → Type 0

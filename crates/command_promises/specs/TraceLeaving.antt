@@ -44,7 +44,7 @@ module _ (m : Managers) (from : ReadFrom) (sink : SeenSink) (disk : SeenDisk) (g
 
   -- refused: the source, before any call of the disk; or its script, which doesn't fit the image
   abbrev pub IsRefused : Refusal → Type 0
-  IsRefused refusal = (from.refused refusal × disk.same) ⊎ from.means (λ t. HasMisfit (over t.brought m) t.script disk refusal)
+  IsRefused refusal = (from.refused refusal × disk.same × from.in_time (Script refusal)) ⊎ from.means (λ t. HasMisfit (over t.brought m) t.script disk refusal)
 
   -- STOPPED by this fault. What stops first decides: the source, the image, the script against it, the trace.
   abbrev pub StopsTrace : Fault → Type 0
@@ -52,8 +52,8 @@ module _ (m : Managers) (from : ReadFrom) (sink : SeenSink) (disk : SeenDisk) (g
   StopsTrace (Foreign block place) =
       IsUnrun sink gave (Foreign block place) × from.means (λ t. disk.tells → IsForeign disk.before.reading (record { block = block; place = place }))
   StopsTrace DiskFault = IsUnrun sink gave DiskFault × from.means (λ t. disk.rose)
-  StopsTrace Source = IsUnrun sink gave Source × from.rose × disk.same
-  StopsTrace Memory = IsUnrun sink gave Memory
+  StopsTrace Source = IsUnrun sink gave Source × from.rose × disk.same × from.in_time Source
+  StopsTrace Memory = IsUnrun sink gave Memory × from.in_time Memory
   StopsTrace fault = ⊥
 
   abbrev pub TraceEnds : Ending → Type 0

@@ -22,7 +22,7 @@ returns-in-Err-clause-leaves g c =
       disk = seen_disk d c.args.disk c.end_with.result.disk;
     } in
     ended_by (lines_of c.args.lines) g.m call (gave c.end_with.result) c.end_with.result.status c.in-Err.fault c.end_with.ensures.status
-    (source_stops (lines_of c.args.lines) g.m call (gave c.end_with.result) c.in-Err.fault c.in-Err.ensures.fault c.end_with.ensures.unrun c.end_with.ensures.disk)
+    (source_stops (lines_of c.args.lines) g.m call (gave c.end_with.result) c.in-Err.fault c.in-Err.ensures.fault c.in-Err.ensures.stops c.end_with.ensures.unrun c.end_with.ensures.disk)
 
 pub returns-in-Err-clause-complete : goal.returns-in-Err-clause-complete
 returns-in-Err-clause-complete g c can source disk sink blocks = complete (lines_of c.args.lines) g.m _ (gave c.end_with.result) can c.end_with.result.status (returns-in-Err-clause-leaves g c) source disk sink blocks
