@@ -2,10 +2,10 @@
 ghost use Rattle.script_types.specs.Rules.{IsScript};
 ghost use Rattle.script_types.specs.Scripts.{tables_of};
 
+use crate::choices::greatest_choice;
 use crate::replays::part_of;
 use crate::shows::{facts_of, shown};
 use base_types::{Cut, Entry, Rec};
-use data_cuts::{MOST_RECORDS, greatest, is_ascending};
 use edge_disk::MemoryDisk;
 use image_reading::ImageFacts;
 use script_types::Script;
@@ -40,10 +40,7 @@ pub fn front_of(
 ) -> Result<Front, Fail>
     requires script { IsScript (tables_of script.now) }
 {
-    if recs.len() > MOST_RECORDS || !is_ascending(recs) {
-        return Err(Fail::from("commits that ascend"));
-    }
-    let cut = greatest(recs);
+    let cut = greatest_choice(recs);
     let part = part_of(alloc, script, history, &cut)?;
     Ok(Front {
         cut,

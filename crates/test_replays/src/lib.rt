@@ -2,6 +2,7 @@
 //! them, and what is shown of the state of that part, by the plain kernel. And the whole serial history of a script, with its Snaps.
 #![tactic(auto)]
 
+mod choices;
 mod clocks;
 mod fronts;
 mod prefixes;

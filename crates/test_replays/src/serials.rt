@@ -3,9 +3,9 @@
 ghost use Rattle.script_types.specs.Rules.{IsScript};
 ghost use Rattle.script_types.specs.Scripts.{tables_of};
 
+use crate::choices::greatest_choice;
 use crate::clocks::{Clocks, Commits, commit_behind, newest};
-use base_types::{Answer, Cut, Entity, Entry, Event, FIRST_LOCUS, Kind, Rec, Touched};
-use data_cuts::{MOST_RECORDS, greatest, is_ascending};
+use base_types::{Answer, Entity, Entry, Event, FIRST_LOCUS, Kind, Rec, Touched};
 use edge_managers::{CountedWords, EveryVersions, Policy, Supplier};
 use plain_runs::{has_no_snaps, play};
 use script_types::Script;
@@ -28,23 +28,15 @@ fn every_of(script: &Script, entity: Entity) -> u32 {
     }
 }
 
-// The greatest closed choice of these records.
-fn cut_of(recs: &[Rec]) -> Result<Cut, Fail> {
-    if recs.len() > MOST_RECORDS || !is_ascending(recs) {
-        return Err(Fail::from("commits that ascend"));
-    }
-    Ok(greatest(recs))
-}
-
 // Whether four records of the entity or more are at or above the cut.
-fn is_full(recs: &[Rec], entity: Entity) -> Result<bool, Fail> {
-    let cut = cut_of(recs)?;
+fn is_full(recs: &[Rec], entity: Entity) -> bool {
+    let cut = greatest_choice(recs);
     let least = cut.0[entity.number() as usize];
     let kept = recs
         .iter()
         .filter(|rec| rec.entity == entity && least <= rec.version)
         .count();
-    Ok(kept >= 4)
+    kept >= 4
 }
 
 // A history that is being made, with its clocks and its commits.
@@ -64,11 +56,8 @@ impl Making {
     }
 
     // Whether the entity is snapped behind a step that wrote it.
-    fn is_due(&self, script: &Script, entity: Entity) -> Result<bool, Fail> {
-        if !self.is_wished(script, entity) {
-            return Ok(false);
-        }
-        Ok(!is_full(&self.commits.recs, entity)?)
+    fn is_due(&self, script: &Script, entity: Entity) -> bool {
+        self.is_wished(script, entity) && !is_full(&self.commits.recs, entity)
     }
 
     // The Snap of the entity as it is now.
@@ -94,7 +83,7 @@ impl Making {
     fn snap_written(&mut self, script: &Script, step: &Entry) -> Result<(), Fail> {
         for touch in step.touched.as_slice() {
             let entity = touch.entity;
-            if touch.wrote && self.is_due(script, entity)? {
+            if touch.wrote && self.is_due(script, entity) {
                 let snap = self.snap_of(entity);
                 self.append(snap)?;
             }
