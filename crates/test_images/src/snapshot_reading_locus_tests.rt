@@ -160,6 +160,8 @@ const LONG_ROWS: &[Row] = &[
     (&[(72, 1), (79, 64)], Some(79)),
     (&[(79, 65)], Some(79)),
     (&[(72, 1), (97, 65)], Some(97)),
+    // without calls and private regions: the number of these makes the long form one spelling too many
+    (&[(97, 0), (98, 0)], Some(98)),
 ];
 
 #[test]

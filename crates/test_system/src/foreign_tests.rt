@@ -96,6 +96,9 @@ const CHANGES: &[Change] = &[
     (Block(1285), 4, 10, Block(1285), 4),
     // The locus's host is not born.
     (Blob(2), 6, 2, Block(1289), 0),
+    // The blobs stand in the lowest blocks of the pool, in the order of the records.
+    (Block(2565), 0, 9, Block(2565), 0),
+    (Block(2567), 6, 2, Block(1289), 0),
 ];
 
 // What a command puts for an image with one byte changed, and what it ought to put.

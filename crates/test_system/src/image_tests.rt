@@ -2,10 +2,11 @@
 ghost use Rattle.std.specs.Prelude.{◌≡◌, IfOk};
 
 use crate::scripts::{
-    ALL_PAGES, ALWAYS_STABLE, BORN_WISHED, COUNTS_ON, FIVE, STABILISES, STABLE, WISHED,
-    WISHED_BY_TWO, WISHED_BY_TWO_KEPT, WISHES, WISHES_KEPT,
+    ALL_PAGES, ALWAYS_STABLE, BORN, BORN_WISHED, COUNTS_ON, FIVE, PRINTED_ONCE, PRINTS_TWICE,
+    STABILISES, STABLE, STOPPED, STOPPED_AND_STABLE, WISHED, WISHED_BY_TWO, WISHED_BY_TWO_KEPT,
+    WISHES, WISHES_KEPT,
 };
-use crate::{FORMAT_CALLS, formatted, formatted_with, put, run, shown, small};
+use crate::{FORMAT_CALLS, copy_of, formatted_with, put, run, shown, small};
 use base_types::{Entity, Event, Touch, Touched};
 use command_outcomes::Status;
 use std::test::Fail;
@@ -19,6 +20,7 @@ fn a_state_is_shown_as_it_was_made_stable(rt: HostRuntime) -> Result<(), Fail> {
         (COUNTS_ON, STABLE),
         (WISHED, BORN_WISHED),
         (WISHES, WISHES_KEPT),
+        (STOPPED_AND_STABLE, STOPPED),
     ];
     for &(script, kept) in &runs {
         let (lines, outcome) = run(alloc, script)?;
@@ -29,16 +31,22 @@ fn a_state_is_shown_as_it_was_made_stable(rt: HostRuntime) -> Result<(), Fail> {
     Ok(())
 }
 
+// What was not made stable is done again. The lines of two runs in a row, and what the image shows between them.
+const TWICE: &[(&[u8], &str, &str, &str)] = &[
+    (FIVE, "l 5\n", BORN, "l 5\n"),
+    (PRINTS_TWICE, "l 5\nl 5\n", PRINTED_ONCE, "l 5\n"),
+];
+
 #[test]
 fn runs_go_on_from_the_image(rt: HostRuntime) -> Result<(), Fail> {
     let alloc = rt.alloc();
-    let mut disk = formatted(alloc, &[])?;
-    // What was not made stable is done again.
-    for _time in 0..2 {
-        let (lines, outcome) = put(alloc, &["run"], FIVE, disk)?;
-        assert!(rt; lines.as_str() == "l 5\n");
+    for &(script, lines, kept, again) in TWICE {
+        let (first, outcome) = run(alloc, script)?;
+        assert!(rt; first.as_str() == lines);
+        assert!(rt; shown(alloc, copy_of(&outcome.disk)?)?.as_str() == kept);
+        let (second, outcome) = put(alloc, &["run"], script, outcome.disk)?;
+        assert!(rt; second.as_str() == again);
         assert!(rt; outcome.status.number() == 0);
-        disk = outcome.disk;
     }
     Ok(())
 }

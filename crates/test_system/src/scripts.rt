@@ -5,6 +5,11 @@ container = [{ name = 'a', pages = 1, program = 'p' }]
 locus = [{ name = 'l', host = 'a' }]
 ";
 
+// What an image shows of its births.
+pub const BORN: &str = "container a 1 0 0 -
+locus l a 0 running 0 0 0 0 0 0 0 0 0
+";
+
 pub const PAST_THE_PAGE: &[u8] =
     b"program.p = ['set r0 128', 'load r1 r0', 'print r7', 'set r0 127', 'load r1 r0', 'print r7', 'halt']
 container = [{ name = 'a', pages = 1, program = 'p' }]
@@ -95,6 +100,28 @@ container = [{ name = 'a', pages = 1, program = 'p' }]
 locus = [{ name = 'l', host = 'a', caps = ['l k'] }]
 ";
 
+// The same, where another locus makes all stable behind it.
+pub const STOPPED_AND_STABLE: &[u8] = b"program.p = ['stop r0', 'go r0', 'print r7', 'halt']
+program.q = ['stabilise r0']
+container = [
+    { name = 'a', pages = 1, program = 'p' },
+    { name = 'b', pages = 1, program = 'q' },
+]
+locus = [
+    { name = 'l', host = 'a', caps = ['l k'] },
+    { name = 'm', host = 'b', caps = ['atlas t'] },
+]
+";
+
+// It stands behind the call by which it stopped itself.
+pub const STOPPED: &str = "container a 1 0 0 -
+container b 1 0 0 -
+locus l a 1 stopped 0 0 0 0 0 0 0 0 0
+cap l 0 l k
+locus m b 1 running 0 0 0 0 0 0 0 0 0
+cap m 0 atlas t
+";
+
 pub const TAKES: &[u8] =
     b"program.p = ['take r1 r0 r2', 'print r1', 'print r7', 'take r1 r0 r1', 'print r7', 'halt']
 container = [
@@ -134,6 +161,20 @@ locus = [{ name = 'l', host = 'a', caps = ['atlas t'] }]
 pub const STABLE: &str = "container a 1 0 0 -
 word a 0 7
 locus l a 3 running 0 7 0 0 0 0 0 0 0
+cap l 0 atlas t
+";
+
+// A line before a Stable, and one behind it.
+pub const PRINTS_TWICE: &[u8] =
+    b"program.p = ['set r0 5', 'print r0', 'stabilise r1', 'print r0', 'halt']
+container = [{ name = 'a', pages = 1, program = 'p' }]
+locus = [{ name = 'l', host = 'a', caps = ['atlas t'] }]
+";
+
+// The Stable keeps how many lines there were before it.
+pub const PRINTED_ONCE: &str = "container a 1 0 0 -
+locus l a 3 running 0 5 0 0 0 0 0 0 0
+printed l 1
 cap l 0 atlas t
 ";
 

@@ -62,8 +62,13 @@ pub(crate) fn block_of(disk: &mut MemoryDisk, spot: Spot) -> Result<u32, Fail> {
     Ok(u32::from_le_bytes(word(&body, place)?))
 }
 
-// Puts bytes into a block from a place on.
-fn put(disk: &mut MemoryDisk, spot: Spot, place: u16, bytes: &[u8]) -> Result<(), Fail> {
+/// Puts bytes into a block from a place on.
+pub(crate) fn set_bytes(
+    disk: &mut MemoryDisk,
+    spot: Spot,
+    place: u16,
+    bytes: &[u8],
+) -> Result<(), Fail> {
     let at = block_of(disk, spot)?;
     let mut block = read(disk, at)?;
     for (behind, byte) in bytes.iter().enumerate() {
@@ -76,11 +81,11 @@ fn put(disk: &mut MemoryDisk, spot: Spot, place: u16, bytes: &[u8]) -> Result<()
 // Makes one change.
 fn change(disk: &mut MemoryDisk, poke: Poke) -> Result<(), Fail> {
     match poke {
-        Poke::Byte(spot, place, byte) => put(disk, spot, place, &[byte]),
+        Poke::Byte(spot, place, byte) => set_bytes(disk, spot, place, &[byte]),
         Poke::Like(spot, place, other, there) => {
             let at = block_of(disk, other)?;
             let bytes = word(&read(disk, at)?, there)?;
-            put(disk, spot, place, &bytes)
+            set_bytes(disk, spot, place, &bytes)
         }
         Poke::Whole(spot, other) => {
             let (at, there) = (block_of(disk, spot)?, block_of(disk, other)?);

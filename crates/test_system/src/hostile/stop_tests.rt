@@ -6,7 +6,7 @@ ghost use Rattle.script_types.specs.Rules.{IsScript};
 ghost use Rattle.script_types.specs.Scripts.{tables_of};
 
 use crate::hostile::calls::formatted;
-use crate::{FORMAT_CALLS, copy_of, put, shown};
+use crate::{FORMAT_CALLS, copy_of, put, scripts, shown};
 use base_types::{Answer, Entry, Event, FIRST_LOCUS};
 use command_outcomes::Outcome;
 use edge_disk::{MemoryDisk, Torn};
@@ -268,6 +268,18 @@ fn wrong_of(
         }
     }
     Ok((None, 0))
+}
+
+// Runs of one container and one locus. Behind the three records of those born, of which the cut takes none before the last, come one of each,
+// taken together: by two wishes, and by a Stable; behind that one step, or a hundred.
+#[test]
+fn small_runs_keep_what_was_acknowledged(rt: HostRuntime) -> Result<(), Fail> {
+    for &text in &[scripts::WISHES, scripts::COUNTS_ON, scripts::STABILISES] {
+        let text = std::str::from_utf8(text).ok().ok_or("text")?;
+        let (wrong, failing) = wrong_of(rt.alloc(), text, (5, 3), true)?;
+        assert!(rt; wrong.is_none(), "{wrong:?} at {failing} of {text}");
+    }
+    Ok(())
 }
 
 #[test]
