@@ -1,5 +1,5 @@
 -- Making the table, a load and a split keep the rule.
-use Rattle.std.proofs.Common.{◌≡◌, ◌≢◌, ◌⊎◌, ℕ, zero, suc, Bool, true, false, cond, List, [], ◌∷◌, ◌++◌, length, set, refl, ap, sym, ◌∙◌, subst, ⊎_elim, inl, inr, arith}
+use Rattle.std.proofs.Common.{◌≡◌, ◌≢◌, ℕ, zero, suc, Bool, true, false, cond, List, [], ◌∷◌, length, set, refl, ap, sym, ◌∙◌, subst, ⊎_elim, arith}
 use mathlib.Core.Option.{some, some-ne-none, some-injective, none}
 use mathlib.Core.List.{IsPrefix}
 use lib.ListN.{get_elem?}

@@ -1,5 +1,5 @@
 -- Shares that a call is lent, one by one, in `Option<&mut Share>`.
-use Rattle.std.specs.Prelude.{◌≡◌, ℕ, Bool, ◌⊎◌, List, [], ◌∷◌, ◌++◌, map, if◌then◌else◌, Option, Some, None}
+use Rattle.std.specs.Prelude.{◌≡◌, ℕ, Bool, true, ◌⊎◌, List, [], ◌∷◌, ◌++◌, map, if◌then◌else◌, Option, Some, None}
 use Rattle.std.proofs.Common.{inl, inr}
 use Rattle.std.specs.Borrow.{MutBor}
 use Rattle.thread_history.specs.Rules.{concerning, is_among, AllDiffer}
@@ -27,6 +27,10 @@ AllKnow es (s ∷ ss) = (s.since ≡ es) × AllKnow es ss
 -- the shares of the numbers that the item touches are given, each once, and no others
 abbrev pub AreThoseOf : {A : Type 0} → (A → ℕ → Bool) → A → List (Side A) → Type 0
 AreThoseOf touches e ss = AllDiffer (numbers ss) × ((x : ℕ) → touches e x ≡ is_among x (numbers ss))
+
+-- the shares of all numbers that the item concerns are among these, each once
+abbrev pub AreAmong : {A : Type 0} → (A → ℕ → Bool) → A → List (Side A) → Type 0
+AreAmong concerns e ss = AllDiffer (numbers ss) × ((x : ℕ) → concerns e x ≡ true → is_among x (numbers ss) ≡ true)
 
 -- the share, where it knows this history
 abbrev pub knowing : {A : Type 0} → List A → Side A → Side A

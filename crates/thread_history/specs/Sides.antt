@@ -12,6 +12,11 @@ pub record Opening (A : Type 0) : Type 0 where
   pub kept : List A
   pub room : ℕ
 
+-- a history's table without a name, and the kept items
+pub record Beginning (A : Type 0) : Type 0 where
+  pub table : TableId
+  pub kept : List A
+
 -- the items after the kept ones, and how many more have room
 pub record Log (A : Type 0) : Type 0 where
   pub since : List A
@@ -27,7 +32,7 @@ abbrev pub sides_upto : {A : Type 0} → ℕ → List (Side A)
 sides_upto zero = []
 sides_upto (suc n) = sides_upto n ++ record { number = n; since = [] } ∷ []
 
--- a chronicle to which shares come back
+-- a history to which shares come back
 pub record Ending (A : Type 0) : Type 0 where
   pub since : List A
   pub back : List ℕ

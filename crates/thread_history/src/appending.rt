@@ -5,9 +5,9 @@ ghost use Rattle.thread_history.specs.Rules.{AllDiffer, concerning, told_of};
 ghost use Rattle.thread_history.specs.Seats.{IsAt, IsChronicle, IsReady, IsShareOf};
 ghost use Rattle.thread_history.specs.Given.{AllKnow, knowing, numbers};
 
-use crate::chronicles::{Run, Share};
 use crate::items::Item;
 use crate::seats::append;
+use crate::shares::{Run, Share};
 use crate::sides::{announce_to, catch_up};
 use crate::views::{HistorySeat, HistoryTable, Next};
 

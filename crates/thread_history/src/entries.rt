@@ -3,7 +3,8 @@ ghost use Rattle.std.specs.Prelude.{◌≡◌, ◌+◌, ◌<◌, ◌++◌, ◌�
 ghost use Rattle.model_kernel.specs.Histories.{touches, writes};
 ghost use Rattle.thread_history.specs.Given.{AllGrew, AllHave, AreThoseOf, came, knowing, left};
 
-use crate::chronicles::{Chronicle, Run, Share};
+use crate::chronicles::Chronicle;
+use crate::shares::{Run, Share};
 use base_types::Entry;
 
 impl<B: Run<Entry>> Chronicle<Entry, B> {

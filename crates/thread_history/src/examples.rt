@@ -4,8 +4,9 @@ ghost use Rattle.model_kernel.specs.Histories.{writes};
 ghost use Rattle.thread_history.specs.Examples.{first_entry, second_entry};
 ghost use Rattle.thread_history.specs.Given.{list_of};
 
-use crate::chronicles::{Chronicle, Run, Share};
+use crate::chronicles::Chronicle;
 use crate::opened::Opened;
+use crate::shares::{Run, Share};
 use base_types::{Answer, Entity, Entry, Event, Touch, Touched};
 use std::alloc::Global;
 

@@ -1,10 +1,11 @@
 ghost use Rattle.std.specs.Prelude.{◌≡◌, ◌<◌, ◌++◌, [], ◌∷◌, IfSome, length};
 
-use crate::chronicles::Run;
+use crate::closing::ClosingAuthority;
 use crate::examples::two_entries;
 use crate::items::Item;
-use crate::opened::Opened;
+use crate::opened::{Opened, OpenedHistory};
 use crate::order::{Numbered, put_in_order};
+use crate::shares::Run;
 use std::alloc::Global;
 use std::marker::Brand;
 use std::test::*;
@@ -91,6 +92,54 @@ fn records_go_through_the_same_calls(rt: HostRuntime) -> Result<(), Fail> {
     };
     assert!(rt; p == 1 && q == 2 && history.len() == 3);
     assert!(rt; history[0].version == 6 && history[1].version == 7 && history[2].version == 2);
+    Ok(())
+}
+
+/// A record of 3, of which the caller keeps no list, with the shares of 3 and 5 given. Both come back.
+fn told_with_two<B: Run<Record>>(
+    alloc: Global,
+    opened: OpenedHistory<Record>,
+) -> Option<ClosingAuthority<Record, B>>
+    requires name { (opened.table ≡ B.table) × (opened.kept ≡ B.kept) }
+    requires one { length opened.kept ≡ 1 }
+    ensures { IfSome result (λ c. (c.since ≡ record { entity = 3; version = 7 } ∷ []) × (c.back ≡ 5 ∷ 3 ∷ [])) }
+{
+    let Ok((mut authority, mut shares)) = opened.named::<B>(alloc) else {
+        return None;
+    };
+    let mut five = shares.remove(5);
+    let mut three = shares.remove(3);
+    let record = Record {
+        entity: 3,
+        version: 7,
+    };
+    authority.append_with_two(&record, &mut three, &mut five);
+    let mut closing = authority.closing();
+    closing.take_back(three);
+    closing.take_back(five);
+    Some(closing)
+}
+
+/// Whether there was memory for that.
+fn told_and_closed<B: Run<Record>>(alloc: Global, opened: OpenedHistory<Record>) -> bool
+    requires name { (opened.table ≡ B.table) × (opened.kept ≡ B.kept) }
+    requires one { length opened.kept ≡ 1 }
+{
+    told_with_two::<B>(alloc, opened).is_some()
+}
+
+#[test]
+fn whoever_keeps_the_items_can_do_without_a_chronicle(rt: HostRuntime) -> Result<(), Fail> {
+    let kept = vec![in rt.alloc();
+        Record {
+            entity: 3,
+            version: 6
+        },
+    ]?;
+    let Ok(opened) = OpenedHistory::new(rt.alloc(), &kept) else {
+        return Err(Fail::from("memory"));
+    };
+    assert!(rt; told_and_closed::<Brand>(rt.alloc(), opened) && kept.len() == 1);
     Ok(())
 }
 

@@ -1,5 +1,5 @@
 use Rattle.std.specs.Prelude.{Some}
-use Rattle.thread_history.proofs.chronicles.Chronicle.append_with_one.Given as goal
+use Rattle.thread_history.proofs.authorities.HistoryAuthority.append_with_one.Given as goal
 
 abbrev pub ghosts-append_one : goal.ghosts-append_one
 ghosts-append_one g a = record { item = Some a.item.now }
