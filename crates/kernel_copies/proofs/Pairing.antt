@@ -1,5 +1,5 @@
 -- From the clauses of two commits to what a stop leaves.
-use Rattle.std.proofs.Common.{◌≡◌, ◌≢◌, ◌⊎◌, inl, inr, ℕ, ◌+◌, ◌<◌, ◌≤◌, Bool, ◌&&◌, ◌||◌, true, false, arith, List, [], ◌∷◌, ◌++◌, length, map, refl, sym, ap, subst, ◌∙◌}
+use Rattle.std.proofs.Common.{◌≡◌, inl, inr, ℕ, ◌<◌, ◌≤◌, Bool, ◌||◌, true, false, arith, List, [], ◌∷◌, ◌++◌, map, refl, sym, ap, subst, ◌∙◌}
 use Rattle.std.specs.Prelude.{Contains, slice_index}
 use Rattle.std.specs.List.{list_any}
 use Rattle.std.proofs.lemmas.Bool.{false≢true}
@@ -11,15 +11,14 @@ use Rattle.base_types.specs.declared.records.Rec.{Rec}
 use Rattle.kernel_invariant.specs.model_kernel.Choices.{Commit, IsGreatest}
 use Rattle.kernel_invariant.specs.model_kernel.State.{KernelState, Supply, Text}
 use Rattle.kernel_invariant.specs.model_cut_laws.Agreeing.{from_cut, nothing}
-use Rattle.kernel_invariant.specs.model_cut_laws.Records.{commit_of, commits_of}
+use Rattle.kernel_invariant.specs.model_cut_laws.Records.{commits_of}
 use Rattle.kernel_invariant.specs.image_blocks.Logs.{HasRecords}
-use Rattle.kernel_invariant.specs.image_facts.Layout.{last_number, pool_at}
 use Rattle.kernel_invariant.specs.image_facts.Logs.{AreFitting}
 use Rattle.kernel_invariant.specs.image_meaning.Describing.{HasPage}
 use Rattle.kernel_invariant.specs.image_meaning.Meaning.{Means}
 use Rattle.kernel_invariant.specs.image_meaning.Stores.{Kept, Page, Stores, recs_of}
 use Rattle.kernel_invariant.specs.store_books.Between.{Between-stay}
-use Rattle.kernel_invariant.specs.store_books.Books.{AreSmall, AreStored, AreTrue, Books, IsNewKept, Logged, is_used, kept_for, kept_in, kept_names, kept_of, logged_recs, names, page_for, recs_in}
+use Rattle.kernel_invariant.specs.store_books.Books.{AreSmall, AreStored, AreTrue, Books, IsNewKept, Logged, is_used, kept_for, kept_in, kept_of, logged_recs, names, page_for, recs_in}
 use Rattle.kernel_invariant.specs.store_books.Owning.{AreOwned, NamesPage}
 use Rattle.kernel_invariant.specs.Records.{ArePagesApart as Apart}
 use Rattle.kernel_invariant.proofs.model_cut_laws_lemmas.Joins.{same_greatest}
@@ -36,14 +35,12 @@ use Rattle.kernel_invariant.proofs.store_books_lemmas.Owners.{place_in}
 use Rattle.kernel_block_laws.specs.Owning.{PutsRecord}
 use Rattle.kernel_block_laws.proofs.Kept.{kept_list}
 use Rattle.kernel_block_laws.proofs.Owned.{owned_more}
-use Rattle.store_facts.specs.Committed.{CommitsInFreeBlocks, SameUsed, StoresKeptOrMore}
-use Rattle.store_facts.specs.Putting.{are_small}
+use Rattle.store_facts.specs.Committed.{SameUsed, StoresKeptOrMore}
 use Rattle.store_facts.specs.State.{HoldsPoolBlocks}
 use Rattle.store_copies.specs.store_told.Told.{ArePagesApart}
-use Rattle.store_copies.specs.model_copies.Copies.{IsCopied}
 use Rattle.store_copies.specs.model_copies.Needing.{LeavesCopy}
 use Rattle.store_copies.proofs.model_copies_lemmas.Copying.{leaves}
-use Rattle.store_copies.specs.Images.{AreRecordsOf, IsAtlasRecord, IsCopyRecord, IsMeantState, MeansCopy}
+use Rattle.store_copies.specs.Images.{IsAtlasRecord, IsCopyRecord, MeansCopy}
 use Rattle.store_copies.specs.Moments.{AreTwoCommits, IsFreshIn, MeansEither, StoresKeptOr}
 use Rattle.store_copies.proofs.Copies.{after, before}
 use Rattle.store_copies.proofs.Moments.{copy_moments, kept_again}
