@@ -1,5 +1,5 @@
 -- How much was taken of a source of which nothing was read, by where its reading stopped.
-use Rattle.std.proofs.Common.{◌≡◌, ℕ, ◌+◌, ◌≤◌, Option, sym, subst, arith}
+use Rattle.std.proofs.Common.{ℕ, ◌+◌, ◌≤◌, Option, sym, subst, arith}
 use Rattle.edge_streams.specs.Reading.{TakesAtMost, most_taken}
 use Rattle.edge_streams.specs.declared.reading.ReadStop.{ReadStop}
 use Rattle.edge_streams.specs.declared.reading.ReadStop.TheVariants as stop
