@@ -5,8 +5,8 @@ pub returns-in-Err-clause-no_blocks : goal.returns-in-Err-clause-no_blocks
 returns-in-Err-clause-no_blocks g c =
     idle_short (g.B.PageStore.kept_names c.args.store.now) (g.B.PageStore.free c.args.store.now) c.args.me c.args.cells.now c.in-Err.why c.in-Err.ensures.idle
 
-pub returns-in-Ok-clause-no_blocks : goal.returns-in-Ok-clause-no_blocks
-returns-in-Ok-clause-no_blocks g c = made_short c.in-Ok.entry _ c.in-Ok.ensures.no_blocks
+pub returns-in-Ok-go-clause-no_blocks : goal.returns-in-Ok-go-clause-no_blocks
+returns-in-Ok-go-clause-no_blocks g c = made_short c.in-Ok-go.entry _ c.in-Ok-go.ensures.no_blocks
 
 pub returns-in-Err-go-clause-no_blocks : goal.returns-in-Err-go-clause-no_blocks
 returns-in-Err-go-clause-no_blocks g c = paging_short c.in-Err-go.fault c.in-Err-go.ensures.no_blocks

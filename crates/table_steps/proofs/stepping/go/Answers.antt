@@ -6,7 +6,7 @@ use Rattle.table_steps.proofs.stepping.go.Goals as goal
 
 pub go_alone-requires-clause-planned : goal.go_alone-requires-clause-planned
 go_alone-requires-clause-planned g c =
-    own_planned c.args.cells.now c.args.me c.args.instr c.in-Alone.field-0 (subst (λ r. IsPlannedAt c.args.cells.now c.args.me c.args.instr r) c.in-Alone.is c.requires.planned)
+    own_planned c.args.cells.now c.args.me c.args.instr c.in-Alone.act (subst (λ r. IsPlannedAt c.args.cells.now c.args.me c.args.instr r) c.in-Alone.is c.requires.planned)
 
 pub returns-in-Alone-clause-step : goal.returns-in-Alone-clause-step
 returns-in-Alone-clause-step g c told = c.go_alone.ensures.goes (g.S.Supplier.word c.args.gate.now.supply) (g.B.PageStore.words c.args.store.now)
