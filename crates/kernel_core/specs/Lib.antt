@@ -1,3 +1,4 @@
+pub mod Parts
 pub mod Stepping
 pub use Rattle.kernel_core_facts.specs.act_calls
 pub use Rattle.kernel_core_facts.specs.cell_states

@@ -2,10 +2,13 @@
 #![tactic(auto)]
 
 mod bearing;
+pub mod examples;
 mod kernels;
 mod looking;
 mod owing;
+mod parts;
 mod stepping;
 
-pub use kernel_core_facts::{Idle, Stop, Stopped};
+pub use kernel_core_facts::{Cell, Idle, Notes, Stop, Stopped, Store};
 pub use kernels::{Ended, Kernel};
+pub use parts::Apart;
