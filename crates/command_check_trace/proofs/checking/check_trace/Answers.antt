@@ -1,6 +1,7 @@
+use Rattle.std.proofs.Common.{◌≤◌, ◌∙◌, ℕ, List, ap, length, subst, sym}
 use Rattle.command_outcomes.specs.Seen.{Call, gave, seen_disk, seen_sink, seen_source}
 use Rattle.command_outcomes.specs.Statuses.{ending}
-use Rattle.command_promises.specs.Sources.{from_bytes, from_source}
+use Rattle.command_promises.specs.Sources.{from_bytes, from_source, most_bytes}
 use Rattle.command_promises.proofs.Traced.{complete}
 use Rattle.command_check_trace.proofs.Ending.{in_time_source, leaves_from, of_source, refused_source, unread_leaves, untouched}
 use Rattle.command_check_trace.proofs.checking.check_trace.Goals as goal
@@ -14,9 +15,11 @@ returns-in-Ok-clause-leaves g c =
     let given = gave c.check_bytes.result in
     let read = c.deref.result.now in
     let bytes = c.in-Ok.bytes.items in
+    let size = sym c.deref.ensures.len ∙ ap (λ (l : List ℕ). length l) c.deref.ensures.value in
+    let short : length bytes ≤ most_bytes = subst (λ (n : ℕ). n ≤ most_bytes) size c.in-Ok.ensures.short in
     leaves_from g.m (from_bytes read) (from_source source) sink disk given (of_source source bytes read c.in-Ok.ensures.whole c.deref.ensures.value c.in-Ok.ensures.end)
     (refused_source source bytes read c.in-Ok.ensures.whole c.deref.ensures.value) (λ none. absurd none)
-    (λ fault none. in_time_source source bytes read c.in-Ok.ensures.whole c.deref.ensures.value c.in-Ok.ensures.taken c.in-Ok.ensures.short fault) (ending given.status) c.check_bytes.ensures.leaves
+    (λ fault none. in_time_source source bytes read c.in-Ok.ensures.whole c.deref.ensures.value c.in-Ok.ensures.taken short fault) (ending given.status) c.check_bytes.ensures.leaves
 
 pub returns-in-Err-clause-leaves : goal.returns-in-Err-clause-leaves
 returns-in-Err-clause-leaves g c =
