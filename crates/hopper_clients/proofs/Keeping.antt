@@ -163,7 +163,7 @@ module _ (source : Text) (torn : Torn) (after : ℕ) (formatted ran showed : Cal
   keeps_by (Stopped (Script refusal)) (unrun, inl refused) = keeps_nothing unrun.empty (means_same refused.1)
   keeps_by (Stopped (Script refusal)) (unrun, inr misfit) = keeps_nothing unrun.empty (means_kept_image misfit.3.kept)
   keeps_by (Stopped Source) stopped = keeps_nothing stopped.1.empty (means_same stopped.2)
-  keeps_by (Stopped Memory) (unrun, inl same) = keeps_nothing unrun.empty (means_same same)
+  keeps_by (Stopped Memory) (unrun, inl same) = keeps_nothing unrun.empty (means_same same.0)
   keeps_by (Stopped Memory) (unrun, inr behind) = keeps_nothing unrun.empty (means_kept_image behind.1)
   keeps_by (Stopped (BadImage block place)) stopped = not_both (reading_of old) (record { block = block; place = place }) (means_nothing old fresh counted_word).accepted (stopped.2 tt).0
   keeps_by (Stopped Usage) stopped = stopped
