@@ -1,5 +1,5 @@
 // Lists of fixed room. Contracts see each as the list of its items.
-ghost use Rattle.std.specs.Prelude.{◌≡◌, ◌+◌, ◌<◌, ◌≤◌, ◌&&◌, ◌==◌, ◌++◌, not, length, filter, [], ◌∷◌, MatchOption};
+ghost use Rattle.std.specs.Prelude.{◌≡◌, ◌+◌, ◌<◌, ◌≤◌, ◌&&◌, ◌==◌, ◌++◌, not, length, filter, [], ◌∷◌};
 ghost use Rattle.model_kernel.specs.Outcomes.{insert_private};
 ghost use Rattle.model_kernel.specs.Words.{last_call, but_last};
 

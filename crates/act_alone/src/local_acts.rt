@@ -1,5 +1,5 @@
 // The acts that touch the locus alone and are not refused.
-ghost use Rattle.std.specs.Prelude.{◌≡◌, ℕ, ◌<◌, ◌≤◌, None, IsTrue, length};
+ghost use Rattle.std.specs.Prelude.{◌≡◌, ℕ, ◌<◌, None, IsTrue};
 ghost use Rattle.base_types.specs.Instructions.{IsInstruction};
 ghost use Rattle.base_types.specs.declared.instructions.Instr.TheVariants.{Set as SetAct, Copy as CopyAct, Add as AddAct, Sub as SubAct, Jump as JumpAct, Jz as JzAct, Lmap as LmapAct, Lunmap as LunmapAct, Drop as DropAct, Stabilise as StabiliseAct, Print as PrintAct, Halt as HaltAct};
 ghost use Rattle.base_types.specs.declared.instructions.Condition.TheVariants.{Running as RunningNow};

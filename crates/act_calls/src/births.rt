@@ -1,5 +1,5 @@
 // Births by a program.
-ghost use Rattle.std.specs.Prelude.{◌≡◌, ◌≢◌, ℕ, ◌<◌, ◌≤◌, IsTrue, is_some, replicate, [], None, true};
+ghost use Rattle.std.specs.Prelude.{◌≡◌, ℕ, ◌<◌, ◌≤◌, is_some, replicate, [], None, true};
 ghost use Rattle.std.specs.Option.{ForSome};
 ghost use Rattle.base_types.specs.Instructions.{IsPlace};
 ghost use Rattle.act_invoke.specs.model_kernel.Acts.{wanted};

@@ -1,8 +1,7 @@
 // Letting a locus stop, or go on.
-ghost use Rattle.std.specs.Prelude.{◌≡◌, ◌≢◌, ℕ, ◌<◌, Some, None};
-ghost use Rattle.base_types.specs.declared.instructions.Condition.TheVariants.{Stopped as StoppedNow};
+ghost use Rattle.std.specs.Prelude.{◌≡◌, ◌≢◌, ℕ, Some, None};
 ghost use Rattle.act_invoke.specs.model_kernel.Acts.{wanted};
-ghost use Rattle.act_invoke.specs.model_kernel.Outcomes.{outcome, finish as finished, stopped, going};
+ghost use Rattle.act_invoke.specs.model_kernel.Outcomes.{outcome, stopped, going};
 ghost use Rattle.act_invoke.specs.model_kernel.State.{Supply, AtlasState, Cell, LocusCell};
 ghost use Rattle.act_invoke.specs.model_acts.Views.{IsReadyLocus};
 ghost use Rattle.act_invoke.specs.act_alone.Loci.{locus_of};

@@ -1,5 +1,5 @@
 //! Reading operands.
-ghost use Rattle.std.specs.Prelude.{◌≡◌, ℕ, ◌+◌, ◌<◌, ◌≤◌, ◌∷◌, ◌++◌, length, IsTrue, MatchOption, OnOk, IfErr, ◌≢◌, slice_index};
+ghost use Rattle.std.specs.Prelude.{◌≡◌, ◌+◌, ◌<◌, ◌≤◌, ◌∷◌, length, IsTrue, MatchOption, OnOk, IfErr, ◌≢◌, slice_index};
 ghost use Rattle.std.specs.Fmt.{decimal};
 ghost use Rattle.arrayvec.specs.ArrayVec.{array_vec_len};
 ghost use Rattle.base_instructions.specs.declared.forms.OperandKind.TheVariants as kinds;

@@ -1,5 +1,5 @@
 //! Reading an instruction's word.
-ghost use Rattle.std.specs.Prelude.{◌≡◌, ℕ, ◌+◌, ◌<◌, ◌≤◌, ◌≢◌, length, take, slice_index, IfSome, IfNone};
+ghost use Rattle.std.specs.Prelude.{◌≡◌, ℕ, ◌+◌, ◌<◌, ◌≤◌, ◌≢◌, length, take, IfSome, IfNone};
 ghost use Rattle.base_instructions.specs.Fronts.{Reads};
 ghost use Rattle.base_instructions.specs.Forms.{word_at};
 

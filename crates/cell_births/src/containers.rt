@@ -4,7 +4,7 @@ ghost use Rattle.base_types.specs.declared.capabilities.Region.{Region as ARegio
 ghost use Rattle.script_types.specs.model_kernel.Births.{container_from as container_by, edges_from as edges_by, with_container_name};
 ghost use Rattle.script_types.specs.model_kernel.Outcomes.{supplied};
 ghost use Rattle.script_types.specs.model_kernel.Scripts.{number_in, number_of};
-ghost use Rattle.script_types.specs.model_kernel.Soundness.{is_born_container, is_given_name};
+ghost use Rattle.script_types.specs.model_kernel.Soundness.{is_given_name};
 ghost use Rattle.script_types.specs.model_kernel.State.{AtlasState, AtlasCell, ContainerCell, Supply, Text};
 ghost use Rattle.script_types.specs.Rules.{IsContainerTable};
 ghost use Rattle.script_types.specs.Scripts.{container_of as table_of};
@@ -42,8 +42,8 @@ fn head_from(atlas: &Atlas, newborn: Entity, table: &ScriptContainer) -> Head
     head
 }
 
-/// Gives the newborn its name.
-fn name_container(atlas: &mut Atlas, name: &str)
+/// Gives the newborn its name. Costs what a birth in the atlas costs.
+pub fn name_container(atlas: &mut Atlas, name: &str)
     requires given { IsTrue (is_given_name name.now) }
     requires fresh { number_of (atlas_state atlas.old) name.now ≡ None }
     requires free { length atlas.old.containers < 40 }
@@ -53,7 +53,7 @@ fn name_container(atlas: &mut Atlas, name: &str)
 }
 
 /// Counts an edge from the newborn for each of its regions.
-fn link(atlas: &mut Atlas, newborn: Entity, regions: &[Region])
+pub fn link(atlas: &mut Atlas, newborn: Entity, regions: &[Region])
     requires newborn { (1 ≤ newborn) × (newborn ≤ 40) }
     requires few { length regions.now ≤ 16 }
     requires targets { All (λ (r : ARegion). (1 ≤ r.target) × (r.target ≤ 40)) regions.now }

@@ -1,6 +1,5 @@
 // What a script's next birth asks is met: laws, without code.
-ghost use Rattle.std.specs.Prelude.{◌≡◌, ◌+◌, ℕ, List, Some, length};
-ghost use Rattle.base_types.specs.declared.histories.Entry.{Entry as AnEntry};
+ghost use Rattle.std.specs.Prelude.{◌≡◌, ◌+◌, ℕ, Some, length};
 ghost use Rattle.script_types.specs.model_kernel.Births.{birth, next_birth};
 ghost use Rattle.script_types.specs.model_kernel.Scripts.{ContainerTable, LocusTable, Script, next_name};
 ghost use Rattle.script_types.specs.model_kernel.Soundness.{AreSound};

@@ -11,5 +11,6 @@ mod tables;
 
 pub use births::{bear_container, bear_locus};
 pub use cell_wish_laws::{Part, Storage};
+pub use containers::{link, name_container};
 pub use laws::{next_births_are_named, next_births_may_be_made};
 pub use script_fits::{NextTable, Progress, next_table};

@@ -1,5 +1,5 @@
 // Blobs of parts.
-ghost use Rattle.std.specs.Prelude.{◌≡◌, length, take, IfSome};
+ghost use Rattle.std.specs.Prelude.{◌≡◌, take, IfSome};
 ghost use Rattle.image_meaning.specs.blob_grammar.Forms.{IsNumber, SpellsContainer, SpellsLocus};
 ghost use Rattle.image_meaning.specs.blob_grammar.Shapes.{IsContainerOver, IsLocusOver};
 ghost use Rattle.image_meaning.specs.Parts.{Spells};

@@ -1,5 +1,5 @@
 // That numbers are those of their types, as the form of a spelling asks: each is read once.
-ghost use Rattle.std.specs.Prelude.{◌<◌, ◌^◌, ℕ, All};
+ghost use Rattle.std.specs.Prelude.{◌<◌, ◌^◌, All};
 ghost use Rattle.std.specs.Option.{ForSome};
 ghost use Rattle.base_types.specs.declared.instructions.Walk.{Walk as AWalk};
 ghost use Rattle.cell_blobs.specs.Ranges.{HasByteRights};

@@ -1,5 +1,5 @@
 // Acts on the parts of two cells.
-ghost use Rattle.std.specs.Prelude.{◌≡◌, ◌≢◌, ◌<◌, ℕ, List, IsTrue, Some};
+ghost use Rattle.std.specs.Prelude.{◌≡◌, ◌≢◌, ℕ, List, IsTrue, Some};
 ghost use Rattle.cell_states.specs.model_kernel.Acts.{wanted};
 ghost use Rattle.cell_states.specs.model_kernel.Outcomes.{outcome};
 ghost use Rattle.cell_states.specs.model_kernel.State.{AtlasState, Cell as ModelCell, ContainerCell, LocusCell, LocusState, Supply};

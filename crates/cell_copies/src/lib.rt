@@ -3,7 +3,6 @@
 
 mod cells;
 mod heads;
-mod naming;
 mod parts;
 
 pub use cells::copy_cells;

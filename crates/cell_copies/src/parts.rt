@@ -11,9 +11,9 @@ ghost use Rattle.model_copies.specs.model_kernel.State.{AtlasCell, ContainerCell
 ghost use Rattle.cell_copies.specs.Copying.{IsBegun, IsSource, MayCopyPart, table_words};
 
 use crate::heads::copy_head;
-use crate::naming::{link, name_container};
 use act_alone::Head;
 use base_types::Entity;
+use cell_births::{link, name_container};
 use cell_wish_laws::{Part, Storage};
 use data_atlas::Atlas;
 use data_blocks::ShadowTable;

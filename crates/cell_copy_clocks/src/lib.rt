@@ -1,7 +1,7 @@
 //! The clocks of a copy: the atlas and the new container are written, and the one that is copied is read.
 #![tactic(auto)]
 
-ghost use Rattle.std.specs.Prelude.{◌≡◌, ◌≢◌, ◌==◌, ◌+◌, ◌<◌, ◌^◌, ℕ, max, if◌then◌else◌, ◌∷◌, []};
+ghost use Rattle.std.specs.Prelude.{◌≡◌, ◌==◌, ◌+◌, ◌<◌, ◌^◌, ℕ, max, if◌then◌else◌, ◌∷◌, []};
 ghost use Rattle.cell_clocks.specs.Clocks.{HasClock, writing, reading};
 ghost use Rattle.cell_clocks.specs.model_kernel.Changes.{changed};
 ghost use Rattle.cell_clocks.specs.model_kernel.State.{Cell as ModelCell, KernelState};

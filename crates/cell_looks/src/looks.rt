@@ -1,5 +1,5 @@
 // The step of a locus that looks at a container.
-ghost use Rattle.std.specs.Prelude.{◌≡◌, ◌↔◌, ◌<◌, ◌^◌, ℕ, List, [], ◌∷◌, Option, is_some, IfOk, IsErrOf, OnErr};
+ghost use Rattle.std.specs.Prelude.{◌≡◌, ◌↔◌, ◌<◌, ◌^◌, [], ◌∷◌, Option, is_some, IfOk, IsErrOf, OnErr};
 ghost use Rattle.base_types.specs.declared.histories.Event.TheVariants.{Step as StepEvent};
 ghost use Rattle.cell_states.specs.model_kernel.Refusals.{instr_at};
 ghost use Rattle.cell_states.specs.model_kernel.State.{Cell as ModelCell, KernelState};

@@ -1,7 +1,6 @@
 // What a locus's step touches.
-ghost use Rattle.std.specs.Prelude.{◌≡◌, ◌≢◌, ◌&&◌, ◌==◌, ℕ, None, Some, IfErr, IfOk, List, true, false};
+ghost use Rattle.std.specs.Prelude.{◌≡◌, ◌&&◌, ◌==◌, ℕ, None, Some, IfErr, IfOk, List};
 ghost use Rattle.base_types.specs.declared.instructions.Condition.TheVariants.{Running as RunningNow};
-ghost use Rattle.act_look.specs.model_kernel.Acts.{wanted};
 ghost use Rattle.act_look.specs.model_kernel.Refusals.{instr_at};
 ghost use Rattle.act_look.specs.model_kernel.State.{LocusState, Supply};
 ghost use Rattle.act_look.specs.model_acts.Views.{may_name_itself, IsReadyLocus};

@@ -1,5 +1,5 @@
 // What a sound state says of the cells that a step of a locus touches: laws, without code.
-ghost use Rattle.std.specs.Prelude.{◌≡◌, ◌≢◌, ◌<◌, ◌≤◌, ◌+◌, ℕ, List, length, IsSome};
+ghost use Rattle.std.specs.Prelude.{◌≡◌, ◌≢◌, ◌<◌, ◌+◌, ℕ, List, length, IsSome};
 ghost use Rattle.plain_states.specs.base_types.declared.instructions.Instr.{Instr as AnInstr};
 ghost use Rattle.plain_states.specs.model_kernel.Soundness.{AreSound};
 ghost use Rattle.plain_states.specs.model_kernel.State.{AtlasState, Cell as ModelCell, ContainerCell, ContainerState, LocusCell, LocusState, Supply};

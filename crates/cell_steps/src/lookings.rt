@@ -1,5 +1,5 @@
 // The step of a locus that looks at a container.
-ghost use Rattle.std.specs.Prelude.{◌≡◌, ◌↔◌, ◌<◌, ◌^◌, ℕ, [], ◌∷◌, IfOk, IsErrOf, OnErr};
+ghost use Rattle.std.specs.Prelude.{◌≡◌, ◌↔◌, ◌<◌, ◌^◌, [], ◌∷◌, IfOk, IsErrOf, OnErr};
 ghost use Rattle.cell_looks.specs.edge_disk.declared.disk.NoBlocks.{NoBlocks};
 ghost use Rattle.cell_looks.specs.page_memory.Calls.{PagesOnce};
 ghost use Rattle.cell_looks.specs.cell_states.Cells.{part_of};

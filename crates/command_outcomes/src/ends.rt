@@ -1,5 +1,5 @@
 //! The end of a call that ran nothing.
-ghost use Rattle.std.specs.Prelude.{◌≡◌, ◌≤◌, []};
+ghost use Rattle.std.specs.Prelude.{◌≡◌, ◌≤◌};
 ghost use Rattle.command_outcomes.specs.Ends.{IsEmpty, IsUnrun};
 ghost use Rattle.command_outcomes.specs.Seen.{gave, seen_sink};
 ghost use Rattle.command_outcomes.specs.Statuses.{status_by};

@@ -1,5 +1,5 @@
 //! The last line of a call that came to no good end.
-ghost use Rattle.std.specs.Prelude.{◌≡◌, ◌≤◌, ◌<◌, ◌^◌, ◌++◌, OnErr, codes};
+ghost use Rattle.std.specs.Prelude.{◌≡◌, ◌≤◌, ◌<◌, ◌++◌, OnErr, codes};
 ghost use Rattle.edge_disk.specs.Counts.{Rose};
 ghost use Rattle.edge_streams.specs.Streams.{Puts};
 ghost use Rattle.command_outcomes.specs.Faults.{fault_line, line, numbers_line, refusal_head};

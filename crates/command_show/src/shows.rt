@@ -1,5 +1,5 @@
 //! What an image means, shown.
-ghost use Rattle.std.specs.Prelude.{◌≡◌, ◌≤◌, ◌<◌, ◌^◌, ℕ, []};
+ghost use Rattle.std.specs.Prelude.{◌≡◌, ◌≤◌, ◌<◌, ◌^◌, ℕ};
 ghost use Rattle.edge_disk.specs.Counts.{Rose};
 ghost use Rattle.edge_disk.specs.Disks.{HasFailedSince};
 ghost use Rattle.image_reading.specs.plain_states.Plains.{cells_of};
@@ -7,7 +7,7 @@ ghost use Rattle.image_reading.specs.model_kernel.Soundness.{IsSound};
 ghost use Rattle.image_reading.specs.model_kernel.State.{Supply};
 ghost use Rattle.image_reading.specs.image_meaning.Meaning.{Accepted};
 ghost use Rattle.image_reading.specs.plain_show.Show.{shown};
-ghost use Rattle.command_outcomes.specs.Ends.{IsEmpty, IsPut};
+ghost use Rattle.command_outcomes.specs.Ends.{IsPut};
 ghost use Rattle.command_outcomes.specs.Seen.{gave, seen_disk, seen_sink};
 ghost use Rattle.command_outcomes.specs.Statuses.{IsComplete, ending};
 ghost use Rattle.command_show.specs.Shows.{ShowLeaves};

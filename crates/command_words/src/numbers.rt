@@ -1,5 +1,5 @@
 //! The numbers that commands take.
-ghost use Rattle.std.specs.Prelude.{ℕ, ◌≤◌, IfNone, IfSome};
+ghost use Rattle.std.specs.Prelude.{ℕ, IfNone, IfSome};
 ghost use Rattle.command_words.specs.Commands.{IsNumber, IsSeed, IsSize};
 
 /// Blocks of the smallest image.

@@ -1,7 +1,6 @@
 //! Names of at most 24 bytes, in the value itself.
 ghost use Rattle.std.specs.Prelude.{◌≡◌, ◌↔◌, ◌+◌, ◌-◌, ◌<◌, ◌≤◌, nat_lt, if◌then◌else◌, length, slice_get, option_map, IsTrue, IfSome};
 ghost use Rattle.std.specs.List.{list_all};
-ghost use Rattle.std.specs.Fmt.{decimal};
 ghost use Rattle.std.specs.Str.{bytes_eq};
 ghost use Rattle.data_atlas_facts.specs.Directory.{made_name, number_from, is_letter, is_name_byte, IsName};
 

@@ -5,7 +5,7 @@
 //! word. Beside the pool a count for each block says how often it is named, as by records that are kept.
 #![tactic(auto)]
 
-ghost use Rattle.std.specs.Prelude.{◌≡◌, ℕ, ◌+◌, ◌*◌, ◌<◌, ◌≤◌, ◌↔◌, [], ◌∷◌, length, slice_index, slice_set, replicate, IsTrue, IfOk, IfErr, OnErr};
+ghost use Rattle.std.specs.Prelude.{◌≡◌, ◌+◌, ◌<◌, ◌↔◌, [], ◌∷◌, length, slice_index, slice_set, replicate, IsTrue, IfOk, IfErr, OnErr};
 ghost use Rattle.data_blocks.specs.Pool.{Pool as Blocks, full_pool, empty_pool, IsFree, IsInRange, with_block, without_block, IsOrdered, Takes, Gives};
 ghost use Rattle.data_blocks.specs.ShadowTable.{block_of};
 

@@ -1,7 +1,7 @@
 ghost use Rattle.std.specs.Prelude.{◌≡◌, ℕ, ◌<◌, ◌≤◌, ◌||◌, false, true, length, MatchOption};
 ghost use Rattle.data_stamps.specs.Stamps.{component};
 ghost use Rattle.data_cut_facts.specs.Records.{choice, IsAscending};
-ghost use Rattle.data_cut_facts.specs.Searches.{place_at, entity_at, mark_at, version_at, needs_more, falls_left, IsLastOf, IsChain, IsWithin, IsCovered, IsLoweredTo, IsMarked, IsSearch};
+ghost use Rattle.data_cut_facts.specs.Searches.{place_at, entity_at, mark_at, version_at, needs_more, falls_left, IsLastOf, IsChain, IsWithin, IsLoweredTo, IsMarked, IsSearch};
 
 use crate::MOST_RECORDS;
 use crate::chains::Chains;

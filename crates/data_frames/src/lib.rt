@@ -5,7 +5,7 @@
 //! an entry for each page finds its frame in one step. All memory is taken when the frames are made.
 #![tactic(auto)]
 
-ghost use Rattle.std.specs.Prelude.{◌≡◌, ℕ, ◌<◌, ◌≤◌, ◌↔◌, true, false, IsNone, IfSome, IfNone, OnSome, IfOk, Some, None, slice_set, is_some};
+ghost use Rattle.std.specs.Prelude.{◌≡◌, ◌<◌, ◌≤◌, ◌↔◌, true, false, IsNone, IfSome, IfNone, OnSome, IfOk, Some, None, slice_set, is_some};
 ghost use Rattle.data_frames.specs.FrameTable.{FrameTable, empty_table, page_at, page_in, IsResident, HasEmptyFrame, words_at, changed_at, used_at, word_at, page_taken, with_resident, IsBounded, Places, Removes, IsVictim};
 
 mod clock;

@@ -1,10 +1,9 @@
 //! The regions of a container, in a list of fixed room.
 #![tactic(auto)]
 
-ghost use Rattle.std.specs.Prelude.{◌≡◌, ◌≤◌, ◌<◌, ◌==◌, [], length, take, drop, not, find, filter, OnOk, OnErr, IfSome, IfNone, None, IsSomeAnd, IsTrue, insert, slice_get};
+ghost use Rattle.std.specs.Prelude.{◌≡◌, ◌≤◌, ◌<◌, ◌==◌, [], length, not, find, filter, OnOk, OnErr, IfSome, IfNone, None, IsSomeAnd, IsTrue, insert, slice_get};
 ghost use Rattle.std.specs.Option.{ok_or};
 ghost use Rattle.std.specs.List.{list_any};
-ghost use Rattle.arrayvec.specs.ArrayVec.{array_vec_len};
 ghost use Rattle.data_regions.specs.Regions.{IsRegion, AreRegions, covers, overlaps, insert_region, begins_at, add_answer};
 
 use arrayvec::ArrayVec;

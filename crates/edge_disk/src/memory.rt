@@ -1,5 +1,5 @@
 // A disk in memory, which can tell what a stop at any moment of its past leaves.
-ghost use Rattle.std.specs.Prelude.{◌≡◌, ◌≤◌, ◌<◌, ◌^◌, ◌↔◌, ◌⊎◌, ◌+◌, [], List, length, replicate, slice_set, IfOk, OnOk, OnErr, IsErr, IsTrue, Contains};
+ghost use Rattle.std.specs.Prelude.{◌≡◌, ◌≤◌, ◌<◌, ◌^◌, ◌↔◌, ◌⊎◌, ◌+◌, [], length, replicate, slice_set, IfOk, OnOk, OnErr, IsErr, IsTrue, Contains};
 ghost use Rattle.edge_disk.specs.Disk.{HasCause, LeavesNoMore, Only, Tears, Ticks};
 ghost use Rattle.edge_disk.specs.Disks.{TimePasses};
 ghost use Rattle.edge_disk.specs.Image.{IsImage, SameOutside, block_at};

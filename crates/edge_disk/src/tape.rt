@@ -1,6 +1,5 @@
 // The blocks of a disk in memory, with the writes and syncs that led to them.
-ghost use Rattle.std.specs.Prelude.{◌≡◌, ◌≤◌, ◌<◌, ◌^◌, ◌↔◌, [], ◌∷◌, ◌++◌, List, length, take, fold, IfOk, IsTrue, vec_capacity};
-ghost use Rattle.edge_disk.specs.Disk.{Ticks};
+ghost use Rattle.std.specs.Prelude.{◌≡◌, ◌≤◌, ◌<◌, ◌^◌, ◌↔◌, [], length, take, fold, IfOk, IsTrue, vec_capacity};
 ghost use Rattle.edge_disk.specs.Image.{IsImage};
 ghost use Rattle.edge_disk.specs.Kept.{EndsWithSync, AreSound, AreSound-prop, IsSound, IsTorn, MayLeave, filled, shown, standing};
 

@@ -7,7 +7,7 @@
 //! true, and of a closure it is what its caller has shown.
 #![tactic(auto)]
 
-ghost use Rattle.std.specs.Prelude.{◌≡◌, ℕ, ◌<◌, ◌^◌, Bool, slice_index};
+ghost use Rattle.std.specs.Prelude.{◌≡◌, ℕ, ◌<◌, Bool, slice_index};
 
 mod asked;
 mod managers;

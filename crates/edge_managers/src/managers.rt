@@ -1,4 +1,4 @@
-ghost use Rattle.std.specs.Prelude.{◌≡◌, ⊤};
+ghost use Rattle.std.specs.Prelude.{⊤};
 ghost use Rattle.edge_managers.specs.Managers.{counted_word, is_due};
 
 use crate::{Policy, Supplier};

@@ -1,6 +1,6 @@
 // A file as a disk.
 ghost use Rattle.std.specs.Prelude.{◌≡◌, []};
-ghost use Rattle.edge_disk.specs.Disk.{HasCause, Ticks};
+ghost use Rattle.edge_disk.specs.Disk.{HasCause};
 
 use crate::standard::{read_some, write_whole};
 use edge_disk::{BLOCK_BYTES, Disk, DiskFault};

@@ -1,5 +1,5 @@
 // A source and a sink in memory, whose calls can be made to fail.
-ghost use Rattle.std.specs.Prelude.{◌≡◌, ◌↔◌, ◌⊎◌, ◌+◌, ◌<◌, ◌≤◌, ◌++◌, [], List, ℕ, length, min, take, drop, Some, Contains, IsTrue, IsErr, IfOk, OnOk, OnErr};
+ghost use Rattle.std.specs.Prelude.{◌≡◌, ◌↔◌, ◌⊎◌, ◌+◌, ◌<◌, ◌≤◌, ◌++◌, [], length, min, take, drop, Some, Contains, IsTrue, IsErr, IfOk, OnOk, OnErr};
 ghost use Rattle.edge_disk.specs.Counts.{raised, Rose};
 ghost use Rattle.edge_streams.specs.Streams.{Takes, Puts};
 ghost use Rattle.edge_streams.specs.Memory.{SourceState, SinkState};

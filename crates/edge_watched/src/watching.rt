@@ -1,5 +1,5 @@
 //! The watched disk.
-ghost use Rattle.std.specs.Prelude.{◌≡◌, ◌≤◌, ℕ};
+ghost use Rattle.std.specs.Prelude.{◌≡◌};
 
 use edge_disk::{Disk, DiskFault};
 use std::marker::{Brand, Model, PhantomData};

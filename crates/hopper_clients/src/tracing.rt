@@ -1,5 +1,5 @@
 //! A script that runs with its trace, and the trace as it is checked.
-ghost use Rattle.std.specs.Prelude.{◌≡◌, ◌++◌, ◌∷◌, ◌+◌, ◌≤◌, IfOk, codes, length};
+ghost use Rattle.std.specs.Prelude.{◌≡◌, ◌≤◌, IfOk, length};
 ghost use Rattle.hopper_clients.specs.TracePromise.{AcceptsOwn, IsTraceable, IsTraced, most_bytes, traced_source};
 
 use crate::{Called, call, new_image, one_word, two_words};

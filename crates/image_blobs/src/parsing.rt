@@ -1,7 +1,5 @@
 //! What bytes spell, by the kind that is wanted.
-ghost use Rattle.std.specs.Prelude.{◌≡◌, IfOk, IfErr};
-ghost use Rattle.image_fits.specs.image_meaning.Parts.{kind_in, Spells};
-ghost use Rattle.image_fits.specs.Chosen.{part_of};
+ghost use Rattle.std.specs.Prelude.{IfOk, IfErr};
 ghost use Rattle.image_fits.specs.blob_reading.Places.{IsBadBlob};
 ghost use Rattle.image_blobs.specs.Loading.{IsRead};
 

@@ -1,6 +1,6 @@
 // The bodies of slots, read.
 ghost use Rattle.std.specs.Prelude.{◌≡◌, ◌<◌, ◌==◌, nat_le, if◌then◌else◌, None, Some, OnOk, IfOk, IfErr};
-ghost use Rattle.image_facts.specs.Bodies.{blocks_for, number_at, record_in};
+ghost use Rattle.image_facts.specs.Bodies.{number_at, record_in};
 ghost use Rattle.image_facts.specs.Layout.{last_number};
 ghost use Rattle.image_facts.specs.Checks.{blocks_fault as bad_block, body_fault as fault_of, is_block_number as may_be, last_version as last_in, stamps_fault as bad_component};
 

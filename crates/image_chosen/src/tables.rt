@@ -1,5 +1,5 @@
 //! The page tables of chosen records, as a store keeps them.
-ghost use Rattle.std.specs.Prelude.{◌≡◌, ℕ, IfOk, length, slice_index};
+ghost use Rattle.std.specs.Prelude.{IfOk};
 ghost use Rattle.image_chosen_facts.specs.image_meaning.Parts.{table_in};
 ghost use Rattle.image_chosen_facts.specs.log_reading.declared.log.ImageLog.{ImageLog};
 ghost use Rattle.image_chosen_facts.specs.image_fits.Chosen.{part_in, part_of};

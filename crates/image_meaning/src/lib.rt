@@ -3,9 +3,8 @@
 //! The functions do nothing: the contract of each is a law.
 #![tactic(auto)]
 
-ghost use Rattle.std.specs.Prelude.{◌≡◌, ℕ, List, []};
+ghost use Rattle.std.specs.Prelude.{◌≡◌, ℕ, []};
 ghost use Rattle.image_blocks.specs.edge_disk.Image.{Image};
-ghost use Rattle.image_blocks.specs.base_types.declared.records.Rec.{Rec};
 ghost use Rattle.blob_grammar.specs.model_kernel.Soundness.{IsSound};
 ghost use Rattle.blob_grammar.specs.model_kernel.State.{KernelState, Supply, empty_state};
 ghost use Rattle.image_blocks.specs.Checks.{Bad};

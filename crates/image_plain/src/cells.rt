@@ -1,5 +1,5 @@
 //! Containers and loci.
-ghost use Rattle.std.specs.Prelude.{◌≡◌, ℕ, IfOk};
+ghost use Rattle.std.specs.Prelude.{◌≡◌, IfOk};
 ghost use Rattle.plain_states.specs.Plains.{container_of, locus_of};
 ghost use Rattle.plain_states.specs.model_kernel.State.{Supply};
 ghost use Rattle.act_calls.specs.act_alone.Loci.{container_with, locus_of as state_of};

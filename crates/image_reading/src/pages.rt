@@ -1,5 +1,5 @@
 //! The words of a container's pages, read from a disk.
-ghost use Rattle.std.specs.Prelude.{◌≡◌, ◌≢◌, ◌<◌, ◌≤◌, ◌+◌, ◌*◌, ◌^◌, ℕ, IfOk, IsErrOf, OnOk, length, take};
+ghost use Rattle.std.specs.Prelude.{◌≡◌, ◌≢◌, ◌<◌, ◌+◌, ◌*◌, ◌^◌, ℕ, IfOk, IsErrOf, OnOk, take};
 ghost use Rattle.edge_disk.specs.Counts.{Rose};
 ghost use Rattle.edge_disk.specs.Disk.{HasCause};
 ghost use Rattle.edge_disk.specs.Image.{block_at};

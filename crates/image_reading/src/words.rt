@@ -1,5 +1,5 @@
 //! The words of a container, of which those are kept that differ from the supplier's.
-ghost use Rattle.std.specs.Prelude.{◌≡◌, ◌<◌, ◌≤◌, ◌+◌, ◌*◌, ◌^◌, ℕ, OnOk, slice_index};
+ghost use Rattle.std.specs.Prelude.{◌≡◌, ◌<◌, ◌+◌, ◌*◌, ◌^◌, ℕ, OnOk, slice_index};
 ghost use Rattle.plain_states.specs.model_kernel.State.{Supply};
 ghost use Rattle.image_shown_facts.specs.image_plain.Words.{words_with};
 ghost use Rattle.image_shown_facts.specs.Words.{IsSparse};

@@ -2,7 +2,7 @@
 //! births keep it so. The functions do nothing: the contract of each is a law.
 #![tactic(auto)]
 
-ghost use Rattle.std.specs.Prelude.{◌≡◌, ◌<◌, ◌≤◌, ◌^◌, ℕ, Bool, List, [], ◌∷◌, Some, false, slice_get};
+ghost use Rattle.std.specs.Prelude.{◌≡◌, ◌<◌, ◌≤◌, ◌^◌, ℕ, List, [], ◌∷◌, Some, false, slice_get};
 ghost use Rattle.kernel_views.specs.cell_blobs.Blobs.{is_recorded};
 ghost use Rattle.kernel_book_laws.specs.Matching.{AreRecorded, HasRoomFor, MatchesBooks, Rises, SameLog};
 ghost use Rattle.kernel_views.specs.table_laws.Lending.{Lends};

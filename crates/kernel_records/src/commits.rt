@@ -1,5 +1,5 @@
 // The commit of a cell.
-ghost use Rattle.std.specs.Prelude.{◌≡◌, ◌↔◌, ◌⊎◌, ◌+◌, ◌≤◌, true, false, Ok, OnOk, OnErr, IsErrOf};
+ghost use Rattle.std.specs.Prelude.{◌≡◌, ◌+◌, ◌≤◌, true, false, Ok, OnOk, OnErr, IsErrOf};
 ghost use Rattle.edge_disk.specs.Disks.{IsStable};
 ghost use Rattle.edge_disk.specs.Counts.{Rose};
 ghost use Rattle.edge_disk.specs.Moments.{LeavesOnly};

@@ -1,5 +1,5 @@
 // The changed pages of a part, written.
-ghost use Rattle.std.specs.Prelude.{◌≡◌, ◌≤◌, ◌+◌, ℕ, OnOk, IfErr};
+ghost use Rattle.std.specs.Prelude.{◌≡◌, ◌≤◌, ◌+◌, OnOk, IfErr};
 ghost use Rattle.page_store.specs.model_kernel.State.{Supply};
 ghost use Rattle.page_store.specs.Pages.{IsWriteFault};
 ghost use Rattle.cell_wish_laws.specs.page_memory.Calls.{IsCausedIn};

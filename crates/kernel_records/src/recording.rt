@@ -1,5 +1,5 @@
 // A record of a cell whose pages are written.
-ghost use Rattle.std.specs.Prelude.{◌≡◌, ◌⊎◌, ◌+◌, ◌≤◌, true, false, length, OnOk, IsErrOf};
+ghost use Rattle.std.specs.Prelude.{◌≡◌, ◌≤◌, true, false, length, OnOk, IsErrOf};
 ghost use Rattle.edge_disk.specs.Disks.{IsStable};
 ghost use Rattle.edge_tally.specs.Counts.{Begins, shown};
 ghost use Rattle.edge_disk.specs.Counts.{Rose};

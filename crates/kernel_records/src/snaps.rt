@@ -1,5 +1,5 @@
 // A snapshot of a cell by its wish.
-ghost use Rattle.std.specs.Prelude.{◌≡◌, ◌↔◌, ◌⊎◌, ◌+◌, ◌≤◌, ℕ, List, true, false, Ok, Some, None, OnOk, OnErr, IsErrOf};
+ghost use Rattle.std.specs.Prelude.{◌≡◌, ℕ, List, true, false, Ok, Some, None, OnOk, OnErr};
 ghost use Rattle.edge_disk.specs.Disks.{IsStable};
 ghost use Rattle.edge_disk.specs.Moments.{LeavesOnly};
 ghost use Rattle.base_types.specs.declared.histories.Event.TheVariants.{Snap};

@@ -2,7 +2,7 @@
 //! functions do nothing: the contract of each is a law.
 #![tactic(auto)]
 
-ghost use Rattle.std.specs.Prelude.{◌≡◌, ℕ, List, Option};
+ghost use Rattle.std.specs.Prelude.{ℕ, List, Option};
 ghost use Rattle.edge_disk.specs.Image.{Image};
 ghost use Rattle.base_types.specs.declared.histories.Entry.{Entry as AnEntry};
 ghost use Rattle.kernel_records.specs.cell_states.declared.cells.Cell.{Cell as ACell};

@@ -1,9 +1,9 @@
 //! The line of an entry, and the trace of a history.
-ghost use Rattle.std.specs.Prelude.{◌≡◌, ◌+◌, ◌≤◌, ◌++◌, OnErr, decimal, length, take};
+ghost use Rattle.std.specs.Prelude.{◌≡◌, ◌+◌, ◌≤◌, ◌++◌, OnErr, length, take};
 ghost use Rattle.arrayvec.specs.ArrayString.{array_string_len};
 ghost use Rattle.edge_disk.specs.Counts.{Rose};
 ghost use Rattle.edge_streams.specs.Streams.{Puts};
-ghost use Rattle.line_text.specs.Lines.{HasShortNames, name_in, word};
+ghost use Rattle.line_text.specs.Lines.{HasShortNames, word};
 ghost use Rattle.line_entries.specs.Entries.{answer_text, details, entry_line, entry_text, event_word, touches_text, trace_of};
 
 use crate::touches::{push_answer, push_touches};

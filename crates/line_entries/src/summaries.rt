@@ -1,5 +1,5 @@
 //! The summary of a history.
-ghost use Rattle.std.specs.Prelude.{◌≡◌, ◌+◌, ◌%◌, ◌<◌, ◌≤◌, ◌^◌, ◌++◌, IsTrue, OnErr, codes, count_by, decimal, length, sum_by};
+ghost use Rattle.std.specs.Prelude.{◌≡◌, ◌+◌, ◌%◌, ◌<◌, ◌≤◌, ◌^◌, ◌++◌, OnErr, count_by, decimal, length, sum_by};
 ghost use Rattle.arrayvec.specs.ArrayString.{array_string_len};
 ghost use Rattle.edge_disk.specs.Counts.{Rose};
 ghost use Rattle.line_text.specs.model_kernel.Printing.{is_print};

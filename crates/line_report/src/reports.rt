@@ -1,8 +1,6 @@
-ghost use Rattle.std.specs.Prelude.{◌≡◌, ◌+◌, ◌≤◌, ◌++◌, List, OnErr, length, slice_index};
-ghost use Rattle.arrayvec.specs.ArrayString.{array_string_len};
+ghost use Rattle.std.specs.Prelude.{◌≡◌, ◌≤◌, OnErr, length};
 ghost use Rattle.edge_disk.specs.Counts.{Rose};
 ghost use Rattle.edge_streams.specs.Streams.{Puts};
-ghost use Rattle.line_text.specs.Lines.{word};
 ghost use Rattle.line_report.specs.Reports.{area_letter, cut_line, cut_lines, log_line, rec_line, rec_lines, report_text, state_word};
 
 use arrayvec::ArrayString;

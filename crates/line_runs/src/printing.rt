@@ -1,5 +1,5 @@
 //! Printed values, by a directory of names.
-ghost use Rattle.std.specs.Prelude.{◌≡◌, ◌≤◌, length, OnErr};
+ghost use Rattle.std.specs.Prelude.{◌≡◌, ◌≤◌, OnErr};
 ghost use Rattle.edge_disk.specs.Counts.{Rose};
 ghost use Rattle.line_text.specs.model_kernel.Output.{line_of, name_of_locus, output_of, printed_line};
 ghost use Rattle.act_calls.specs.Calls.{atlas_state};

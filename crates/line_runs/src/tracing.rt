@@ -1,5 +1,5 @@
 //! Entries of a history, by a directory of names.
-ghost use Rattle.std.specs.Prelude.{◌≡◌, ◌≤◌, OnErr};
+ghost use Rattle.std.specs.Prelude.{◌≤◌, OnErr};
 ghost use Rattle.edge_disk.specs.Counts.{Rose};
 ghost use Rattle.line_entries.specs.Entries.{trace_of};
 ghost use Rattle.act_calls.specs.Calls.{atlas_state};

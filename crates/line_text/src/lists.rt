@@ -1,6 +1,5 @@
 //! Names in two lists.
-ghost use Rattle.std.specs.Prelude.{◌≡◌, ◌+◌, ◌≤◌, ◌↔◌, ◌++◌, [], All, IsTrue, length, map, slice_get, string_bytes, unwrap_or};
-ghost use Rattle.arrayvec.specs.ArrayString.{array_string_len};
+ghost use Rattle.std.specs.Prelude.{◌≡◌, ◌≤◌, ◌↔◌, [], All, IsTrue, length, map, slice_get, string_bytes, unwrap_or};
 ghost use Rattle.line_text.specs.Lines.{HasShortNames, name_in, names_in};
 
 use crate::lines::LINE;

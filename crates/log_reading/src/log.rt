@@ -1,5 +1,5 @@
 // The log of an image.
-ghost use Rattle.std.specs.Prelude.{◌≡◌, ◌≤◌, Some, length, IfOk, IsErrOf};
+ghost use Rattle.std.specs.Prelude.{◌≡◌, Some, IfOk, IsErrOf};
 ghost use Rattle.image_blocks.specs.Checks.{Bad as BadPlace, records_fault};
 ghost use Rattle.edge_disk.specs.Counts.{Rose};
 ghost use Rattle.log_reading.specs.Logs.{IsKnown, IsLogOf};

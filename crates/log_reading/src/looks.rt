@@ -1,5 +1,5 @@
 // Looks at single blocks.
-ghost use Rattle.std.specs.Prelude.{◌≡◌, ◌<◌, ◌≤◌, ◌==◌, IfOk};
+ghost use Rattle.std.specs.Prelude.{◌≡◌, ◌<◌, ◌≤◌, IfOk};
 ghost use Rattle.edge_disk.specs.Disk.{HasCause};
 ghost use Rattle.edge_disk.specs.Image.{block_at};
 ghost use Rattle.image_blocks.specs.Layout.{epoch_in, gate_at};

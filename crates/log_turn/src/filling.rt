@@ -1,5 +1,5 @@
 // Writing kept records into an area whose gate is closed.
-ghost use Rattle.std.specs.Prelude.{◌≡◌, ◌≤◌, ◌<◌, ◌+◌, ◌*◌, true, false, length, OnOk};
+ghost use Rattle.std.specs.Prelude.{◌≡◌, ◌≤◌, ◌<◌, ◌+◌, ◌*◌, length, OnOk};
 ghost use Rattle.edge_disk.specs.Disks.{IsStable};
 ghost use Rattle.edge_disk.specs.Disk.{HasCause};
 ghost use Rattle.edge_disk.specs.Image.{SameOutside, block_at};

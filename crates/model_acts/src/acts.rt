@@ -1,6 +1,5 @@
 ghost use Rattle.std.specs.Prelude.{◌≡◌, ℕ, Some, None, false, true};
 ghost use Rattle.base_types.specs.Instructions.{IsInstruction};
-ghost use Rattle.base_types.specs.declared.instructions.Instr.TheVariants.{Stop as StopAct, Go as GoAct, Snap as SnapAct};
 ghost use Rattle.model_kernel.specs.Acts.{alone as alone_act, beside as beside_act, beside_and_atlas as atlas_act, bearing as birth_act, allowed as allowed_act, wanted};
 ghost use Rattle.model_kernel.specs.Soundness.{IsSoundLocus};
 ghost use Rattle.model_kernel.specs.State.{AtlasState, LocusState};

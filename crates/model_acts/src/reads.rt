@@ -1,4 +1,4 @@
-ghost use Rattle.std.specs.Prelude.{◌≡◌, ℕ, ◌/◌, ◌<◌, IfSome, find};
+ghost use Rattle.std.specs.Prelude.{◌≡◌, ◌/◌, ◌<◌, find};
 ghost use Rattle.base_types.specs.Instructions.{IsInstruction};
 ghost use Rattle.model_kernel.specs.Acts.{caller as caller_of, look_at};
 ghost use Rattle.model_kernel.specs.Refusals.{reg, instr_at, named, entity_of, rights_of, private_at as private_region};

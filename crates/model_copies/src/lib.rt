@@ -2,7 +2,7 @@
 //! together. The functions do nothing: the contract of each is a law.
 #![tactic(auto)]
 
-ghost use Rattle.std.specs.Prelude.{◌≡◌, ◌∷◌, ◌++◌, [], ℕ, List};
+ghost use Rattle.std.specs.Prelude.{◌∷◌, ◌++◌, [], ℕ, List};
 ghost use Rattle.model_sound_states.specs.model_kernel.Choices.{Commit, IsGreatest};
 ghost use Rattle.model_sound_states.specs.model_kernel.State.{KernelState, Supply, Text};
 ghost use Rattle.model_sound_states.specs.States.{IsSoundState};

@@ -4,7 +4,7 @@
 
 ghost use Rattle.std.specs.Prelude.{◌≡◌, ◌++◌, ℕ, List};
 ghost use Rattle.model_kernel.specs.Choices.{Commit, IsBelow, IsClosedChoice, IsGreatest};
-ghost use Rattle.model_cut_laws.specs.Agreeing.{AgreeFromCut, HoldsStart, from_cut, nothing};
+ghost use Rattle.model_cut_laws.specs.Agreeing.{HoldsStart, from_cut, nothing};
 
 /// What stands below the greatest closed choice of a list never matters again: a list that agrees with it from that choice
 /// on has the same greatest closed choice, whatever follows both; and what stands at or above the choice is such a list.

@@ -8,7 +8,7 @@ ghost use Rattle.base_types.specs.declared.histories.Entry.{Entry};
 ghost use Rattle.base_types.specs.declared.histories.Event.TheVariants.{Snap, Stable, Tried};
 ghost use Rattle.base_types.specs.declared.histories.Touch.{Touch};
 ghost use Rattle.model_serial.specs.model_kernel.Births.{next_birth};
-ghost use Rattle.model_serial.specs.model_kernel.Histories.{May, Policy, Run, births_owed, commits_of, goes_on, has_changed, has_wish, is_full, mark, next_changed, run_after, start_run, version_of};
+ghost use Rattle.model_serial.specs.model_kernel.Histories.{May, Policy, Run, births_owed, commits_of, has_changed, has_wish, is_full, mark, next_changed, run_after, start_run, version_of};
 ghost use Rattle.model_serial.specs.model_kernel.Scripts.{Script, locus_named};
 ghost use Rattle.model_serial.specs.model_kernel.Serial.{all_loci, can_step, looks_of};
 ghost use Rattle.model_serial.specs.model_kernel.Soundness.{IsSound};

@@ -62,12 +62,6 @@ module _ (s : Supply) (policy : Policy) (script : Script) (w : KernelState) wher
   abbrev start : ℕ → ℕ
   start x = (w x).version
 
-  abbrev made : List Entry → List Commit
-  made es = commits_in s script w es
-
-  abbrev Sound : List Entry → Type 0
-  Sound es = IsSoundRun s policy script w es
-
   abbrev Five : List Commit → Type 0
   Five cs = (x : ℕ) → commits_above cs (greatest start cs) x ≤ 5
 

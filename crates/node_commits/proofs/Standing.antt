@@ -24,9 +24,6 @@ use Rattle.node_commits.specs.Deliveries.{HasDelivered, IsStandbyImage, KeepsCom
 pub same_kept_in : (a b : Books) → b.logged ≡ a.logged → kept_in b ≡ kept_in a
 same_kept_in a b e = ap (λ (ls : List Logged). kept_in (record a { logged = ls })) e
 
-empty_page : (n q : ℕ) → n ≢ 0 → n ≡ slice_index [] q → ⊥
-empty_page n q some is = some is
-
 -- where nobody holds a block any more, nobody's working table names one
 unheld : (new given : Books) (tables : ℕ → List ℕ) → given.logged ≡ new.logged → given.count ≡ new.count → ((n : ℕ) → given.held n ≡ false) → AreOwned new tables → AreOwned given (λ x. [])
 unheld new given tables logged count none o =

@@ -85,9 +85,6 @@ module _ (s : Supply) (pages : List PageWords) (image : Image) (table : List ℕ
   cell_is (ContainerPart c was) few within = ap (λ (f : ℕ → ℕ). ContainerCell (record c { words = f })) (λ i address. sym (word_same c.pages few within c.tag address) i)
   cell_is (LocusPart l) few within = refl
 
-  nothing_at : (q : ℕ) → slice_index [] q ≡ 0
-  nothing_at q = refl
-
   named_is : (part : Part) → size_of part ≤ 256 → ((k : ℕ) (q : PageWords) → slice_get pages k ≡ Some q → q.page < size_of part) → (p : ℕ) → slice_index table p ≡ slice_index (table_in (over table part)) p
   named_is (AtlasPart a) few within p = none_there p (λ k q at same. (let lt = within k q at in omega (arith, lt)))
   named_is (ContainerPart c was) few within p = sym (front c.pages few within p)

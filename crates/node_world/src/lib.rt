@@ -2,9 +2,9 @@
 //! has after any list of events.
 #![tactic(auto)]
 
-ghost use Rattle.std.specs.Prelude.{◌≡◌, ◌≤◌, ◌<◌, ◌+◌, ◌∷◌, ◌++◌, [], ℕ, true, List, count_by, IfOk, OnOk, OnErr, IfSome, IfNone, Some, None, length, option_map};
+ghost use Rattle.std.specs.Prelude.{◌≡◌, ◌≤◌, ◌<◌, ◌+◌, ◌++◌, true, List, count_by, length};
 ghost use Rattle.node_world.specs.Rounds.{Draws, after_rounds, drawn_round, nothing_lost};
-ghost use Rattle.node_world.specs.Worlds.{Event, Holds, IsFront, Sending, World, after_events, after_heard, happens, is_next, offered, packet_in, start, with_made, with_offer};
+ghost use Rattle.node_world.specs.Worlds.{Event, Holds, IsFront, World, after_events, happens, offered, start, with_made};
 
 mod senders;
 

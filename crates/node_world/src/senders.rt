@@ -1,5 +1,5 @@
 // The sender's side.
-ghost use Rattle.std.specs.Prelude.{◌≡◌, ◌≤◌, ◌<◌, ◌+◌, ◌-◌, ◌^◌, ℕ, List, IfOk, OnOk, OnErr, [], drop, length, option_map};
+ghost use Rattle.std.specs.Prelude.{◌≡◌, ◌≤◌, ◌<◌, ◌+◌, ◌-◌, ◌^◌, IfOk, OnOk, OnErr, [], drop, length, option_map};
 ghost use Rattle.node_world.specs.Worlds.{Sending, after_heard, offered, packet_in, with_offer};
 
 use std::alloc::{AllocError, Global};

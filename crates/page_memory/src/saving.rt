@@ -1,4 +1,4 @@
-ghost use Rattle.std.specs.Prelude.{◌≡◌, ◌≢◌, ◌≤◌, ◌+◌, ◌↔◌, ℕ, true, false, IfOk, IfErr, OnOk, OnErr, IsErrOf, IsOk};
+ghost use Rattle.std.specs.Prelude.{◌≡◌, ◌≢◌, ◌≤◌, ◌+◌, ◌↔◌, true, false, IfOk, IfErr, OnOk, OnErr, IsErrOf, IsOk};
 ghost use Rattle.page_store.specs.model_kernel.State.{Supply};
 ghost use Rattle.data_blocks.specs.edge_disk.declared.disk.NoBlocks.{NoBlocks};
 ghost use Rattle.data_frames.specs.FrameTable.{changed_at};

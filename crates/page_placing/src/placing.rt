@@ -1,4 +1,4 @@
-ghost use Rattle.std.specs.Prelude.{◌≡◌, ◌<◌, ◌≤◌, length, IfErr, OnOk, slice_index};
+ghost use Rattle.std.specs.Prelude.{◌<◌, ◌≤◌, IfErr, OnOk};
 ghost use Rattle.page_store.specs.Pages.{IsWriteFault};
 ghost use Rattle.page_placing.specs.Placing.{GoesOn, PlacesOne};
 

@@ -1,4 +1,4 @@
-ghost use Rattle.std.specs.Prelude.{◌≡◌, ◌≢◌, ◌<◌, ◌≤◌, ◌↔◌, ◌+◌, ◌^◌, ◌||◌, ℕ, Bool, not, true, false, List, length, count_by, IfOk, IfSome, IfNone, IsTrue, Contains, ◌==◌};
+ghost use Rattle.std.specs.Prelude.{◌≡◌, ◌<◌, ◌↔◌, ◌+◌, ◌^◌, ℕ, not, true, false, length, count_by, IfOk, IfSome, IfNone, IsTrue, Contains, ◌==◌};
 ghost use Rattle.edge_disk.specs.Disk.{Ticks};
 ghost use Rattle.page_store.specs.Memory.{AreWhole, place_at, is_free, is_held, words_at, whole_at};
 

@@ -1,6 +1,5 @@
 //! Whether the names of a script can be born into an atlas.
-ghost use Rattle.std.specs.Prelude.{◌≡◌, ◌+◌, ◌≤◌, ◌++◌, OnOk, IfOk, IfErr, IfSome, IfNone, map, length, codes, decimal, string_bytes, is_some, count_by, is_none, Some, None};
-ghost use Rattle.plain_steps.specs.model_kernel.Scripts.{container_named as container_number, locus_named as locus_number, number_of as number};
+ghost use Rattle.std.specs.Prelude.{◌≡◌, ◌+◌, ◌≤◌, OnOk, IfOk, IfErr, map, length, string_bytes, is_some, is_none, Some, None};
 ghost use Rattle.plain_states.specs.Born.{HasFewNames};
 ghost use Rattle.plain_states.specs.Plains.{atlas_of};
 ghost use Rattle.script_types.specs.Scripts.{container_of, locus_of, tables_of};

@@ -1,6 +1,6 @@
 //! Names of a script that stand in the atlas, or don't yet.
-ghost use Rattle.std.specs.Prelude.{◌≡◌, IfSome, IfNone, Some, None, is_some, map};
-ghost use Rattle.plain_steps.specs.model_kernel.Scripts.{next_name as next_of, next_container_name as next_of_containers, next_locus_name as next_of_loci, number_of as number};
+ghost use Rattle.std.specs.Prelude.{◌≡◌, IfSome, IfNone, Some, None, map};
+ghost use Rattle.plain_steps.specs.model_kernel.Scripts.{next_name as next_of, next_container_name as next_of_containers, next_locus_name as next_of_loci};
 ghost use Rattle.plain_states.specs.Born.{HasFewNames};
 ghost use Rattle.plain_states.specs.Plains.{atlas_of};
 ghost use Rattle.script_types.specs.Scripts.{container_of, locus_of, tables_of};

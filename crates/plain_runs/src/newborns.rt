@@ -1,5 +1,5 @@
 //! The births of a script's names, one after another.
-ghost use Rattle.std.specs.Prelude.{◌≡◌, ◌≤◌, ◌^◌, ◌<◌, OnErr, IfOk, IfSome, IfNone, Some, None};
+ghost use Rattle.std.specs.Prelude.{◌≡◌, ◌<◌, OnErr, IfOk, IfSome, IfNone, Some, None};
 ghost use Rattle.plain_steps.specs.model_kernel.Scripts.{next_name as next_of};
 ghost use Rattle.plain_steps.specs.model_kernel.Soundness.{IsSound};
 ghost use Rattle.plain_steps.specs.model_kernel.State.{Supply};

@@ -1,5 +1,4 @@
 //! The names of a plain atlas.
-ghost use Rattle.std.specs.Prelude.{◌≡◌, ◌≤◌, ◌+◌, ◌++◌, length};
 ghost use Rattle.plain_states.specs.Plains.{atlas_of};
 ghost use Rattle.line_text.specs.Lines.{name_in};
 

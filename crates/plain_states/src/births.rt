@@ -1,6 +1,5 @@
-ghost use Rattle.std.specs.Prelude.{◌≡◌, ℕ, ◌+◌, ◌<◌, ◌≤◌, ◌↔◌, ◌^◌, [], ◌∷◌, ◌++◌, true, IsTrue, IfOk, IfSome, IfNone, IsNone, None, Some, OnOk, OnErr, slice_index, slice_set, slice_get, length, vec_len, vec_capacity, string_bytes};
-ghost use Rattle.model_kernel.specs.Outcomes.{free_container as free_container_number, free_locus as free_locus_number};
-ghost use Rattle.model_kernel.specs.Scripts.{container_named as container_number};
+ghost use Rattle.std.specs.Prelude.{◌≡◌, ◌+◌, ◌<◌, ◌↔◌, ◌^◌, [], ◌∷◌, ◌++◌, true, IfOk, IfSome, IfNone, IsNone, None, Some, OnOk, OnErr, slice_index, vec_len, vec_capacity};
+ghost use Rattle.model_kernel.specs.Outcomes.{free_container as free_container_number};
 ghost use Rattle.model_kernel.specs.Soundness.{IsSound};
 ghost use Rattle.model_kernel.specs.State.{Supply};
 ghost use Rattle.script_types.specs.Rules.{IsScript};

@@ -1,4 +1,4 @@
-ghost use Rattle.std.specs.Prelude.{◌≡◌, ℕ, ◌+◌, ◌≤◌, length, map, find, option_copied, string_bytes};
+ghost use Rattle.std.specs.Prelude.{◌≡◌, ◌+◌, ◌≤◌, length, map, find, option_copied, string_bytes};
 ghost use Rattle.model_kernel.specs.Births.{number_or_0};
 ghost use Rattle.model_kernel.specs.Outcomes.{free_container as free_container_number, free_locus as free_locus_number};
 ghost use Rattle.model_kernel.specs.Scripts.{text_eq, place_of, container_named as container_number, number_of as number, number_in as number_with_own};

@@ -1,6 +1,6 @@
-ghost use Rattle.std.specs.Prelude.{◌≡◌, ℕ, ◌+◌, ◌≤◌, IfOk, OnOk, OnErr, nat_lt, length, map, string_bytes};
+ghost use Rattle.std.specs.Prelude.{◌≡◌, ◌≤◌, IfOk, OnOk, OnErr, nat_lt, length, map, string_bytes};
 ghost use Rattle.std.specs.List.{position_or_len};
-ghost use Rattle.model_kernel.specs.Births.{caps_from as caps_by, regions_from as regions_by, container_from as container_by, locus_from as locus_by, number_or_0, region_from};
+ghost use Rattle.model_kernel.specs.Births.{caps_from as caps_by, regions_from as regions_by, container_from as container_by, locus_from as locus_by};
 ghost use Rattle.model_kernel.specs.Scripts.{number_in};
 ghost use Rattle.model_kernel.specs.State.{Supply};
 ghost use Rattle.model_kernel.specs.Words.{insert_region as inserted};

@@ -1,4 +1,4 @@
-ghost use Rattle.std.specs.Prelude.{◌≡◌, ℕ, ◌+◌, ◌/◌, ◌*◌, ◌<◌, ◌≤◌, ◌^◌, IsTrue, IfOk, OnOk, OnErr, true, false};
+ghost use Rattle.std.specs.Prelude.{◌≡◌, ℕ, ◌/◌, ◌*◌, ◌<◌, ◌≤◌, ◌^◌, IsTrue, IfOk, OnOk, OnErr, true, false};
 ghost use Rattle.base_types.specs.Instructions.{IsInstruction};
 ghost use Rattle.model_kernel.specs.Outcomes.{load as loaded, on_cell, store as stored, through as gone_through, with_word};
 ghost use Rattle.model_kernel.specs.State.{Supply, ContainerCell, no_atlas};

@@ -1,5 +1,5 @@
 //! The acts that write the atlas: mappings between containers, and what a program gives birth to.
-ghost use Rattle.std.specs.Prelude.{◌≡◌, ◌+◌, ◌-◌, ◌<◌, ◌≤◌, IfOk, OnOk, OnErr, Some, None, find, filter, not, ◌==◌, length};
+ghost use Rattle.std.specs.Prelude.{◌≡◌, ◌+◌, ◌-◌, ◌<◌, ◌≤◌, IfOk, OnOk, OnErr, Some, None, find, filter, not, ◌==◌};
 ghost use Rattle.std.specs.List.{list_any};
 ghost use Rattle.model_kernel.specs.Outcomes.{edge_put, map_refusal as refused, map_region, unmap as unmapped};
 ghost use Rattle.model_kernel.specs.State.{Supply, ContainerCell};

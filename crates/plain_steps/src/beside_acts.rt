@@ -1,4 +1,4 @@
-ghost use Rattle.std.specs.Prelude.{◌≡◌, ◌<◌, ◌≤◌, IfOk, OnOk, OnErr, Some, None, slice_set};
+ghost use Rattle.std.specs.Prelude.{◌≡◌, ◌<◌, ◌≤◌, IfOk, OnOk, OnErr, Some, None};
 ghost use Rattle.model_kernel.specs.Outcomes.{back as returned, give as given, going, invoke as invoked, leave as left, stopped, take_cap};
 ghost use Rattle.model_kernel.specs.State.{Supply, ContainerCell};
 ghost use Rattle.plain_states.specs.Plains.{container_of, locus_of};

@@ -1,14 +1,13 @@
 //! What a running locus's step makes of a state, by what its act touches.
-ghost use Rattle.std.specs.Prelude.{◌≡◌, ℕ, ◌+◌, ◌<◌, ◌≤◌, ◌^◌, IsTrue, IfOk, OnErr, Some, None, true, [], ◌∷◌, nat_lt, if◌then◌else◌};
+ghost use Rattle.std.specs.Prelude.{◌≡◌, ℕ, ◌<◌, ◌≤◌, ◌^◌, IfOk, OnErr, Some, None, true, [], ◌∷◌, nat_lt, if◌then◌else◌};
 ghost use Rattle.base_types.specs.declared.instructions.Instr.{Instr as AnInstr};
 ghost use Rattle.model_kernel.specs.Acts.{alone, beside};
 ghost use Rattle.model_kernel.specs.Soundness.{IsSound};
 ghost use Rattle.model_kernel.specs.State.{Supply};
-ghost use Rattle.model_acts.specs.Views.{may_name_itself};
 ghost use Rattle.plain_states.specs.Entries.{step_entry, versions_after};
 ghost use Rattle.plain_states.specs.Events.{AreFewVersions, StepsTo, Stays};
 ghost use Rattle.plain_states.specs.Lists.{IsActingAt};
-ghost use Rattle.plain_states.specs.Plains.{atlas_of, cells_of, locus_of};
+ghost use Rattle.plain_states.specs.Plains.{cells_of, locus_of};
 ghost use Rattle.plain_facts.specs.Acts.{controlled as controlled_by};
 
 use crate::acts::beside_container;

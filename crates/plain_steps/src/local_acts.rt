@@ -1,4 +1,4 @@
-ghost use Rattle.std.specs.Prelude.{◌≡◌, ℕ, ◌+◌, ◌<◌, ◌≤◌, IfOk, OnOk, OnErr, None, not, ◌&&◌, ◌==◌, filter, slice_set, length};
+ghost use Rattle.std.specs.Prelude.{◌≡◌, ◌+◌, ◌<◌, ◌≤◌, IfOk, OnOk, OnErr, None, not, ◌&&◌, ◌==◌, filter, length};
 ghost use Rattle.std.specs.List.{position_or_len};
 ghost use Rattle.base_types.specs.Instructions.{IsInstruction};
 ghost use Rattle.base_types.specs.declared.instructions.Instr.TheVariants.{Set as SetAct, Copy as CopyAct, Add as AddAct, Sub as SubAct, Jump as JumpAct, Jz as JzAct, Lunmap as LunmapAct, Drop as DropAct, Stop as StopAct, Print as PrintAct, Halt as HaltAct};

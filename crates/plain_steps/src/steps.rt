@@ -1,4 +1,4 @@
-ghost use Rattle.std.specs.Prelude.{◌≡◌, ℕ, ◌+◌, ◌<◌, ◌≤◌, ◌↔◌, ◌^◌, if◌then◌else◌, IfOk, IfSome, IfNone, IsNone, None, OnErr};
+ghost use Rattle.std.specs.Prelude.{◌≡◌, ℕ, ◌<◌, ◌↔◌, ◌^◌, if◌then◌else◌, IfOk, IfSome, IfNone, IsNone, None, OnErr};
 ghost use Rattle.model_kernel.specs.Soundness.{IsSound};
 ghost use Rattle.model_kernel.specs.State.{Supply};
 ghost use Rattle.model_kernel.specs.Steps.{running};

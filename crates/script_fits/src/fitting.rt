@@ -1,6 +1,5 @@
 // Whether the names of a script can be born into an atlas.
-ghost use Rattle.std.specs.Prelude.{◌≡◌, ◌+◌, ◌≤◌, ◌++◌, OnOk, IfOk, IfErr, IfSome, IfNone, map, length, codes, decimal, string_bytes, is_some, count_by, is_none, Some, None};
-ghost use Rattle.script_types.specs.model_kernel.Scripts.{container_named as container_number, locus_named as locus_number, number_of as number};
+ghost use Rattle.std.specs.Prelude.{◌≡◌, ◌+◌, ◌≤◌, OnOk, IfOk, IfErr, map, length, string_bytes, Some, None};
 ghost use Rattle.data_atlas.specs.data_atlas_facts.Directory.{IsDirectory};
 ghost use Rattle.model_births.specs.Fitting.{Fits, new_containers as new_of_containers, new_loci as new_of_loci};
 ghost use Rattle.act_atlas_laws.specs.act_calls.Calls.{atlas_state};

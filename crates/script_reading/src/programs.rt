@@ -1,5 +1,5 @@
 //! The programs of a source.
-ghost use Rattle.std.specs.Prelude.{◌≡◌, List, [], Option, length, option_map, map};
+ghost use Rattle.std.specs.Prelude.{◌≡◌, List, Option, length, option_map, map};
 ghost use Rattle.base_types.specs.declared.instructions.Instr.{Instr as AnInstr};
 ghost use Rattle.script_types.specs.model_kernel.State.{Text};
 ghost use Rattle.toml.specs.View.{view, table_view};

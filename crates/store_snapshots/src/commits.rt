@@ -1,5 +1,5 @@
 // Committing a record.
-ghost use Rattle.std.specs.Prelude.{◌≡◌, ◌+◌, ◌*◌, ◌^◌, ◌<◌, ◌≤◌, ◌&&◌, ◌++◌, ◌∷◌, [], ℕ, List, All, true, false, length, slice_index, OnOk, OnErr, IsErrOf};
+ghost use Rattle.std.specs.Prelude.{◌≡◌, ◌+◌, ◌*◌, ◌^◌, ◌<◌, ◌≤◌, ◌&&◌, ◌++◌, ◌∷◌, [], List, All, true, false, length, slice_index, OnOk, OnErr, IsErrOf};
 ghost use Rattle.edge_disk.specs.Disks.{IsStable};
 ghost use Rattle.edge_disk.specs.Counts.{Rose};
 ghost use Rattle.edge_disk.specs.Image.{SameOutside};

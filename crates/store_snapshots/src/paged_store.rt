@@ -1,5 +1,5 @@
 // A store as a keeper of pages.
-ghost use Rattle.std.specs.Prelude.{◌≡◌, true, false, refl};
+ghost use Rattle.std.specs.Prelude.{true, false, refl};
 
 use crate::paging::read_words;
 use crate::store::Store;
@@ -15,7 +15,7 @@ impl<D: Disk> PageStore for Store<D> {
     ghost use Rattle.edge_disk.specs.Image.{block_at};
     ghost use Rattle.data_blocks.specs.Ledger.{is_held};
     ghost use Rattle.store_snapshots.specs.Paging.{GoesByPages, GoesByPages-join, GoesByPages-stay};
-    ghost use Rattle.store_facts.specs.State.{State, books};
+    ghost use Rattle.store_facts.specs.State.{books};
     ghost use Rattle.store_facts.specs.store_books.Books.{free_in, kept_names as kept_names_in, words_of_bytes};
 
     ghost tells = { D.tells };

@@ -1,5 +1,5 @@
 // Pages in the blocks of a store, read and written.
-ghost use Rattle.std.specs.Prelude.{◌≡◌, ◌≤◌, ◌<◌, ◌+◌, true, false, OnOk, OnErr, length};
+ghost use Rattle.std.specs.Prelude.{◌≡◌, ◌<◌, OnOk};
 ghost use Rattle.edge_disk.specs.Disk.{HasCause};
 ghost use Rattle.edge_disk.specs.Image.{block_at};
 ghost use Rattle.store_facts.specs.log_facts.Reads.{ReadsOnly};

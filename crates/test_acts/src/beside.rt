@@ -1,4 +1,4 @@
-ghost use Rattle.std.specs.Prelude.{◌≡◌, ◌<◌, IfOk, IfSome, None, All, codes};
+ghost use Rattle.std.specs.Prelude.{◌≡◌, ◌<◌, IfSome, None, codes};
 ghost use Rattle.plain_states.specs.model_kernel.Scripts.{container_named as container_number, locus_named as locus_number};
 ghost use Rattle.plain_states.specs.model_kernel.Soundness.{IsSound};
 ghost use Rattle.plain_states.specs.model_kernel.State.{AtlasState, Supply, Text};

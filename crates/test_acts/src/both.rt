@@ -1,5 +1,4 @@
 // The same step by both kernels, from the same state.
-ghost use Rattle.std.specs.Prelude.{◌≡◌};
 ghost use Rattle.plain_states.specs.model_kernel.Soundness.{IsSound};
 ghost use Rattle.plain_states.specs.Born.{AreEdges};
 ghost use Rattle.plain_states.specs.Events.{AreFewVersions};

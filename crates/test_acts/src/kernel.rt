@@ -1,5 +1,5 @@
 // A step by the kernel's own calls.
-ghost use Rattle.std.specs.Prelude.{◌≡◌, ℕ, None, Some, IsTrue};
+ghost use Rattle.std.specs.Prelude.{◌≡◌, ℕ, None, Some};
 ghost use Rattle.base_types.specs.declared.instructions.Condition.TheVariants.{Running as RunningNow};
 ghost use Rattle.plain_states.specs.model_kernel.Acts.{wanted};
 ghost use Rattle.plain_states.specs.model_kernel.Refusals.{instr_at};

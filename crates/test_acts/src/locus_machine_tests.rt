@@ -1,4 +1,3 @@
-ghost use Rattle.std.specs.Prelude.{◌≡◌};
 ghost use Rattle.model_acts.specs.Views.{IsReadyLocus};
 ghost use Rattle.act_alone.specs.Loci.{locus_of};
 

@@ -1,6 +1,6 @@
 // Programs that look random, and a script that begins with one of them.
 ghost use Rattle.std.specs.Option.{ForSome};
-ghost use Rattle.std.specs.Prelude.{◌≡◌, ◌<◌, IfOk, None, All, length, codes};
+ghost use Rattle.std.specs.Prelude.{◌≡◌, ◌<◌, IfOk, None, All, codes};
 ghost use Rattle.base_types.specs.Instructions.{IsInstruction, IsAccess, IsPlace};
 ghost use Rattle.plain_states.specs.model_kernel.Scripts.{container_named as container_number, locus_named as locus_number};
 ghost use Rattle.plain_states.specs.model_kernel.Soundness.{IsSoundCode};

@@ -1,5 +1,4 @@
 // Images with a log, and what is read of them.
-ghost use Rattle.std.specs.Prelude.{◌≡◌};
 
 use crate::quiet_disk::QuietDisk;
 use base_types::{Entity, Rec};

@@ -1,5 +1,5 @@
 // A disk in memory of whose content nothing is proved, so that a test need not prove what it compares.
-ghost use Rattle.std.specs.Prelude.{◌≡◌, [], length};
+ghost use Rattle.std.specs.Prelude.{[], length};
 
 use edge_disk::{Disk, DiskFault, MemoryDisk};
 

@@ -1,4 +1,3 @@
-ghost use Rattle.std.specs.Prelude.{ℕ};
 ghost use Rattle.plain_steps.specs.model_kernel.Soundness.{IsSound};
 ghost use Rattle.plain_states.specs.Plains.{cells_of};
 

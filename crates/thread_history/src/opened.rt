@@ -1,7 +1,7 @@
 //! How a history is made: first its table, and then, under the run's name, its authority or chronicle, and the shares.
-ghost use Rattle.std.specs.Prelude.{◌≡◌, ◌+◌, ◌<◌, ◌≤◌, ◌^◌, [], IfErr, IfOk, length, true, vec_len, vec_capacity};
+ghost use Rattle.std.specs.Prelude.{◌≡◌, ◌+◌, ◌<◌, ◌≤◌, ◌^◌, [], IfErr, IfOk, vec_len, vec_capacity};
 ghost use Rattle.thread_history.specs.Rules.{opening_view};
-ghost use Rattle.thread_history.specs.Seats.{IsAt, IsChronicle, IsShareOf};
+ghost use Rattle.thread_history.specs.Seats.{IsAt};
 ghost use Rattle.thread_history.specs.Sides.{sides_upto};
 
 use crate::authorities::HistoryAuthority;

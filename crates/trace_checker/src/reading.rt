@@ -1,5 +1,5 @@
 //! The entry that a line names.
-ghost use Rattle.std.specs.Prelude.{◌≡◌, ◌<◌, ◌^◌, ℕ, Bool, IfNone, IfOk, IfSome, false};
+ghost use Rattle.std.specs.Prelude.{◌≡◌, ◌<◌, ◌^◌, ℕ, Bool, IfNone, IfOk, IfSome};
 ghost use Rattle.script_types.specs.Scripts.{tables_of};
 ghost use Rattle.trace_facts.specs.Reading.{NamesAlone, NamesBirth, NamesNoBirth, NamesNone, WantsFrom};
 ghost use Rattle.trace_facts.specs.trace_steps.Standing.{IsStanding};

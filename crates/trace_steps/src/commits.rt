@@ -1,11 +1,10 @@
 //! Commits: of one entity, or of all that have changed.
-ghost use Rattle.std.specs.Prelude.{◌≡◌, ◌+◌, ◌≤◌, ◌++◌, ◌∷◌, [], ℕ, List, OnOk, length, slice_index};
-ghost use Rattle.base_types.specs.declared.records.Rec.{Rec as ARec};
+ghost use Rattle.std.specs.Prelude.{◌≡◌, ◌+◌, ◌≤◌, ◌++◌, ◌∷◌, [], OnOk, length, slice_index};
 ghost use Rattle.plain_states.specs.model_kernel.Choices.{IsGreatest};
 ghost use Rattle.trace_step_facts.specs.data_cut_facts.Records.{choice, IsAscending};
 ghost use Rattle.model_run_rules.specs.model_cut_laws.Records.{commits_of, recs_from};
 ghost use Rattle.trace_state.specs.Clocks.{clock_at};
-ghost use Rattle.trace_step_facts.specs.Recording.{AreRecordsAt, IsRecordAt, all_changed};
+ghost use Rattle.trace_step_facts.specs.Recording.{IsRecordAt};
 
 use base_types::{Entity, Rec};
 use std::alloc::AllocError;

@@ -1,5 +1,5 @@
 //! A Stable: a record of each entity that has changed.
-ghost use Rattle.std.specs.Prelude.{◌≡◌, ◌++◌, ◌∷◌, [], ◌↔◌, ℕ, List, IfNone, IfOk, IfSome, IsTrue, OnOk, Some, false};
+ghost use Rattle.std.specs.Prelude.{◌≡◌, ◌++◌, ◌∷◌, [], ◌↔◌, List, IfNone, IfOk, IfSome, IsTrue, OnOk, Some, false};
 ghost use Rattle.base_types.specs.declared.histories.Entry.{Entry as AnEntry};
 ghost use Rattle.base_types.specs.declared.histories.Event.TheVariants.{Stable as StableEvent};
 ghost use Rattle.plain_states.specs.model_kernel.Histories.{Policy as AnyPolicy, mark as model_mark};
