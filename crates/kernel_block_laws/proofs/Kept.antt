@@ -87,8 +87,8 @@ module _ (b : Beginning) (es : List Entry) (right : BeginsRight b) (legal : IsLe
   record_room l r blob =
       let few = r.few in
       let pages = pages_count image l.table in
-      let part = part_room b.supply (bytes_of (kept_for image l).pages) r.part (kept_for image l).blob r.describes.spells.spells in
-      let cell = ap cell_room r.describes.cell in
+      let part = part_room b.supply (bytes_of (kept_for image l).pages) r.told.part (kept_for image l).blob r.told.describes.spells.spells in
+      let cell = ap cell_room r.told.describes.cell in
       let rise = thing_rooms b.supply b.policy b.script right.script es (start_run b.state) legal (record { sound = right.sound.sound; kinds = λ _. right.names }) l.rec.entity l.rec.version in
       omega (arith, few, pages, part, cell, rise, blob)
 

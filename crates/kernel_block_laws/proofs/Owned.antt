@@ -18,7 +18,7 @@ use Rattle.kernel_invariant.specs.store_books.Books.{Books, Logged, cut_in, is_u
 use Rattle.kernel_invariant.specs.store_books.Owning.{AreOwned, NamesPage}
 use Rattle.kernel_invariant.proofs.Apart.{any_passes, page_names}
 use Rattle.kernel_invariant.proofs.Growing.{fitting_narrow, recs_more}
-use Rattle.kernel_invariant.proofs.Naming.{behind, first_in}
+use Rattle.kernel_invariant.proofs.store_told_lemmas.Naming.{behind, first_in}
 use Rattle.kernel_invariant.proofs.Pages.{of_more}
 use Rattle.kernel_block_laws.specs.Owning.{PutsRecord}
 use Rattle.kernel_invariant.proofs.store_books_lemmas.Owners.{place_in}

@@ -8,7 +8,7 @@ use Rattle.kernel_invariant.specs.image_facts.Bodies.{blob_blocks, blob_in}
 use Rattle.kernel_invariant.specs.image_facts.Layout.{pool_at}
 use Rattle.kernel_invariant.specs.image_meaning.Stores.{Kept, Page}
 use Rattle.kernel_invariant.proofs.Apart.{any_passes, page_names}
-use Rattle.kernel_invariant.proofs.Naming.{behind, first_in}
+use Rattle.kernel_invariant.proofs.store_told_lemmas.Naming.{behind, first_in}
 use Rattle.kernel_invariant.specs.store_books.Books.{AreApartFrom, Books, IsApart, IsBeforePool, Logged, is_used, kept_for, kept_in, kept_names, kept_of, names, page_for}
 use Rattle.kernel_invariant.specs.store_books.Owning.{NamesPage}
 

@@ -20,7 +20,6 @@ use Rattle.kernel_invariant.specs.image_meaning.Stores.{Kept, Page, Stores, recs
 use Rattle.kernel_invariant.specs.store_books.Between.{Between-stay}
 use Rattle.kernel_invariant.specs.store_books.Books.{AreSmall, AreStored, AreTrue, Books, IsNewKept, Logged, is_used, kept_for, kept_in, kept_of, logged_recs, names, page_for, recs_in}
 use Rattle.kernel_invariant.specs.store_books.Owning.{AreOwned, NamesPage}
-use Rattle.kernel_invariant.specs.Records.{ArePagesApart as Apart}
 use Rattle.kernel_invariant.proofs.model_cut_laws_lemmas.Joins.{same_greatest}
 use Rattle.kernel_invariant.proofs.model_kernel_lemmas.Lowering.{greatest_one}
 use Rattle.kernel_invariant.proofs.image_meaning_lemmas.Choosing.{from_commits}
@@ -46,9 +45,6 @@ use Rattle.store_copies.proofs.Copies.{after, before}
 use Rattle.store_copies.proofs.Moments.{copy_moments, kept_again}
 use Rattle.kernel_copies.specs.Pairs.{CommitsFirst, CommitsSecond, MayCopy}
 use Rattle.kernel_block_laws.proofs.Unchanged.{blob_high, kept_same}
-
-apart_as : (count : ℕ) (ks : List Kept) → Apart count ks → ArePagesApart count ks
-apart_as count ks a = record { pool = a.pool; not_blob = a.not_blob; own = a.own }
 
 -- a page of the record is of its entity's working table
 named_there : (image : Image) (table there : List ℕ) → ((p : ℕ) → slice_index table p ≡ slice_index there p) → (ps : List Page) → ps ≡ Rattle.std.specs.List.flat_map (page_for image) table → (n : ℕ) → HasPage ps n → NamesPage there n
@@ -97,11 +93,11 @@ module _ {D : Type 0} (disks : Ghosts D) (only_now : (d : D) (c : Image) → dis
   made_atlas = may.first (disks.reading mid) made f.same_used made_new
 
   apart_first : (image : Image) (a : Kept) → IsNewKept entity version stamp blob table image a → IsFreshIn bk a → ArePagesApart bk.count (ks ++ a ∷ [])
-  apart_first image a is fresh = apart_as bk.count (ks ++ a ∷ []) (more_apart bk tables (disks.reading old) may.owned a (record {
+  apart_first image a is fresh = more_apart bk tables (disks.reading old) may.owned a (record {
     pages = λ n has. subst (λ (x : ℕ). NamesPage (tables x) n) (sym is.entity_is) (named_there image table (tables entity) may.first_table a.pages is.pages_are n has);
     pool = may.pool;
     fresh = fresh;
-  }))
+  })
 
   made_is : IsAtlasRecord s w made × ArePagesApart bk.count (ks ++ made ∷ [])
   made_is = (made_atlas, apart_first (disks.reading mid) made made_new f.committed.free.fresh)
@@ -151,11 +147,11 @@ module _ {D : Type 0} (disks : Ghosts D) (only_now : (d : D) (c : Image) → dis
 
   apart_second : (image : Image) (b : Kept) → IsNewKept entity2 version2 stamp2 blob2 table2 image b → IsFreshIn between b → ArePagesApart bk.count (ks ++ made ∷ b ∷ [])
   apart_second image b is fresh =
-      let a : ArePagesApart between.count (kept_of (disks.reading mid) between ++ b ∷ []) = apart_as between.count (kept_of (disks.reading mid) between ++ b ∷ []) (more_apart between tables (disks.reading mid) owned_mid b (record {
+      let a : ArePagesApart between.count (kept_of (disks.reading mid) between ++ b ∷ []) = more_apart between tables (disks.reading mid) owned_mid b (record {
         pages = λ n has. subst (λ (x : ℕ). NamesPage (tables x) n) (sym is.entity_is) (named_there image table2 (tables entity2) may.second_table b.pages is.pages_are n has);
         pool = pool_mid;
         fresh = fresh;
-      })) in
+      }) in
       subst (λ (n : ℕ). ArePagesApart n (ks ++ made ∷ b ∷ [])) f.committed.commits.same_count
       (subst (ArePagesApart between.count) (ap (λ (js : List Kept). js ++ b ∷ []) kept_then ∙ append_assoc ks (made ∷ []) (b ∷ [])) a)
 

@@ -11,7 +11,7 @@ use Rattle.store_books.specs.image_meaning.Stores.{Kept}
 use Rattle.store_books.specs.Books.{Books, Logged, is_used, kept_for, kept_in, kept_names, kept_of, names}
 use Rattle.store_books.specs.Owning.{AreOwned, NamesPage}
 use Rattle.kernel_invariant.specs.Owning.{IsApartNew}
-use Rattle.kernel_invariant.specs.Records.{ArePagesApart}
+use Rattle.store_told.specs.Told.{ArePagesApart}
 use Rattle.kernel_invariant.proofs.Pages.{of_map, of_more, page_named}
 use Rattle.store_books.proofs.Owners.{place_in}
 

@@ -1,4 +1,3 @@
-pub mod Naming
 pub mod Cutting
 pub mod Staying
 pub mod Marking
@@ -16,3 +15,4 @@ pub use Rattle.model_sound_states.proofs.model_run_laws_lemmas
 pub use Rattle.model_sound_states.proofs.model_sound_runs_lemmas
 pub use Rattle.model_sound_states.proofs as model_sound_states_lemmas
 pub use Rattle.store_books.proofs as store_books_lemmas
+pub use Rattle.store_told.proofs as store_told_lemmas

@@ -8,7 +8,7 @@ use Rattle.store_books.specs.image_meaning.Describing.{HasPage, bytes_of}
 use Rattle.store_books.specs.image_meaning.Stores.{Page}
 use Rattle.store_books.specs.Books.{page_for}
 use Rattle.store_books.specs.Owning.{NamesPage}
-use Rattle.kernel_invariant.proofs.Naming.{behind, first_in}
+use Rattle.store_told.proofs.Naming.{behind, first_in}
 
 pub of_map : {A B : Type 0} (f : A → B) (xs : List A) (y : B) → Contains (map f xs) y → (x : A) × Contains xs x × (f x ≡ y)
 of_map f [] y (i, lt, at) = absurd (omega (arith, lt))

@@ -6,11 +6,12 @@ use Rattle.store_books.specs.base_types.declared.histories.Entry.{Entry}
 use Rattle.model_sound_states.specs.model_kernel.Choices.{Commit}
 use Rattle.model_sound_states.specs.model_kernel.Histories.{Run, event_of, start_run}
 use Rattle.model_sound_states.specs.model_kernel.Parts.{after}
-use Rattle.model_sound_states.specs.model_kernel.State.{EntityState, KernelState}
+use Rattle.model_sound_states.specs.model_kernel.State.{KernelState}
 use Rattle.model_sound_states.proofs.model_kernel_lemmas.LegalRuns.{event_of_local, event_of_stamped, legal_played}
 use Rattle.model_sound_states.proofs.model_kernel_lemmas.StableCuts.{commits_grow, run_append, versions_rise_over}
 use Rattle.model_sound_states.proofs.model_run_laws_lemmas.Places.{after_append, played_rest, things_stay}
 use Rattle.store_books.specs.image_meaning.Stores.{Kept}
+use Rattle.store_told.proofs.Telling.{told_same}
 use Rattle.kernel_invariant.specs.Beginnings.{Beginning, IsLegal, completed, entity_at, run_of, state_after}
 use Rattle.kernel_invariant.specs.Records.{AreKeptRecords, IsKeptRecord, StoresCommits}
 
@@ -38,17 +39,9 @@ module _ (b : Beginning) (es fs : List Entry) where
         let n : ℕ = k.rec.version in
         let same : entity_at b (es ++ fs) x n ≡ entity_at b es x n = things_stay b.supply b.policy b.script b.state es fs x n legal r.from r.reached in
         record {
-          components = r.components;
+          told = told_same b.supply (entity_at b es) (entity_at b (es ++ fs)) k same r.told;
           from = r.from;
           reached = (let at = r.reached in let rise = version_rises x in omega (arith, at, rise));
-          part = r.part;
-          describes = record {
-            spells = r.describes.spells;
-            cell = ap (λ (e : EntityState). e.cell) same ∙ r.describes.cell;
-            version = ap (λ (e : EntityState). e.version) same ∙ r.describes.version;
-            stamp = ap (λ (e : EntityState). e.stamp) same ∙ r.describes.stamp;
-          };
-          once = r.once;
           few = r.few;
         }
 

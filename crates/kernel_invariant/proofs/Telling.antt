@@ -61,16 +61,18 @@ module _ (b : Beginning) (es : List Entry) (legal : IsLegal b es) (image : Image
       let rise = versions_rise_over (event_of b.supply b.script) (event_of_local b.supply b.policy b.script) (event_of_stamped b.supply b.policy b.script) es b.state (legal_played b.supply b.policy b.script (start_run b.state) es legal) k.rec.entity in
       let at = t.version in
       record {
-        components = t.components;
+        told = record {
+          components = t.components;
+          part = t.part;
+          describes = record {
+            spells = record { kind = t.kind; spells = t.spells; pages = paged };
+            cell = ap (λ (e : EntityState). e.cell) now ∙ (t.cell ∙ cell_same b.supply (block_at image) (bytes_of k.pages) t.part bytes);
+            version = ap (λ (e : EntityState). e.version) now ∙ sym at;
+            stamp = ap (λ (e : EntityState). e.stamp) now ∙ t.stamp;
+          };
+          once = λ p q some same. t.once p q (λ none. some (sym (t.named p) ∙ none)) (t.named p ∙ (same ∙ sym (t.named q)));
+        };
         from = omega (arith, rise, at);
         reached = omega (arith, at);
-        part = t.part;
-        describes = record {
-          spells = record { kind = t.kind; spells = t.spells; pages = paged };
-          cell = ap (λ (e : EntityState). e.cell) now ∙ (t.cell ∙ cell_same b.supply (block_at image) (bytes_of k.pages) t.part bytes);
-          version = ap (λ (e : EntityState). e.version) now ∙ sym at;
-          stamp = ap (λ (e : EntityState). e.stamp) now ∙ t.stamp;
-        };
-        once = λ p q some same. t.once p q (λ none. some (sym (t.named p) ∙ none)) (t.named p ∙ (same ∙ sym (t.named q)));
         few = (let few = few_pages image table (table_in t.part) t.named in let len = ap Rattle.std.specs.Prelude.length t.pages in omega (arith, few, len));
       }

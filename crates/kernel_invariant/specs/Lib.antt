@@ -12,3 +12,4 @@ pub use Rattle.store_books.specs.model_cut_laws
 pub use Rattle.model_sound_states.specs.model_kernel
 pub use Rattle.model_sound_states.specs.script_types
 pub use Rattle.store_books.specs as store_books
+pub use Rattle.store_told.specs as store_told

@@ -1,39 +1,27 @@
 -- Records on disk against the history that made them.
-use Rattle.std.specs.Prelude.{◌≡◌, ◌≢◌, ℕ, ◌<◌, ◌≤◌, List, ◌++◌, length, take, Contains, slice_index}
+use Rattle.std.specs.Prelude.{ℕ, ◌≤◌, List, ◌++◌, length, take}
 use Rattle.std.specs.List.{AllByRecursion}
 use Rattle.edge_disk.specs.Image.{Image}
 use Rattle.store_books.specs.base_types.declared.histories.Entry.{Entry}
 use Rattle.model_sound_states.specs.model_kernel.Choices.{Commit}
 use Rattle.store_books.specs.model_cut_laws.Agreeing.{AgreeFromCut, nothing}
 use Rattle.store_books.specs.model_cut_laws.Records.{commits_of}
-use Rattle.store_books.specs.image_facts.Bodies.{blob_blocks}
-use Rattle.store_books.specs.image_facts.Layout.{pool_at}
-use Rattle.store_books.specs.image_meaning.Describing.{DescribesEntity, HasPage}
-use Rattle.store_books.specs.image_meaning.Parts.{Part, table_in}
+use Rattle.store_books.specs.image_meaning.Parts.{table_in}
 use Rattle.store_books.specs.image_meaning.Stores.{Kept, Stores, recs_of}
+use Rattle.store_told.specs.Told.{ArePagesApart, IsToldRecord}
 use Rattle.kernel_invariant.specs.Beginnings.{Beginning, entity_at, state_after}
 
--- The record says what its entity is at its version in the run, which the run has reached. Its pages are those of the part's table,
--- each block once.
+-- The record says what its entity is at its version in the run, which the run has reached. It has no more pages than its part's table has places.
 pub record IsKeptRecord (b : Beginning) (es : List Entry) (k : Kept) : Type 0 where
-  pub components : length k.rec.stamp ≡ 64
+  pub told : IsToldRecord b.supply (entity_at b es) k
   pub from : (b.state k.rec.entity).version ≤ k.rec.version
   pub reached : k.rec.version ≤ (state_after b es k.rec.entity).version
-  pub part : Part
-  pub describes : DescribesEntity b.supply (λ x. entity_at b es x k.rec.version) k.rec.entity k part
-  pub once : (p q : ℕ) → slice_index (table_in part) p ≢ 0 → slice_index (table_in part) p ≡ slice_index (table_in part) q → p ≡ q
-  pub few : length k.pages ≤ length (table_in part)
+  pub few : length k.pages ≤ length (table_in told.part)
 
 -- The kept records are those of these commits from the greatest closed choice on, each of them true of the run.
 pub record AreKeptRecords (b : Beginning) (es : List Entry) (cs : List Commit) (ks : List Kept) : Type 0 where
   pub agree : AgreeFromCut nothing cs (commits_of (recs_of ks))
   pub each : AllByRecursion (IsKeptRecord b es) ks
-
--- The blocks of their pages are in the pool; none is named by a blob, and none by records of two entities.
-pub record ArePagesApart (count : ℕ) (ks : List Kept) : Type 0 where
-  pub pool : (k : Kept) (n : ℕ) → Contains ks k → HasPage k.pages n → (pool_at ≤ n) × (n < count)
-  pub not_blob : (k m : Kept) (n : ℕ) → Contains ks k → Contains ks m → HasPage k.pages n → Contains (blob_blocks m.rec) n → ⊥
-  pub own : (k m : Kept) (n : ℕ) → Contains ks k → Contains ks m → HasPage k.pages n → HasPage m.pages n → k.rec.entity ≡ m.rec.entity
 
 -- THE IMAGE STORES THESE COMMITS: records of them from their cut on, whatever was retired
 pub record StoresCommits (b : Beginning) (es : List Entry) (count : ℕ) (cs : List Commit) (c : Image) : Type 0 where

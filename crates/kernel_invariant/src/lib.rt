@@ -17,7 +17,8 @@ ghost use Rattle.store_books.specs.Owning.{AreOwned};
 ghost use Rattle.kernel_invariant.specs.Beginnings.{Beginning, BeginsRight, IsLegal, completed, first_commits, state_after, with_tried};
 ghost use Rattle.kernel_invariant.specs.Left.{HoldAcknowledged, IsAtMark, IsCutImage, IsCutState, LeavesCuts, StoresNext, marks_with};
 ghost use Rattle.kernel_invariant.specs.Marks.{completes};
-ghost use Rattle.kernel_invariant.specs.Records.{AreKeptRecords, ArePagesApart, IsKeptRecord, StoresCommits};
+ghost use Rattle.store_told.specs.Told.{ArePagesApart};
+ghost use Rattle.kernel_invariant.specs.Records.{AreKeptRecords, IsKeptRecord, StoresCommits};
 ghost use Rattle.kernel_invariant.specs.Owning.{IsApartNew};
 ghost use Rattle.kernel_invariant.specs.Telling.{TellsOf};
 

@@ -28,7 +28,7 @@ use Rattle.kernel_invariant.specs.Beginnings.{Beginning, completed}
 use Rattle.kernel_invariant.specs.Records.{AreKeptRecords, IsKeptRecord}
 use Rattle.kernel_invariant.specs.Telling.{TellsOf}
 use Rattle.kernel_invariant.proofs.Cutting.{narrow_kept}
-use Rattle.kernel_invariant.proofs.Naming.{behind, first_in}
+use Rattle.kernel_invariant.proofs.store_told_lemmas.Naming.{behind, first_in}
 use Rattle.kernel_invariant.proofs.Telling.{told_record}
 use Rattle.kernel_laws.specs.Opening.{KeepsChosen, rec_list}
 

@@ -12,7 +12,7 @@ use Rattle.base_types.specs.declared.histories.Event.TheVariants.{Stable}
 use Rattle.image_state_laws.specs.model_kernel.Choices.{Commit, IsGreatest}
 use Rattle.image_state_laws.specs.model_kernel.Histories.{Run, event_of, goes_on, run_after, start_run, went_on}
 use Rattle.image_state_laws.specs.model_kernel.Parts.{after, after_entry, is_event, next_of, part_of, within, writes_within}
-use Rattle.image_state_laws.specs.model_kernel.State.{EntityState, KernelState}
+use Rattle.image_state_laws.specs.model_kernel.State.{KernelState}
 use Rattle.image_state_laws.proofs.model_kernel_lemmas.StableCuts.{run_append}
 use Rattle.kernel_invariant.specs.Marks.{completes, is_completing, is_step}
 use Rattle.kernel_invariant.proofs.Marking.{comparable, count_append}
@@ -24,6 +24,7 @@ use Rattle.kernel_invariant.specs.Beginnings.{Beginning, IsLegal, completed, ent
 use Rattle.kernel_invariant.specs.Left.{HoldAcknowledged, IsCutImage}
 use Rattle.kernel_invariant.specs.Live.{HasMarks, HoldsCommits, IsRunning, KernelView}
 use Rattle.kernel_invariant.specs.Records.{AreKeptRecords, IsKeptRecord}
+use Rattle.kernel_invariant.proofs.store_told_lemmas.Telling.{told_same}
 use Rattle.kernel_invariant.proofs.Leaving.{get_front, get_last, last_may, none_complete}
 use Rattle.kernel_invariant.proofs.Staying.{longer, records_stay}
 use Rattle.kernel_laws.specs.Going.{AreSnaps, MadeStable}
@@ -96,17 +97,9 @@ module _ (b : Beginning) where
       let reached : n ≤ (state_after b es x).version = (let at = r.reached in let same = ap (λ (w : KernelState). (w x).version) (state_quiet es ds are) in omega (arith, at, same)) in
       let same : entity_at b (es ++ ds) x n ≡ entity_at b es x n = things_stay b.supply b.policy b.script b.state es ds x n legal r.from reached in
       record {
-        components = r.components;
+        told = told_same b.supply (entity_at b (es ++ ds)) (entity_at b es) k (sym same) r.told;
         from = r.from;
         reached = reached;
-        part = r.part;
-        describes = record {
-          spells = r.describes.spells;
-          cell = ap (λ (e : EntityState). e.cell) (sym same) ∙ r.describes.cell;
-          version = ap (λ (e : EntityState). e.version) (sym same) ∙ r.describes.version;
-          stamp = ap (λ (e : EntityState). e.stamp) (sym same) ∙ r.describes.stamp;
-        };
-        once = r.once;
         few = r.few;
       }
 

@@ -107,7 +107,7 @@ module _ {D : Type 0} (b : Beginning) (disks : Ghosts D) (k : KernelView) (disk 
 
   module _ (script : Script) where
     record_for : (n : Kept) → IsKeptRecord b [] n → IsKeptRecord (with_script b script) [] n
-    record_for n r = record { components = r.components; from = r.from; reached = r.reached; part = r.part; describes = r.describes; once = r.once; few = r.few }
+    record_for n r = record { told = r.told; from = r.from; reached = r.reached; few = r.few }
 
     each_for : (ks : List Kept) → AllByRecursion (IsKeptRecord b []) ks → AllByRecursion (IsKeptRecord (with_script b script) []) ks
     each_for [] all = tt

@@ -29,7 +29,8 @@ use Rattle.kernel_records.specs.Committing.{HasPages, IsSpelt}
 use Rattle.kernel_records.proofs.Spelling.{spellable_again}
 use Rattle.kernel_laws.specs.kernel_invariant.Beginnings.{Beginning, IsLegal, completed, run_of, state_after, with_tried}
 use Rattle.kernel_laws.specs.kernel_invariant.Live.{HoldsCommits}
-use Rattle.kernel_laws.specs.kernel_invariant.Records.{AreKeptRecords, ArePagesApart, IsKeptRecord, StoresCommits}
+use Rattle.kernel_laws.specs.kernel_invariant.store_told.Told.{ArePagesApart}
+use Rattle.kernel_laws.specs.kernel_invariant.Records.{AreKeptRecords, IsKeptRecord, StoresCommits}
 use Rattle.kernel_laws.specs.kernel_invariant.Telling.{TellsOf}
 use Rattle.kernel_laws.proofs.kernel_invariant_lemmas.Apart.{kept_apart, more_apart}
 use Rattle.kernel_laws.proofs.kernel_invariant_lemmas.Growing.{records_grow}

@@ -24,6 +24,20 @@ pub narrow_told : (s : Supply) (thing : ℕ → ℕ → EntityState) (ks : List 
 narrow_told s thing [] each = tt
 narrow_told s thing (k ∷ ks) (one, each) = ((λ y far. get_or_past k.rec.stamp y 0 (let e = one.components in omega (arith, e, far))), narrow_told s thing ks each)
 
+-- a record tells the same of whatever is at its version what it tells
+pub told_same : (s : Supply) (thing other : ℕ → ℕ → EntityState) (k : Kept) → other k.rec.entity k.rec.version ≡ thing k.rec.entity k.rec.version → IsToldRecord s thing k → IsToldRecord s other k
+told_same s thing other k same told = record {
+  components = told.components;
+  part = told.part;
+  describes = record {
+    spells = told.describes.spells;
+    cell = ap (λ (e : EntityState). e.cell) same ∙ told.describes.cell;
+    version = ap (λ (e : EntityState). e.version) same ∙ told.describes.version;
+    stamp = ap (λ (e : EntityState). e.stamp) same ∙ told.describes.stamp;
+  };
+  once = told.once;
+}
+
 module _ (s : Supply) (thing : ℕ → ℕ → EntityState) (v : KernelState) where
   abbrev Takes : (ℕ → ℕ) → ℕ → Commit → Type 0
   Takes cut x c = (c.entity ≡ x) × (c.version ≡ cut x) × IsBelow c.stamp cut
