@@ -25,7 +25,7 @@ narrow_told s thing [] each = tt
 narrow_told s thing (k ∷ ks) (one, each) = ((λ y far. get_or_past k.rec.stamp y 0 (let e = one.components in omega (arith, e, far))), narrow_told s thing ks each)
 
 -- a record tells the same of whatever is at its version what it tells
-pub told_same : (s : Supply) (thing other : ℕ → ℕ → EntityState) (k : Kept) → other k.rec.entity k.rec.version ≡ thing k.rec.entity k.rec.version → IsToldRecord s thing k → IsToldRecord s other k
+abbrev pub told_same : (s : Supply) (thing other : ℕ → ℕ → EntityState) (k : Kept) → other k.rec.entity k.rec.version ≡ thing k.rec.entity k.rec.version → IsToldRecord s thing k → IsToldRecord s other k
 told_same s thing other k same told = record {
   components = told.components;
   part = told.part;
