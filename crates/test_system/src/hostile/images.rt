@@ -62,8 +62,13 @@ pub(crate) fn block_of(disk: &mut MemoryDisk, spot: Spot) -> Result<u32, Fail> {
     Ok(u32::from_le_bytes(word(&body, place)?))
 }
 
-// Puts bytes into a block from a place on.
-fn set_bytes(disk: &mut MemoryDisk, spot: Spot, place: u16, bytes: &[u8]) -> Result<(), Fail> {
+/// Puts bytes into a block from a place on.
+pub(crate) fn set_bytes(
+    disk: &mut MemoryDisk,
+    spot: Spot,
+    place: u16,
+    bytes: &[u8],
+) -> Result<(), Fail> {
     let at = block_of(disk, spot)?;
     let mut block = read(disk, at)?;
     for (behind, byte) in bytes.iter().enumerate() {
