@@ -84,7 +84,7 @@ const IMAGE: &[Row] = &[
     // An open gate behind the first that is closed.
     (1302, 0, &[1]),
     // Its blob.
-    (2565, 0, &[1, 2]),
+    (2565, 0, &[1, 2, 0, 5]),
     (2565, 15, &[1, 1, 25]),
     (2565, 33, &[1, 1, 1, 0, 2, 0, 1, 1, 2, 2, 4, 20, 10]),
     // Its blob.
@@ -113,7 +113,7 @@ const IMAGE: &[Row] = &[
     // Its blob.
     (2571, 0, &[1, 1, 0, 200]),
     (2571, 15, &[255, 0, 0, 1, 0, 1, 1]),
-    // Page 0 of a, at word 3; the test makes each other word its place.
+    // Page 0 of a, at word 3; the test makes each other word what the tag gives there.
     (2580, 24, &[77]),
     // Its blob, which is not read.
     (2598, 0, &[238, 238, 238, 238, 238, 238, 238, 238]),
@@ -121,7 +121,7 @@ const IMAGE: &[Row] = &[
     (2599, 0, &[238, 238, 238, 238, 238, 238, 238, 238]),
 ];
 
-const SHOWN: &str = "container a 2 0 0 1
+const SHOWN: &str = "container a 2 5 0 1
 region a 1 b 0 1 r
 cap a 2 b i
 word a 3 77
@@ -157,7 +157,12 @@ cut 42 2
 fn image(alloc: Global) -> Result<MemoryDisk, Fail> {
     let mut disk = disk_of(alloc, 2600, &[])?;
     for word in 0..128u16 {
-        set_bytes(&mut disk, Block(2580), word * 8, &[word as u8])?;
+        set_bytes(
+            &mut disk,
+            Block(2580),
+            word * 8,
+            &[(word as u8).wrapping_add(5)],
+        )?;
     }
     for &(block, place, bytes) in IMAGE {
         set_bytes(&mut disk, Block(block), place, bytes)?;
