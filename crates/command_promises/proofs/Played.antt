@@ -5,10 +5,12 @@ use Rattle.edge_disk.specs.Counts.{Rose}
 use Rattle.edge_disk.specs.declared.disk.Disk.{Ghosts}
 use Rattle.edge_disk.specs.declared.disk.NoBlocks.{NoBlocks}
 use Rattle.base_types.specs.declared.histories.Entry.{Entry}
+use Rattle.image_facts.specs.model_kernel.Histories.{Policy}
 use Rattle.image_facts.specs.model_kernel.State.{AtlasState, KernelState, Text}
 use Rattle.image_facts.specs.model_kernel.Steps.{atlas_in}
 use Rattle.kernel_runs.specs.kernel_commit_facts.Lacking.{IsDue}
 use Rattle.kernel_runs.specs.kernel_commit_facts.Parts.{Parts}
+use Rattle.kernel_runs.specs.kernel_commit_facts.Short.{AreWithin}
 use Rattle.kernel_runs.specs.kernel_commits.Stops.{IsCause}
 use Rattle.kernel_runs.specs.kernel_commits.Telling.{Tells}
 use Rattle.kernel_runs.specs.kernel_commits.declared.stopping.Stop.{Stop}
@@ -50,9 +52,9 @@ by_cause {D = D} faults old new disk is reason.ReadFault cause = subst (λ (d : 
 by_cause {D = D} faults old new disk is reason.WriteFault cause = subst (λ (d : D). Rose (faults old.store.disk) (faults d)) (sym is) cause
 
 -- by what the run answered
-pub by_answer : {D : Type 0} (faults : D → ℕ) (old new : Parts D) (disk : D) → disk ≡ new.store.disk → (r : Result ⊤ Stop) (o : Option Stopped) → Tells r o → IfErr r (IsCauseOf faults old new)
-    → (why : Stopped) → o ≡ Some why → IsCauseBy (Rose (faults old.store.disk) (faults disk)) why
-by_answer faults old new disk same r o tells cause why is = by_cause faults old new disk same why (cause_kept faults old new r o tells cause why is)
+pub by_answer : {D : Type 0} (disks : Ghosts D) (policy : Policy) (old new : Parts D) (disk : D) → disk ≡ new.store.disk → (r : Result ⊤ Stop) (o : Option Stopped) → Tells r o → IfErr r (IsCauseOf disks policy old new)
+    → (why : Stopped) → o ≡ Some why → IsCauseBy (Rose (disks.faults old.store.disk) (disks.faults disk)) why
+by_answer disks policy old new disk same r o tells cause why is = by_cause disks.faults old new disk same why (cause_kept disks policy old new r o tells cause why is)
 
 -- a run whose kernel has stopped was told so
 pub put_stopped : (stopped : Option Stopped) (why : Stopped) (fault : Fault) (sink : SeenSink) (bytes : Text) (status : Status) → stopped ≡ Some why → fault ≡ fault_of_stop why → status ≡ status_by fault
@@ -101,13 +103,18 @@ module _ {D : Type 0} (disks : Ghosts D) (telling : Telling) (new : Held D) (sin
         → Gains sink (lines ++ fault_line (fault.NoBlocks n)) → WasCutForBlocks disks telling b count sink gave disk n
     cut_for count n stopped at fewer same_count put = record {
       cut = cut stopped (fault.NoBlocks n) put;
-      short = record {
-        few =
-            subst (λ (blocks : ℕ). blocks < enough_blocks (state_after b gave.history)) same_count
-            (subst (λ (es : List Entry). (books new.parts.store).count < enough_blocks (state_after b es)) (sym history) (stopped.enough n at));
-        fewer = fewer;
-        due = subst (IsDue b) (sym history) (stopped.due n at);
-      };
+      short =
+          let s = stopped.short n at in
+          record {
+            few =
+                subst (λ (blocks : ℕ). blocks < enough_blocks (state_after b gave.history)) same_count
+                (subst (λ (es : List Entry). (books new.parts.store).count < enough_blocks (state_after b es)) (sym history) s.lacks);
+            fewer = fewer;
+            due = subst (IsDue b) (sym history) s.due;
+            within =
+                subst (λ (blocks : ℕ). AreWithin (state_after b gave.history) blocks n) same_count
+                (subst (λ (es : List Entry). AreWithin (state_after b es) (books new.parts.store).count n) (sym history) s.within);
+          };
     }
 
   -- WHAT IT LEAVES

@@ -119,7 +119,7 @@ module _ (held : ℕ → Bool) (cs : List Cell) (ord : IsOrderly held cs) (s : S
   abbrev w : KernelState
   w = state_in s words cs
 
-  needs_room : (kept : ℕ → Bool) → needs_in kept cs ≤ all_pages w + 8 * all_born w
+  pub needs_room : (kept : ℕ → Bool) → needs_in kept cs ≤ all_pages w + 8 * all_born w
   needs_room kept =
       let sum = sum_within (need_in kept) (λ x. cell_room (w x).cell) cs ord.numbers.len
       (λ x c at. subst (λ o. need_in kept c ≤ cell_room (entity_in s words x o).cell) (sym at) (need_room held kept s words c (ord.own x c at) (formed_at held cs x c ord at))) in
@@ -127,7 +127,7 @@ module _ (held : ℕ → Bool) (cs : List Cell) (ord : IsOrderly held cs) (s : S
       omega (arith, sum, rooms)
 
   -- the atlas has room, for it is born
-  atlas_room : 8 ≤ all_pages w + 8 * all_born w
+  pub atlas_room : 8 ≤ all_pages w + 8 * all_born w
   atlas_room =
       let at = first_of cs ord.numbers.len in
       let one = first_within (λ x. cell_room (w x).cell) 63 in
@@ -157,7 +157,7 @@ module _ (held : ℕ → Bool) (cs : List Cell) (ord : IsOrderly held cs) (s : S
   none_beyond x None at past = refl
   none_beyond x (Some c) at past = absurd (let lt = slice_get_within cs x c at in let len = ord.numbers.len in omega (arith, lt, len, past))
 
-  tables_within : AreTablesWithin w (tables_in cs)
+  pub tables_within : AreTablesWithin w (tables_in cs)
   tables_within x = (named_within x (slice_get cs x) refl, none_beyond x (slice_get cs x) refl)
 
 -- IN A RUN

@@ -13,6 +13,7 @@ pub mod Steadying
 pub mod StepRoom
 pub mod Through
 pub mod Trying
+pub mod Within
 pub use Rattle.kernel_book_laws.proofs.kernel_block_laws_lemmas
 pub use Rattle.kernel_book_laws.proofs as kernel_book_laws_lemmas
 pub use Rattle.kernel_book_laws.proofs.kernel_laws_lemmas

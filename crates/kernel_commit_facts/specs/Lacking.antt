@@ -1,5 +1,7 @@
--- When an image has too few blocks for its kernel, and what was due then.
+-- When an image has too few blocks for its kernel, what was due then, and that they were too few for it.
 use Rattle.std.specs.Prelude.{◌≡◌, ◌<◌, ℕ, List, ◌∷◌, ◌++◌}
+use Rattle.edge_disk.specs.declared.disk.Disk.{Ghosts}
+use Rattle.edge_disk.specs.declared.disk.NoBlocks.{NoBlocks}
 use Rattle.base_types.specs.declared.histories.Entry.{Entry}
 use Rattle.base_types.specs.declared.histories.Event.{Event}
 use Rattle.base_types.specs.declared.histories.Event.TheVariants.{Snap, Stable, Step}
@@ -9,6 +11,7 @@ use Rattle.kernel_book_laws.specs.store_facts.State.{books}
 use Rattle.kernel_book_laws.specs.kernel_invariant.Beginnings.{Beginning, state_after}
 use Rattle.kernel_book_laws.specs.kernel_block_laws.Room.{enough_blocks}
 use Rattle.kernel_commit_facts.specs.Parts.{Parts}
+use Rattle.kernel_commit_facts.specs.Short.{AreWithin, IsShortFor}
 
 -- THE IMAGE LACKS BLOCKS: it has fewer than the pages and the born entities of the state may need
 abbrev pub LacksBlocks : {D : Type 0} → Beginning → Parts D → Type 0
@@ -38,7 +41,17 @@ pub record IsDue (b : Beginning) (es : List Entry) : Type 0 where
   pub is : es ++ next ∷ rest ≡ serial_history b.supply b.policy b.script b.state rounds_made
   pub wants : MayWant b es next next.event
 
--- A PIECE LACKS BLOCKS: the image does, behind the front of it that came, and the next entry may want some
-pub record LacksIn {D : Type 0} (b : Beginning) (all old : List Entry) (new : Parts D) : Type 0 where
-  pub lacks : LacksBlocks b new
-  pub due : IsDueIn b all old new.noted.entries
+module _ {D : Type 0} (disks : Ghosts D) (b : Beginning) (n : NoBlocks) where
+  -- A PIECE LACKS BLOCKS: the image does, behind the front of it that came, and the next entry may want some and is short of them. Both numbers
+  pub record LacksIn (all old : List Entry) (new : Parts D) : Type 0 where
+    pub lacks : LacksBlocks b new
+    pub due : IsDueIn b all old new.noted.entries
+    pub short : IsShortFor disks new n due.next due.next.event
+    pub within : AreWithin (state_after b new.noted.entries) (books new.store).count n
+
+  -- THE RUN IS SHORT of blocks, for the next entry of the serial history. Both numbers
+  pub record IsShortAt (p : Parts D) : Type 0 where
+    pub lacks : LacksBlocks b p
+    pub due : IsDue b p.noted.entries
+    pub short : IsShortFor disks p n due.next due.next.event
+    pub within : AreWithin (state_after b p.noted.entries) (books p.store).count n

@@ -2,6 +2,7 @@ pub mod Lacking
 pub mod Parts
 pub mod Pieces
 pub mod Recording
+pub mod Short
 pub mod Snapping
 pub mod Stabilising
 pub mod Steady

@@ -1,9 +1,11 @@
 -- The Snaps of what a step wrote, one after another.
 use Rattle.std.proofs.Common.{◌≡◌, inl, ℕ, zero, suc, ◌+◌, ◌<◌, ◌≤◌, Bool, true, false, not, ◌&&◌, if◌then◌else◌, List, [], ◌∷◌, ◌++◌, length, get_or, drop, Ok, refl, sym, ap, subst, ◌∙◌, arith, append_assoc}
-use Rattle.std.specs.Prelude.{⊤}
+use Rattle.std.specs.Prelude.{⊤, Contains}
 use Rattle.std.proofs.Math.Seq.{drop-cons}
 use Rattle.std.proofs.lemmas.List.{append-nil}
+use Rattle.slab.proofs.SlabLemmas.{Contains-cons}
 use Rattle.edge_disk.specs.declared.disk.Disk.{Ghosts}
+use Rattle.edge_disk.specs.declared.disk.NoBlocks.{NoBlocks}
 use Rattle.base_types.specs.declared.histories.Entry.{Entry}
 use Rattle.base_types.specs.declared.histories.Touch.{Touch}
 use Rattle.base_types.specs.Touches.{AllTouches, IsRising}
@@ -82,8 +84,8 @@ module _ {D : Type 0} (disks : Ghosts D) (b : Beginning) (policy : Policy) where
         }
 
     -- where blocks were wanting for one, it was due among them
-    pub lacks_along : t.wrote ≡ true → (next : Parts D) → LacksIn b snaps now.noted.entries next → LacksIn b (later_snaps (run_of b old.noted.entries) ts) old.noted.entries next
-    lacks_along wrote next l = lacks_behind b (later_snaps (run_of b old.noted.entries) ts) a.made snaps later old.noted.entries now.noted.entries next (with_snaps wrote) a.entries l
+    pub lacks_along : t.wrote ≡ true → (next : Parts D) → (n : NoBlocks) → LacksIn disks b n snaps now.noted.entries next → LacksIn disks b n (later_snaps (run_of b old.noted.entries) ts) old.noted.entries next
+    lacks_along wrote next n l = lacks_behind disks b n (later_snaps (run_of b old.noted.entries) ts) a.made snaps later old.noted.entries now.noted.entries next (with_snaps wrote) a.entries l
 
     module _ (wrote : t.wrote ≡ true) (v : Bool) (next : Parts D) (s : SnapsOne disks b policy t.entity {T = Bool} (Ok v) now next) where
       run_is : run_of b next.noted.entries ≡ run_after b.supply b.script rn snaps
@@ -126,6 +128,21 @@ none_left [] zero le = refl
 none_left [] (suc i) le = refl
 none_left (t ∷ ts) zero le = absurd (omega (arith, le))
 none_left (t ∷ ts) (suc i) le = none_left ts i (omega (arith, le))
+
+-- a touch that wrote is among what is written
+pub written_at : (ts : List Touch) (i : ℕ) (t : Touch) → i < length ts → t ≡ get_or ts i t → t.wrote ≡ true → Contains (written_in ts) t.entity
+written_at [] i t lt is wrote = absurd (omega (arith, lt))
+written_at (u ∷ us) zero t lt is wrote =
+    let on : u.wrote ≡ true = ap (λ (z : Touch). z.wrote) (sym is) ∙ wrote in
+    subst (λ (w : Bool). Contains (if w then u.entity ∷ written_in us else written_in us) t.entity) (sym on) (first (written_in us))
+  where
+    first : (xs : List ℕ) → Contains (u.entity ∷ xs) t.entity
+    first xs = (0, omega arith, ap (λ (z : Touch). z.entity) (sym is))
+written_at (u ∷ us) (suc i) t lt is wrote = by u.wrote (written_at us i t (omega (arith, lt)) is wrote)
+  where
+    by : (w : Bool) → Contains (written_in us) t.entity → Contains (if w then u.entity ∷ written_in us else written_in us) t.entity
+    by true rest = Contains-cons u.entity t.entity (written_in us) rest
+    by false rest = rest
 
 -- each entity comes once, so that its number is at least its place
 rises_by : (ts : List Touch) (low : ℕ) → AllTouches (λ u. low ≤ u.entity) ts → IsRising ts → (i : ℕ) (t : Touch) → i < length ts → t ≡ get_or ts i t → low + i ≤ t.entity

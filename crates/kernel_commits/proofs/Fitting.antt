@@ -26,7 +26,7 @@ module _ {D : Type 0} (disks : Ghosts D) where
   only_writes x p r fits short no_read reason.ReadFault is = absurd (no_read is)
   only_writes x p r fits short no_read reason.WriteFault is = refl
 
-  pub short_stop : (old new : Parts D) (n : NoBlocks) → IsSteady disks old → new ≡ old → AreShort old n → LeavesStopped disks.faults old new (reason.NoBlocks n)
+  pub short_stop : (old new : Parts D) (n : NoBlocks) → IsSteady disks old → new ≡ old → AreShort old n → LeavesStopped disks.faults (AreShort new) old new (reason.NoBlocks n)
   short_stop old new n steady same few = record {
     orderly = subst (λ (p : Parts D). IsOrderly (books p.store).held p.cells) (sym same) steady.sound.matches.orderly;
     marks = subst (λ (p : Parts D). length p.noted.marks ≤ length p.noted.entries) (sym same) steady.few.marks;
@@ -35,6 +35,7 @@ module _ {D : Type 0} (disks : Ghosts D) where
         let need = ap (λ (q : NoBlocks). q.need) few.numbers in
         let lt = few.fewer in
         omega (arith, free, need, lt);
+    wanting = λ m is. let numbers : n ≡ m = cc is in subst (AreShort new) numbers (subst (λ (p : Parts D). AreShort p n) (sym same) few);
   }
 
   -- where the answer is a shortage, it stops with both numbers

@@ -32,12 +32,17 @@ module _ {D : Type 0} (disks : Ghosts D) (x : ℕ) (mid new : Parts D)
 
   -- a record that fails behind others
   module _ (old : Parts D) (marks : length mid.noted.marks ≤ length mid.noted.entries) (before : disks.faults old.store.disk ≤ disks.faults mid.store.disk) (later : disks.faults mid.store.disk ≤ disks.faults new.store.disk)
-      {T : Type 0} (r : Result T Stopped) (fails : Fails disks x r mid new) (short : (n : NoBlocks) → r ≡ Err (reason.NoBlocks n) → IsShort disks x mid n) where
-    pub stop_left : (why : Stopped) → r ≡ Err why → LeavesStopped disks.faults old new why
+      {T : Type 0} (r : Result T Stopped) (fails : Fails disks x r mid new) (short : (n : NoBlocks) → r ≡ Err (reason.NoBlocks n) → IsShort disks x mid n)
+      (P : NoBlocks → Type 0) (wants : (n : NoBlocks) → r ≡ Err (reason.NoBlocks n) → P n) where
+    wanting_by : (why : Stopped) → r ≡ Err why → (n : NoBlocks) → why ≡ reason.NoBlocks n → P n
+    wanting_by why is n same = wants n (subst (λ (w : Stopped). r ≡ Err w) same is)
+
+    pub stop_left : (why : Stopped) → r ≡ Err why → LeavesStopped disks.faults P old new why
     stop_left (reason.NoBlocks n) is = record {
       orderly = subst (λ (p : Parts D). IsOrderly (books p.store).held p.cells) (sym (fails.untouched n is)) ord;
       marks = subst (λ (p : Parts D). length p.noted.marks ≤ length p.noted.entries) (sym (fails.untouched n is)) marks;
       cause = fewer n (short n is);
+      wanting = wanting_by (reason.NoBlocks n) is;
     }
     stop_left reason.ReadFault is = absurd (fails.no_read is)
     stop_left reason.WriteFault is =
@@ -49,4 +54,5 @@ module _ {D : Type 0} (disks : Ghosts D) (x : ℕ) (mid new : Parts D)
               let same_marks = ap (λ (ms : List ℕ). length ms) t.marks in
               omega (arith, marks, more, same_marks);
           cause = Rose-before (disks.faults old.store.disk) (disks.faults mid.store.disk) (disks.faults new.store.disk) before later t.rose;
+          wanting = wanting_by reason.WriteFault is;
         }

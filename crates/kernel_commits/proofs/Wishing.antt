@@ -1,9 +1,10 @@
 -- A Snap by its wish takes a run on.
-use Rattle.std.proofs.Common.{◌≡◌, inl, ℕ, ◌<◌, Bool, true, false, not, ◌&&◌, ◌||◌, nat_lt, if◌then◌else◌, List, [], ◌∷◌, ◌++◌, slice_get, Some, None, Ok, Err, refl, sym, ap, subst, ◌∙◌, arith}
+use Rattle.std.proofs.Common.{◌≡◌, inl, ℕ, ◌<◌, ◌≤◌, Bool, true, false, not, ◌&&◌, ◌||◌, nat_lt, if◌then◌else◌, List, [], ◌∷◌, ◌++◌, slice_get, Some, None, Ok, Err, refl, sym, ap, subst, ◌∙◌, arith}
 use Rattle.std.specs.Prelude.{Result}
 use Rattle.std.proofs.lemmas.Bool.Decides.{nat_tests}
 use Rattle.std.proofs.lemmas.List.{append-nil}
 use Rattle.edge_disk.specs.declared.disk.Disk.{Ghosts}
+use Rattle.edge_disk.specs.declared.disk.NoBlocks.{NoBlocks}
 use Rattle.base_types.specs.declared.histories.Entry.{Entry}
 use Rattle.base_types.specs.declared.histories.Event.TheVariants.{Snap, Tried}
 use Rattle.kernel_commit_facts.specs.model_kernel.Histories.{MayCommit, Policy, Run, goes_on, has_wish, is_full, mark, version_of}
@@ -28,13 +29,14 @@ use Rattle.kernel_commit_facts.proofs.kernel_views_lemmas.Legal.{run_next}
 use Rattle.kernel_commit_facts.specs.kernel_book_laws.Matching.{version_at}
 use Rattle.kernel_commit_facts.specs.Parts.{LivesAs, Parts, StandsAs}
 use Rattle.kernel_commit_facts.specs.Pieces.{StopsIn}
-use Rattle.kernel_commit_facts.specs.Recording.{HasRecorded, MayRecord}
+use Rattle.kernel_commit_facts.specs.Recording.{HasRecorded, IsShort, MayRecord}
 use Rattle.kernel_commit_facts.specs.Snapping.{RunsFree, Snaps}
 use Rattle.kernel_commits.specs.Snapping.{SnapsOne}
 use Rattle.kernel_commits.specs.Recording.{Fails}
 use Rattle.kernel_commit_facts.specs.kernel_invariant.declared.stopping.Stopped.{Stopped}
 use Rattle.kernel_commit_facts.specs.Lacking.{LacksBlocks, LacksIn}
 use Rattle.kernel_commit_facts.proofs.Dues.{lacks_first}
+use Rattle.kernel_commit_facts.proofs.Within.{record_within}
 use Rattle.kernel_commits.proofs.Parting.{none_came}
 use Rattle.kernel_commit_facts.specs.kernel_invariant.declared.stopping.Stopped.TheVariants as reason
 
@@ -153,8 +155,9 @@ module _ {D : Type 0} (disks : Ghosts D)
   }
 
   -- for want of blocks: it was due
-  pub one_lacks : test ≡ true → (new : Parts D) → new ≡ old → LacksBlocks b old → LacksIn b (wished_snap policy r x) old.noted.entries new
-  one_lacks is new same lacks = lacks_first b (mark Snap x (version_of r x)) [] (wished_snap policy r x) old new (sym (ap snap_by is)) tt same lacks
+  pub one_lacks : test ≡ true → (new : Parts D) → new ≡ old → LacksBlocks b old → ((y : ℕ) → records_of y (kept_in (books old.store)) ≤ 4) → (n : NoBlocks) → IsShort disks x old n → LacksIn disks b n (wished_snap policy r x) old.noted.entries new
+  one_lacks is new same lacks few n short =
+      lacks_first disks b n (mark Snap x (version_of r x)) [] (wished_snap policy r x) old new (sym (ap snap_by is)) tt same lacks short (record_within disks b old told free.stands few n x short)
 
   pub one_failed : (new : Parts D) → {T : Type 0} → (res : Result T Stopped) → (why : Stopped) → res ≡ Err why → LivesAs disks b new (Some why)
       → SnapsOne disks b policy x res old new

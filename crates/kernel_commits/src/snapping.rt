@@ -9,7 +9,8 @@ ghost use Rattle.kernel_commit_facts.specs.cell_states.declared.cells.Cell.{Cell
 ghost use Rattle.kernel_commit_facts.specs.kernel_invariant.Beginnings.{run_of};
 ghost use Rattle.kernel_commit_facts.specs.cell_wish_laws.Founded.{IsFoundedCell};
 ghost use Rattle.kernel_commit_facts.specs.Lacking.{LacksIn};
-ghost use Rattle.kernel_commit_facts.specs.Recording.{HasRecorded, IsShort};
+ghost use Rattle.kernel_commit_facts.specs.Recording.{HasRecorded};
+ghost use Rattle.kernel_commit_facts.specs.Short.{AreSnapsShort, IsSnapShort};
 ghost use Rattle.kernel_commit_facts.specs.Snapping.{CanSnap, RunsFree, Snaps, wants_in};
 ghost use Rattle.kernel_commits.specs.Snapping.{SnapsAll, SnapsOne};
 ghost use Rattle.kernel_commit_facts.specs.Steady.{IsSteady};
@@ -77,7 +78,7 @@ pub fn snap_one<D: Disk, S: Supplier, P: Policy>(
     ensures made { Snaps (P.wish gate.now.policy) entity core.old true
         → OnOk result ((result ≡ Ok true) × HasRecorded D.Disk entity core.old core.new) }
     ensures none { Snaps (P.wish gate.now.policy) entity core.old false → (result ≡ Ok false) × (core.new ≡ core.old) }
-    ensures no_blocks { (n : NoBlocks) → IsErrOf result (Stopped.NoBlocks n) ↔ (Snaps (P.wish gate.now.policy) entity core.old true × IsShort D.Disk entity core.old n) }
+    ensures no_blocks { (n : NoBlocks) → IsErrOf result (Stopped.NoBlocks n) ↔ IsSnapShort D.Disk (P.wish gate.now.policy) entity core.old n }
     ensures fails { Fails D.Disk entity result core.old core.new }
     ensures notes { CommitsNote result core.old.noted.entries core.new.noted.entries }
     ensures run { D.tells → (b : Beginning) → RunsFree D.Disk b (P.wish gate.now.policy) core.old
@@ -87,7 +88,7 @@ pub fn snap_one<D: Disk, S: Supplier, P: Policy>(
     ensures clean { D.tells → (s : Supply) → AreClean s (words_on (D.reading core.old.store.disk)) core.old.cells
         → OnOk result (AreClean s (words_on (D.reading core.new.store.disk)) core.new.cells) }
     ensures enough { D.tells → (b : Beginning) → RunsFree D.Disk b (P.wish gate.now.policy) core.old
-        → (n : NoBlocks) → IsErrOf result (Stopped.NoBlocks n) → LacksIn b (wished_snap (P.wish gate.now.policy) (run_of b core.old.noted.entries) entity) core.old.noted.entries core.new }
+        → (n : NoBlocks) → IsErrOf result (Stopped.NoBlocks n) → LacksIn D.Disk b n (wished_snap (P.wish gate.now.policy) (run_of b core.old.noted.entries) entity) core.old.noted.entries core.new }
     ensures counts { CommitCounts D.Disk core.old.store core.new.store }
 {
     if !wants_snap(core, entity, gate) {
@@ -115,8 +116,8 @@ fn snap_touched<D: Disk, S: Supplier, P: Policy>(
         → OnErr result (StopsIn b (wished_snaps b.supply (P.wish gate.now.policy) b.script (run_of b core.old.noted.entries) (written_in touches.now)) core.old.noted.entries core.new.noted.entries) }
     ensures enough { D.tells → (b : Beginning) → RunsFree D.Disk b (P.wish gate.now.policy) core.old
         → (n : NoBlocks) → IsErrOf result (Stopped.NoBlocks n)
-        → LacksIn b (wished_snaps b.supply (P.wish gate.now.policy) b.script (run_of b core.old.noted.entries) (written_in touches.now)) core.old.noted.entries core.new }
-    ensures stopped { IfErr result (LeavesStopped D.faults core.old core.new) }
+        → LacksIn D.Disk b n (wished_snaps b.supply (P.wish gate.now.policy) b.script (run_of b core.old.noted.entries) (written_in touches.now)) core.old.noted.entries core.new }
+    ensures stopped { IfErr result (LeavesStopped D.faults (AreSnapsShort D.Disk (P.wish gate.now.policy) (written_in touches.now) core.new) core.old core.new) }
     ensures notes { CommitsNote result core.old.noted.entries core.new.noted.entries }
     ensures clean { D.tells → (s : Supply) → AreClean s (words_on (D.reading core.old.store.disk)) core.old.cells
         → OnOk result (AreClean s (words_on (D.reading core.new.store.disk)) core.new.cells) }
@@ -135,6 +136,8 @@ fn snap_touched<D: Disk, S: Supplier, P: Policy>(
 }
 
 /// Behind a step: the Snaps of what it wrote whose wishes are open, in ascending number.
+///
+/// `NoBlocks` comes only where fewer blocks are free than the record of one of them needs, with both numbers, before its first write.
 pub fn snap_written<D: Disk, S: Supplier, P: Policy>(
     core: &mut Core<D>,
     entry: &Entry,
@@ -149,8 +152,8 @@ pub fn snap_written<D: Disk, S: Supplier, P: Policy>(
         → OnErr result (StopsIn b (wished_snaps b.supply (P.wish gate.now.policy) b.script (run_of b core.old.noted.entries) (written_in entry.now.touched)) core.old.noted.entries core.new.noted.entries) }
     ensures enough { D.tells → (b : Beginning) → RunsFree D.Disk b (P.wish gate.now.policy) core.old
         → (n : NoBlocks) → IsErrOf result (Stopped.NoBlocks n)
-        → LacksIn b (wished_snaps b.supply (P.wish gate.now.policy) b.script (run_of b core.old.noted.entries) (written_in entry.now.touched)) core.old.noted.entries core.new }
-    ensures stopped { IfErr result (LeavesStopped D.faults core.old core.new) }
+        → LacksIn D.Disk b n (wished_snaps b.supply (P.wish gate.now.policy) b.script (run_of b core.old.noted.entries) (written_in entry.now.touched)) core.old.noted.entries core.new }
+    ensures stopped { IfErr result (LeavesStopped D.faults (AreSnapsShort D.Disk (P.wish gate.now.policy) (written_in entry.now.touched) core.new) core.old core.new) }
     ensures notes { CommitsNote result core.old.noted.entries core.new.noted.entries }
     ensures clean { D.tells → (s : Supply) → AreClean s (words_on (D.reading core.old.store.disk)) core.old.cells
         → OnOk result (AreClean s (words_on (D.reading core.new.store.disk)) core.new.cells) }

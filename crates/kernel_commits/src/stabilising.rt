@@ -45,7 +45,7 @@ pub(crate) fn record_all<D: Disk>(core: &mut Core<D>) -> Result<(), Stopped>
         → IfErr result (λ why. LivesAs D.Disk b core.new (Some why)) }
     ensures part { D.tells → (b : Beginning) (actor : ℕ) → OwesStable D.Disk b actor core.old
         → OnErr result (StopsIn b (mark AnEvent.Stable actor 0 ∷ []) core.old.noted.entries core.new.noted.entries) }
-    ensures stopped { IfErr result (LeavesStopped D.faults core.old core.new) }
+    ensures stopped { IfErr result (LeavesStopped D.faults (AreShort core.new) core.old core.new) }
     ensures counts { CountsWithin D.Disk (64 * 1556) core.old.store core.new.store }
     ensures only_writes { IfErr result (λ why. why ≡ Stopped.WriteFault) }
 {
@@ -75,7 +75,7 @@ fn record_changed<D: Disk>(core: &mut Core<D>) -> Result<(), Stopped>
     ensures no_blocks { (n : NoBlocks) → IsErrOf result (Stopped.NoBlocks n) ↔ AreShort core.old n }
     ensures untouched { (n : NoBlocks) → IsErrOf result (Stopped.NoBlocks n) → core.new ≡ core.old }
     ensures no_read { IsErrOf result Stopped.ReadFault → ⊥ }
-    ensures stopped { IfErr result (LeavesStopped D.faults core.old core.new) }
+    ensures stopped { IfErr result (LeavesStopped D.faults (AreShort core.new) core.old core.new) }
     ensures counts { CountsWithin D.Disk (64 * 1556) core.old.store core.new.store }
 {
     if let Some(blocks) = shortage(core) {
@@ -125,8 +125,8 @@ pub fn settle<D: Disk>(core: &mut Core<D>, actor: Entity) -> Result<(), Stopped>
     ensures no_blocks { (n : NoBlocks) → IsErrOf result (Stopped.NoBlocks n) ↔ AreShort core.old n }
     ensures untouched { (n : NoBlocks) → IsErrOf result (Stopped.NoBlocks n) → core.new ≡ core.old }
     ensures enough { D.tells → (b : Beginning) → OwesStable D.Disk b actor core.old
-        → (n : NoBlocks) → IsErrOf result (Stopped.NoBlocks n) → LacksIn b (mark AnEvent.Stable actor 0 ∷ []) core.old.noted.entries core.new }
-    ensures stopped { IfErr result (LeavesStopped D.faults core.old core.new) }
+        → (n : NoBlocks) → IsErrOf result (Stopped.NoBlocks n) → LacksIn D.Disk b n (mark AnEvent.Stable actor 0 ∷ []) core.old.noted.entries core.new }
+    ensures stopped { IfErr result (LeavesStopped D.faults (AreShort core.new) core.old core.new) }
     ensures notes { CommitsNote result core.old.noted.entries core.new.noted.entries }
     ensures clean { D.tells → (s : Supply) → AreClean s (words_on (D.reading core.old.store.disk)) core.old.cells
         → OnOk result (AreClean s (words_on (D.reading core.new.store.disk)) core.new.cells) }

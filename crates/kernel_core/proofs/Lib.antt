@@ -1,5 +1,7 @@
 pub mod Stepped
 pub mod LookMade
+pub mod Answered
+pub mod Inside
 pub mod LookKept
 pub use Rattle.kernel_core_facts.proofs.act_atlas_laws_lemmas
 pub use Rattle.kernel_core_facts.proofs.kernel_commit_facts_lemmas

@@ -24,16 +24,16 @@ use Rattle.kernel_core_facts.specs.kernel_invariant.declared.stopping.Stopped.Th
 use Rattle.kernel_core_facts.proofs.Kept.{while_going}
 
 module _ {D : Type 0} (disks : Ghosts D) (me : ℕ) (old new : Parts D) where
-  orderly_by : (r : Result Stepping Stopped) → OnOk r (IsSteady disks new) → IfErr r (StopsLook disks me old new) → IsOrderly (books new.store).held new.cells
-  orderly_by (Ok t) steady stopped = steady.sound.matches.orderly
-  orderly_by (Err why) steady stopped = elim stopped as (λ _. IsOrderly (books new.store).held new.cells) [
+  orderly_by : (policy : Policy) (r : Result Stepping Stopped) → OnOk r (IsSteady disks new) → IfSome (result_err r) (StopsLook disks policy me old new) → IsOrderly (books new.store).held new.cells
+  orderly_by policy (Ok t) steady stopped = steady.sound.matches.orderly
+  orderly_by policy (Err why) steady stopped = elim stopped as (λ _. IsOrderly (books new.store).held new.cells) [
     | inl at_step ↦ at_step.orderly
     | inr behind ↦ behind.leaves.orderly
   ]
 
-  pub look_kept : (r : Result Stepping Stopped) → OnOk r (IsSteady disks new) → IfErr r (StopsLook disks me old new)
+  pub look_kept : (policy : Policy) (r : Result Stepping Stopped) → OnOk r (IsSteady disks new) → IfSome (result_err r) (StopsLook disks policy me old new)
       → (o : Option Stopped) → o ≡ result_err r → IsKept disks (record { parts = new; stop = o })
-  look_kept r steady stopped o is = record { orderly = orderly_by r steady stopped; steady = while_going r steady o is }
+  look_kept policy r steady stopped o is = record { orderly = orderly_by policy r steady stopped; steady = while_going r steady o is }
 
   -- IN A RUN
 
@@ -87,7 +87,3 @@ idle_look (Ok (Idle v)) w = ((λ is. let e : v ≡ w = cc is in ap (λ (k : AnId
 idle_look (Err (reason.NoBlocks n)) w = ((λ is. absurd (cc is)), (λ is. absurd (cc is)))
 idle_look (Err reason.ReadFault) w = ((λ is. absurd (cc is)), (λ is. absurd (cc is)))
 idle_look (Err reason.WriteFault) w = ((λ is. absurd (cc is)), (λ is. absurd (cc is)))
-
-pub stopped_look : (r : Result Stepping Stopped) (P : Stopped → Type 0) → IfErr r P → (o : Option Stopped) → o ≡ result_err r → IfSome o P
-stopped_look (Ok o) P stopped kept is = subst (λ k. IfSome k P) (sym is) tt
-stopped_look (Err why) P stopped kept is = subst (λ k. IfSome k P) (sym is) stopped

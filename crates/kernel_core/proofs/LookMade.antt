@@ -1,9 +1,10 @@
 -- What a look came to, told by what its step came to.
-use Rattle.std.proofs.Common.{◌≡◌, ◌⊎◌, inl, inr, ℕ, ◌≤◌, List, Ok, Err, subst}
+use Rattle.std.proofs.Common.{◌≡◌, ◌⊎◌, inl, inr, ℕ, ◌≤◌, List, Some, Ok, Err, ap, subst}
 use Rattle.std.specs.Prelude.{◌↔◌, IsErrOf, Result, ⊤}
 use Rattle.edge_disk.proofs.Ticks.{Rose-before}
 use Rattle.edge_disk.specs.Counts.{Rose}
 use Rattle.edge_disk.specs.declared.disk.Disk.{Ghosts}
+use Rattle.edge_disk.specs.declared.disk.NoBlocks.{NoBlocks}
 use Rattle.base_types.specs.declared.histories.Entry.{Entry}
 use Rattle.script_types.specs.model_kernel.Histories.{Policy}
 use Rattle.kernel_core_facts.specs.kernel_invariant.Beginnings.{Beginning}
@@ -27,6 +28,13 @@ ok_look look = Ok look
 
 abbrev pub err_result : Stopped → Result Stepping Stopped
 err_result why = Err why
+
+-- what ended well wanted no block, and what failed for want of some has stopped for them
+pub never_wanting : {P : Type 0} (o : Stepping) (n : NoBlocks) → IsErrOf (ok_look o) (reason.NoBlocks n) → P
+never_wanting o n is = absurd (cc is)
+
+pub stopped_for : (why : Stopped) (n : NoBlocks) → IsErrOf (err_result why) (reason.NoBlocks n) → Some why ≡ Some (reason.NoBlocks n)
+stopped_for why n is = let same : why ≡ reason.NoBlocks n = cc is in ap (λ (w : Stopped). Some w) same
 
 -- a step was made, so there is no reason why none was
 pub idle_behind : (m : Step) (why : Stopped) (w : AnIdle) (P : Type 0) → (P ↔ (ok_look (Made m) ≡ ok_look (Idle w))) → P ↔ (err_result why ≡ ok_look (Idle w))
@@ -66,14 +74,14 @@ rose_behind faults old mid new reason.ReadFault before later cause failed = Rose
 rose_behind faults old mid new reason.WriteFault before later cause failed = Rose-before (faults old.store.disk) (faults mid.store.disk) (faults new.store.disk) before later cause
 
 -- and one of the step is
-pub rose_at : {D : Type 0} (disks : Ghosts D) (old new : Parts D) (why : Stopped) → HasCause disks old new why
+pub rose_at : {D : Type 0} (disks : Ghosts D) (me : ℕ) (old new : Parts D) (why : Stopped) → HasCause disks me old new why
     → (IsErrOf (err_result why) reason.ReadFault) ⊎ (IsErrOf (err_result why) reason.WriteFault) → Rose (disks.faults old.store.disk) (disks.faults new.store.disk)
-rose_at disks old new (reason.NoBlocks n) cause failed = elim failed as (λ _. Rose (disks.faults old.store.disk) (disks.faults new.store.disk)) [
+rose_at disks me old new (reason.NoBlocks n) cause failed = elim failed as (λ _. Rose (disks.faults old.store.disk) (disks.faults new.store.disk)) [
   | inl is ↦ absurd (cc is)
   | inr is ↦ absurd (cc is)
 ]
-rose_at disks old new reason.ReadFault cause failed = cause
-rose_at disks old new reason.WriteFault cause failed = cause
+rose_at disks me old new reason.ReadFault cause failed = cause
+rose_at disks me old new reason.WriteFault cause failed = cause
 
 module _ {D : Type 0} (disks : Ghosts D)
     (b : Beginning) (policy : Policy) (same : b.policy ≡ policy) (me : ℕ) (old : Parts D)

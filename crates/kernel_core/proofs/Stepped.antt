@@ -1,6 +1,6 @@
 -- A step over a kernel's parts: what it leaves of them, whatever the disk tells, and of a run.
-use Rattle.std.proofs.Common.{◌≡◌, ◌⊎◌, ◌↔◌, inl, inr, ℕ, ◌+◌, ◌<◌, ◌≤◌, Bool, true, false, not, ◌&&◌, nat_lt, List, [], ◌∷◌, ◌++◌, length, slice_get, Option, Some, None, is_some, Ok, Err, refl, sym, ap, subst, ◌∙◌, arith, length-append}
-use Rattle.std.specs.Prelude.{IsErrOf, Result}
+use Rattle.std.proofs.Common.{◌≡◌, ◌⊎◌, ◌↔◌, inl, inr, ℕ, ◌+◌, ◌<◌, ◌≤◌, true, false, not, ◌&&◌, nat_lt, List, [], ◌∷◌, ◌++◌, length, slice_get, Option, Some, None, is_some, Ok, Err, refl, sym, ap, subst, ◌∙◌, arith, length-append}
+use Rattle.std.specs.Prelude.{IsErrOf}
 use Rattle.std.proofs.lemmas.Bool.{and_parts}
 use Rattle.std.proofs.lemmas.Option.{slice_get_within}
 use Rattle.edge_disk.specs.declared.disk.Disk.{Ghosts}
@@ -20,11 +20,10 @@ use Rattle.kernel_core_facts.specs.store_facts.State.{State, books}
 use Rattle.kernel_core_facts.specs.cell_states.declared.cells.Cell.{Cell}
 use Rattle.kernel_core_facts.specs.cell_plans.Plans.{idle_of}
 use Rattle.kernel_core_facts.specs.cell_plans.declared.idle.Idle.{Idle as AnIdle}
-use Rattle.kernel_core_facts.specs.cell_plans.declared.idle.Idle.TheVariants.{Absent}
 use Rattle.kernel_core_facts.specs.table_laws.Steps.{EntersStep}
 use Rattle.kernel_core_facts.specs.table_laws.Tables.{AreClean, IsOrderly, entity_in, left_of, state_in}
 use Rattle.kernel_core_facts.specs.kernel_record_facts.Cells.{words_on}
-use Rattle.kernel_core_facts.specs.table_steps.Wanting.{HasNext, WantsWord}
+use Rattle.kernel_core_facts.specs.table_steps.Wanting.{HasNext, TurnsOne, WantsWord}
 use Rattle.kernel_core_facts.specs.table_steps.declared.stepping.Made.{Made as Step}
 use Rattle.kernel_core_facts.specs.table_steps.declared.stepping.StepFault.{StepFault}
 use Rattle.kernel_core_facts.specs.table_steps.declared.stepping.StepFault.TheVariants.{Idle, Paging}
@@ -48,21 +47,22 @@ use Rattle.kernel_core_facts.specs.Leaving.{LeavesInOrder}
 use Rattle.kernel_core_facts.specs.kernel_book_laws.Matching.{Rises, newest_of, version_at, version_of}
 use Rattle.kernel_core_facts.proofs.kernel_book_laws_lemmas.Keeping.{rises}
 use Rattle.kernel_core_facts.specs.kernel_commit_facts.Parts.{Noted, Parts, StandsAs, parts_of}
-use Rattle.kernel_core_facts.specs.kernel_commit_facts.Lacking.{IsDueIn, LacksBlocks, MayWant}
+use Rattle.kernel_core_facts.specs.kernel_commit_facts.Lacking.{LacksBlocks, LacksIn, MayWant}
 use Rattle.kernel_core_facts.specs.kernel_commit_facts.Pieces.{CountsWithin}
+use Rattle.kernel_core_facts.specs.kernel_commit_facts.Short.{AreWithin, IsPageWanting, IsShortFor, WantsPage}
 use Rattle.kernel_core_facts.specs.kernel_commit_facts.Steady.{IsSteady, entries_taken, steps_to_come}
 use Rattle.kernel_core_facts.specs.Stepping.{HasCause, IsOfOpen, StepsInRun, idle_at, stop_by}
 use Rattle.kernel_core.specs.Stepping.{StepsOnce}
-use Rattle.kernel_core.specs.declared.stepping.Stepping.{Stepping}
 use Rattle.kernel_core.specs.declared.stepping.Stepping.TheVariants.{Idle as IdleFor, Made}
-use Rattle.kernel_core_facts.specs.kernel_invariant.declared.stopping.Stopped.{Stopped}
 use Rattle.kernel_core_facts.specs.kernel_invariant.declared.stopping.Stopped.TheVariants as reason
 use Rattle.kernel_core_facts.proofs.kernel_commit_facts_lemmas.Dues.{due_first}
 use Rattle.kernel_core_facts.proofs.kernel_commit_facts_lemmas.Enough.{none_lacks}
 use Rattle.kernel_core_facts.proofs.kernel_commit_facts_lemmas.Room.{steps_within, taken_next}
+use Rattle.kernel_core_facts.proofs.kernel_commit_facts_lemmas.Within.{page_within}
 use Rattle.kernel_core_facts.proofs.table_laws_lemmas.Idling.{can_by, empty_idle, empty_stays, high_by}
 use Rattle.kernel_core_facts.proofs.kernel_commit_facts_lemmas.StepRoom.{step_room, step_spare}
 use Rattle.kernel_core_facts.proofs.Paired.{both_or}
+use Rattle.kernel_core.proofs.Answered.{absent_none, err_not, err_why, fault_is, idle_by, idle_for, made_not, no_fault, no_idle, no_paging, none_by, not_false, not_true, page_is, stop_is}
 
 cell_or : (cs : List Cell) (x : ℕ) → ((c : Cell) × (slice_get cs x ≡ Some c)) ⊎ (slice_get cs x ≡ None)
 cell_or cs x = by (slice_get cs x) refl
@@ -70,56 +70,6 @@ cell_or cs x = by (slice_get cs x) refl
     by : (o : Option Cell) → slice_get cs x ≡ o → ((c : Cell) × (slice_get cs x ≡ Some c)) ⊎ (slice_get cs x ≡ None)
     by (Some c) is = inl (c, is)
     by None is = inr is
-
--- WHO IS IDLE
-
-none_by : (o : Option AnIdle) → ((why : AnIdle) → o ≡ Some why → ⊥) → o ≡ None
-none_by None h = refl
-none_by (Some why) h = absurd (h why refl)
-
-absent_none : Some Absent ≡ None → ⊥
-absent_none e = cc
-
-abbrev err_of : StepFault → Result Step StepFault
-err_of f = Err f
-
-no_fault : (m : Step) (f : StepFault) → IsErrOf {T = Step} {E = StepFault} (Ok m) f → ⊥
-no_fault m f is = cc
-
-fault_is : (f g : StepFault) → f ≡ g → IsErrOf {T = Step} {E = StepFault} (Err f) g
-fault_is f g is = ap (λ (h : StepFault). err_of h) is
-
-no_idle : (f : PageFault) (why : AnIdle) → IsErrOf {T = Step} {E = StepFault} (Err (Paging f)) (Idle why) → ⊥
-no_idle f why is = cc
-
-not_true : (t : Bool) → true ≡ not t → t ≡ false
-not_true true is = absurd (cc is)
-not_true false is = refl
-
-not_false : (t : Bool) → false ≡ not t → t ≡ true
-not_false true is = refl
-not_false false is = absurd (cc is)
-
-abbrev ok_made : Step → Result Stepping Stopped
-ok_made m = Ok (Made m)
-
-abbrev ok_idle : AnIdle → Result Stepping Stopped
-ok_idle why = Ok (IdleFor why)
-
-abbrev err_why : Stopped → Result Stepping Stopped
-err_why why = Err why
-
-made_not : (m : Step) (why : AnIdle) → ok_made m ≡ ok_idle why → ⊥
-made_not m why is = cc is
-
-err_not : (stop : Stopped) (why : AnIdle) → err_why stop ≡ ok_idle why → ⊥
-err_not stop why is = cc is
-
-idle_for : (why w : AnIdle) → IsErrOf {T = Step} {E = StepFault} (Err (Idle why)) (Idle w) → ok_idle why ≡ ok_idle w
-idle_for why w is = let e : why ≡ w = cc in ap ok_idle e
-
-idle_by : (why w : AnIdle) → ok_idle why ≡ ok_idle w → IsErrOf {T = Step} {E = StepFault} (Err (Idle why)) (Idle w)
-idle_by why w is = let e : why ≡ w = cc in ap (λ (v : AnIdle). err_of (Idle v)) e
 
 module _ {D : Type 0} (disks : Ghosts D)
     (counts_later : (disk : D) (s t : ℕ) (c : Image) → disks.tells → s ≤ t → disks.left_since disk t c → disks.left_since disk s c)
@@ -169,6 +119,7 @@ module _ {D : Type 0} (disks : Ghosts D)
 
   -- A STEP THAT WAS MADE
   module _ (m : Step) (idle : (z : Supply) (ws : ℕ → List ℕ) (why : AnIdle) → IsErrOf {T = Step} {E = StepFault} (Ok m) (Idle why) ↔ (idle_at z ws me cs ≡ Some why))
+      (wants : (n : NoBlocks) → IsErrOf {T = Step} {E = StepFault} (Ok m) (Paging (page.NoBlocks n)) ↔ WantsPage me old n)
       (enters : EntersStep me cs cs' m.entry) (next : HasNext me cs m.instr) (same_shut : (books st').shut ≡ (books st).shut)
       (over : (b : Beginning) → disks.tells → b.supply ≡ s → (books st).shut ≡ false → StepsOver disks b me cs cs' st st' m.entry) where
     abbrev e : Entry
@@ -302,6 +253,7 @@ module _ {D : Type 0} (disks : Ghosts D)
       made = record { enters = enters; entries = refl; marks = refl; room = refl; spare = spare };
       next = next;
       failed = tt;
+      short = λ n. ((λ is. absurd (cc is)), (λ short. absurd (no_fault m (Paging (page.NoBlocks n)) ((wants n).1 short))));
       steady = steady_on;
       clean = clean';
       counts = counts_on;
@@ -311,13 +263,15 @@ module _ {D : Type 0} (disks : Ghosts D)
 
   -- NONE, where the locus is idle
   idle_once : (why : AnIdle) → ((z : Supply) (ws : ℕ → List ℕ) (w : AnIdle) → IsErrOf {T = Step} {E = StepFault} (Err (Idle why)) (Idle w) ↔ (idle_at z ws me cs ≡ Some w)) → cs' ≡ cs → st' ≡ st
+      → ((n : NoBlocks) → IsErrOf {T = Step} {E = StepFault} (Err (Idle why)) (Paging (page.NoBlocks n)) ↔ WantsPage me old n)
       → StepsOnce disks s me old (parts_of st' cs' noted) (Ok (IdleFor why))
-  idle_once why idle same_cells same_store = record {
+  idle_once why idle same_cells same_store wants = record {
     idle = λ z ws w. ((λ is. idle_for why w ((idle z ws w).1 is)), (λ is. (idle z ws w).0 (idle_by why w is)));
     still = λ w is. same_parts;
     made = tt;
     next = tt;
     failed = tt;
+    short = λ n. ((λ is. absurd (cc is)), (λ short. absurd (no_paging why (page.NoBlocks n) ((wants n).1 short))));
     steady = subst (IsSteady disks) (sym same_parts) k;
     clean = clean';
     counts = counts_on;
@@ -330,18 +284,20 @@ module _ {D : Type 0} (disks : Ghosts D)
 
   pub once_idle : (f : StepFault) (why : AnIdle) → f ≡ Idle why → ((z : Supply) (ws : ℕ → List ℕ) (w : AnIdle) → IsErrOf {T = Step} {E = StepFault} (Err f) (Idle w) ↔ (idle_at z ws me cs ≡ Some w))
       → ((w : AnIdle) → IsErrOf {T = Step} {E = StepFault} (Err f) (Idle w) → (cs' ≡ cs) × (st' ≡ st))
+      → ((n : NoBlocks) → IsErrOf {T = Step} {E = StepFault} (Err f) (Paging (page.NoBlocks n)) ↔ WantsPage me old n)
       → StepsOnce disks s me old (parts_of st' cs' noted) (Ok (IdleFor why))
-  once_idle f why is idle still =
+  once_idle f why is idle still wants =
       idle_once why (subst (λ f. (z : Supply) (ws : ℕ → List ℕ) (w : AnIdle) → IsErrOf {T = Step} {E = StepFault} (Err f) (Idle w) ↔ (idle_at z ws me cs ≡ Some w)) is idle)
       (still why (fault_is f (Idle why) is)).0 (still why (fault_is f (Idle why) is)).1
+      (subst (λ f. (n : NoBlocks) → IsErrOf {T = Step} {E = StepFault} (Err f) (Paging (page.NoBlocks n)) ↔ WantsPage me old n) is wants)
 
   -- A FAULT
   cause_by : (f : PageFault) → IsCausedBy (free_in (books st)) (disks.faults st.disk) (disks.faults st'.disk) (books st).shut (books st').shut f
-      → HasCause disks old (parts_of st' cs' noted) (stop_by f)
-  cause_by (page.NoBlocks n) c = c
-  cause_by page.ReadFault c = c.0
-  cause_by page.WriteFault c = c.0
-  cause_by page.Shut c = absurd (let w = k.sound.working in cc (w, c))
+      → ((n : NoBlocks) → f ≡ page.NoBlocks n → IsPageWanting me old (parts_of st' cs' noted) n) → HasCause disks me old (parts_of st' cs' noted) (stop_by f)
+  cause_by (page.NoBlocks n) c wants = wants n refl
+  cause_by page.ReadFault c wants = c.0
+  cause_by page.WriteFault c wants = c.0
+  cause_by page.Shut c wants = absurd (let w = k.sound.working in cc (w, c))
 
   open_by : (f : PageFault) → IsCausedBy (free_in (books st)) (disks.faults st.disk) (disks.faults st'.disk) (books st).shut (books st').shut f → IsOfOpen f
   open_by (page.NoBlocks n) c = tt
@@ -381,24 +337,38 @@ module _ {D : Type 0} (disks : Ghosts D)
     word_step = subst (λ (w : KernelState). IsWordStep w steps_here.0.0) stands.runs.follows.state
         (at_word b.supply (words b stands) steps_here.0 (ap (step b.supply me) (follow b stands).state ∙ steps_here.1))
 
-    step_due : IsDueIn b all noted.entries noted.entries
-    step_due =
+    -- it is due, and short of a block
+    step_lacks : disks.tells → (n : NoBlocks) → LacksBlocks b (parts_of st' cs' noted) → IsPageWanting me old (parts_of st' cs' noted) n → LacksIn disks b n all noted.entries (parts_of st' cs' noted)
+    step_lacks told n lacks wants =
         let made = steps_here.0 in
+        let entry = step_entry b.supply b.policy b.script (r b stands) me made steps_here.1 in
         let behind : Run = goes_on b.supply b.script (r b stands) made.0 in
-        due_first b made.0 (kept_behind b.supply b.policy b.script behind (written_in made.0.touched) behind.owed) all noted.entries noted.entries
-        (sym (look_made b.supply b.policy b.script (r b stands) me made.0 made.1 behind.owed can_step_here steps_here.1 refl))
-        (subst (λ (v : Event). MayWant b noted.entries made.0 v) (sym (step_entry b.supply b.policy b.script (r b stands) me made steps_here.1).0) word_step) refl
+        record {
+          lacks = lacks;
+          due = due_first b made.0 (kept_behind b.supply b.policy b.script behind (written_in made.0.touched) behind.owed) all noted.entries noted.entries
+              (sym (look_made b.supply b.policy b.script (r b stands) me made.0 made.1 behind.owed can_step_here steps_here.1 refl))
+              (subst (λ (v : Event). MayWant b noted.entries made.0 v) (sym entry.0) word_step) refl;
+          short = subst (λ (v : Event). IsShortFor disks (parts_of st' cs' noted) n made.0 v) (sym entry.0)
+              (old, subst (λ (x : ℕ). IsPageWanting x old (parts_of st' cs' noted) n) (sym entry.1) wants);
+          within = subst (λ (count : ℕ). AreWithin (state_after b noted.entries) count n) (sym leaves.pages.only.same_count) (page_within disks b old told stands k.sound.matches.few n wants.short.short.short.none_free wants.short.short.short.numbers);
+        }
 
   failed_once : (f : PageFault) → ((z : Supply) (ws : ℕ → List ℕ) (w : AnIdle) → IsErrOf {T = Step} {E = StepFault} (Err (Paging f)) (Idle w) ↔ (idle_at z ws me cs ≡ Some w))
       → IsCausedBy (free_in (books st)) (disks.faults st.disk) (disks.faults st'.disk) (books st).shut (books st').shut f
       → ((b : Beginning) → disks.tells → b.supply ≡ s → StopsOver disks b cs cs' st st') → WantsWord me cs
+      → ((n : NoBlocks) → IsErrOf {T = Step} {E = StepFault} (Err (Paging f)) (Paging (page.NoBlocks n)) ↔ WantsPage me old n)
+      → ((n : NoBlocks) → IsErrOf {T = Step} {E = StepFault} (Err (Paging f)) (Paging (page.NoBlocks n)) → TurnsOne cs cs' × (st' ≡ st))
       → StepsOnce disks s me old (parts_of st' cs' noted) (Err (stop_by f))
-  failed_once f idle cause over at_word = record {
+  failed_once f idle cause over at_word wants turned = record {
     idle = λ z ws w. ((λ is. absurd (no_idle f w ((idle z ws w).1 is))), (λ is. absurd (err_not (stop_by f) w is)));
     still = λ w is. absurd (err_not (stop_by f) w is);
     made = tt;
     next = tt;
-    failed = record { noted = refl; orderly = leaves.orderly; cause = cause_by f cause };
+    failed = record { noted = refl; orderly = leaves.orderly; cause = cause_by f cause wanting };
+    short = λ n. (
+      (λ is. (wants n).0 (fault_is (Paging f) (Paging (page.NoBlocks n)) (ap Paging (stop_is f n is)))),
+      (λ short. ap (λ g. err_why (stop_by g)) (page_is f (page.NoBlocks n) ((wants n).1 short))),
+    );
     steady = tt;
     clean = clean';
     counts = counts_on;
@@ -407,30 +377,24 @@ module _ {D : Type 0} (disks : Ghosts D)
         (stops disks b cs cs' st st' noted.entries noted.marks (stop_by f) stands (over b told same));
     enough = λ told b same stands calm n is.
         let none : (z : Supply) (ws : ℕ → List ℕ) → idle_at z ws me cs ≡ None = λ z ws. none_by (idle_at z ws me cs) (λ why here. no_idle f why ((idle z ws why).1 here)) in
-        record { lacks = short_by f cause told b stands calm n is; due = step_due none at_word b stands };
+        step_lacks none at_word b stands told n (short_by f cause told b stands calm n is) (wanting n (stop_is f n is));
   }
+    where
+      wanting : (n : NoBlocks) → f ≡ page.NoBlocks n → IsPageWanting me old (parts_of st' cs' noted) n
+      wanting n is =
+          let failed = fault_is (Paging f) (Paging (page.NoBlocks n)) (ap Paging is) in
+          let still = turned n failed in
+          record { short = (wants n).0 failed; turned = still.0; same_store = still.1; same_noted = refl }
 
   pub once_failed : (g : StepFault) (f : PageFault) → g ≡ Paging f → ((z : Supply) (ws : ℕ → List ℕ) (w : AnIdle) → IsErrOf {T = Step} {E = StepFault} (Err g) (Idle w) ↔ (idle_at z ws me cs ≡ Some w))
       → ((q : PageFault) → IsErrOf {T = Step} {E = StepFault} (Err g) (Paging q) → IsCausedBy (free_in (books st)) (disks.faults st.disk) (disks.faults st'.disk) (books st).shut (books st').shut q)
       → ((b : Beginning) (q : PageFault) → disks.tells → b.supply ≡ s → IsErrOf {T = Step} {E = StepFault} (Err g) (Paging q) → StopsOver disks b cs cs' st st')
       → ((q : PageFault) → IsErrOf {T = Step} {E = StepFault} (Err g) (Paging q) → WantsWord me cs)
+      → ((n : NoBlocks) → IsErrOf {T = Step} {E = StepFault} (Err g) (Paging (page.NoBlocks n)) ↔ WantsPage me old n)
+      → ((n : NoBlocks) → IsErrOf {T = Step} {E = StepFault} (Err g) (Paging (page.NoBlocks n)) → TurnsOne cs cs' × (st' ≡ st))
       → StepsOnce disks s me old (parts_of st' cs' noted) (Err (stop_by f))
-  once_failed g f is idle cause over at_word =
+  once_failed g f is idle cause over at_word wants turned =
       failed_once f (subst (λ f. (z : Supply) (ws : ℕ → List ℕ) (w : AnIdle) → IsErrOf {T = Step} {E = StepFault} (Err f) (Idle w) ↔ (idle_at z ws me cs ≡ Some w)) is idle)
       (cause f (fault_is g (Paging f) is)) (λ b told same. over b f told same (fault_is g (Paging f) is)) (at_word f (fault_is g (Paging f) is))
-
--- THE CORE'S FIELDS, taken one by one
-
-pub steady_inside : {D : Type 0} (disks : Ghosts D) (old : Parts D) (st : State D) (cs cs1 : List Cell) (n : Noted) → parts_of st cs n ≡ old → cs1 ≡ cs → IsSteady disks old → IsSteady disks (parts_of st cs1 n)
-steady_inside {D = D} disks old st cs cs1 n view deref k = subst (λ (ks : List Cell). IsSteady disks (parts_of st ks n)) (sym deref) (subst (IsSteady disks) (sym view) k)
-
-pub clean_inside : {D : Type 0} (disks : Ghosts D) (s : Supply) (old : Parts D) (st : State D) (cs cs1 : List Cell) (n : Noted) → parts_of st cs n ≡ old → cs1 ≡ cs
-    → AreClean s (words_on (disks.reading old.store.disk)) old.cells → AreClean s (words_on (disks.reading st.disk)) cs1
-clean_inside {D = D} disks s old st cs cs1 n view deref clean =
-    subst (AreClean s (words_on (disks.reading st.disk))) (sym deref) (subst (λ (p : Parts D). AreClean s (words_on (disks.reading p.store.disk)) p.cells) (sym view) clean)
-
-pub once_outside : {D : Type 0} (disks : Ghosts D) (s : Supply) (me : ℕ) (old : Parts D) (st : State D) (cs cs1 : List Cell) (n : Noted) → parts_of st cs n ≡ old → cs1 ≡ cs
-    → (st' : State D) (cs' kept : List Cell) (n' : Noted) (r : Result Stepping Stopped) → kept ≡ cs' → StepsOnce disks s me (parts_of st cs1 n) (parts_of st' cs' n') r → StepsOnce disks s me old (parts_of st' kept n') r
-once_outside {D = D} disks s me old st cs cs1 n view deref st' cs' kept n' r same once =
-    subst (λ (ks : List Cell). StepsOnce disks s me old (parts_of st' ks n') r) (sym same)
-    (subst (λ (p : Parts D). StepsOnce disks s me p (parts_of st' cs' n') r) (ap (λ (ks : List Cell). parts_of st ks n) deref ∙ view) once)
+      (subst (λ f. (n : NoBlocks) → IsErrOf {T = Step} {E = StepFault} (Err f) (Paging (page.NoBlocks n)) ↔ WantsPage me old n) is wants)
+      (subst (λ f. (n : NoBlocks) → IsErrOf {T = Step} {E = StepFault} (Err f) (Paging (page.NoBlocks n)) → TurnsOne cs cs' × (st' ≡ st)) is turned)

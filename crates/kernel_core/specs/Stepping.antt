@@ -16,6 +16,7 @@ use Rattle.kernel_core_facts.specs.model_serial.Serial.{look}
 use Rattle.kernel_core_facts.specs.kernel_commit_facts.Lacking.{LacksIn}
 use Rattle.kernel_core_facts.specs.kernel_commit_facts.Pieces.{CountsWithin}
 use Rattle.kernel_core_facts.specs.kernel_commit_facts.Parts.{LivesAs, Parts, StandsAs}
+use Rattle.kernel_core_facts.specs.kernel_commit_facts.Short.{WantsPage}
 use Rattle.kernel_core_facts.specs.kernel_commit_facts.Steady.{IsSteady}
 use Rattle.kernel_core_facts.specs.kernel_commits.Telling.{told}
 use Rattle.kernel_core_facts.specs.kernel_commits.declared.stopping.Stop.{Stop}
@@ -52,12 +53,13 @@ module _ {D : Type 0} (disks : Ghosts D) where
     pub still : (why : Idle) → result ≡ Ok (IdleFor why) → new ≡ old
     pub made : IfOk result (λ o. IfMade o (λ m. HasStepped disks me old new m.entry))
     pub next : IfOk result (λ o. IfMade o (λ m. HasNext me old.cells m.instr))
-    pub failed : IfErr result (StopsStep disks old new)
+    pub failed : IfErr result (StopsStep disks me old new)
+    pub short : (n : NoBlocks) → IsErrOf result (reason.NoBlocks n) ↔ WantsPage me old n
     pub steady : OnOk result (IsSteady disks new)
     pub clean : disks.tells → AreClean supply (words_on (disks.reading new.store.disk)) new.cells
     pub counts : CountsWithin disks 1 old.store new.store
     pub run : disks.tells → (b : Beginning) → b.supply ≡ supply → StandsAs disks b old → IsCalm b old.noted.entries
         → RunsStep b me old new result
-    -- short of a block only where the image lacks them, and the step reads or writes a word
+    -- short of a block only where the image lacks them, and the step is next
     pub enough : disks.tells → (b : Beginning) → b.supply ≡ supply → StandsAs disks b old → IsCalm b old.noted.entries
-        → (n : NoBlocks) → IsErrOf result (reason.NoBlocks n) → LacksIn b (look b.supply b.policy b.script (run_of b old.noted.entries) me) old.noted.entries new
+        → (n : NoBlocks) → IsErrOf result (reason.NoBlocks n) → LacksIn disks b n (look b.supply b.policy b.script (run_of b old.noted.entries) me) old.noted.entries new

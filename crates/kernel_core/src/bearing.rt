@@ -9,6 +9,7 @@ ghost use Rattle.kernel_core_facts.specs.table_laws.Tables.{AreClean, AreFewWrit
 ghost use Rattle.kernel_core_facts.specs.kernel_record_facts.Cells.{words_on};
 ghost use Rattle.kernel_core_facts.specs.table_births.Births.{AreUnderWay, NoBirthLeft, atlas_state_in};
 ghost use Rattle.kernel_core_facts.specs.kernel_commit_facts.Pieces.{CountsWithin};
+ghost use Rattle.kernel_core_facts.specs.kernel_commit_facts.Stabilising.{AreShort};
 ghost use Rattle.kernel_core_facts.specs.kernel_commit_facts.Steady.{IsSteady};
 ghost use Rattle.kernel_core_facts.specs.kernel_commits.Stops.{LeavesStopped};
 ghost use Rattle.kernel_core_facts.specs.kernel_commits.Telling.{CommitsNote};
@@ -100,7 +101,7 @@ pub(crate) fn open_core<D: Disk>(core: &mut Core<D>, script: &Script) -> Result<
     ensures steady { OnOk result (IsSteady D.Disk core.new) }
     ensures made { OnOk result (HasOpened (tables_of script.now) core.old core.new) }
     ensures no_blocks { IsShortBehind (tables_of script.now) (λ n. IsErrOf result (Stopped.NoBlocks n)) core.old core.new }
-    ensures stopped { IfErr result (LeavesStopped D.faults core.old core.new) }
+    ensures stopped { IfErr result (LeavesStopped D.faults (AreShort core.new) core.old core.new) }
     ensures notes { CommitsNote result core.old.noted.entries core.new.noted.entries }
     ensures run { D.tells → (b : Beginning) → b.script ≡ tables_of script.now → RunsInBirths D.Disk b core.old
         → OpensRun D.Disk b result core.new }

@@ -12,8 +12,9 @@ ghost use Rattle.kernel_core_facts.specs.Bearing.{HasOpened, IsShortBehind};
 ghost use Rattle.kernel_core_facts.specs.Kernels.{Lives, MayBegin, NotesAlong, StaysClean};
 ghost use Rattle.kernel_core_facts.specs.kernel_commit_facts.Pieces.{CountsWithin};
 ghost use Rattle.edge_disk.specs.Counts.{Rose};
-ghost use Rattle.kernel_core_facts.specs.Looking.{LooksOnce, StopsLook};
-ghost use Rattle.kernel_core_facts.specs.kernel_commit_facts.Recording.{HasRecorded, HasTried, IsShort};
+ghost use Rattle.kernel_core_facts.specs.Looking.{LooksOnce, StopsWhere};
+ghost use Rattle.kernel_core_facts.specs.kernel_commit_facts.Recording.{HasRecorded, HasTried};
+ghost use Rattle.kernel_core_facts.specs.kernel_commit_facts.Short.{IsSnapShort};
 ghost use Rattle.kernel_core_facts.specs.kernel_commit_facts.Snapping.{Snaps};
 ghost use Rattle.kernel_core_facts.specs.Stepping.{idle_at};
 ghost use Rattle.kernel_core_facts.specs.cell_plans.declared.idle.Idle.{Idle as AnIdle};
@@ -196,12 +197,12 @@ impl<D: Disk> Kernel<D> {
         ensures none { self.old.stop ≡ None → Snaps (P.wish gate.now.policy) entity self.old.parts false → (result ≡ Ok false) × (self.new ≡ self.old) }
         ensures fails { self.old.stop ≡ None → IfErr result (FailsByWrite (HasTried D.Disk entity self.old.parts self.new.parts)) }
         ensures no_blocks { (n : NoBlocks) → self.old.stop ≡ None
-            → IsErrOf result (Stop.NoBlocks n) ↔ (Snaps (P.wish gate.now.policy) entity self.old.parts true × IsShort D.Disk entity self.old.parts n) }
+            → IsErrOf result (Stop.NoBlocks n) ↔ IsSnapShort D.Disk (P.wish gate.now.policy) entity self.old.parts n }
         ensures untouched { (n : NoBlocks) → IsErrOf result (Stop.NoBlocks n) → self.new.parts ≡ self.old.parts }
         ensures run { D.tells → (b : Beginning) → b.policy ≡ P.wish gate.now.policy → Lives D.Disk b self.old
             → Lives D.Disk b self.new }
         ensures notes { D.tells → (b : Beginning) → b.policy ≡ P.wish gate.now.policy → Lives D.Disk b self.old → self.old.stop ≡ None
-            → NotesAlong b (wished_snap b.policy (run_of b self.old.parts.noted.entries) entity) self.old self.new }
+            → NotesAlong D.Disk b (wished_snap b.policy (run_of b self.old.parts.noted.entries) entity) self.old self.new }
         ensures tries { TriesByAnswer result self.old.parts.noted.entries self.new.parts.noted.entries }
         ensures clean { (s : Supply) → StaysClean D.Disk s self.old → StaysClean D.Disk s self.new }
         ensures counts { CommitCounts D.Disk self.old.parts.store self.new.parts.store }
@@ -239,7 +240,7 @@ impl<D: Disk> Kernel<D> {
             → Lives D.Disk b self.new }
         ensures notes { D.tells → (b : Beginning) → b.script ≡ tables_of script.now
             → Lives D.Disk (with_script b (empty_script b.script.steps)) self.old → self.old.stop ≡ None
-            → NotesAlong b (opening b.supply b.script b.state) self.old self.new }
+            → NotesAlong D.Disk b (opening b.supply b.script b.state) self.old self.new }
         ensures tries { TriesByAnswer result self.old.parts.noted.entries self.new.parts.noted.entries }
         ensures clean { (s : Supply) → StaysClean D.Disk s self.old → StaysClean D.Disk s self.new }
         ensures counts { CountsWithin D.Disk (64 * 1556) self.old.parts.store self.new.parts.store }
@@ -256,9 +257,10 @@ impl<D: Disk> Kernel<D> {
     /// whose wish is open and of which fewer than four kept records are. It answers the step's entry. A kernel that a fault meets stops.
     ///
     /// `Idle` comes exactly where the locus can't step: it isn't born or no locus, it is halted or stopped, or it has no step left, in this
-    /// order; then nothing is changed. `NoBlocks` comes only where fewer blocks are free than are needed, for a page of the step or for a
-    /// record behind it, with both numbers, and in a run only where the image has fewer than are enough for the state. `ReadFault` and
-    /// `WriteFault` come only where the disk's count of faults rose over the step, or over what came behind it. Where the step itself
+    /// order; then nothing is changed. `NoBlocks` comes where the step's look evicts a changed page that needs a block and none is free, with
+    /// need 1 and free 0; and else only behind the step, where fewer blocks are free than all records of the Stable that it owes need together, or
+    /// than the record of one that it wrote needs, with both numbers. In a run it comes only where the image has fewer than are enough for the
+    /// state, and the need is at most all pages and eight for each born entity. `ReadFault` and `WriteFault` come only where the disk's count of faults rose over the step, or over what came behind it. Where the step itself
     /// fails nothing is noted of it; where a record behind it fails the step is noted, with the Snaps that were made. A kernel that has
     /// stopped does nothing, whatever the locus, and answers `Shut` behind a fault of the disk, and the same `NoBlocks` behind want of blocks.
     ///
@@ -276,13 +278,13 @@ impl<D: Disk> Kernel<D> {
         ensures idle { (s : Supply) (words : ℕ → List ℕ) (why : AnIdle) → self.old.stop ≡ None → (idle_at s words me self.old.parts.cells ≡ Some why) ↔ (result ≡ Err (Stop.Idle why)) }
         ensures still { (why : AnIdle) → result ≡ Err (Stop.Idle why) → self.new ≡ self.old }
         ensures made { IfOk result (LooksOnce D.Disk me self.old.parts self.new.parts) }
-        ensures stopped { self.old.stop ≡ None → IfSome self.new.stop (StopsLook D.Disk me self.old.parts self.new.parts) }
+        ensures stopped { self.old.stop ≡ None → StopsWhere D.Disk (P.wish gate.now.policy) me self.old.parts self.new.parts self.new.stop }
         ensures fails { self.old.stop ≡ None → IfErr result (FailsByDisk (Rose (D.faults self.old.parts.store.disk) (D.faults self.new.parts.store.disk))) }
         ensures run { D.tells → (b : Beginning) → b.supply ≡ S.word gate.now.supply → b.policy ≡ P.wish gate.now.policy
             → Lives D.Disk b self.old → Lives D.Disk b self.new }
         ensures notes { D.tells → (b : Beginning) → b.supply ≡ S.word gate.now.supply → b.policy ≡ P.wish gate.now.policy
             → Lives D.Disk b self.old → self.old.stop ≡ None
-            → NotesAlong b (look b.supply b.policy b.script (run_of b self.old.parts.noted.entries) me) self.old self.new }
+            → NotesAlong D.Disk b (look b.supply b.policy b.script (run_of b self.old.parts.noted.entries) me) self.old self.new }
         ensures tries { TriesByAnswer result self.old.parts.noted.entries self.new.parts.noted.entries }
         ensures clean { StaysClean D.Disk (S.word gate.now.supply) self.new }
         ensures counts { CountsWithin D.Disk (1 + 64 * 1556) self.old.parts.store self.new.parts.store }

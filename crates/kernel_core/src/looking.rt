@@ -1,15 +1,17 @@
 // One look at a locus.
 ghost use Rattle.std.specs.Prelude.{◌≡◌, ◌↔◌, ◌⊎◌, ◌<◌, ◌*◌, ◌+◌, ◌∷◌, [], ℕ, List, true, false, if◌then◌else◌, None, Some, IfErr, IfOk, IsErrOf, Ok, OnErr, OnOk};
+ghost use Rattle.std.specs.Result.{result_err};
 ghost use Rattle.edge_disk.specs.Counts.{Rose};
 ghost use Rattle.base_types.specs.declared.histories.Event.TheVariants as AnEvent;
 ghost use Rattle.script_types.specs.model_kernel.Histories.{mark};
 ghost use Rattle.script_types.specs.model_kernel.State.{Supply};
 ghost use Rattle.kernel_core_facts.specs.table_laws.Tables.{AreClean};
-ghost use Rattle.kernel_core_facts.specs.Looking.{LooksInRun, LooksOnce, StopsLook};
+ghost use Rattle.kernel_core_facts.specs.Looking.{LooksInRun, LooksOnce, StopsWhere};
 ghost use Rattle.kernel_core_facts.specs.kernel_commit_facts.Lacking.{LacksIn};
 ghost use Rattle.kernel_core_facts.specs.kernel_commit_facts.Parts.{StandsAs};
 ghost use Rattle.kernel_core_facts.specs.kernel_commit_facts.Pieces.{CountsWithin, StopsIn};
 ghost use Rattle.kernel_core_facts.specs.kernel_commit_facts.Snapping.{RunsFree};
+ghost use Rattle.kernel_core_facts.specs.kernel_commit_facts.Short.{AreShortBehind};
 ghost use Rattle.kernel_core_facts.specs.kernel_commits.Snapping.{SnapsAll};
 ghost use Rattle.kernel_core_facts.specs.kernel_commit_facts.Stabilising.{HasStabilised, OwesStable};
 ghost use Rattle.kernel_core_facts.specs.kernel_commits.Stabilising.{Stabilises};
@@ -43,7 +45,7 @@ fn keep_behind<D: Disk, S: Supplier, P: Policy>(
     requires steady { IsSteady D.Disk core.old }
     requires spare { owes ≡ true → steps_to_come core.old.cells + entries_taken core.old.noted.entries < core.old.noted.room }
     ensures steady { OnOk result (IsSteady D.Disk core.new) }
-    ensures stopped { IfErr result (LeavesStopped D.faults core.old core.new) }
+    ensures stopped { IfErr result (LeavesStopped D.faults (AreShortBehind D.Disk (P.wish gate.now.policy) owes (written_in entry.now.touched) core.new) core.old core.new) }
     ensures notes { CommitsNote result core.old.noted.entries core.new.noted.entries }
     ensures stabilised { owes ≡ true → OnOk result (HasStabilised entry.now.actor core.old core.new) }
     ensures stable { owes ≡ true → D.tells → (b : Beginning) → OwesStable D.Disk b entry.now.actor core.old
@@ -58,7 +60,7 @@ fn keep_behind<D: Disk, S: Supplier, P: Policy>(
         → (owes ≡ true → OwesStable D.Disk b entry.now.actor core.old)
         → (owes ≡ false → RunsFree D.Disk b (P.wish gate.now.policy) core.old)
         → (n : NoBlocks) → IsErrOf result (Stopped.NoBlocks n)
-        → LacksIn b (kept_behind b.supply (P.wish gate.now.policy) b.script (run_of b core.old.noted.entries) (written_in entry.now.touched) (if owes then Some entry.now.actor else None)) core.old.noted.entries core.new }
+        → LacksIn D.Disk b n (kept_behind b.supply (P.wish gate.now.policy) b.script (run_of b core.old.noted.entries) (written_in entry.now.touched) (if owes then Some entry.now.actor else None)) core.old.noted.entries core.new }
     ensures clean { D.tells → (s : Supply) → AreClean s (words_on (D.reading core.old.store.disk)) core.old.cells
         → OnOk result (AreClean s (words_on (D.reading core.new.store.disk)) core.new.cells) }
     ensures counts { CountsWithin D.Disk (64 * 1556) core.old.store core.new.store }
@@ -83,7 +85,7 @@ pub(crate) fn look_core<D: Disk, S: Supplier, P: Policy>(
     ensures still { (why : AnIdle) → result ≡ Ok (AStep.Idle why) → core.new ≡ core.old }
     ensures steady { OnOk result (IsSteady D.Disk core.new) }
     ensures made { IfOk result (λ o. IfMade o (λ made. LooksOnce D.Disk me core.old core.new made.entry)) }
-    ensures stopped { IfErr result (StopsLook D.Disk me core.old core.new) }
+    ensures stopped { StopsWhere D.Disk (P.wish gate.now.policy) me core.old core.new (result_err result) }
     ensures tries { TriesAtWrite result core.old.noted.entries core.new.noted.entries }
     ensures run { D.tells → (b : Beginning) → b.supply ≡ S.word gate.now.supply → b.policy ≡ P.wish gate.now.policy
         → StandsAs D.Disk b core.old → IsCalm b core.old.noted.entries
@@ -93,7 +95,7 @@ pub(crate) fn look_core<D: Disk, S: Supplier, P: Policy>(
         → OnErr result (StopsIn b (look b.supply b.policy b.script (run_of b core.old.noted.entries) me) core.old.noted.entries core.new.noted.entries) }
     ensures enough { D.tells → (b : Beginning) → b.supply ≡ S.word gate.now.supply → b.policy ≡ P.wish gate.now.policy
         → StandsAs D.Disk b core.old → IsCalm b core.old.noted.entries
-        → (n : NoBlocks) → IsErrOf result (Stopped.NoBlocks n) → LacksIn b (look b.supply b.policy b.script (run_of b core.old.noted.entries) me) core.old.noted.entries core.new }
+        → (n : NoBlocks) → IsErrOf result (Stopped.NoBlocks n) → LacksIn D.Disk b n (look b.supply b.policy b.script (run_of b core.old.noted.entries) me) core.old.noted.entries core.new }
     ensures faults { IsErrOf result Stopped.ReadFault ⊎ IsErrOf result Stopped.WriteFault → Rose (D.faults core.old.store.disk) (D.faults core.new.store.disk) }
     ensures clean { D.tells → OnOk result (AreClean (S.word gate.now.supply) (words_on (D.reading core.new.store.disk)) core.new.cells) }
     ensures counts { CountsWithin D.Disk (1 + 64 * 1556) core.old.store core.new.store }

@@ -1,9 +1,9 @@
 // Whether a step owes a Stable.
-ghost use Rattle.std.specs.Prelude.{◌≡◌, ◌&&◌};
+ghost use Rattle.std.specs.Prelude.{◌≡◌};
 ghost use Rattle.base_types.specs.declared.histories.Answer.TheVariants.{Reply as Replied};
 ghost use Rattle.base_types.specs.declared.instructions.Reply.TheVariants.{Ok as OkReply};
 ghost use Rattle.script_types.specs.model_kernel.Histories.{stabilises};
-ghost use Rattle.kernel_core_facts.specs.Stepping.{is_ok};
+ghost use Rattle.kernel_core_facts.specs.Stepping.{is_owing};
 
 use base_types::{Answer, Instr, Reply};
 use kernel_core_facts::Made;
@@ -17,7 +17,7 @@ fn is_stabilise(instr: Instr) -> bool
 
 /// Whether a step that was made owes a Stable: a stabilise that was answered Ok.
 pub(crate) fn owes_stable(made: &Made) -> bool
-    ensures { result ≡ (stabilises (Replied OkReply) made.now.instr && is_ok made.now.entry.answer) }
+    ensures { result ≡ is_owing made.now.instr made.now.entry.answer }
 {
     is_stabilise(made.instr) && matches!(made.entry.answer, Answer::Reply(Reply::Ok))
 }

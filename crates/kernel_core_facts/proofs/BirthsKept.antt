@@ -4,6 +4,7 @@ use Rattle.std.specs.Prelude.{IfErr, IsErrOf, OnOk, Result, ⊤}
 use Rattle.std.specs.Result.{result_err}
 use Rattle.edge_disk.specs.declared.disk.Disk.{Ghosts}
 use Rattle.edge_disk.specs.Counts.{Rose}
+use Rattle.edge_disk.specs.declared.disk.NoBlocks.{NoBlocks}
 use Rattle.base_types.specs.declared.histories.Entry.{Entry}
 use Rattle.table_births.specs.model_kernel.Scripts.{Script}
 use Rattle.table_births.specs.script_types.Rules.{IsScript}
@@ -27,20 +28,20 @@ use Rattle.kernel_commits.specs.kernel_invariant.declared.stopping.Stopped.TheVa
 use Rattle.kernel_core_facts.proofs.Begun.{begins_births, goes_on_with}
 use Rattle.kernel_core_facts.proofs.Kept.{while_going}
 
-pub failed_rose : {D : Type 0} (faults : D → ℕ) (old new : Parts D) (result : Result ⊤ Stopped) → IfErr result (LeavesStopped faults old new) → IsErrOf result reason.WriteFault → Rose (faults old.store.disk) (faults new.store.disk)
-failed_rose faults old new (Ok u) stop is = absurd (cc is)
-failed_rose faults old new (Err reason.WriteFault) stop is = stop.cause
-failed_rose faults old new (Err reason.ReadFault) stop is = stop.cause
-failed_rose faults old new (Err (reason.NoBlocks n)) stop is = absurd (cc is)
+pub failed_rose : {D : Type 0} (faults : D → ℕ) (P : NoBlocks → Type 0) (old new : Parts D) (result : Result ⊤ Stopped) → IfErr result (LeavesStopped faults P old new) → IsErrOf result reason.WriteFault → Rose (faults old.store.disk) (faults new.store.disk)
+failed_rose faults P old new (Ok u) stop is = absurd (cc is)
+failed_rose faults P old new (Err reason.WriteFault) stop is = stop.cause
+failed_rose faults P old new (Err reason.ReadFault) stop is = stop.cause
+failed_rose faults P old new (Err (reason.NoBlocks n)) stop is = absurd (cc is)
 
 module _ {D : Type 0} (disks : Ghosts D) where
-  orderly_by : (old new : Parts D) (result : Result ⊤ Stopped) → OnOk result (IsSteady disks new) → IfErr result (LeavesStopped disks.faults old new) → IsOrderly (books new.store).held new.cells
-  orderly_by old new (Ok u) steady stopped = steady.sound.matches.orderly
-  orderly_by old new (Err why) steady stopped = stopped.orderly
+  orderly_by : (P : NoBlocks → Type 0) (old new : Parts D) (result : Result ⊤ Stopped) → OnOk result (IsSteady disks new) → IfErr result (LeavesStopped disks.faults P old new) → IsOrderly (books new.store).held new.cells
+  orderly_by P old new (Ok u) steady stopped = steady.sound.matches.orderly
+  orderly_by P old new (Err why) steady stopped = stopped.orderly
 
-  pub births_kept : (old new : Parts D) (result : Result ⊤ Stopped) → OnOk result (IsSteady disks new) → IfErr result (LeavesStopped disks.faults old new)
+  pub births_kept : (P : NoBlocks → Type 0) (old new : Parts D) (result : Result ⊤ Stopped) → OnOk result (IsSteady disks new) → IfErr result (LeavesStopped disks.faults P old new)
       → (o : Option Stopped) → o ≡ result_err result → IsKept disks (record { parts = new; stop = o })
-  births_kept old new result steady stopped o is = record { orderly = orderly_by old new result steady stopped; steady = while_going result steady o is }
+  births_kept P old new result steady stopped o is = record { orderly = orderly_by P old new result steady stopped; steady = while_going result steady o is }
 
   -- IN A RUN
 
@@ -56,11 +57,11 @@ module _ {D : Type 0} (disks : Ghosts D) where
 
   -- what was noted of the opening, by the kernel as it is left
   pub births_along : (b : Beginning) (old : Held D) (new : Parts D) → old.parts.noted.entries ≡ [] → (result : Result ⊤ Stopped) → OpensRun disks b result new
-      → (o : Option Stopped) → o ≡ result_err result → NotesAlong b (opening b.supply b.script b.state) old (record { parts = new; stop = o })
+      → (o : Option Stopped) → o ≡ result_err result → NotesAlong disks b (opening b.supply b.script b.state) old (record { parts = new; stop = o })
   births_along b old new first result l o is = record {
     whole = λ going. while_going result l.complete o is going ∙ sym (ap (λ (es : List Entry). es ++ opening b.supply b.script b.state) first);
     part = λ why kept. subst (λ (es : List Entry). StopsIn b (opening b.supply b.script b.state) es new.noted.entries) (sym first) (when_stopped result l.part o is why kept);
-    enough = λ n kept. subst (λ (es : List Entry). LacksIn b (opening b.supply b.script b.state) es new) (sym first) (l.enough n (err_of_kept result o is (reason.NoBlocks n) kept));
+    enough = λ n kept. subst (λ (es : List Entry). LacksIn disks b n (opening b.supply b.script b.state) es new) (sym first) (l.enough n (err_of_kept result o is (reason.NoBlocks n) kept));
   }
 
   -- a kernel that nothing is noted of, and its parts

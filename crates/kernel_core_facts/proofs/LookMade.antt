@@ -3,6 +3,7 @@ use Rattle.std.proofs.Common.{◌≡◌, ℕ, Bool, true, false, ◌&&◌, if◌
 use Rattle.std.specs.Prelude.{OnOk, Result, ⊤}
 use Rattle.std.proofs.lemmas.List.{append-nil, append_assoc}
 use Rattle.edge_disk.specs.declared.disk.Disk.{Ghosts}
+use Rattle.edge_disk.specs.declared.disk.NoBlocks.{NoBlocks}
 use Rattle.base_types.specs.declared.histories.Answer.TheVariants.{Reply as Replied}
 use Rattle.base_types.specs.declared.histories.Entry.{Entry}
 use Rattle.base_types.specs.declared.instructions.Instr.{Instr}
@@ -196,9 +197,9 @@ module _ {D : Type 0} (disks : Ghosts D)
 
     -- where blocks were wanting behind the step, the next of what comes behind it was due
     pub lacks_behind_step : (owes : Bool) → (run_of b mid.noted.entries).owed ≡ (if owes then Some me else None) → (new : Parts D)
-        → LacksIn b (kept (run_of b mid.noted.entries) (if owes then Some e.actor else None)) mid.noted.entries new
-        → LacksIn b (look b.supply b.policy b.script (run_of b old.noted.entries) me) old.noted.entries new
-    lacks_behind_step owes is new lacks =
+        → (n : NoBlocks) → LacksIn disks b n (kept (run_of b mid.noted.entries) (if owes then Some e.actor else None)) mid.noted.entries new
+        → LacksIn disks b n (look b.supply b.policy b.script (run_of b old.noted.entries) me) old.noted.entries new
+    lacks_behind_step owes is new n lacks =
         let r0 : Run = run_of b old.noted.entries in
         let r1 : Run = goes_on b.supply b.script r0 e in
         let o : Option ℕ = if owes then Some e.actor else None in
@@ -206,8 +207,8 @@ module _ {D : Type 0} (disks : Ghosts D)
         let whole : e ∷ (kept (run_of b mid.noted.entries) o ++ []) ≡ looked =
         ap (λ es. e ∷ es) (append-nil (kept (run_of b mid.noted.entries) o))
         ∙ (ap (λ (q : Run). e ∷ kept q o) mid_next ∙ sym (look_made b.supply policy b.script r0 me e k.state o k.can k.is (sym (ap (λ (q : Run). q.owed) mid_next) ∙ owed))) in
-        subst (λ (q : Policy). LacksIn b (look b.supply q b.script r0 me) old.noted.entries new) (sym same)
-        (lacks_behind b looked (e ∷ []) (kept (run_of b mid.noted.entries) o) [] old.noted.entries mid.noted.entries new whole h.entries lacks)
+        subst (λ (q : Policy). LacksIn disks b n (look b.supply q b.script r0 me) old.noted.entries new) (sym same)
+        (lacks_behind disks b n looked (e ∷ []) (kept (run_of b mid.noted.entries) o) [] old.noted.entries mid.noted.entries new whole h.entries lacks)
 
   -- where it stopped at its step, nothing came
   pub part_at_step : (new : Parts D) → new.noted ≡ old.noted → StopsInLook new.noted.entries

@@ -114,11 +114,11 @@ module _ {D : Type 0} (script : Script) (old mid : Parts D) (borne : HasBorneAll
     }
 
   -- a stop behind the births is one behind the old parts
-  pub stopped_births : (faults : D → ℕ) (new : Parts D) (result : Result ⊤ Stopped) → IfErr result (LeavesStopped faults mid new) → IfErr result (LeavesStopped faults old new)
-  stopped_births faults new (Ok u) stop = tt
-  stopped_births faults new (Err (reason.NoBlocks n)) stop = record { orderly = stop.orderly; marks = stop.marks; cause = stop.cause }
-  stopped_births faults new (Err reason.ReadFault) stop = record { orderly = stop.orderly; marks = stop.marks; cause = subst (λ (st : State D). Rattle.edge_disk.specs.Counts.Rose (faults st.disk) (faults new.store.disk)) borne.made.store stop.cause }
-  stopped_births faults new (Err reason.WriteFault) stop = record { orderly = stop.orderly; marks = stop.marks; cause = subst (λ (st : State D). Rattle.edge_disk.specs.Counts.Rose (faults st.disk) (faults new.store.disk)) borne.made.store stop.cause }
+  pub stopped_births : (faults : D → ℕ) (P : NoBlocks → Type 0) (new : Parts D) (result : Result ⊤ Stopped) → IfErr result (LeavesStopped faults P mid new) → IfErr result (LeavesStopped faults P old new)
+  stopped_births faults P new (Ok u) stop = tt
+  stopped_births faults P new (Err (reason.NoBlocks n)) stop = record { orderly = stop.orderly; marks = stop.marks; cause = stop.cause; wanting = stop.wanting }
+  stopped_births faults P new (Err reason.ReadFault) stop = record { orderly = stop.orderly; marks = stop.marks; cause = subst (λ (st : State D). Rattle.edge_disk.specs.Counts.Rose (faults st.disk) (faults new.store.disk)) borne.made.store stop.cause; wanting = stop.wanting }
+  stopped_births faults P new (Err reason.WriteFault) stop = record { orderly = stop.orderly; marks = stop.marks; cause = subst (λ (st : State D). Rattle.edge_disk.specs.Counts.Rose (faults st.disk) (faults new.store.disk)) borne.made.store stop.cause; wanting = stop.wanting }
 
   -- births are no Tried
   pub untried_births : AddsNoTried old.noted.entries mid.noted.entries
@@ -191,7 +191,7 @@ module _ {D : Type 0} (disks : Ghosts D)
 
     pub opens_settled : (result : Result ⊤ Stopped) (new : Parts D) → OnOk result (HasStabilised 0 p new) → Stabilises disks b result new
         → OnErr result (StopsIn b (mark Stable 0 0 ∷ []) es new.noted.entries)
-        → ((n : NoBlocks) → IsErrOf result (reason.NoBlocks n) → LacksIn b (mark Stable 0 0 ∷ []) es new) → OpensRun disks b result new
+        → ((n : NoBlocks) → IsErrOf result (reason.NoBlocks n) → LacksIn disks b n (mark Stable 0 0 ∷ []) es new) → OpensRun disks b result new
     opens_settled (Ok u) new st s part lacks = record {
       stands = s.stands;
       calm = record { births_made = born_still new st.entries; nothing_owed = s.calm.owed; not_tried = s.calm.tried; nothing_due = s.calm.due };
@@ -205,6 +205,6 @@ module _ {D : Type 0} (disks : Ghosts D)
       calm = tt;
       complete = tt;
       part = part_behind new.noted.entries part;
-      enough = λ n failed. lacks_behind b (opening b.supply b.script b.state) es (mark Stable 0 0 ∷ []) [] [] es new awaits.complete refl (lacks n failed);
+      enough = λ n failed. lacks_behind disks b n (opening b.supply b.script b.state) es (mark Stable 0 0 ∷ []) [] [] es new awaits.complete refl (lacks n failed);
       lives = s.lives;
     }

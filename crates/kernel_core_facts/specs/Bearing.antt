@@ -92,5 +92,5 @@ module _ {D : Type 0} (disks : Ghosts D) where
     pub calm : OnOk result (IsCalm b new.noted.entries)
     pub complete : OnOk result (new.noted.entries ≡ opening b.supply b.script b.state)
     pub part : OnErr result (StopsIn b (opening b.supply b.script b.state) [] new.noted.entries)
-    pub enough : (n : NoBlocks) → IsErrOf result (reason.NoBlocks n) → LacksIn b (opening b.supply b.script b.state) [] new
+    pub enough : (n : NoBlocks) → IsErrOf result (reason.NoBlocks n) → LacksIn disks b n (opening b.supply b.script b.state) [] new
     pub lives : IfErr result (λ why. LivesAs disks b new (Some why))

@@ -50,8 +50,8 @@ module _ {D : Type 0} (disks : Ghosts D) where
     pub clean : k.stop ≡ None → AreClean b.supply (words_on (disks.reading k.parts.store.disk)) k.parts.cells
 
 -- WHAT A CALL NOTED IN A RUN of a kernel that went on: where it goes on still, the whole of this piece; where it has stopped, a part of it, and for
--- want of blocks only where the image lacks them
-pub record NotesAlong {D : Type 0} (b : Beginning) (all : List Entry) (old new : Held D) : Type 0 where
+-- want of blocks only where the image lacks them, and the next entry is short of them
+pub record NotesAlong {D : Type 0} (disks : Ghosts D) (b : Beginning) (all : List Entry) (old new : Held D) : Type 0 where
   pub whole : new.stop ≡ None → new.parts.noted.entries ≡ old.parts.noted.entries ++ all
   pub part : (why : Stopped) → new.stop ≡ Some why → StopsIn b all old.parts.noted.entries new.parts.noted.entries
-  pub enough : (n : NoBlocks) → new.stop ≡ Some (reason.NoBlocks n) → LacksIn b all old.parts.noted.entries new.parts
+  pub enough : (n : NoBlocks) → new.stop ≡ Some (reason.NoBlocks n) → LacksIn disks b n all old.parts.noted.entries new.parts

@@ -25,7 +25,7 @@ use Rattle.kernel_core.specs.kernel_commit_facts.Lacking.{LacksIn}
 use Rattle.kernel_core.specs.kernel_commit_facts.Pieces.{StopsIn}
 use Rattle.kernel_core.specs.kernel_invariant.declared.stopping.Stopped.{Stopped}
 use Rattle.kernel_core.specs.kernel_invariant.declared.stopping.Stopped.TheVariants as reason
-use Rattle.kernel_core.proofs.kernel_commit_facts_lemmas.Dues.{due_looks, due_opening}
+use Rattle.kernel_core.proofs.kernel_commit_facts_lemmas.Dues.{short_looks, short_opening}
 use Rattle.kernel_runs.specs.Running.{HasStopped, IsOver, IsRunBy, RunsAlong, TakesOn, opened_in}
 use Rattle.kernel_runs.proofs.Course.{one_look, over, part_of_look}
 
@@ -81,22 +81,21 @@ module _ {D : Type 0} (disks : Ghosts D) (supply : Supply) (policy : Policy) whe
   opens b k lives same = record { lives = lives; looks = subst (HasLooked b.supply b.policy b.script b.state []) (sym same) (looked_opening b.supply b.policy b.script b.state) }
 
   -- the births were stopped
-  pub stops_opening : (b : Beginning) (k0 k : Held D) → Lives disks b k → k0.parts.noted.entries ≡ [] → NotesAlong b (opening b.supply b.script b.state) k0 k → (why : Stopped) → k.stop ≡ Some why
+  pub stops_opening : (b : Beginning) (k0 k : Held D) → Lives disks b k → k0.parts.noted.entries ≡ [] → NotesAlong disks b (opening b.supply b.script b.state) k0 k → (why : Stopped) → k.stop ≡ Some why
       → HasStopped disks b k
   stops_opening b k0 k lives first notes why is =
       let p = subst (λ (es : List Entry). StopsIn b (opening b.supply b.script b.state) es k.parts.noted.entries) first (notes.part why is) in
-      let lacks : (n : NoBlocks) → k.stop ≡ Some (reason.NoBlocks n) → LacksIn b (opening b.supply b.script b.state) [] k.parts =
-      λ n at. subst (λ (es : List Entry). LacksIn b (opening b.supply b.script b.state) es k.parts) first (notes.enough n at) in
+      let lacks : (n : NoBlocks) → k.stop ≡ Some (reason.NoBlocks n) → LacksIn disks b n (opening b.supply b.script b.state) [] k.parts =
+      λ n at. subst (λ (es : List Entry). LacksIn disks b n (opening b.supply b.script b.state) es k.parts) first (notes.enough n at) in
       record {
         lives = lives;
         part = subst (IsStopped b.supply b.policy b.script b.state) (sym p.entries) (stopped_opening b.supply b.script b.policy b.state p.part p.is);
-        enough = λ n at. (lacks n at).lacks;
-        due = λ n at. due_opening b k.parts.noted.entries (lacks n at).due;
+        short = λ n at. short_opening disks b n k.parts (lacks n at);
       }
 
   -- ONE LOOK: the kernel is behind it, or was stopped in it
   pub takes_look : (b : Beginning) (looked : List ℕ) (l : ℕ) (old new : Held D) → Along b looked old → ComeFirst b.script (opened_in b) (looked ++ l ∷ []) → Lives disks b new
-      → NotesAlong b (look b.supply b.policy b.script (run_of b old.parts.noted.entries) l) old new → TakesOn disks b (looked ++ l ∷ []) new
+      → NotesAlong disks b (look b.supply b.policy b.script (run_of b old.parts.noted.entries) l) old new → TakesOn disks b (looked ++ l ∷ []) new
   takes_look b looked l old new along first lives notes =
       let es = old.parts.noted.entries in
       let all = look b.supply b.policy b.script (run_of b es) l in
@@ -107,9 +106,8 @@ module _ {D : Type 0} (disks : Ghosts D) (supply : Supply) (policy : Policy) whe
             record {
               lives = lives;
               part = part_of_look b.supply b.policy b.script b.state looked es new.parts.noted.entries l along.looks first p.part p.entries p.is;
-              enough = λ n at. (notes.enough n at).lacks;
-              due = λ n at.
-                  due_looks b (looked ++ l ∷ []) es all new.parts.noted.entries (looked_more b.supply b.policy b.script b.state looked es l along.looks) first (notes.enough n at).due;
+              short = λ n at.
+                  short_looks disks b n (looked ++ l ∷ []) es all new.parts (looked_more b.supply b.policy b.script b.state looked es l along.looks) first (notes.enough n at);
             };
       }
 

@@ -6,10 +6,13 @@ use Rattle.edge_disk.specs.declared.disk.Disk.{Ghosts}
 use Rattle.edge_disk.specs.Counts.{Rose}
 use Rattle.edge_disk.specs.declared.disk.NoBlocks.{NoBlocks}
 use Rattle.base_types.specs.declared.histories.Entry.{Entry}
+use Rattle.script_types.specs.model_kernel.Histories.{Policy}
 use Rattle.script_types.specs.model_kernel.Scripts.{Script}
 use Rattle.kernel_core.specs.kernel_core_facts.cell_plans.declared.idle.Idle.{Idle as AnIdle}
 use Rattle.kernel_core.specs.kernel_commit_facts.Parts.{Parts}
-use Rattle.kernel_core.specs.kernel_commit_facts.Stabilising.{AreShort}
+use Rattle.kernel_core.specs.kernel_commit_facts.Stabilising.{AreShort, needs_in}
+use Rattle.kernel_core.specs.kernel_commit_facts.store_books.Books.{free_in, kept_names}
+use Rattle.kernel_core.specs.kernel_commit_facts.store_facts.State.{books}
 use Rattle.kernel_core.specs.kernel_commits.Stops.{IsCause}
 use Rattle.kernel_core.specs.kernel_commits.Telling.{FailsByDisk, FailsByWrite, Tells, TriesByAnswer}
 use Rattle.kernel_core.specs.kernel_commits.declared.stopping.Stop.{Stop}
@@ -17,55 +20,62 @@ use Rattle.kernel_core.specs.kernel_commits.declared.stopping.Stop.TheVariants a
 use Rattle.kernel_core.specs.kernel_invariant.declared.stopping.Stopped.{Stopped}
 use Rattle.kernel_core.specs.kernel_invariant.declared.stopping.Stopped.TheVariants as reason
 use Rattle.kernel_core.specs.kernel_core_facts.Bearing.{IsShortBehind}
-use Rattle.kernel_core.specs.kernel_core_facts.Looking.{StopsLook}
+use Rattle.kernel_core.specs.kernel_core_facts.Looking.{StopsLook, WasShort}
 use Rattle.kernel_runs.specs.Running.{IsCauseOf, past_idle}
 use Rattle.edge_disk.proofs.Ticks.{Rose-before}
 
 -- the cause of a part of a stretch is one of the whole
-pub cause_from : {D : Type 0} (faults : D → ℕ) (old mid new : Parts D) (s : Stop) → faults old.store.disk ≤ faults mid.store.disk → faults mid.store.disk ≤ faults new.store.disk
-    → IsCauseOf faults mid new s → IsCauseOf faults old new s
-cause_from faults old mid new (stop.Idle why) low later cause = cause
-cause_from faults old mid new (stop.NoBlocks n) low later cause = cause
-cause_from faults old mid new stop.ReadFault low later cause = Rose-before (faults old.store.disk) (faults mid.store.disk) (faults new.store.disk) low later cause
-cause_from faults old mid new stop.WriteFault low later cause = Rose-before (faults old.store.disk) (faults mid.store.disk) (faults new.store.disk) low later cause
-cause_from faults old mid new stop.Shut low later cause = cause
+pub cause_from : {D : Type 0} (disks : Ghosts D) (policy : Policy) (old mid new : Parts D) (s : Stop) → disks.faults old.store.disk ≤ disks.faults mid.store.disk
+    → disks.faults mid.store.disk ≤ disks.faults new.store.disk → IsCauseOf disks policy mid new s → IsCauseOf disks policy old new s
+cause_from disks policy old mid new (stop.Idle why) low later cause = cause
+cause_from disks policy old mid new (stop.NoBlocks n) low later cause = cause
+cause_from disks policy old mid new stop.ReadFault low later cause = Rose-before (disks.faults old.store.disk) (disks.faults mid.store.disk) (disks.faults new.store.disk) low later cause
+cause_from disks policy old mid new stop.WriteFault low later cause = Rose-before (disks.faults old.store.disk) (disks.faults mid.store.disk) (disks.faults new.store.disk) low later cause
+cause_from disks policy old mid new stop.Shut low later cause = cause
 
 -- a kernel that such a cause met goes on no more
-pub has_stopped : {D : Type 0} (T : Type 0) (faults : D → ℕ) (old new : Parts D) (s : Stop) (o : Option Stopped) → Tells {T = T} (Err s) o → IsCauseOf faults old new s → o ≡ None → ⊥
-has_stopped T faults old new (stop.Idle why) o tells cause none = cause
-has_stopped T faults old new (stop.NoBlocks n) o tells cause none = (let clash : Some (reason.NoBlocks n) ≡ None = sym tells ∙ none in cc clash)
-has_stopped T faults old new stop.ReadFault o tells cause none = (let clash : Some reason.ReadFault ≡ None = sym tells ∙ none in cc clash)
-has_stopped T faults old new stop.WriteFault o tells cause none = (let clash : Some reason.WriteFault ≡ None = sym tells ∙ none in cc clash)
-has_stopped T faults old new stop.Shut o tells cause none = cause
-
--- and what it keeps is that cause
-pub cause_kept : {D T : Type 0} (faults : D → ℕ) (old new : Parts D) (r : Result T Stop) (o : Option Stopped) → Tells r o → IfErr r (IsCauseOf faults old new) → (why : Stopped) → o ≡ Some why
-    → IsCause faults old new why
-cause_kept faults old new (Ok y) o tells cause why is = absurd (let clash : None ≡ Some why = sym tells ∙ is in cc clash)
-cause_kept faults old new (Err (stop.Idle w)) o tells cause why is = absurd cause
-cause_kept faults old new (Err (stop.NoBlocks n)) o tells cause why is = subst (IsCause faults old new) (same_Some (reason.NoBlocks n) why (sym tells ∙ is)) cause
-cause_kept faults old new (Err stop.ReadFault) o tells cause why is = subst (IsCause faults old new) (same_Some reason.ReadFault why (sym tells ∙ is)) cause
-cause_kept faults old new (Err stop.WriteFault) o tells cause why is = subst (IsCause faults old new) (same_Some reason.WriteFault why (sym tells ∙ is)) cause
-cause_kept faults old new (Err stop.Shut) o tells cause why is = absurd cause
+pub has_stopped : {D : Type 0} (T : Type 0) (disks : Ghosts D) (policy : Policy) (old new : Parts D) (s : Stop) (o : Option Stopped) → Tells {T = T} (Err s) o → IsCauseOf disks policy old new s → o ≡ None → ⊥
+has_stopped T disks policy old new (stop.Idle why) o tells cause none = cause
+has_stopped T disks policy old new (stop.NoBlocks n) o tells cause none = (let clash : Some (reason.NoBlocks n) ≡ None = sym tells ∙ none in cc clash)
+has_stopped T disks policy old new stop.ReadFault o tells cause none = (let clash : Some reason.ReadFault ≡ None = sym tells ∙ none in cc clash)
+has_stopped T disks policy old new stop.WriteFault o tells cause none = (let clash : Some reason.WriteFault ≡ None = sym tells ∙ none in cc clash)
+has_stopped T disks policy old new stop.Shut o tells cause none = cause
 
 fewer_by : (need free : ℕ) (n : NoBlocks) → n ≡ record { need = need; free = free } → free < need → n.free < n.need
 fewer_by need free n is lt = subst (λ (m : NoBlocks). m.free < m.need) (sym is) lt
 
--- WHAT STOPPED A LOOK, where idle loci are passed over
+-- so fewer blocks were free than were needed
+stable_fewer : {D : Type 0} (p : Parts D) (n : NoBlocks) → AreShort p n → n.free < n.need
+stable_fewer p n short = fewer_by (needs_in (kept_names (books p.store)) p.cells) (free_in (books p.store)) n short.numbers short.fewer
 
-look_short : {D : Type 0} (disks : Ghosts D) (me : ℕ) (old new : Parts D) (n : NoBlocks) → StopsLook disks me old new (reason.NoBlocks n) → n.free < n.need
-look_short disks me old new n stops = elim stops as (λ _. n.free < n.need) [
-  | inl at_step ↦ fewer_by 1 0 n at_step.cause.1 (omega arith)
-  | inr behind ↦ behind.leaves.cause
+short_fewer : {D : Type 0} (disks : Ghosts D) (policy : Policy) (new : Parts D) (n : NoBlocks) → WasShort disks policy new n → n.free < n.need
+short_fewer disks policy new n was = elim was as (λ _. n.free < n.need) [
+  | inl stable ↦ stable_fewer new n stable
+  | inr look ↦ elim look.2 as (λ _. n.free < n.need) [
+    | inl at_step ↦ fewer_by 1 0 n at_step.cause.short.short.short.numbers (omega arith)
+    | inr behind ↦ behind.leaves.cause
+  ]
 ]
 
-pub look_cause : {D : Type 0} (T : Type 0) (disks : Ghosts D) (me : ℕ) (old new : Parts D) (s : Stop) (o : Option Stopped) → Tells {T = T} (Err s) o → IfSome o (StopsLook disks me old new)
-    → FailsByDisk (Rose (disks.faults old.store.disk) (disks.faults new.store.disk)) s → IfErr (past_idle s) (IsCauseOf disks.faults old new)
-look_cause T disks me old new (stop.Idle why) o tells stops fails = tt
-look_cause T disks me old new (stop.NoBlocks n) o tells stops fails = look_short disks me old new n (subst (λ k. IfSome k (StopsLook disks me old new)) tells stops)
-look_cause T disks me old new stop.ReadFault o tells stops fails = fails
-look_cause T disks me old new stop.WriteFault o tells stops fails = fails
-look_cause T disks me old new stop.Shut o tells stops fails = absurd tells
+-- and what it keeps is that cause
+pub cause_kept : {D T : Type 0} (disks : Ghosts D) (policy : Policy) (old new : Parts D) (r : Result T Stop) (o : Option Stopped) → Tells r o → IfErr r (IsCauseOf disks policy old new) → (why : Stopped) → o ≡ Some why
+    → IsCause disks.faults old new why
+cause_kept disks policy old new (Ok y) o tells cause why is = absurd (let clash : None ≡ Some why = sym tells ∙ is in cc clash)
+cause_kept disks policy old new (Err (stop.Idle w)) o tells cause why is = absurd cause
+cause_kept disks policy old new (Err (stop.NoBlocks n)) o tells cause why is = subst (IsCause disks.faults old new) (same_Some (reason.NoBlocks n) why (sym tells ∙ is)) (short_fewer disks policy new n cause)
+cause_kept disks policy old new (Err stop.ReadFault) o tells cause why is = subst (IsCause disks.faults old new) (same_Some reason.ReadFault why (sym tells ∙ is)) cause
+cause_kept disks policy old new (Err stop.WriteFault) o tells cause why is = subst (IsCause disks.faults old new) (same_Some reason.WriteFault why (sym tells ∙ is)) cause
+cause_kept disks policy old new (Err stop.Shut) o tells cause why is = absurd cause
+
+-- WHAT STOPPED A LOOK, where idle loci are passed over
+
+pub look_cause : {D : Type 0} (T : Type 0) (disks : Ghosts D) (policy : Policy) (me : ℕ) (old new : Parts D) (s : Stop) (o : Option Stopped) → Tells {T = T} (Err s) o → IfSome o (StopsLook disks policy me old new)
+    → FailsByDisk (Rose (disks.faults old.store.disk) (disks.faults new.store.disk)) s → IfErr (past_idle s) (IsCauseOf disks policy old new)
+look_cause T disks policy me old new (stop.Idle why) o tells stops fails = tt
+look_cause T disks policy me old new (stop.NoBlocks n) o tells stops fails = inr (me, old, subst (λ k. IfSome k (StopsLook disks policy me old new)) tells stops)
+look_cause T disks policy me old new stop.ReadFault o tells stops fails = fails
+look_cause T disks policy me old new stop.WriteFault o tells stops fails = fails
+look_cause T disks policy me old new stop.Shut o tells stops fails = absurd tells
 
 pub tells_past : (T : Type 0) (s : Stop) (o : Option Stopped) → Tells {T = T} (Err s) o → Tells (past_idle s) o
 tells_past T (stop.Idle why) o tells = tells
@@ -82,16 +92,13 @@ tries_past T stop.WriteFault old new tries = tries
 tries_past T stop.Shut old new tries = tries
 
 -- and what stopped the births
-pub births_cause : {D : Type 0} (faults : D → ℕ) (script : Script) (old new : Parts D) (s : Stop) → IsShortBehind script (λ n. IsErrOf {T = ⊤} (Err s) (stop.NoBlocks n)) old new
-    → FailsByWrite (Rose (faults old.store.disk) (faults new.store.disk)) s → IsCauseOf faults old new s
-births_cause faults script old new (stop.Idle why) short fails = fails
-births_cause faults script old new (stop.NoBlocks n) short fails = few (((short.exact n).0 refl).1)
-  where
-    few : {D : Type 0} {p : Parts D} → AreShort p n → n.free < n.need
-    few t = fewer_by _ _ n t.numbers t.fewer
-births_cause faults script old new stop.ReadFault short fails = absurd fails
-births_cause faults script old new stop.WriteFault short fails = fails
-births_cause faults script old new stop.Shut short fails = fails
+pub births_cause : {D : Type 0} (disks : Ghosts D) (policy : Policy) (script : Script) (old new : Parts D) (s : Stop) → IsShortBehind script (λ n. IsErrOf {T = ⊤} (Err s) (stop.NoBlocks n)) old new
+    → FailsByWrite (Rose (disks.faults old.store.disk) (disks.faults new.store.disk)) s → IsCauseOf disks policy old new s
+births_cause disks policy script old new (stop.Idle why) short fails = fails
+births_cause {D} disks policy script old new (stop.NoBlocks n) short fails = inl (subst (λ (p : Parts D). AreShort p n) (sym (short.untouched n refl)) ((short.exact n).0 refl).1)
+births_cause disks policy script old new stop.ReadFault short fails = absurd fails
+births_cause disks policy script old new stop.WriteFault short fails = fails
+births_cause disks policy script old new stop.Shut short fails = fails
 
 -- what is no idle locus is handed on
 pub past_other : (s : Stop) → ((why : AnIdle) → s ≡ stop.Idle why → ⊥) → IsErrOf (past_idle s) s

@@ -1,5 +1,5 @@
 -- What takes a kernel along the serial history of its run, and how a run ends.
-use Rattle.std.specs.Prelude.{◌≡◌, ◌<◌, ℕ, ◌+◌, ◌*◌, List, length, None, Some, Ok, Err, Result, ⊤}
+use Rattle.std.specs.Prelude.{◌≡◌, ℕ, ◌+◌, ◌*◌, List, length, None, Some, Ok, Err, Result, ⊤}
 use Rattle.edge_disk.specs.declared.disk.Disk.{Ghosts}
 use Rattle.edge_disk.specs.Counts.{Rose}
 use Rattle.edge_disk.specs.declared.disk.NoBlocks.{NoBlocks}
@@ -11,7 +11,8 @@ use Rattle.kernel_core.specs.model_serial.Serial.{IsStopped, IsWhole}
 use Rattle.kernel_core.specs.model_serial_turns.Turns.{HasLooked, opened}
 use Rattle.kernel_core.specs.kernel_invariant.Beginnings.{Beginning}
 use Rattle.kernel_core.specs.kernel_core_facts.Kernels.{Held, Lives}
-use Rattle.kernel_core.specs.kernel_commit_facts.Lacking.{IsDue, LacksBlocks}
+use Rattle.kernel_core.specs.kernel_core_facts.Looking.{WasShort}
+use Rattle.kernel_core.specs.kernel_commit_facts.Lacking.{IsShortAt}
 use Rattle.kernel_core.specs.kernel_commit_facts.Parts.{Parts}
 use Rattle.kernel_core.specs.kernel_commits.declared.stopping.Stop.{Stop}
 use Rattle.kernel_core.specs.kernel_commits.declared.stopping.Stop.TheVariants as stop
@@ -36,13 +37,14 @@ end_of a = 41 + length a.loci
 abbrev pub look_most : ℕ
 look_most = 1 + 64 * 1556
 
--- why a run stops: blocks are too few, or the disk's count of faults rose; it is never told Idle, and Shut of an earlier call alone
-abbrev pub IsCauseOf : {D : Type 0} → (D → ℕ) → Parts D → Parts D → Stop → Type 0
-IsCauseOf faults old new (stop.Idle why) = ⊥
-IsCauseOf faults old new (stop.NoBlocks n) = n.free < n.need
-IsCauseOf faults old new stop.ReadFault = Rose (faults old.store.disk) (faults new.store.disk)
-IsCauseOf faults old new stop.WriteFault = Rose (faults old.store.disk) (faults new.store.disk)
-IsCauseOf faults old new stop.Shut = ⊥
+-- why a run stops: blocks are too few for what was next where it is left, or the disk's count of faults rose; it is never told Idle, and Shut of
+-- an earlier call alone
+abbrev pub IsCauseOf : {D : Type 0} → Ghosts D → Policy → Parts D → Parts D → Stop → Type 0
+IsCauseOf disks policy old new (stop.Idle why) = ⊥
+IsCauseOf disks policy old new (stop.NoBlocks n) = WasShort disks policy new n
+IsCauseOf disks policy old new stop.ReadFault = Rose (disks.faults old.store.disk) (disks.faults new.store.disk)
+IsCauseOf disks policy old new stop.WriteFault = Rose (disks.faults old.store.disk) (disks.faults new.store.disk)
+IsCauseOf disks policy old new stop.Shut = ⊥
 
 -- a look that made no step is passed over
 abbrev pub past_idle : Stop → Result ⊤ Stop
@@ -59,12 +61,11 @@ module _ {D : Type 0} (disks : Ghosts D) where
     pub looks : HasLooked b.supply b.policy b.script b.state looked k.parts.noted.entries
 
   -- THE RUN WAS STOPPED: the kernel is live, and has noted the serial history up to where it stopped. It was short of blocks only where the
-  -- image lacks them, and where the next entry of the serial history is a record, or a step that reads or writes a word
+  -- image lacks them, and for the next entry of the serial history: a record, or a step that reads or writes a word
   pub record HasStopped (b : Beginning) (k : Held D) : Type 0 where
     pub lives : Lives disks b k
     pub part : IsStopped b.supply b.policy b.script b.state k.parts.noted.entries
-    pub enough : (n : NoBlocks) → k.stop ≡ Some (reason.NoBlocks n) → LacksBlocks b k.parts
-    pub due : (n : NoBlocks) → k.stop ≡ Some (reason.NoBlocks n) → IsDue b k.parts.noted.entries
+    pub short : (n : NoBlocks) → k.stop ≡ Some (reason.NoBlocks n) → IsShortAt disks b n k.parts
 
   -- THE RUN IS OVER: the kernel is live, and has noted the whole serial history
   pub record IsOver (b : Beginning) (k : Held D) : Type 0 where

@@ -36,7 +36,7 @@ pub(crate) fn look_at<D: Disk, S: Supplier, P: Policy>(
     requires clean { StaysClean D.Disk (S.word gate.now.supply) kernel.old }
     requires going { kernel.old.stop ≡ None }
     ensures ends { Tells result kernel.new.stop }
-    ensures caused { IfErr result (IsCauseOf D.faults kernel.old.parts kernel.new.parts) }
+    ensures caused { IfErr result (IsCauseOf D.Disk (P.wish gate.now.policy) kernel.old.parts kernel.new.parts) }
     ensures tries { TriesByAnswer result kernel.old.parts.noted.entries kernel.new.parts.noted.entries }
     ensures clean { StaysClean D.Disk (S.word gate.now.supply) kernel.new }
     ensures counts { CountsWithin D.Disk (look_most) kernel.old.parts.store kernel.new.parts.store }
@@ -73,7 +73,7 @@ fn look_for<D: Disk, S: Supplier, P: Policy>(
     requires clean { StaysClean D.Disk (S.word gate.now.supply) kernel.old }
     requires going { kernel.old.stop ≡ None }
     ensures ends { Tells result kernel.new.stop }
-    ensures caused { IfErr result (IsCauseOf D.faults kernel.old.parts kernel.new.parts) }
+    ensures caused { IfErr result (IsCauseOf D.Disk (P.wish gate.now.policy) kernel.old.parts kernel.new.parts) }
     ensures tries { TriesByAnswer result kernel.old.parts.noted.entries kernel.new.parts.noted.entries }
     ensures clean { StaysClean D.Disk (S.word gate.now.supply) kernel.new }
     ensures counts { CountsWithin D.Disk (look_most) kernel.old.parts.store kernel.new.parts.store }
@@ -99,7 +99,7 @@ fn look_for_all<D: Disk, S: Supplier, P: Policy>(
     requires clean { StaysClean D.Disk (S.word gate.now.supply) kernel.old }
     requires going { kernel.old.stop ≡ None }
     ensures ends { Tells result kernel.new.stop }
-    ensures caused { IfErr result (IsCauseOf D.faults kernel.old.parts kernel.new.parts) }
+    ensures caused { IfErr result (IsCauseOf D.Disk (P.wish gate.now.policy) kernel.old.parts kernel.new.parts) }
     ensures tries { TriesByAnswer result kernel.old.parts.noted.entries kernel.new.parts.noted.entries }
     ensures clean { StaysClean D.Disk (S.word gate.now.supply) kernel.new }
     ensures counts { CountsWithin D.Disk (length order.now * look_most) kernel.old.parts.store kernel.new.parts.store }
@@ -131,7 +131,7 @@ pub fn play<D: Disk, S: Supplier, P: Policy>(
     requires clean { StaysClean D.Disk (S.word gate.now.supply) kernel.old }
     ensures was_stopped { IfSome kernel.old.stop (λ why. (result ≡ Err (told_again why)) × (kernel.new ≡ kernel.old)) }
     ensures ends { kernel.old.stop ≡ None → Tells result kernel.new.stop }
-    ensures caused { kernel.old.stop ≡ None → IfErr result (IsCauseOf D.faults kernel.old.parts kernel.new.parts) }
+    ensures caused { kernel.old.stop ≡ None → IfErr result (IsCauseOf D.Disk (P.wish gate.now.policy) kernel.old.parts kernel.new.parts) }
     ensures tries { TriesByAnswer result kernel.old.parts.noted.entries kernel.new.parts.noted.entries }
     ensures clean { StaysClean D.Disk (S.word gate.now.supply) kernel.new }
     ensures counts { CountsWithin D.Disk (length order.now * look_most) kernel.old.parts.store kernel.new.parts.store }

@@ -33,7 +33,7 @@ fn round<D: Disk, S: Supplier, P: Policy>(
     requires clean { StaysClean D.Disk (S.word gate.now.supply) kernel.old }
     requires going { kernel.old.stop ≡ None }
     ensures ends { Tells result kernel.new.stop }
-    ensures caused { IfErr result (IsCauseOf D.faults kernel.old.parts kernel.new.parts) }
+    ensures caused { IfErr result (IsCauseOf D.Disk (P.wish gate.now.policy) kernel.old.parts kernel.new.parts) }
     ensures tries { TriesByAnswer result kernel.old.parts.noted.entries kernel.new.parts.noted.entries }
     ensures clean { StaysClean D.Disk (S.word gate.now.supply) kernel.new }
     ensures counts { CountsWithin D.Disk (23 * look_most) kernel.old.parts.store kernel.new.parts.store }
@@ -69,7 +69,7 @@ fn go_round<D: Disk, S: Supplier, P: Policy>(
     requires clean { StaysClean D.Disk (S.word gate.now.supply) kernel.old }
     requires going { kernel.old.stop ≡ None }
     ensures ends { Tells result kernel.new.stop }
-    ensures caused { IfErr result (IsCauseOf D.faults kernel.old.parts kernel.new.parts) }
+    ensures caused { IfErr result (IsCauseOf D.Disk (P.wish gate.now.policy) kernel.old.parts kernel.new.parts) }
     ensures tries { TriesByAnswer result kernel.old.parts.noted.entries kernel.new.parts.noted.entries }
     ensures clean { StaysClean D.Disk (S.word gate.now.supply) kernel.new }
     ensures counts { CountsWithin D.Disk ((2 ^ 22 + 1) * (23 * look_most)) kernel.old.parts.store kernel.new.parts.store }
@@ -103,7 +103,7 @@ pub fn finish<D: Disk, S: Supplier, P: Policy>(
     requires clean { StaysClean D.Disk (S.word gate.now.supply) kernel.old }
     ensures was_stopped { IfSome kernel.old.stop (λ why. (result ≡ Err (told_again why)) × (kernel.new ≡ kernel.old)) }
     ensures ends { kernel.old.stop ≡ None → Tells result kernel.new.stop }
-    ensures caused { kernel.old.stop ≡ None → IfErr result (IsCauseOf D.faults kernel.old.parts kernel.new.parts) }
+    ensures caused { kernel.old.stop ≡ None → IfErr result (IsCauseOf D.Disk (P.wish gate.now.policy) kernel.old.parts kernel.new.parts) }
     ensures tries { TriesByAnswer result kernel.old.parts.noted.entries kernel.new.parts.noted.entries }
     ensures clean { StaysClean D.Disk (S.word gate.now.supply) kernel.new }
     ensures counts { CountsWithin D.Disk ((2 ^ 22 + 1) * (23 * look_most)) kernel.old.parts.store kernel.new.parts.store }

@@ -21,8 +21,8 @@ use script_types::Script;
 /// Runs a script: its births, the picks of its order, and rounds over the loci until none can step. A kernel that a fault meets stops
 /// there.
 ///
-/// `ReadFault` and `WriteFault` come only where the disk's count of faults rose, and `NoBlocks` only where fewer blocks were free than were
-/// needed, with both numbers; a Tried is noted only where a write failed. A kernel that has stopped does nothing, and answers `Shut` behind a
+/// `ReadFault` and `WriteFault` come only where the disk's count of faults rose, and `NoBlocks` only where fewer blocks were free than a page of
+/// the next step, the next record or all records of the next Stable needed, with both numbers; a Tried is noted only where a write failed. A kernel that has stopped does nothing, and answers `Shut` behind a
 /// fault of the disk, and the same `NoBlocks` behind want of blocks.
 pub fn run<D: Disk, S: Supplier, P: Policy>(
     kernel: &mut Kernel<D>,
@@ -37,7 +37,7 @@ pub fn run<D: Disk, S: Supplier, P: Policy>(
     requires first { kernel.old.parts.noted.entries ≡ [] }
     ensures was_stopped { IfSome kernel.old.stop (λ why. (result ≡ Err (told_again why)) × (kernel.new ≡ kernel.old)) }
     ensures ends { kernel.old.stop ≡ None → Tells result kernel.new.stop }
-    ensures caused { kernel.old.stop ≡ None → IfErr result (IsCauseOf D.faults kernel.old.parts kernel.new.parts) }
+    ensures caused { kernel.old.stop ≡ None → IfErr result (IsCauseOf D.Disk (P.wish gate.now.policy) kernel.old.parts kernel.new.parts) }
     ensures tries { TriesByAnswer result kernel.old.parts.noted.entries kernel.new.parts.noted.entries }
     ensures clean { StaysClean D.Disk (S.word gate.now.supply) kernel.new }
     ensures counts { CountsWithin D.Disk (64 * 1556 + length script.now.order.items * look_most + (2 ^ 22 + 1) * (23 * look_most)) kernel.old.parts.store kernel.new.parts.store }

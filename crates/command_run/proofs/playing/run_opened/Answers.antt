@@ -22,7 +22,7 @@ returns-clause-leaves g c =
     let sink = seen_sink g.W.Sink.held g.W.Sink.faults c.args.sink.now c.put_run-status.new.sink in
     let rose = Rose (d.faults old.parts.store.disk) (d.faults end.result.disk) in
     let cause : (why : Stopped) → new.stop ≡ Some why → IsCauseBy rose why =
-    by_answer d.faults old.parts new.parts end.result.disk end.ensures.disk c.run.result new.stop (c.run.ensures.ends c.requires.going) (c.run.ensures.caused c.requires.going) in
+    by_answer d (g.P.Policy.wish c.args.gate.now.policy) old.parts new.parts end.result.disk end.ensures.disk c.run.result new.stop (c.run.ensures.ends c.requires.going) (c.run.ensures.caused c.requires.going) in
     let put = subst (λ (es : List Entry). IsPutBy new.stop sink (lines_of c.args.lines (atlas_state_in new.parts.cells) es) status) c.history.ensures.entries
     (subst (λ (cs : List Cell). IsPutBy new.stop sink (lines_of c.args.lines (atlas_state_in cs) c.history.result.now) status) c.cells.ensures (subst (λ (o : Option Stopped). IsPutBy o sink (lines_of c.args.lines (atlas_state_in c.cells.result.now) c.history.result.now) status) c.stopped-stopped.ensures c.put_run-status.ensures.put)) in
     play_leaves d (lines_of c.args.lines) new sink (record { status = status; history = end.result.history.items; marks = end.result.marks.items }) end.result.disk

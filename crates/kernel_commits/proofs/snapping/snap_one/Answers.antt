@@ -75,11 +75,12 @@ returns-in-Err-clause-enough g c = λ told b free n is.
     let d = g.D.Disk in
     let runs = free.stands.runs in
     let test = c.wants_snap.ensures.run told b free ∙ c.if-not-wants_snap.false in
-    let short = err_over Bool ⊤ c.in-Err.why (reason.NoBlocks n) is in
+    let failed = err_over Bool ⊤ c.in-Err.why (reason.NoBlocks n) is in
+    let short = (c.in-Err.ensures.no_blocks n).0 failed in
     one_lacks d b (g.P.Policy.wish c.args.gate.now.policy) c.args.entity c.args.core.now told free c.wants_snap.ensures.there.0 c.wants_snap.ensures.there.1 test
-    c.record_one.new.core (c.in-Err.ensures.fails.untouched n short)
+    c.record_one.new.core (c.in-Err.ensures.fails.untouched n failed)
     (short_lacks d b c.args.core.now told free.stands (calm_whole b c.args.core.now.noted.entries runs.begins runs.legal free.owes_nothing)
-    c.args.entity n ((c.in-Err.ensures.no_blocks n).0 short))
+    c.args.entity n short) c.requires.steady.sound.matches.few n short
 
 pub returns-then-not-wants_snap-clause-fails : goal.returns-then-not-wants_snap-clause-fails
 returns-then-not-wants_snap-clause-fails g c = record { untouched = λ n is. absurd (cc is); tried = λ is. absurd (cc is); no_read = λ is. cc is }

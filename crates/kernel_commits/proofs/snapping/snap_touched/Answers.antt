@@ -2,11 +2,13 @@ use Rattle.std.specs.Prelude.{⊤}
 use Rattle.std.proofs.Common.{◌+◌, Bool, false, drop, refl, sym, ap, subst, arith}
 use Rattle.kernel_commit_facts.specs.table_laws.Tables.{AreClean}
 use Rattle.kernel_commit_facts.specs.kernel_record_facts.Cells.{words_on}
+use Rattle.kernel_commit_facts.specs.model_serial.Serial.{written_in}
 use Rattle.kernel_commit_facts.specs.Parts.{Parts}
+use Rattle.kernel_commit_facts.specs.Short.{AreSnapsShort, IsSnapShort}
 use Rattle.kernel_commit_facts.specs.Steady.{IsSteady}
 use Rattle.kernel_commits.specs.Telling.{AddsNoTried}
 use Rattle.kernel_commit_facts.specs.kernel_invariant.declared.stopping.Stopped.TheVariants as reason
-use Rattle.kernel_commits.proofs.Along.{SnapsAlong, begins_along, ends_along, lacks_along, next_touch, none_left, place_low, skip, stops_along, take_one}
+use Rattle.kernel_commits.proofs.Along.{SnapsAlong, begins_along, ends_along, lacks_along, next_touch, none_left, place_low, skip, stops_along, take_one, written_at}
 use Rattle.kernel_commit_facts.proofs.Counting.{CountsAlong, counts_begin, counts_end, counts_next, counts_skip, past_cells}
 use Rattle.kernel_commits.proofs.snapping.snap_touched.Goals.{then-touch+in_default, else-touch}
 use Rattle.kernel_commits.proofs.Stops.{stop_left}
@@ -76,7 +78,14 @@ returns-in-Err-clause-stopped g c =
     let s = c.snap_one.ensures in
     let k = c.loop-i.invariant.steady in
     stop_left d c.index-touches-i.result.entity c.loop-i.core c.snap_one.new.core k.sound.matches.orderly c.args.core.now k.few.marks c.loop-i.invariant.counts.within.later s.counts.later
-    c.snap_one.result s.fails (λ n is. ((s.no_blocks n).0 is).1) c.in-Err.why c.in-Err.is
+    c.snap_one.result s.fails (λ n is. ((s.no_blocks n).0 is).1)
+    (AreSnapsShort d (g.P.Policy.wish c.args.gate.now.policy) (written_in c.args.touches.now) c.snap_one.new.core)
+    (λ n is. record {
+      entity = c.index-touches-i.result.entity;
+      among = written_at c.args.touches.now c.loop-i.i c.index-touches-i.result (omega arith) c.index-touches-i.is c.if-touch.true;
+      short = subst (λ (p : Parts g.row.D.Denot). IsSnapShort d (g.P.Policy.wish c.args.gate.now.policy) c.index-touches-i.result.entity p n) (sym (s.fails.untouched n is)) ((s.no_blocks n).0 is);
+    })
+    c.in-Err.why c.in-Err.is
 
 pub returns-in-Err-clause-counts : goal.returns-in-Err-clause-counts
 returns-in-Err-clause-counts g c =
@@ -90,7 +99,7 @@ returns-in-Err-clause-enough g c = λ told b free n is.
     let next = next_touch c.args.touches.now c.loop-i.i c.index-touches-i.result (omega arith) c.index-touches-i.is in
     let along = subst (λ rest. SnapsAlong g.D.Disk b (g.P.Policy.wish c.args.gate.now.policy) c.args.touches.now rest c.args.core.now c.loop-i.core) next (c.loop-i.invariant.run told b free) in
     lacks_along g.D.Disk b (g.P.Policy.wish c.args.gate.now.policy) c.args.touches.now (drop (c.loop-i.i + 1) c.args.touches.now) c.index-touches-i.result c.args.core.now c.loop-i.core along c.if-touch.true
-    c.snap_one.new.core (c.in-Err.ensures.enough told b along.runs n (err_over ⊤ Bool c.in-Err.why (reason.NoBlocks n) is))
+    c.snap_one.new.core n (c.in-Err.ensures.enough told b along.runs n (err_over ⊤ Bool c.in-Err.why (reason.NoBlocks n) is))
 
 pub returns-in-Err-clause-notes : goal.returns-in-Err-clause-notes
 returns-in-Err-clause-notes g c =

@@ -4,12 +4,12 @@ use Rattle.kernel_commit_facts.specs.kernel_book_laws.Matching.{newest_of, versi
 use Rattle.kernel_commit_facts.specs.Parts.{Parts}
 use Rattle.kernel_commit_facts.specs.Recording.{CanRecord, HasRecorded, MayRecord}
 use Rattle.kernel_commit_facts.specs.Pieces.{CountsWithin}
-use Rattle.kernel_commit_facts.specs.Stabilising.{NeedsFit}
+use Rattle.kernel_commit_facts.specs.Stabilising.{AreShort, NeedsFit}
 use Rattle.kernel_commit_facts.specs.Through.{GoesThrough, RunsThrough}
 use Rattle.kernel_commit_facts.proofs.Counting.{CountsWithin-fewer, one_within}
 use Rattle.kernel_commits.specs.Recording.{Fails}
 use Rattle.kernel_commits.proofs.Fitting.{only_writes}
-use Rattle.kernel_commit_facts.proofs.Fitting.{still_fits}
+use Rattle.kernel_commit_facts.proofs.Fitting.{not_short, still_fits}
 use Rattle.kernel_commits.proofs.Parting.{stable_part}
 use Rattle.kernel_commit_facts.proofs.Through.{begins_through, is_newest, marks_within, may_go_on, newest_low, not_newest, passes, records_next}
 use Rattle.kernel_commit_facts.proofs.RunsThrough.{next_is, runs_begin, runs_may, runs_next, runs_pass, version_in_run}
@@ -80,7 +80,8 @@ returns-in-Err-clause-stopped g c =
     let t = c.loop-x.invariant.through in
     stop_left d c.of-entity.result c.loop-x.core c.record_one.new.core t.sound.matches.orderly c.args.core.now
     (marks_within d c.loop-x.x c.args.core.now c.loop-x.core t c.requires.steady.few.marks) t.counts.later s.counts.later
-    c.record_one.result s.fails (λ n is. (s.no_blocks n).0 is) c.in-Err.why c.in-Err.is
+    c.record_one.result s.fails (λ n is. (s.no_blocks n).0 is) (AreShort c.record_one.new.core)
+    (λ n is. absurd (not_short d c.of-entity.result c.loop-x.core n c.loop-x.invariant.fits ((s.no_blocks n).0 is))) c.in-Err.why c.in-Err.is
 
 pub returns-in-Err-clause-part : goal.returns-in-Err-clause-part
 returns-in-Err-clause-part g c = λ told b actor owes.

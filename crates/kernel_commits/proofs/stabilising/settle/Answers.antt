@@ -9,6 +9,7 @@ use Rattle.kernel_commit_facts.proofs.Settled.{entries_are, has_stabilised, mark
 use Rattle.kernel_commit_facts.proofs.Settling.{stable_calm, stable_stands}
 use Rattle.kernel_commit_facts.proofs.Dues.{lacks_first}
 use Rattle.kernel_commit_facts.proofs.Enough.{lacks_blocks}
+use Rattle.kernel_commit_facts.proofs.Within.{all_within}
 use Rattle.kernel_commits.proofs.Telling.{adds_one, stops_noting}
 use Rattle.kernel_commits.proofs.stabilising.settle.Goals as goal
 
@@ -45,8 +46,9 @@ returns-clause-counts g c =
 pub returns-in-Err-clause-enough : goal.returns-in-Err-clause-enough
 returns-in-Err-clause-enough g c = λ told b owes n is.
     let d = g.D.Disk in
-    lacks_first b (mark Stable c.args.actor 0) [] (mark Stable c.args.actor 0 ∷ []) c.args.core.now c.record_changed.new.core refl tt (c.in-Err.ensures.untouched n is)
-    (lacks_blocks d b c.args.core.now told owes.stands owes.whole ((c.in-Err.ensures.no_blocks n).0 is).fewer)
+    let short = (c.in-Err.ensures.no_blocks n).0 is in
+    lacks_first d b n (mark Stable c.args.actor 0) [] (mark Stable c.args.actor 0 ∷ []) c.args.core.now c.record_changed.new.core refl tt (c.in-Err.ensures.untouched n is)
+    (lacks_blocks d b c.args.core.now told owes.stands owes.whole short.fewer) short (all_within d b c.args.core.now told owes.stands c.requires.steady.sound.matches.few n short)
 
 pub returns-in-Err-clause-notes : goal.returns-in-Err-clause-notes
 returns-in-Err-clause-notes g c =

@@ -2,6 +2,7 @@ use Rattle.std.proofs.Common.{◌*◌, sym, ◌∙◌, subst}
 use Rattle.script_types.specs.Scripts.{tables_of}
 use Rattle.kernel_core_facts.specs.store_facts.State.{State}
 use Rattle.kernel_core_facts.specs.kernel_commit_facts.Pieces.{CountsWithin}
+use Rattle.kernel_core_facts.specs.kernel_commit_facts.Stabilising.{AreShort}
 use Rattle.kernel_core_facts.proofs.Opened.{clean_births, counts_stay, none_noted, opened_empty, opened_stable, opens_empty, opens_settled, owes, short_empty, short_stable, some_noted, spare, stopped_births, untried_births}
 use Rattle.kernel_core_facts.proofs.kernel_commits_lemmas.Telling.{tries_behind}
 use Rattle.kernel_core.proofs.bearing.open_core.Goals as goal
@@ -45,7 +46,7 @@ returns-clause-no_blocks g c =
     c.settle.new.core c.settle.result c.settle.ensures.no_blocks c.settle.ensures.untouched
 
 pub returns-clause-stopped : goal.returns-clause-stopped
-returns-clause-stopped g c = stopped_births (tables_of c.args.script.now) c.args.core.now c.bear_all.new.core c.bear_all.ensures.all g.D.Disk.faults c.settle.new.core c.settle.result c.settle.ensures.stopped
+returns-clause-stopped g c = stopped_births (tables_of c.args.script.now) c.args.core.now c.bear_all.new.core c.bear_all.ensures.all g.D.Disk.faults (AreShort c.settle.new.core) c.settle.new.core c.settle.result c.settle.ensures.stopped
 
 pub returns-clause-run : goal.returns-clause-run
 returns-clause-run g c = λ told b same r.

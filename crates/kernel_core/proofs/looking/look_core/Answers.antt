@@ -1,16 +1,19 @@
-use Rattle.std.proofs.Common.{◌≡◌, ◌*◌, inr, Some, None, Ok, sym, ap, subst, refl, ◌∙◌, if◌then◌else◌}
+use Rattle.std.proofs.Common.{◌≡◌, ◌*◌, inl, inr, Some, None, Ok, sym, ap, subst, refl, ◌∙◌, if◌then◌else◌}
 use Rattle.std.specs.Prelude.{⊤}
 use Rattle.kernel_core_facts.specs.Looking.{LooksInRun}
 use Rattle.kernel_core.specs.declared.stepping.Stepping.{Stepping}
 use Rattle.kernel_core.specs.declared.stepping.Stepping.TheVariants.{Idle, Made}
 use Rattle.kernel_core_facts.specs.kernel_commit_facts.Parts.{Noted, Parts}
+use Rattle.kernel_core_facts.specs.kernel_commit_facts.Short.{AreShortBehind}
+use Rattle.kernel_core_facts.specs.kernel_commits.Stops.{LeavesStopped}
+use Rattle.kernel_core_facts.specs.model_serial.Serial.{written_in}
 use Rattle.kernel_core.specs.Stepping.{StepsOnce}
 use Rattle.kernel_core_facts.specs.Stepping.{idle_at}
 use Rattle.kernel_core_facts.specs.kernel_invariant.declared.stopping.Stopped.TheVariants as reason
 use Rattle.kernel_core_facts.proofs.kernel_commits_lemmas.Telling.{adds_none, adds_then}
 use Rattle.kernel_core_facts.proofs.kernel_commits_lemmas.Wishing.{err_over}
 use Rattle.kernel_core_facts.proofs.kernel_commit_facts_lemmas.Counting.{CountsWithin-then}
-use Rattle.kernel_core.proofs.LookMade.{err_stepped, idle_behind, no_faults, ok_look, ok_stepped, rose_at, rose_behind, step_untried, tries_look, tries_none}
+use Rattle.kernel_core.proofs.LookMade.{err_stepped, idle_behind, never_wanting, no_faults, ok_look, ok_stepped, rose_at, rose_behind, step_untried, stopped_for, tries_look, tries_none}
 use Rattle.kernel_core_facts.proofs.LookMade.{free_then, lacks_behind_step, look_behind_step, look_still, owes_is, owes_then, part_at_step, part_behind_step}
 use Rattle.kernel_core.proofs.looking.look_core.Goals as goal
 
@@ -43,11 +46,43 @@ returns-in-Ok-Idle-clause-run g c = λ told b same policy stands calm.
     subst (λ (p : Parts g.row.D.Denot). LooksInRun d b (g.P.Policy.wish c.args.gate.now.policy) c.args.me (ok_look (Idle c.in-Ok-Idle.why)) c.args.core.now p) (sym (once.still c.in-Ok-Idle.why refl))
     (look_still d b (g.P.Policy.wish c.args.gate.now.policy) policy c.args.me c.args.core.now stands calm (once.run told b same stands calm) (ok_look (Idle c.in-Ok-Idle.why)) (Idle c.in-Ok-Idle.why) refl)
 
+-- WHETHER IT STOPS
+
+pub returns-in-Ok-clause-stopped : goal.returns-in-Ok-clause-stopped
+returns-in-Ok-clause-stopped g c =
+    let d = g.D.Disk in
+    let once = subst (λ (o : Stepping). StepsOnce d (g.S.Supplier.word c.args.gate.now.supply) c.args.me c.args.core.now c.step_core.new.core (Ok o)) c.in-Ok-Made.field-0-is c.in-Ok-Made.ensures in
+    record { stopped = tt; wanting = λ n wants. never_wanting (Made c.in-Ok-Made.made) n ((once.short n).1 wants) }
+
+pub returns-in-Ok-Idle-clause-stopped : goal.returns-in-Ok-Idle-clause-stopped
+returns-in-Ok-Idle-clause-stopped g c =
+    let d = g.D.Disk in
+    let once = subst (λ (o : Stepping). StepsOnce d (g.S.Supplier.word c.args.gate.now.supply) c.args.me c.args.core.now c.step_core.new.core (Ok o)) c.in-Ok-Idle.field-0-is c.in-Ok-Idle.ensures in
+    record { stopped = tt; wanting = λ n wants. never_wanting (Idle c.in-Ok-Idle.why) n ((once.short n).1 wants) }
+
+pub returns-in-Err-clause-stopped : goal.returns-in-Err-clause-stopped
+returns-in-Err-clause-stopped g c =
+    record { stopped = inl c.in-Err.ensures.failed; wanting = λ n wants. stopped_for c.in-Err.why n ((c.in-Err.ensures.short n).1 wants) }
+
 pub returns-in-Err-keep_behind-clause-stopped : goal.returns-in-Err-keep_behind-clause-stopped
 returns-in-Err-keep_behind-clause-stopped g c =
     let d = g.D.Disk in
     let once = subst (λ (o : Stepping). StepsOnce d (g.S.Supplier.word c.args.gate.now.supply) c.args.me c.args.core.now c.step_core.new.core (Ok o)) c.in-Ok-Made.field-0-is c.in-Ok-Made.ensures in
-    inr (record { mid = c.step_core.new.core; entry = c.in-Ok-Made.made.entry; stepped = once.made; leaves = c.in-Err-keep_behind.ensures.stopped })
+    let made = c.in-Ok-Made.made in
+    let new = c.keep_behind.new.core in
+    record {
+      stopped = inr (record {
+        mid = c.step_core.new.core;
+        entry = made.entry;
+        stepped = once.made;
+        instr = made.instr;
+        next = once.next;
+        leaves =
+            subst (λ t. LeavesStopped d.faults (AreShortBehind d (g.P.Policy.wish c.args.gate.now.policy) t (written_in made.entry.touched) new) c.step_core.new.core new c.in-Err-keep_behind.why) c.owes_stable-owes.ensures
+            c.in-Err-keep_behind.ensures.stopped;
+      });
+      wanting = λ n wants. never_wanting (Made made) n ((once.short n).1 wants);
+    }
 
 pub returns-in-Err-keep_behind-clause-part : goal.returns-in-Err-keep_behind-clause-part
 returns-in-Err-keep_behind-clause-part g c = λ told b same policy stands calm.
@@ -79,7 +114,7 @@ returns-in-Err-keep_behind-clause-enough g c = λ told b same policy stands calm
     let run = once.run told b same stands calm in
     let owed = owes_is d b (g.P.Policy.wish c.args.gate.now.policy) policy c.args.me c.args.core.now stands calm c.step_core.new.core c.in-Ok-Made.made.entry once.made run c.in-Ok-Made.made.instr once.next in
     let owes = owed ∙ ap (λ t. if t then Some c.args.me else None) (sym c.owes_stable-owes.ensures) in
-    lacks_behind_step d b (g.P.Policy.wish c.args.gate.now.policy) policy c.args.me c.args.core.now stands calm c.step_core.new.core c.in-Ok-Made.made.entry once.made run c.owes_stable-owes.result owes c.keep_behind.new.core
+    lacks_behind_step d b (g.P.Policy.wish c.args.gate.now.policy) policy c.args.me c.args.core.now stands calm c.step_core.new.core c.in-Ok-Made.made.entry once.made run c.owes_stable-owes.result owes c.keep_behind.new.core n
     (c.in-Err-keep_behind.ensures.enough told b
     (owes_then d b (g.P.Policy.wish c.args.gate.now.policy) policy c.args.me c.args.core.now stands calm c.step_core.new.core c.in-Ok-Made.made.entry once.made run c.owes_stable-owes.result owes)
     (free_then d b (g.P.Policy.wish c.args.gate.now.policy) policy c.args.me c.args.core.now stands calm c.step_core.new.core c.in-Ok-Made.made.entry once.made run c.owes_stable-owes.result owes)
@@ -159,4 +194,4 @@ returns-in-Err-keep_behind-clause-faults g c =
     c.in-Err-keep_behind.ensures.stopped.cause
 
 pub returns-in-Err-clause-faults : goal.returns-in-Err-clause-faults
-returns-in-Err-clause-faults g c = rose_at g.D.Disk c.args.core.now c.step_core.new.core c.in-Err.why c.in-Err.ensures.failed.cause
+returns-in-Err-clause-faults g c = rose_at g.D.Disk c.args.me c.args.core.now c.step_core.new.core c.in-Err.why c.in-Err.ensures.failed.cause

@@ -9,7 +9,8 @@ use Rattle.kernel_core_facts.specs.kernel_invariant.declared.stopping.Stopped.{S
 use Rattle.kernel_core_facts.proofs.Paired.{few_writes}
 use Rattle.kernel_core_facts.proofs.Stepping.{leaves, stays_clean, steps_over, stops_over}
 use Rattle.kernel_core_facts.proofs.kernel_commits_lemmas.Answering.{refilled}
-use Rattle.kernel_core.proofs.Stepped.{clean_inside, once_failed, once_idle, once_made, once_outside, open_fault, steady_inside}
+use Rattle.kernel_core.proofs.Inside.{clean_inside, once_outside, steady_inside}
+use Rattle.kernel_core.proofs.Stepped.{once_failed, once_idle, once_made, open_fault}
 use Rattle.kernel_core.proofs.stepping.step_core.Goals as goal
 
 pub advance-requires-clause-orderly : goal.advance-requires-clause-orderly
@@ -63,7 +64,7 @@ returns-in-Ok g c =
     λ told. stays_clean d s me now cs' st st' orderly made.orderly made.between made.one_write (Ok c.in-Ok.made) told (clean_inside d s c.args.core.now st cs now n c.core.view_is c.deref_mut.ensures.value (c.requires.clean told)) (made.step told) made.still made.faulted in
     once_outside d s me c.args.core.now st cs now n c.core.view_is c.deref_mut.ensures.value st' cs' _ c.push_entry.new.self (Ok (Made c.in-Ok.made)) whole
     (subst (λ (m : Noted). StepsOnce d s me (parts_of st now n) (parts_of st' cs' m) (Ok (Made c.in-Ok.made))) (sym c.push_entry.ensures)
-    (once_made d g.met.D.Disk.counts_later g.met.D.Disk.only_now s me now cs' st st' n k left clean c.in-Ok.made made.idle made.enters made.instr made.same_shut
+    (once_made d g.met.D.Disk.counts_later g.met.D.Disk.only_now s me now cs' st st' n k left clean c.in-Ok.made made.idle made.no_blocks made.enters made.instr made.same_shut
     (λ b told same working. steps_over d s me now cs' st st' orderly made.orderly made.between made.one_write made.news b same working (Ok c.in-Ok.made) (made.idle s (words_on (d.reading st.disk)) Absent) (made.step told) made.enters made.same_shut)))
 
 pub returns-in-Err-Idle : goal.returns-in-Err-Idle
@@ -88,7 +89,7 @@ returns-in-Err-Idle g c =
     let clean : d.tells → AreClean s (words_on (d.reading st'.disk)) cs' =
     λ told. stays_clean d s me now cs' st st' orderly made.orderly made.between made.one_write (Err c.in-Err-Idle.field-0) told (clean_inside d s c.args.core.now st cs now n c.core.view_is c.deref_mut.ensures.value (c.requires.clean told)) (made.step told) made.still made.faulted in
     once_outside d s me c.args.core.now st cs now n c.core.view_is c.deref_mut.ensures.value st' cs' _ n (Ok (Rattle.kernel_core.specs.declared.stepping.Stepping.TheVariants.Idle c.in-Err-Idle.why)) whole
-    (once_idle d g.met.D.Disk.counts_later g.met.D.Disk.only_now s me now cs' st st' n k left clean c.in-Err-Idle.field-0 c.in-Err-Idle.why c.in-Err-Idle.field-0-is made.idle made.still)
+    (once_idle d g.met.D.Disk.counts_later g.met.D.Disk.only_now s me now cs' st st' n k left clean c.in-Err-Idle.field-0 c.in-Err-Idle.why c.in-Err-Idle.field-0-is made.idle made.still made.no_blocks)
 
 pub returns-in-Err-Paging : goal.returns-in-Err-Paging
 returns-in-Err-Paging g c =
@@ -114,7 +115,7 @@ returns-in-Err-Paging g c =
     once_outside d s me c.args.core.now st cs now n c.core.view_is c.deref_mut.ensures.value st' cs' _ n (Err c.page_stop.result) whole
     (subst (λ (why : Stopped). StepsOnce d s me (parts_of st now n) (parts_of st' cs' n) (Err why)) (sym c.page_stop.ensures)
     (once_failed d g.met.D.Disk.counts_later g.met.D.Disk.only_now s me now cs' st st' n k left clean c.in-Err-Paging.field-0 c.in-Err-Paging.fault c.in-Err-Paging.field-0-is made.idle made.cause
-    (λ b f told same is. stops_over d s me now cs' st st' orderly made.orderly made.between made.one_write b told same (made.faulted f is)) made.at_word))
+    (λ b f told same is. stops_over d s me now cs' st st' orderly made.orderly made.between made.one_write b told same (made.faulted f is)) made.at_word made.no_blocks made.turned))
 
 pub page_stop-requires : goal.page_stop-requires
 page_stop-requires g c =

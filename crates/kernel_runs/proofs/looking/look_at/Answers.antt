@@ -31,6 +31,6 @@ returns-in-Err-clause-tries g c =
 pub returns-in-Err-clause-caused : goal.returns-in-Err-clause-caused
 returns-in-Err-clause-caused g c =
     let d = g.D.Disk in
-    subst (λ r. IfErr r (IsCauseOf d.faults c.args.kernel.now.parts c.step.new.self.parts)) (sym c.unless_idle.ensures)
-    (look_cause Entry d c.args.locus c.args.kernel.now.parts c.step.new.self.parts c.in-Err.stop c.step.new.self.stop (c.in-Err.ensures.ends c.requires.going) (c.in-Err.ensures.stopped c.requires.going)
+    subst (λ r. IfErr r (IsCauseOf d (g.P.Policy.wish c.args.gate.now.policy) c.args.kernel.now.parts c.step.new.self.parts)) (sym c.unless_idle.ensures)
+    (look_cause Entry d (g.P.Policy.wish c.args.gate.now.policy) c.args.locus c.args.kernel.now.parts c.step.new.self.parts c.in-Err.stop c.step.new.self.stop (c.in-Err.ensures.ends c.requires.going) (c.in-Err.ensures.stopped c.requires.going).stopped
     (c.in-Err.ensures.fails c.requires.going))

@@ -41,7 +41,7 @@ loop-i-preserved g c =
 
 pub returns-in-Err-clause-caused : goal.returns-in-Err-clause-caused
 returns-in-Err-clause-caused g c =
-    cause_from g.D.Disk.faults c.args.kernel.now.parts c.loop-i.kernel.parts c.look_for.new.kernel.parts c.in-Err.stop c.loop-i.invariant.counts.later c.look_for.ensures.counts.later c.in-Err.ensures.caused
+    cause_from g.D.Disk (g.P.Policy.wish c.args.gate.now.policy) c.args.kernel.now.parts c.loop-i.kernel.parts c.look_for.new.kernel.parts c.in-Err.stop c.loop-i.invariant.counts.later c.look_for.ensures.counts.later c.in-Err.ensures.caused
 
 pub returns-in-Err-clause-counts : goal.returns-in-Err-clause-counts
 returns-in-Err-clause-counts g c =
@@ -64,7 +64,7 @@ returns-in-Err-clause-run g c = λ told b given order along.
     let low : i < length xs = omega (arith, c.loop-i-test.true) in
     let here : slice_get b.script.order i ≡ Some c.as_str.result.now =
     ap (λ ns. slice_get ns i) order ∙ slice_get-map string_bytes xs i ∙ ap (option_map string_bytes) (slice_get_read xs (length xs) i c.index-order-i.result refl low c.index-order-i.is) ∙ ap Some (sym c.as_str.ensures.value) in
-    record { along = λ going. absurd (has_stopped ⊤ g.D.Disk.faults c.loop-i.kernel.parts c.look_for.new.kernel.parts c.in-Err.stop c.look_for.new.kernel.stop c.in-Err.ensures.ends c.in-Err.ensures.caused going); stopped = (c.in-Err.ensures.run told b i given here (c.loop-i.invariant.run told b given order along)).stopped }
+    record { along = λ going. absurd (has_stopped ⊤ g.D.Disk (g.P.Policy.wish c.args.gate.now.policy) c.loop-i.kernel.parts c.look_for.new.kernel.parts c.in-Err.stop c.look_for.new.kernel.stop c.in-Err.ensures.ends c.in-Err.ensures.caused going); stopped = (c.in-Err.ensures.run told b i given here (c.loop-i.invariant.run told b given order along)).stopped }
 
 pub returns-clause-run : goal.returns-clause-run
 returns-clause-run g c = λ told b given order along.

@@ -44,7 +44,7 @@ loop-stop-smaller g c =
 
 pub returns-in-Err-clause-caused : goal.returns-in-Err-clause-caused
 returns-in-Err-clause-caused g c =
-    cause_from g.D.Disk.faults c.args.kernel.now.parts c.loop-stop.kernel.parts c.round.new.kernel.parts c.in-Err.stop c.loop-stop.invariant.counts.later c.round.ensures.counts.later c.in-Err.ensures.caused
+    cause_from g.D.Disk (g.P.Policy.wish c.args.gate.now.policy) c.args.kernel.now.parts c.loop-stop.kernel.parts c.round.new.kernel.parts c.in-Err.stop c.loop-stop.invariant.counts.later c.round.ensures.counts.later c.in-Err.ensures.caused
 
 pub returns-in-Err-clause-counts : goal.returns-in-Err-clause-counts
 returns-in-Err-clause-counts g c =
@@ -57,7 +57,7 @@ returns-in-Err-clause-counts g c =
 pub returns-in-Err-clause-run : goal.returns-in-Err-clause-run
 returns-in-Err-clause-run g c = λ told b made given along.
     let at = c.loop-stop.invariant.run told b made given along in
-    record { over = λ going. absurd (has_stopped ⊤ g.D.Disk.faults c.loop-stop.kernel.parts c.round.new.kernel.parts c.in-Err.stop c.round.new.kernel.stop c.in-Err.ensures.ends c.in-Err.ensures.caused going); stopped = (c.in-Err.ensures.run told b at.0 given at.1).stopped }
+    record { over = λ going. absurd (has_stopped ⊤ g.D.Disk (g.P.Policy.wish c.args.gate.now.policy) c.loop-stop.kernel.parts c.round.new.kernel.parts c.in-Err.stop c.round.new.kernel.stop c.in-Err.ensures.ends c.in-Err.ensures.caused going); stopped = (c.in-Err.ensures.run told b at.0 given at.1).stopped }
 
 pub returns-then-entries_noted-noted-clause-counts : goal.returns-then-entries_noted-noted-clause-counts
 returns-then-entries_noted-noted-clause-counts g c =

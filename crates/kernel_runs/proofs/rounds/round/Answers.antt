@@ -46,7 +46,7 @@ loop-number-preserved g c =
 
 pub returns-in-Err-clause-caused : goal.returns-in-Err-clause-caused
 returns-in-Err-clause-caused g c =
-    cause_from g.D.Disk.faults c.args.kernel.now.parts c.loop-number.kernel.parts c.look_at.new.kernel.parts c.in-Err.stop c.loop-number.invariant.counts.later c.look_at.ensures.counts.later c.in-Err.ensures.caused
+    cause_from g.D.Disk (g.P.Policy.wish c.args.gate.now.policy) c.args.kernel.now.parts c.loop-number.kernel.parts c.look_at.new.kernel.parts c.in-Err.stop c.loop-number.invariant.counts.later c.look_at.ensures.counts.later c.in-Err.ensures.caused
 
 pub returns-in-Err-clause-counts : goal.returns-in-Err-clause-counts
 returns-in-Err-clause-counts g c =
@@ -62,7 +62,7 @@ returns-in-Err-clause-run g c = λ told b made given along.
     let high : n < 64 = (let few = c.loci_end.ensures.few in let lt = c.loop-number-test.true in omega (arith, few, lt)) in
     let first = subst (λ x. ComeFirst b.script (opened_in b) (before_locus b.script (opened_in b) made n ++ x ∷ [])) (sym c.of.ensures) (locus_first b made n c.loop-number.invariant.low high) in
     record {
-      along = λ going. absurd (has_stopped ⊤ g.D.Disk.faults c.loop-number.kernel.parts c.look_at.new.kernel.parts c.in-Err.stop c.look_at.new.kernel.stop c.in-Err.ensures.ends c.in-Err.ensures.caused going);
+      along = λ going. absurd (has_stopped ⊤ g.D.Disk (g.P.Policy.wish c.args.gate.now.policy) c.loop-number.kernel.parts c.look_at.new.kernel.parts c.in-Err.stop c.look_at.new.kernel.stop c.in-Err.ensures.ends c.in-Err.ensures.caused going);
       stopped = (c.in-Err.ensures.run told b (before_locus b.script (opened_in b) made n) given first (c.loop-number.invariant.run told b made given along)).stopped;
     }
 

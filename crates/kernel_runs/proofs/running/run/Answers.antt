@@ -1,5 +1,7 @@
-use Rattle.std.proofs.Common.{◌+◌, ◌*◌, ◌^◌, ◌≤◌, ◌++◌, ℕ, List, length, map, sym, ap, ◌∙◌, arith}
+use Rattle.std.proofs.Common.{◌+◌, ◌*◌, ◌^◌, ◌≤◌, ◌++◌, List, length, map, sym, ap, ◌∙◌, arith}
 use Rattle.std.specs.Prelude.{Err, IfErr, Ok, Result, string_bytes, ⊤}
+use Rattle.edge_disk.specs.declared.disk.Disk.{Ghosts}
+use Rattle.script_types.specs.model_kernel.Histories.{Policy}
 use Rattle.script_types.specs.model_kernel.Scripts.{Script}
 use Rattle.script_types.specs.Scripts.{tables_of}
 use Rattle.kernel_core.specs.kernel_commit_facts.Parts.{Parts}
@@ -21,8 +23,8 @@ returns-in-Err-clause-run g c = λ told going b supply policy script lives.
     let d = g.D.Disk in
     let n = c.births.ensures in
     record {
-      over = λ still. absurd (has_stopped ⊤ d.faults c.args.kernel.now.parts c.births.new.self.parts c.in-Err.stop c.births.new.self.stop (c.in-Err.ensures.ends going)
-          (births_cause d.faults (tables_of c.args.script.now) c.args.kernel.now.parts c.births.new.self.parts c.in-Err.stop (c.in-Err.ensures.no_blocks going) (c.in-Err.ensures.fails going)) still);
+      over = λ still. absurd (has_stopped ⊤ d (g.P.Policy.wish c.args.gate.now.policy) c.args.kernel.now.parts c.births.new.self.parts c.in-Err.stop c.births.new.self.stop (c.in-Err.ensures.ends going)
+          (births_cause d (g.P.Policy.wish c.args.gate.now.policy) (tables_of c.args.script.now) c.args.kernel.now.parts c.births.new.self.parts c.in-Err.stop (c.in-Err.ensures.no_blocks going) (c.in-Err.ensures.fails going)) still);
       stopped = stops_opening d (g.S.Supplier.word c.args.gate.now.supply) (g.P.Policy.wish c.args.gate.now.policy) b c.args.kernel.now c.births.new.self (n.run told b script lives) c.requires.first
           (n.notes told b script lives going);
     }
@@ -43,7 +45,7 @@ returns-in-Err-play-clause-run g c = λ told going b supply policy script lives.
     let along = opens d (g.S.Supplier.word c.args.gate.now.supply) (g.P.Policy.wish c.args.gate.now.policy) b c.births.new.self (c.births.ensures.run told b script lives) ((c.births.ensures.notes told b script lives going).whole (c.in_default.ensures.ends going) ∙ ap (λ (es : List Entry). es ++ opening b.supply b.script b.state) c.requires.first) in
     let order = ap (λ (t : Script). t.order) script ∙ ap (map string_bytes) (sym c.deref.ensures.value) in
     record {
-      over = λ still. absurd (has_stopped ⊤ d.faults c.births.new.self.parts c.play.new.kernel.parts c.in-Err-play.stop c.play.new.kernel.stop (c.in-Err-play.ensures.ends (c.in_default.ensures.ends going))
+      over = λ still. absurd (has_stopped ⊤ d (g.P.Policy.wish c.args.gate.now.policy) c.births.new.self.parts c.play.new.kernel.parts c.in-Err-play.stop c.play.new.kernel.stop (c.in-Err-play.ensures.ends (c.in_default.ensures.ends going))
           (c.in-Err-play.ensures.caused (c.in_default.ensures.ends going)) still);
       stopped = (c.in-Err-play.ensures.run told (c.in_default.ensures.ends going) b given order along).stopped;
     }
@@ -70,22 +72,22 @@ returns-clause-run g c = λ told going b supply policy script lives.
 
 pub returns-in-Err-clause-caused : goal.returns-in-Err-clause-caused
 returns-in-Err-clause-caused g c = λ going.
-    births_cause g.D.Disk.faults (tables_of c.args.script.now) c.args.kernel.now.parts c.births.new.self.parts c.in-Err.stop (c.in-Err.ensures.no_blocks going) (c.in-Err.ensures.fails going)
+    births_cause g.D.Disk (g.P.Policy.wish c.args.gate.now.policy) (tables_of c.args.script.now) c.args.kernel.now.parts c.births.new.self.parts c.in-Err.stop (c.in-Err.ensures.no_blocks going) (c.in-Err.ensures.fails going)
 
 pub returns-in-Err-play-clause-caused : goal.returns-in-Err-play-clause-caused
 returns-in-Err-play-clause-caused g c = λ going.
-    cause_from g.D.Disk.faults c.args.kernel.now.parts c.births.new.self.parts c.play.new.kernel.parts c.in-Err-play.stop c.births.ensures.counts.later c.play.ensures.counts.later (c.in-Err-play.ensures.caused (c.in_default.ensures.ends going))
+    cause_from g.D.Disk (g.P.Policy.wish c.args.gate.now.policy) c.args.kernel.now.parts c.births.new.self.parts c.play.new.kernel.parts c.in-Err-play.stop c.births.ensures.counts.later c.play.ensures.counts.later (c.in-Err-play.ensures.caused (c.in_default.ensures.ends going))
 
-cause_behind : {D : Type 0} (faults : D → ℕ) (old mid new : Parts D) (r : Result ⊤ Stop) → faults old.store.disk ≤ faults mid.store.disk → faults mid.store.disk ≤ faults new.store.disk
-    → IfErr r (IsCauseOf faults mid new) → IfErr r (IsCauseOf faults old new)
-cause_behind faults old mid new (Ok x) low later cause = tt
-cause_behind faults old mid new (Err s) low later cause = cause_from faults old mid new s low later cause
+cause_behind : {D : Type 0} (disks : Ghosts D) (policy : Policy) (old mid new : Parts D) (r : Result ⊤ Stop) → disks.faults old.store.disk ≤ disks.faults mid.store.disk
+    → disks.faults mid.store.disk ≤ disks.faults new.store.disk → IfErr r (IsCauseOf disks policy mid new) → IfErr r (IsCauseOf disks policy old new)
+cause_behind disks policy old mid new (Ok x) low later cause = tt
+cause_behind disks policy old mid new (Err s) low later cause = cause_from disks policy old mid new s low later cause
 
 pub returns-clause-caused : goal.returns-clause-caused
 returns-clause-caused g c = λ going.
     let early = c.births.ensures.counts.later in
     let later = c.play.ensures.counts.later in
-    cause_behind g.D.Disk.faults c.args.kernel.now.parts c.play.new.kernel.parts c.finish.new.kernel.parts c.finish.result (omega (arith, early, later)) c.finish.ensures.counts.later
+    cause_behind g.D.Disk (g.P.Policy.wish c.args.gate.now.policy) c.args.kernel.now.parts c.play.new.kernel.parts c.finish.new.kernel.parts c.finish.result (omega (arith, early, later)) c.finish.ensures.counts.later
     (c.finish.ensures.caused (c.in_default-play.ensures.ends (c.in_default.ensures.ends going)))
 
 -- HOW IT ENDS

@@ -8,6 +8,7 @@ use Rattle.kernel_core_facts.specs.kernel_record_facts.Cells.{words_on}
 use Rattle.kernel_core_facts.specs.table_births.Births.{atlas_state_in}
 use Rattle.kernel_core_facts.specs.kernel_commit_facts.Parts.{Parts}
 use Rattle.kernel_core_facts.specs.kernel_commit_facts.Pieces.{CountsWithin}
+use Rattle.kernel_core_facts.specs.kernel_commit_facts.Stabilising.{AreShort}
 use Rattle.kernel_core_facts.specs.Bearing.{HasOpened, IsShortBehind}
 use Rattle.kernel_core_facts.specs.Kernels.{Held}
 use Rattle.kernel_core_facts.proofs.Begun.{in_births_first}
@@ -25,7 +26,7 @@ pub invariant_of-self : goal.invariant_of-self
 invariant_of-self g c =
     let d = g.D.Disk in
     let s = c.open_core-opened.ensures in
-    births_kept d c.self.inside.core c.open_core-opened.new.core c.open_core-opened.result s.steady s.stopped c.err-self-inside.result c.err-self-inside.ensures.value
+    births_kept d (AreShort c.open_core-opened.new.core) c.self.inside.core c.open_core-opened.new.core c.open_core-opened.result s.steady s.stopped c.err-self-inside.result c.err-self-inside.ensures.value
 
 pub open_core-opened-requires-clause-in_births : goal.open_core-opened-requires-clause-in_births
 open_core-opened-requires-clause-in_births g c =
@@ -59,7 +60,7 @@ returns-clause-fails g c = λ _.
     subst (λ r. IfErr r (FailsByWrite rose)) (sym c.told_of.ensures)
     (fails_by c.open_core-opened.result rose (no_reading c.open_core-opened.result c.self.inside.core.noted.entries c.open_core-opened.new.core.noted.entries o.notes)
     (λ is. subst (λ (p : Parts g.row.D.Denot). Rose (g.D.Disk.faults p.store.disk) (g.D.Disk.faults c.open_core-opened.new.core.store.disk)) (ap (λ (k : Held g.row.D.Denot). k.parts) c.self.view_is)
-    (failed_rose g.D.Disk.faults c.self.inside.core c.open_core-opened.new.core c.open_core-opened.result o.stopped is)))
+    (failed_rose g.D.Disk.faults (AreShort c.open_core-opened.new.core) c.self.inside.core c.open_core-opened.new.core c.open_core-opened.result o.stopped is)))
 
 pub returns-clause-tries : goal.returns-clause-tries
 returns-clause-tries g c =

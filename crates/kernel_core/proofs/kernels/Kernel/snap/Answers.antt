@@ -74,8 +74,8 @@ returns-clause-notes g c = λ told b same lives _.
     let steady = c.self.invariant.steady c.in_default.is in
     let was = subst (λ o. Lives d b (record { parts = c.self.inside.core; stop = o })) c.in_default.is (subst (Lives d b) (sym c.self.view_is) lives) in
     let free = runs_free d c.args.entity c.self.inside.core c.snap_one-made.new.core steady b (g.P.Policy.wish c.args.gate.now.policy) same was in
-    subst (λ (k : Held g.row.D.Denot). NotesAlong b (wished_snap b.policy (run_of b k.parts.noted.entries) c.args.entity) k (record { parts = c.snap_one-made.new.core; stop = c.err-self-inside.result })) c.self.view_is
-    (subst (λ (q : Policy). NotesAlong b (wished_snap q (run_of b c.self.inside.core.noted.entries) c.args.entity) (record { parts = c.self.inside.core; stop = c.self.inside.stopped }) (record { parts = c.snap_one-made.new.core; stop = c.err-self-inside.result })) (sym same)
+    subst (λ (k : Held g.row.D.Denot). NotesAlong d b (wished_snap b.policy (run_of b k.parts.noted.entries) c.args.entity) k (record { parts = c.snap_one-made.new.core; stop = c.err-self-inside.result })) c.self.view_is
+    (subst (λ (q : Policy). NotesAlong d b (wished_snap q (run_of b c.self.inside.core.noted.entries) c.args.entity) (record { parts = c.self.inside.core; stop = c.self.inside.stopped }) (record { parts = c.snap_one-made.new.core; stop = c.err-self-inside.result })) (sym same)
     (record {
       whole = λ going. while_going r (s.run told b free).entries c.err-self-inside.result kept going;
       part = λ why is. when_stopped r (s.part told b free) c.err-self-inside.result kept why is;

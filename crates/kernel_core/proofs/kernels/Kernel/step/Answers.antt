@@ -8,7 +8,7 @@ use Rattle.kernel_core_facts.specs.kernel_record_facts.Cells.{words_on}
 use Rattle.kernel_core_facts.specs.kernel_invariant.Beginnings.{run_of}
 use Rattle.kernel_core_facts.specs.model_serial.Serial.{look}
 use Rattle.kernel_core_facts.specs.Kernels.{Held, Lives, NotesAlong}
-use Rattle.kernel_core_facts.specs.Looking.{LooksOnce, StopsLook}
+use Rattle.kernel_core_facts.specs.Looking.{LooksOnce, StopsWhere}
 use Rattle.kernel_core_facts.specs.Stepping.{idle_at}
 use Rattle.kernel_core.specs.Stepping.{IfMade}
 use Rattle.kernel_core.specs.declared.stepping.Stepping.TheVariants.{Idle}
@@ -19,14 +19,14 @@ use Rattle.kernel_core_facts.specs.kernel_invariant.declared.stopping.Stopped.{S
 use Rattle.kernel_core_facts.specs.kernel_invariant.declared.stopping.Stopped.TheVariants as reason
 use Rattle.kernel_core_facts.proofs.kernel_commits_lemmas.Telling.{err_of_kept, tries_again, when_stopped}
 use Rattle.kernel_core_facts.proofs.Kept.{runs_free, while_going}
-use Rattle.kernel_core.proofs.LookKept.{fails_look, idle_look, look_entries, look_kept, look_lives, made_look, stopped_look, tells_look, tries_answer}
+use Rattle.kernel_core.proofs.LookKept.{fails_look, idle_look, look_entries, look_kept, look_lives, made_look, tells_look, tries_answer}
 use Rattle.kernel_core.proofs.kernels.Kernel.step.Goals as goal
 
 pub invariant_of-self : goal.invariant_of-self
 invariant_of-self g c =
     let d = g.D.Disk in
     let s = c.look_core-looked.ensures in
-    look_kept d c.args.me c.self.inside.core c.look_core-looked.new.core c.look_core-looked.result s.steady s.stopped c.why_stopped-self-inside.result c.why_stopped-self-inside.ensures
+    look_kept d c.args.me c.self.inside.core c.look_core-looked.new.core (g.P.Policy.wish c.args.gate.now.policy) c.look_core-looked.result s.steady s.stopped.stopped c.why_stopped-self-inside.result c.why_stopped-self-inside.ensures
 
 pub look_core-looked-requires-clause-clean : goal.look_core-looked-requires-clause-clean
 look_core-looked-requires-clause-clean g c = λ told.
@@ -38,10 +38,10 @@ returns-clause-ends g c = λ _. subst (λ r. Tells r c.why_stopped-self-inside.r
 
 pub returns-clause-stopped : goal.returns-clause-stopped
 returns-clause-stopped g c = λ _.
-    let d = g.D.Disk in
-    stopped_look c.look_core-looked.result (StopsLook d c.args.me c.args.self.now.parts c.look_core-looked.new.core)
-    (subst (λ (p : Parts g.row.D.Denot). IfErr c.look_core-looked.result (StopsLook d c.args.me p c.look_core-looked.new.core))
-    (ap (λ (k : Held g.row.D.Denot). k.parts) c.self.view_is) c.look_core-looked.ensures.stopped) c.why_stopped-self-inside.result c.why_stopped-self-inside.ensures
+    let new = c.look_core-looked.new.core in
+    let wish = g.P.Policy.wish c.args.gate.now.policy in
+    subst (λ o. StopsWhere g.D.Disk wish c.args.me c.args.self.now.parts new o) (sym c.why_stopped-self-inside.ensures)
+    (subst (λ (p : Parts g.row.D.Denot). StopsWhere g.D.Disk wish c.args.me p new (result_err c.look_core-looked.result)) (ap (λ (k : Held g.row.D.Denot). k.parts) c.self.view_is) c.look_core-looked.ensures.stopped)
 
 pub returns-clause-made : goal.returns-clause-made
 returns-clause-made g c =
@@ -88,7 +88,7 @@ returns-clause-notes g c = λ told b supply policy lives _.
     let was = subst (λ o. Lives d b (record { parts = c.self.inside.core; stop = o })) c.in_default.is (subst (Lives d b) (sym c.self.view_is) lives) in
     let free = runs_free d c.args.me c.self.inside.core c.look_core-looked.new.core steady b (g.P.Policy.wish c.args.gate.now.policy) policy was in
     let calm = was.live.calm Rattle.std.proofs.Common.refl in
-    subst (λ (k : Held g.row.D.Denot). NotesAlong b (look b.supply b.policy b.script (run_of b k.parts.noted.entries) c.args.me) k (record { parts = c.look_core-looked.new.core; stop = c.why_stopped-self-inside.result })) c.self.view_is
+    subst (λ (k : Held g.row.D.Denot). NotesAlong d b (look b.supply b.policy b.script (run_of b k.parts.noted.entries) c.args.me) k (record { parts = c.look_core-looked.new.core; stop = c.why_stopped-self-inside.result })) c.self.view_is
     (record {
       whole = λ going. while_going r (look_entries d c.args.me c.self.inside.core c.look_core-looked.new.core b (g.P.Policy.wish c.args.gate.now.policy) policy r (s.run told b supply policy free.stands calm)) c.why_stopped-self-inside.result kept going;
       part = λ why is. when_stopped r (s.part told b supply policy free.stands calm) c.why_stopped-self-inside.result kept why is;
