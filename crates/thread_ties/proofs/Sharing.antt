@@ -1,9 +1,8 @@
 -- Fragments that are given out one by one, and those that came back.
-use Rattle.std.proofs.Common.{◌≡◌, ℕ, zero, suc, ◌+◌, ◌<◌, false, List, [], ◌∷◌, ◌++◌, map, length, Some, refl, ap, sym, ◌∙◌, subst, arith, append_assoc}
-use Rattle.std.proofs.lemmas.List.{append-nil}
+use Rattle.std.proofs.Common.{◌≡◌, ℕ, zero, suc, ◌+◌, ◌<◌, false, List, [], ◌∷◌, map, length, Some, refl, ap, ◌∙◌, subst, arith}
 use Rattle.thread_ties.specs.declared.views.Piece.{Piece}
 use Rattle.thread_ties.specs.declared.views.View.{View}
-use Rattle.thread_ties.specs.Rules.{AllHeld, Shown, first_of, numbers, numbered, rest_of, shown, shown_of}
+use Rattle.thread_ties.specs.Rules.{AllHeld, first_of, numbers, numbered, shown}
 use Rattle.thread_history.specs.Rules.{AllDiffer, is_among}
 use Rattle.thread_ties.specs.Seats.{IsFragment}
 use Rattle.thread_ties.specs.Sides.{AllAgree, AllWithin, fragments_of, numbers_of}
@@ -17,24 +16,9 @@ module _ {V : Type 0} where
   first_is v [] is lt = absurd (omega arith)
   first_is v (p ∷ ps) is lt = (p, is)
 
-  pub passed : (fs : List (Shown V)) (ps : List (Piece V)) (all : List (Shown V)) → 0 < length ps → fs ++ map shown ps ≡ all → (fs ++ shown_of (first_of ps) ∷ []) ++ map shown (rest_of ps) ≡ all
-  passed fs [] all lt is = absurd (omega arith)
-  passed fs (p ∷ ps) all lt is = append_assoc fs (shown p ∷ []) (map shown ps) ∙ is
-
-  pub length_rest : (ps : List (Piece V)) → 0 < length ps → length (rest_of ps) + 1 ≡ length ps
-  length_rest [] lt = absurd (omega arith)
-  length_rest (p ∷ ps) lt = omega arith
-
-  pub none_left : (ps : List (Piece V)) → length ps ≡ 0 → ps ≡ []
-  none_left [] is = refl
-  none_left (p ∷ ps) is = absurd (omega arith)
-
   pub length_numbered : (n : ℕ) (vs : List V) → length (numbered n vs) ≡ length vs
   length_numbered n [] = refl
   length_numbered n (v ∷ vs) = ap suc (length_numbered (suc n) vs)
-
-  pub all_passed : (fs all : List (Shown V)) (ps : List (Piece V)) → length ps ≡ 0 → fs ++ map shown ps ≡ all → fs ≡ all
-  all_passed fs all ps none is = sym (append-nil fs) ∙ ap (λ (qs : List (Piece V)). fs ++ map shown qs) (sym (none_left ps none)) ∙ is
 
   -- COME BACK
   numbers_same : (ps : List (Piece V)) → numbers ps ≡ numbers_of (map shown ps)
