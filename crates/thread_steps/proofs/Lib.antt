@@ -1,0 +1,5 @@
+pub mod Numbers
+pub mod Facing
+pub mod OnePlan
+pub mod FromTable
+pub mod Arms
