@@ -60,7 +60,16 @@ pub(crate) fn opened(
     Ok(own)
 }
 
-/// The births of a script, its picks, and rounds to the end, or as far as the kernel came.
+/// The births of a script, its picks, and rounds to the end, as far as the kernel comes.
+pub(crate) fn play_out(alloc: Global, own: &mut OwnKernel<MemoryDisk>, script: &Script)
+    requires { IsScript (tables_of script.now) }
+{
+    if own.births(alloc, script).is_ok() && own.play(script).is_ok() {
+        let _ = own.finish();
+    }
+}
+
+/// What that leaves of the image on a disk.
 pub(crate) fn run(
     alloc: Global,
     disk: MemoryDisk,
@@ -69,9 +78,7 @@ pub(crate) fn run(
     requires script { IsScript (tables_of script.now) }
 {
     let mut own = opened(alloc, disk, script)?;
-    if own.births(alloc, script).is_ok() && own.play(script).is_ok() {
-        let _ = own.finish();
-    }
+    play_out(alloc, &mut own, script);
     Ok(own.into_ended())
 }
 

@@ -21,7 +21,7 @@ use test_replays::{commits_of, common, facts_of, fronts_from, is_cut_off, means_
 
 // A kernel that stopped makes no more, whatever is called and whatever the locus: behind a fault of the disk it is shut, and behind want of
 // blocks it tells the same numbers.
-fn goes_on_no_more(
+pub(crate) fn goes_on_no_more(
     rt: &impl Abort,
     own: &mut OwnKernel<MemoryDisk>,
     script: &Script,
@@ -143,7 +143,7 @@ fn a_stable_of_many_records_is_cut_short_at_each(rt: HostRuntime) -> Result<(), 
 }
 
 // What is shown of the image of a run that stopped.
-fn shown_behind(alloc: Global, ended: Ended<MemoryDisk>) -> Result<String, Fail> {
+pub(crate) fn shown_behind(alloc: Global, ended: Ended<MemoryDisk>) -> Result<String, Fail> {
     let mut disk = ended.disk;
     shown(alloc, &facts_of(alloc, &mut disk)?)
 }

@@ -16,6 +16,8 @@ mod forms;
 #[cfg(test)]
 mod history_tests;
 #[cfg(test)]
+mod parts_tests;
+#[cfg(test)]
 mod record_tests;
 #[cfg(test)]
 mod scripts;

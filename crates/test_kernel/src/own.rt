@@ -102,6 +102,16 @@ impl<D: Disk> OwnKernel<D> {
         &self.kernel
     }
 
+    /// The same kernel, taken apart and put together.
+    pub fn rejoined(self) -> OwnKernel<D>
+        ensures { result ≡ self }
+    {
+        let OwnKernel { kernel } = self;
+        OwnKernel {
+            kernel: Kernel::together(kernel.apart()),
+        }
+    }
+
     /// The disk, the history and the marks.
     pub fn into_ended(self) -> Ended<D>
         ensures { result.disk ≡ self.parts.store.disk }
