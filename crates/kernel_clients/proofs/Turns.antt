@@ -1,0 +1,30 @@
+-- A serving kernel goes on serving.
+use Rattle.std.proofs.Common.{◌≡◌, ℕ, List, [], ◌∷◌, ◌++◌, Option, Some, None, sym, ap, subst, ◌∙◌}
+use Rattle.std.specs.Prelude.{IfSome}
+use Rattle.edge_disk.specs.declared.disk.Disk.{Ghosts}
+use Rattle.base_types.specs.declared.histories.Entry.{Entry}
+use Rattle.kernel_core.specs.kernel_core_facts.Kernels.{Held, Lives}
+use Rattle.kernel_core.specs.kernel_invariant.Beginnings.{Beginning, run_of}
+use Rattle.kernel_core.specs.kernel_invariant.declared.stopping.Stopped.{Stopped}
+use Rattle.kernel_core.specs.model_serial.Serial.{look}
+use Rattle.kernel_core.specs.model_serial_turns.Turns.{HasLooked}
+use Rattle.kernel_core.proofs.model_serial_turns_lemmas.Whereabouts.{looked_more}
+use Rattle.kernel_clients.specs.Serving.{Serves}
+
+module _ {D : Type 0} (disks : Ghosts D) where
+  -- a kernel that goes on went on before
+  going_before : (R : Stopped → Type 0) (old new : Held D) (o : Option Stopped) → old.stop ≡ o → IfSome o (λ why. R why × (new ≡ old)) → new.stop ≡ None → old.stop ≡ None
+  going_before R old new None is _ going = is
+  going_before R old new (Some why) is stays going = let same : new.stop ≡ Some why = ap (λ (k : Held D). k.stop) stays.1 ∙ is in absurd (let clash : None ≡ Some why = sym going ∙ same in cc clash)
+
+  -- behind a look at one locus more
+  pub serves_more : (R : Stopped → Type 0) (b : Beginning) (looked : List ℕ) (l : ℕ) (old new : Held D) → Serves disks b looked old → IfSome old.stop (λ why. R why × (new ≡ old)) → Lives disks b new
+      → (old.stop ≡ None → new.stop ≡ None → new.parts.noted.entries ≡ old.parts.noted.entries ++ look b.supply b.policy b.script (run_of b old.parts.noted.entries) l) → Serves disks b (looked ++ l ∷ []) new
+  serves_more R b looked l old new s stays lives notes = record {
+    lives = lives;
+    looks = λ going.
+        let before = going_before R old new old.stop (λ i. old.stop) stays going in
+        let es : List Entry = old.parts.noted.entries in
+        subst (HasLooked b.supply b.policy b.script b.state (looked ++ l ∷ [])) (sym (notes before going))
+        (looked_more b.supply b.policy b.script b.state looked es l (s.looks before));
+  }
