@@ -1,5 +1,5 @@
 -- The model's copy, in a state that has the touched cells.
-use Rattle.std.proofs.Common.{◌≡◌, ℕ, ◌+◌, ◌<◌, ◌≤◌, ◌==◌, ◌&&◌, if◌then◌else◌, Bool, true, List, [], ◌∷◌, ◌++◌, Option, Some, None, is_none, length, option_map, refl, sym, ap, subst, ◌∙◌, arith}
+use Rattle.std.proofs.Common.{◌≡◌, ℕ, ◌+◌, ◌<◌, ◌==◌, ◌&&◌, if◌then◌else◌, true, List, [], ◌∷◌, ◌++◌, Some, is_none, length, option_map, unwrap_or, refl, sym, ap, subst, ◌∙◌, arith}
 use Rattle.std.proofs.lemmas.Bool.{lt-ltb}
 use Rattle.base_types.specs.declared.capabilities.Region.{Region}
 use Rattle.base_types.specs.declared.histories.Answer.TheVariants.{Quiet}
@@ -10,12 +10,14 @@ use Rattle.cell_births.specs.act_alone.declared.loci.Head.{Head}
 use Rattle.cell_births.specs.act_alone.Loci.{container_with}
 use Rattle.cell_births.specs.act_calls.Calls.{atlas_state}
 use Rattle.cell_births.specs.cell_clocks.Clocks.{HasClock, reading, writing}
+use Rattle.cell_births.specs.cell_clocks.declared.Clock.{Clock}
 use Rattle.cell_births.specs.cell_states.declared.cells.Cell.{Cell}
+use Rattle.cell_births.specs.cell_states.declared.cells.Part.{Part}
 use Rattle.cell_births.specs.cell_states.declared.cells.Part.TheVariants as part
 use Rattle.cell_births.specs.cell_states.Cells.{HasCell, part_of}
 use Rattle.cell_births.specs.page_memory.Words.{words_of}
 use Rattle.cell_births.proofs.cell_wish_laws_lemmas.cell_states_lemmas.Stepping.{written_cell}
-use Rattle.model_copies.specs.Copies.{IsCopied, copied_atlas, copied_container, copy_change, copy_named, copy_of, copying}
+use Rattle.model_copies.specs.Copies.{IsCopied, copied_atlas, copied_container, copy_change, copy_named, copy_of}
 use Rattle.model_copies.specs.model_kernel.Births.{with_container_name}
 use Rattle.model_copies.specs.model_kernel.Changes.{Access, Change, carried, carried_by, changed, entry_of, ordered}
 use Rattle.model_copies.specs.model_kernel.Outcomes.{free_container}
@@ -26,7 +28,7 @@ use Rattle.model_copies.specs.model_kernel.Steps.{atlas_in}
 use Rattle.model_copies.proofs.Copying.{again}
 use Rattle.model_copies.proofs.Edges.{containers_with, edges_with, loci_with}
 use Rattle.act_alone.proofs.model_sound_steps_lemmas.RegionLists.{shown}
-use Rattle.cell_copies.specs.Copying.{HasCopiedPages, IsSource, MayCopyCells, MayCopyPart, table_words}
+use Rattle.cell_copies.specs.Copying.{HasCopiedPages, HasCopy, HasPlaced, IsBlankCopy, MayCopyCells, table_words}
 use Rattle.cell_copies.proofs.Words.{same_words}
 
 -- the directory with the copy's name and its edges
@@ -48,9 +50,15 @@ three_ordered i x n k pos lt = rw (lt-ltb x n lt) (rw (lt-ltb 0 x pos) refl)
 free_first : (d : Directory) → length d.containers < 40 → free_container (atlas_state d) ≡ Some (length d.containers + 1)
 free_first d few = rw (lt-ltb (length d.containers) 40 few) refl
 
-module _ (s : Supply) (words : ℕ → List ℕ) (v : KernelState) (name fresh : Text) (d : Directory) (h : Head) (from table : List ℕ) (a src n : Cell)
-    (may : MayCopyCells d h from src n.clock.entity fresh table) (isa : a.part ≡ part.Atlas d) (zero_at : a.clock.entity ≡ 0) (hasa : HasCell s words v a) (hass : HasCell s words v src)
-    (named : container_named (atlas_in (v 0).cell) name ≡ Some src.clock.entity) (copied : HasCopiedPages words from table) where
+-- the head of a born container, and else this one
+unfoldable pub head_in : Head → Part → Head
+head_in d (part.Container b) = unwrap_or b.head d
+head_in d (part.Atlas a) = d
+head_in d (part.Locus l) = d
+
+module _ (s : Supply) (words : ℕ → List ℕ) (v : KernelState) (name fresh : Text) (d : Directory) (h : Head) (from : List ℕ) (a src n : Cell)
+    (may : MayCopyCells d h from src n.clock.entity fresh) (isa : a.part ≡ part.Atlas d) (zero_at : a.clock.entity ≡ 0) (hasa : HasCell s words v a) (hass : HasCell s words v src)
+    (named : container_named (atlas_in (v 0).cell) name ≡ Some src.clock.entity) where
   abbrev c : ContainerState
   c = container_with (words_of s words may.source_is.memory) h
 
@@ -87,21 +95,44 @@ module _ (s : Supply) (words : ℕ → List ℕ) (v : KernelState) (name fresh :
     is = ap (option_map (λ (m : ℕ × Change). carried v Birth m.0 m.1)) change ∙ (λ p. Some (carried_by v Birth n.clock.entity (three_ordered i src.clock.entity n.clock.entity k may.some below p) Quiet));
   }
 
-  module _ (a' n' : Cell) (makesa : part_of s words a'.part ≡ i) (makesn : part_of s words n'.part ≡ ContainerCell (copied_container (container_with (table_words s h.tag words table) h)))
-      (samea : a'.clock.entity ≡ a.clock.entity) (samen : n'.clock.entity ≡ n.clock.entity)
+  module _ (a' n' : Cell) (makesa : part_of s words a'.part ≡ i) (blank : IsBlankCopy h n'.part) (samea : a'.clock.entity ≡ a.clock.entity) (samen : n'.clock.entity ≡ n.clock.entity)
       (carries : (j l : ModelCell) → HasClock (changed v (writing a.clock.entity j ∷ reading src.clock.entity ∷ writing n.clock.entity l ∷ [])) a'.clock
       × HasClock (changed v (writing a.clock.entity j ∷ reading src.clock.entity ∷ writing n.clock.entity l ∷ [])) n'.clock) where
     clocks : HasClock (changed v accesses) a'.clock × HasClock (changed v accesses) n'.clock
     clocks = subst (λ x. HasClock (changed v (writing x i ∷ reading src.clock.entity ∷ writing n.clock.entity k ∷ [])) a'.clock × HasClock (changed v (writing x i ∷ reading src.clock.entity ∷ writing n.clock.entity k ∷ [])) n'.clock)
         zero_at (carries i k)
 
-    made : part_of s words n'.part ≡ k
-    made = makesn ∙ (λ p. ContainerCell (copied_container (container_with (λ address. same_words s words src.part h from table may.source_is copied address p) h)))
+    module _ (table : List ℕ) (placed : Cell) (copied : HasCopiedPages words from table) (is : HasPlaced n' table placed) where
+      same : (f : ℕ → ℕ) → container_with f is.begun.head ≡ copied_container (container_with f h)
+      unfolding head_in
+      same f = ap (λ (x : Head). container_with f x) (ap (head_in is.begun.head) (sym is.same_head ∙ blank.begun.is)) ∙ blank.same f
 
-    pub copied_cells : (w : KernelState) × IsCopied name fresh v w × HasCell s words w a' × HasCell s words w n'
+      tag : is.begun.head.tag ≡ h.tag
+      tag = ap (λ (x : ContainerState). x.tag) (same (λ address. 0))
+
+      word : (address : ℕ) → words_of s words is.begun.memory address ≡ words_of s words may.source_is.memory address
+      word address = is.begun.words_are s words address
+          ∙ (ap (λ t. table_words s t words table address) tag ∙ same_words s words src.part h from table may.source_is copied address)
+
+      made : part_of s words placed.part ≡ k
+      made = ap (part_of s words) is.begun.is
+          ∙ (λ p. ContainerCell (container_with (λ address. word address p) is.begun.head))
+          ∙ ap ContainerCell (same (words_of s words may.source_is.memory))
+
+      clock : placed.clock ≡ n'.clock
+      clock = ap (λ (x : Cell). x.clock) is.only_part
+
+      pub placed_cell : HasCell s words (changed v accesses) placed
+      placed_cell = written_cell s words v accesses n.clock.entity (writing n.clock.entity k) k placed (access_third (writing 0 i) (reading src.clock.entity) (writing n.clock.entity k) [] may.some below) refl
+          (ap (λ (x : Clock). x.entity) clock ∙ samen) made (subst (HasClock (changed v accesses)) (sym clock) clocks.1)
+
+    pub copied_cells : (w : KernelState) × IsCopied name fresh v w × HasCopy s words w from a' n'
     copied_cells = (
       changed v accesses,
       is_copied,
-      written_cell s words v accesses 0 (writing 0 i) i a' (access_first (writing 0 i) (reading src.clock.entity ∷ writing n.clock.entity k ∷ [])) refl (samea ∙ zero_at) makesa clocks.0,
-      written_cell s words v accesses n.clock.entity (writing n.clock.entity k) k n' (access_third (writing 0 i) (reading src.clock.entity) (writing n.clock.entity k) [] may.some below) refl samen made clocks.1,
+      record {
+        atlas = written_cell s words v accesses 0 (writing 0 i) i a' (access_first (writing 0 i) (reading src.clock.entity ∷ writing n.clock.entity k ∷ [])) refl (samea ∙ zero_at) makesa clocks.0;
+        clock = clocks.1;
+        newborn = placed_cell;
+      },
     )

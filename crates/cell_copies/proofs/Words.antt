@@ -1,11 +1,14 @@
 -- The words of a copied container.
-use Rattle.std.proofs.Common.{◌≡◌, ◌≢◌, ℕ, ◌+◌, ◌/◌, ◌%◌, ◌==◌, if◌then◌else◌, Bool, true, false, List, Option, None, slice_index, refl, sym, ap, ◌∙◌, eqb-true, eq-eqb}
+use Rattle.std.proofs.Common.{◌≡◌, ◌≢◌, ℕ, ◌/◌, ◌%◌, ◌==◌, Bool, true, false, List, Option, None, Some, replicate, slice_index, slice_index_or, zero, suc, refl, sym, ap, ◌∙◌, eqb-true, eq-eqb}
 use Rattle.std.proofs.lemmas.Bool.{false≢true}
-use Rattle.data_atlas.specs.data_atlas_facts.Directory.{Directory, edges_of}
+use Rattle.std.proofs.lemmas.Option.{same_Some}
 use Rattle.cell_births.specs.act_alone.declared.loci.Head.{Head}
-use Rattle.cell_births.specs.act_calls.Calls.{atlas_state}
 use Rattle.cell_births.specs.cell_states.declared.cells.Part.{Part}
-use Rattle.cell_births.specs.page_memory.data_frames.FrameTable.{Resident, page_at}
+use Rattle.cell_births.specs.cell_states.declared.cells.Part.TheVariants as part
+use Rattle.cell_births.specs.cell_states.declared.cells.Storage.{Storage}
+use Rattle.cell_births.specs.page_memory.data_frames.FrameTable.{FrameTable, Resident, changed_at, empty_table, resident_changed}
+use Rattle.cell_births.specs.page_memory.Calls.{IsUnchanged}
+use Rattle.cell_births.specs.page_memory.declared.paged.PagedMemory.{PagedMemory}
 use Rattle.cell_births.specs.page_memory.Words.{stored_word, word_by, words_of}
 use Rattle.model_copies.specs.model_kernel.State.{Supply}
 use Rattle.cell_copies.specs.Copying.{HasCopiedPages, IsSource, table_words}
@@ -40,3 +43,24 @@ same_words s words p h from table is copied address =
     ∙ (ap (λ (t : List ℕ). stored_word s h.tag words (slice_index t page) page place) (sym is.table)
     ∙ (ap (λ (t : ℕ). stored_word s t words (slice_index is.memory.table page) page place) (sym is.tag)
     ∙ ap (λ (o : Option Resident). word_by s is.memory.tag words (slice_index is.memory.table page) page place o) (sym (is.none_resident page))))
+
+-- where no page is resident, none is changed
+pub none_in : (n page : ℕ) → slice_index_or (replicate {A = Option Resident} n None) page None ≡ None
+none_in zero page = refl
+none_in (suc n) zero = refl
+none_in (suc n) (suc page) = none_in n page
+
+pub is_unchanged : (frames : ℕ) (m : PagedMemory) → m.frames ≡ empty_table frames → IsUnchanged m
+is_unchanged frames m is page = ap (λ (t : FrameTable). changed_at t page) is ∙ ap resident_changed (none_in 256 page)
+
+pub no_places : (n page : ℕ) → slice_index (replicate n 0) page ≡ 0
+no_places zero page = refl
+no_places (suc n) zero = refl
+no_places (suc n) (suc page) = no_places n page
+
+-- the head of a born container's part
+pub storage_head : (a : Storage) (h : Head) (m : PagedMemory) → part.Container a ≡ part.Container (record { head = Some h; memory = m }) → a.head ≡ Some h
+storage_head a h m e = cc
+
+pub same_head : (h k : Head) (m n : PagedMemory) → part.Container (record { head = Some h; memory = m }) ≡ part.Container (record { head = Some k; memory = n }) → h ≡ k
+same_head h k m n e = same_Some h k (storage_head (record { head = Some h; memory = m }) k n e)

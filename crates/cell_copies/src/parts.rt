@@ -1,14 +1,14 @@
 // A copy, on the parts of three cells.
-ghost use Rattle.std.specs.Prelude.{◌≡◌, ◌≤◌, ℕ, List, slice_index};
+ghost use Rattle.std.specs.Prelude.{◌≡◌, ◌≤◌, ℕ, List, Some, replicate};
 ghost use Rattle.data_atlas.specs.data_atlas_facts.Directory.{Directory};
-ghost use Rattle.cell_births.specs.act_alone.Loci.{container_with};
 ghost use Rattle.cell_births.specs.act_alone.declared.loci.Head.{Head as AHead};
 ghost use Rattle.cell_births.specs.act_calls.Calls.{atlas_state};
 ghost use Rattle.cell_births.specs.cell_newborns.Bearing.{IsUnbornContainer};
 ghost use Rattle.cell_births.specs.cell_states.Cells.{part_of};
-ghost use Rattle.model_copies.specs.Copies.{copied_atlas, copied_container};
-ghost use Rattle.model_copies.specs.model_kernel.State.{AtlasCell, ContainerCell, Supply};
-ghost use Rattle.cell_copies.specs.Copying.{IsBegun, IsSource, MayCopyPart, table_words};
+ghost use Rattle.cell_births.specs.page_memory.declared.paged.PagedMemory.{PagedMemory as APagedMemory};
+ghost use Rattle.model_copies.specs.Copies.{copied_atlas};
+ghost use Rattle.model_copies.specs.model_kernel.State.{AtlasCell, Supply};
+ghost use Rattle.cell_copies.specs.Copying.{IsBegun, IsBlankCopy, IsSource, MayCopyPart, MayPlace};
 
 use crate::heads::copy_head;
 use act_alone::Head;
@@ -18,71 +18,72 @@ use cell_wish_laws::{Part, Storage};
 use data_atlas::Atlas;
 use data_blocks::ShadowTable;
 
-/// Puts the copy into its place. No page is resident, and each has the table's block.
-fn begin(storage: &mut Storage, head: Head, table: &ShadowTable)
+/// Puts the copy into its place. No page is resident, and none has a block yet.
+fn begin(storage: &mut Storage, head: Head)
     requires some { 1 ≤ head.pages }
     requires few { head.pages ≤ 256 }
-    requires none_past { (page : ℕ) → head.pages ≤ page → slice_index table.now.0 page ≡ 0 }
-    ensures cell { (s : Supply) → (words : ℕ → List ℕ) → part_of s words (Part.Container storage.new) ≡ ContainerCell (container_with (table_words s head.tag words table.now.0) head) }
-    ensures begun { IsBegun (Part.Container storage.new) table.now.0 }
+    ensures begun { IsBegun (Part.Container storage.new) (replicate 256 0) }
+    ensures head { storage.new.head ≡ Some head }
 {
-    storage.memory.begin(head.tag, head.pages, table);
+    storage
+        .memory
+        .begin(head.tag, head.pages, &ShadowTable::new());
     storage.head = Some(head);
 }
 
-fn copy_storage(
-    atlas: &mut Atlas,
-    head: &Head,
-    storage: &mut Storage,
-    number: Entity,
-    fresh: &str,
-    table: &ShadowTable,
-)
-    requires { MayCopyPart atlas.old head.now number fresh.now table.now.0 }
-    ensures atlas { atlas_state atlas.new ≡ copied_atlas (atlas_state atlas.old) fresh.now number head.now.regions }
-    ensures cell { (s : Supply) → (words : ℕ → List ℕ) → part_of s words (Part.Container storage.new) ≡ ContainerCell (copied_container (container_with (table_words s head.now.tag words table.now.0) head.now)) }
+/// Gives the pages of a born container these blocks. None is resident then.
+fn place(storage: &mut Storage, table: &ShadowTable)
+    requires { MayPlace (Part.Container storage.old) table.now.0 }
     ensures begun { IsBegun (Part.Container storage.new) table.now.0 }
+    ensures head { storage.new.head ≡ storage.old.head }
 {
-    let copy = copy_head(head);
-    name_container(atlas, fresh);
-    link(atlas, number, copy.regions.as_slice());
-    begin(storage, copy, table);
+    let Some(head) = &storage.head else {
+        unreachable!()
+    };
+    storage.memory.begin(head.tag, head.pages, table);
 }
 
-fn copy_into(
-    atlas: &mut Atlas,
-    head: &Head,
-    part: &mut Part,
-    number: Entity,
-    fresh: &str,
-    table: &ShadowTable,
-)
-    requires may { MayCopyPart atlas.old head.now number fresh.now table.now.0 }
-    requires unborn { IsUnbornContainer part.old }
-    ensures atlas { atlas_state atlas.new ≡ copied_atlas (atlas_state atlas.old) fresh.now number head.now.regions }
-    ensures cell { (s : Supply) → (words : ℕ → List ℕ) → part_of s words part.new ≡ ContainerCell (copied_container (container_with (table_words s head.now.tag words table.now.0) head.now)) }
+/// The same, of a part.
+pub(crate) fn place_part(part: &mut Part, table: &ShadowTable)
+    requires { MayPlace part.old table.now.0 }
     ensures begun { IsBegun part.new table.now.0 }
+    ensures head { (h : AHead) → (m : APagedMemory) → part.old ≡ Part.Container (record { head = Some h; memory = m })
+        → (n : APagedMemory) × (part.new ≡ Part.Container (record { head = Some h; memory = n })) }
 {
     match part {
-        Part::Container(storage) => copy_storage(atlas, head, storage, number, fresh, table),
+        Part::Container(storage) => place(storage, table),
         _ => unreachable!(),
     }
 }
 
-fn copy_from(
-    atlas: &mut Atlas,
-    source: &Part,
-    part: &mut Part,
-    number: Entity,
-    fresh: &str,
-    table: &ShadowTable,
-)
-    requires may { (h : AHead) × (from : List ℕ) × IsSource source.now h from × MayCopyPart atlas.old h number fresh.now table.now.0 }
+fn copy_storage(atlas: &mut Atlas, head: &Head, storage: &mut Storage, number: Entity, fresh: &str)
+    requires { MayCopyPart atlas.old head.now number fresh.now }
+    ensures atlas { atlas_state atlas.new ≡ copied_atlas (atlas_state atlas.old) fresh.now number head.now.regions }
+    ensures blank { IsBlankCopy head.now (Part.Container storage.new) }
+{
+    let copy = copy_head(head);
+    name_container(atlas, fresh);
+    link(atlas, number, copy.regions.as_slice());
+    begin(storage, copy);
+}
+
+fn copy_into(atlas: &mut Atlas, head: &Head, part: &mut Part, number: Entity, fresh: &str)
+    requires may { MayCopyPart atlas.old head.now number fresh.now }
+    requires unborn { IsUnbornContainer part.old }
+    ensures atlas { atlas_state atlas.new ≡ copied_atlas (atlas_state atlas.old) fresh.now number head.now.regions }
+    ensures blank { IsBlankCopy head.now part.new }
+{
+    match part {
+        Part::Container(storage) => copy_storage(atlas, head, storage, number, fresh),
+        _ => unreachable!(),
+    }
+}
+
+fn copy_from(atlas: &mut Atlas, source: &Part, part: &mut Part, number: Entity, fresh: &str)
+    requires may { (h : AHead) × (from : List ℕ) × IsSource source.now h from × MayCopyPart atlas.old h number fresh.now }
     requires unborn { IsUnbornContainer part.old }
     ensures atlas { (h : AHead) → (from : List ℕ) → IsSource source.now h from → atlas_state atlas.new ≡ copied_atlas (atlas_state atlas.old) fresh.now number h.regions }
-    ensures cell { (h : AHead) → (from : List ℕ) → IsSource source.now h from → (s : Supply) → (words : ℕ → List ℕ)
-        → part_of s words part.new ≡ ContainerCell (copied_container (container_with (table_words s h.tag words table.now.0) h)) }
-    ensures begun { IsBegun part.new table.now.0 }
+    ensures blank { (h : AHead) → (from : List ℕ) → IsSource source.now h from → IsBlankCopy h part.new }
 {
     match source {
         Part::Container(
@@ -90,7 +91,7 @@ fn copy_from(
                 head: Some(head),
                 ..
             },
-        ) => copy_into(atlas, head, part, number, fresh, table),
+        ) => copy_into(atlas, head, part, number, fresh),
         _ => unreachable!(),
     }
 }
@@ -102,18 +103,15 @@ pub(crate) fn copy_parts(
     part: &mut Part,
     number: Entity,
     fresh: &str,
-    table: &ShadowTable,
 )
-    requires may { (d : Directory) × (h : AHead) × (from : List ℕ) × (atlas.old ≡ Part.Atlas d) × IsSource source.now h from × MayCopyPart d h number fresh.now table.now.0 }
+    requires may { (d : Directory) × (h : AHead) × (from : List ℕ) × (atlas.old ≡ Part.Atlas d) × IsSource source.now h from × MayCopyPart d h number fresh.now }
     requires unborn { IsUnbornContainer part.old }
     ensures atlas { (d : Directory) → (h : AHead) → (from : List ℕ) → atlas.old ≡ Part.Atlas d → IsSource source.now h from → (s : Supply) → (words : ℕ → List ℕ)
         → part_of s words atlas.new ≡ AtlasCell (copied_atlas (atlas_state d) fresh.now number h.regions) }
-    ensures cell { (h : AHead) → (from : List ℕ) → IsSource source.now h from → (s : Supply) → (words : ℕ → List ℕ)
-        → part_of s words part.new ≡ ContainerCell (copied_container (container_with (table_words s h.tag words table.now.0) h)) }
-    ensures begun { IsBegun part.new table.now.0 }
+    ensures blank { (h : AHead) → (from : List ℕ) → IsSource source.now h from → IsBlankCopy h part.new }
 {
     match atlas {
-        Part::Atlas(directory) => copy_from(directory, source, part, number, fresh, table),
+        Part::Atlas(directory) => copy_from(directory, source, part, number, fresh),
         _ => unreachable!(),
     }
 }

@@ -25,10 +25,11 @@ use Rattle.kernel_invariant.proofs.model_kernel_lemmas.Lowering.{greatest_one}
 use Rattle.kernel_invariant.proofs.image_meaning_lemmas.Choosing.{from_commits}
 use Rattle.kernel_invariant.proofs.image_meaning_lemmas.Ones.{one_log}
 use Rattle.kernel_invariant.proofs.store_books_lemmas.image_blocks_lemmas.Reading.{log_law}
-use Rattle.kernel_invariant.proofs.Apart.{more_apart}
+use Rattle.kernel_invariant.proofs.Apart.{kept_apart, more_apart}
 use Rattle.kernel_invariant.proofs.Growing.{fitting_narrow}
 use Rattle.kernel_invariant.proofs.Pages.{page_named}
 use Rattle.kernel_invariant.proofs.Stretches.{leaves_map}
+use Rattle.kernel_invariant.proofs.store_told_lemmas.Telling.{told_meant}
 use Rattle.kernel_invariant.proofs.image_meaning_lemmas.Resting.{one_of}
 use Rattle.kernel_invariant.proofs.store_books_lemmas.Owners.{place_in}
 use Rattle.kernel_block_laws.specs.Owning.{PutsRecord}
@@ -39,11 +40,11 @@ use Rattle.store_facts.specs.State.{HoldsPoolBlocks}
 use Rattle.store_copies.specs.store_told.Told.{ArePagesApart}
 use Rattle.store_copies.specs.model_copies.Needing.{LeavesCopy}
 use Rattle.store_copies.proofs.model_copies_lemmas.Copying.{leaves}
-use Rattle.store_copies.specs.Images.{IsAtlasRecord, IsCopyRecord, MeansCopy}
+use Rattle.store_copies.specs.Images.{AreRecordsOf, IsAtlasRecord, IsCopyRecord, IsMeantState, MeansCopy}
 use Rattle.store_copies.specs.Moments.{AreTwoCommits, IsFreshIn, MeansEither, StoresKeptOr}
 use Rattle.store_copies.proofs.Copies.{after, before}
 use Rattle.store_copies.proofs.Moments.{copy_moments, kept_again}
-use Rattle.kernel_copies.specs.Pairs.{CommitsFirst, CommitsSecond, MayCopy}
+use Rattle.kernel_copies.specs.Pairs.{CommitsFirst, CommitsSecond, MayCopy, MayCopyAtlas}
 use Rattle.kernel_block_laws.proofs.Unchanged.{blob_high, kept_same}
 
 -- a page of the record is of its entity's working table
@@ -53,6 +54,31 @@ named_there image table there same ps is n has =
     let p = place_in table n named.1 in
     let at : slice_index there p.0 ≡ n = sym (same p.0) ∙ p.1 in
     (named.0, subst (Contains there) at (one_of there p.0 (λ zero. named.0 (sym at ∙ zero))))
+
+-- the records of a state, kept by books, mean it
+pub kept_means : (s : Supply) (v : KernelState) (image c : Image) (bk : Books) (tables : ℕ → List ℕ) → IsMeantState s v → AreRecordsOf s v (kept_of image bk) → AreOwned bk tables → Stores bk.count (kept_of image bk) c → Means s c v
+kept_means s v image c bk tables meant records owned st = told_meant s (λ x n. v x) bk.count (kept_of image bk) (λ x. (v x).version) v c st records.each (kept_apart bk tables image owned) records.greatest
+    (record { same = λ x. refl; unwritten = meant.unwritten; sound = meant.sound.sound })
+
+-- THE FIRST COMMIT
+module _ {D : Type 0} (disks : Ghosts D) (s : Supply) (name fresh : Text) (v w : KernelState) (old : D) (bk : Books) (tables : ℕ → List ℕ) (entity version : ℕ) (stamp blob table : List ℕ)
+    (may : MayCopyAtlas s name fresh v w (disks.reading old) bk tables entity version stamp blob table) where
+  pub apart_new : (image : Image) (a : Kept) → IsNewKept entity version stamp blob table image a → IsFreshIn bk a → ArePagesApart bk.count (kept_of (disks.reading old) bk ++ a ∷ [])
+  apart_new image a is fresh = more_apart bk tables (disks.reading old) may.owned a (record {
+    pages = λ n has. subst (λ (x : ℕ). NamesPage (tables x) n) (sym is.entity_is) (named_there image table (tables entity) may.table_is a.pages is.pages_are n has);
+    pool = may.pool;
+    fresh = fresh;
+  })
+
+  first_means : (c : Image) → StoresKeptOrMore (disks.reading old) bk entity version stamp blob table c → Means s c v
+  first_means c (inl st) = kept_means s v (disks.reading old) c bk tables may.meant may.records may.owned st
+  first_means c (inr m) =
+      let a = m.more.new in
+      let atlas = may.first (disks.reading old) a (λ n high used. refl) m.more.is in
+      (before s name fresh v w bk.count (kept_of (disks.reading old) bk) a may.meant may.copied may.records atlas (apart_new (disks.reading old) a m.more.is m.free.fresh)).one c m.more.stores
+
+  pub first_moments : (mid : D) → LeavesOnly disks old mid (StoresKeptOrMore (disks.reading old) bk entity version stamp blob table) → LeavesOnly disks old mid (λ c. Means s c v)
+  first_moments mid one = leaves_map disks old mid _ (λ c. Means s c v) first_means one
 
 module _ {D : Type 0} (disks : Ghosts D) (only_now : (d : D) (c : Image) → disks.tells → disks.left_since d (disks.clock d) c → disks.may_leave d c)
     (s : Supply) (name fresh : Text) (v w : KernelState) (old mid : D) (bk between : Books) (tables : ℕ → List ℕ) (entity version : ℕ) (stamp blob table : List ℕ) (entity2 version2 : ℕ) (stamp2 blob2 table2 : List ℕ)
@@ -93,11 +119,8 @@ module _ {D : Type 0} (disks : Ghosts D) (only_now : (d : D) (c : Image) → dis
   made_atlas = may.first (disks.reading mid) made f.same_used made_new
 
   apart_first : (image : Image) (a : Kept) → IsNewKept entity version stamp blob table image a → IsFreshIn bk a → ArePagesApart bk.count (ks ++ a ∷ [])
-  apart_first image a is fresh = more_apart bk tables (disks.reading old) may.owned a (record {
-    pages = λ n has. subst (λ (x : ℕ). NamesPage (tables x) n) (sym is.entity_is) (named_there image table (tables entity) may.first_table a.pages is.pages_are n has);
-    pool = may.pool;
-    fresh = fresh;
-  })
+  apart_first = apart_new disks s name fresh v w old bk tables entity version stamp blob table
+      (record { meant = may.meant; copied = may.copied; records = may.records; owned = may.owned; pool = may.pool; table_is = may.first_table; first = may.first })
 
   made_is : IsAtlasRecord s w made × ArePagesApart bk.count (ks ++ made ∷ [])
   made_is = (made_atlas, apart_first (disks.reading mid) made made_new f.committed.free.fresh)

@@ -6,7 +6,7 @@ use Rattle.edge_disk.specs.Moments.{LeavesOnly}
 use Rattle.kernel_invariant.specs.model_kernel.State.{KernelState, Supply, Text}
 use Rattle.kernel_invariant.specs.image_facts.Layout.{last_number}
 use Rattle.kernel_invariant.specs.image_meaning.Meaning.{Means}
-use Rattle.kernel_invariant.specs.image_meaning.Stores.{Kept}
+use Rattle.kernel_invariant.specs.image_meaning.Stores.{Kept, Stores}
 use Rattle.kernel_invariant.specs.store_books.Books.{AreSmall, AreTrue, Books, IsNewKept, kept_in, kept_of}
 use Rattle.kernel_invariant.specs.store_books.Owning.{AreOwned}
 use Rattle.store_facts.specs.Committed.{CommitsInFreeBlocks, SameUsed, StoresKeptOrMore}
@@ -40,6 +40,29 @@ pub record CommitsFirst {D : Type 0} (disks : Ghosts D) (old mid : D) (bk betwee
   pub small : between.small ≡ (bk.small && are_small version stamp)
   pub true_books : AreTrue disks between mid
   pub working : between.shut ≡ false
+
+-- THE FIRST OF THEM MAY BE
+pub record MayCopyAtlas (s : Supply) (name fresh : Text) (v w : KernelState) (image : Image) (bk : Books) (tables : ℕ → List ℕ) (entity version : ℕ) (stamp blob table : List ℕ) : Type 0 where
+  pub meant : IsMeantState s v
+  pub copied : IsCopied name fresh v w
+  pub records : AreRecordsOf s v (kept_of image bk)
+  pub owned : AreOwned bk tables
+  pub pool : HoldsPoolBlocks bk
+  pub table_is : (p : ℕ) → slice_index table p ≡ slice_index (tables entity) p
+  pub first : (at : Image) (k : Kept) → SameUsed bk image at → IsNewKept entity version stamp blob table at k → IsAtlasRecord s w k
+
+-- THE LAW of the moments of the first commit, made or failed
+abbrev pub FirstMomentsLaw : {D : Type 0} → Ghosts D → Type 0
+FirstMomentsLaw {D = D} disks = (s : Supply) (name fresh : Text) (v w : KernelState) (old mid : D) (bk : Books) (tables : ℕ → List ℕ)
+    (entity version : ℕ) (stamp blob table : List ℕ)
+    → MayCopyAtlas s name fresh v w (disks.reading old) bk tables entity version stamp blob table
+    → LeavesOnly disks old mid (StoresKeptOrMore (disks.reading old) bk entity version stamp blob table)
+    → LeavesOnly disks old mid (λ c. Means s c v)
+
+-- where the store keeps the records of a state, each image that stores them means it
+abbrev pub KeptMeansLaw : Type 0
+KeptMeansLaw = (s : Supply) (v : KernelState) (image c : Image) (bk : Books) (tables : ℕ → List ℕ) → IsMeantState s v → AreRecordsOf s v (kept_of image bk) → AreOwned bk tables
+    → Stores bk.count (kept_of image bk) c → Means s c v
 
 -- THE LAW of moments
 abbrev pub PairMomentsLaw : {D : Type 0} → Ghosts D → Type 0

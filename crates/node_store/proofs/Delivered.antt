@@ -23,7 +23,8 @@ use Rattle.node_commits.proofs.Delivering.{delivered_moments, kept_stored, weake
 use Rattle.node_commits.proofs.Standing.{delivered_books, same_kept_in}
 use Rattle.page_placing.specs.declared.writing.PageWords.{PageWords}
 use Rattle.page_placing.specs.Writing.{HasGivenBack}
-use Rattle.node_store.specs.Shipping.{MayDeliver, TakesRecord, stores_of}
+use Rattle.kernel_placing.specs.Placing.{stores_of}
+use Rattle.node_store.specs.Shipping.{MayDeliver, TakesRecord}
 use Rattle.node_commits.proofs.kernel_block_laws_lemmas.Unchanged.{blob_high, kept_same}
 use Rattle.node_store.proofs.Placed.{Placed, at_entity, free_old, have_blocks, none_left, owned_now}
 

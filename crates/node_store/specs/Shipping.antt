@@ -1,6 +1,5 @@
 -- What is shipped, for a standby's store.
 use Rattle.std.specs.Prelude.{◌≡◌, ◌≢◌, ◌⊎◌, ℕ, ◌+◌, ◌^◌, ◌<◌, ◌≤◌, ◌&&◌, All, true, false, List, [], ◌∷◌, ◌++◌, length, Some, slice_get, slice_index}
-use Rattle.edge_disk.specs.declared.disk.Disk.{Ghosts}
 use Rattle.edge_disk.specs.Image.{Image, block_at}
 use Rattle.edge_disk.specs.declared.disk.NoBlocks.{NoBlocks}
 use Rattle.base_types.specs.declared.histories.Entry.{Entry}
@@ -8,28 +7,9 @@ use Rattle.node_commits.specs.kernel_invariant.model_kernel.Choices.{Commit}
 use Rattle.node_commits.specs.kernel_invariant.Beginnings.{Beginning}
 use Rattle.store_snapshots.specs.store_facts.image_facts.Layout.{last_number}
 use Rattle.store_snapshots.specs.store_facts.Putting.{are_small}
-use Rattle.store_snapshots.specs.store_books.Books.{AreSmall, Books, Logged, free_in, kept_in, kept_names, words_of_bytes}
-use Rattle.data_blocks.specs.Ledger.{is_held}
-use Rattle.store_snapshots.specs.Paging.{GoesByPages}
-use Rattle.store_snapshots.specs.store_facts.State.{State, books}
-use Rattle.page_placing.specs.page_store.declared.store.PageStore.{Ghosts as Pages}
+use Rattle.store_snapshots.specs.store_books.Books.{AreSmall, Books, Logged, free_in, kept_in, words_of_bytes}
 use Rattle.page_placing.specs.declared.writing.PageWords.{PageWords}
 use Rattle.node_commits.specs.Deliveries.{IsShipped, KeepsCommits}
-
--- a store of snapshots as a store of pages sees it
-abbrev pub stores_of : {D : Type 0} → Ghosts D → Pages (State D)
-stores_of {D = D} disks = record {
-  tells = disks.tells;
-  held = λ (st : State D). is_held st.blocks;
-  kept_names = λ (st : State D). kept_names (books st);
-  words = λ (st : State D) n. words_of_bytes (block_at (disks.reading st.disk) n);
-  free = λ (st : State D). free_in (books st);
-  is_shut = λ (st : State D). st.shut;
-  faults = λ (st : State D). disks.faults st.disk;
-  written = λ (st : State D). (books st).begun;
-  read_calls = λ (st : State D). st.read_calls;
-  Pages = GoesByPages disks;
-}
 
 -- the pages stand in blocks of this table, each in one of its own
 pub record HaveBlocks (pages : List PageWords) (table : List ℕ) (image : Image) : Type 0 where

@@ -1,16 +1,8 @@
-use Rattle.std.proofs.Common.{◌≡◌, ◌<◌, ℕ, unwrap_or, sym, ap, subst, ◌∙◌, arith}
+use Rattle.std.proofs.Common.{◌≡◌, sym, ap, subst, ◌∙◌, arith}
 use Rattle.cell_births.specs.act_alone.declared.loci.Head.{Head}
-use Rattle.cell_births.specs.cell_states.declared.cells.Part.{Part}
-use Rattle.cell_births.specs.cell_states.declared.cells.Part.TheVariants as part
 use Rattle.cell_copies.specs.Copying.{MayCopyCells, MayCopyPart}
-use Rattle.cell_copies.proofs.Copies.{copied_cells}
+use Rattle.cell_copies.proofs.Copies.{copied_cells, head_in}
 use Rattle.cell_copies.proofs.cells.copy_cells.Goals as goal
-
--- the head of a born container, and else this one
-head_in : Head → Part → Head
-head_in d (part.Container b) = unwrap_or b.head d
-head_in d (part.Atlas a) = d
-head_in d (part.Locus l) = d
 
 pub copy_parts-requires-clause-may : goal.copy_parts-requires-clause-may
 copy_parts-requires-clause-may c = (c.requires.may.0, c.requires.may.1, c.requires.may.2, c.requires.may.3, c.requires.may.4.source_is, c.requires.may.4.may)
@@ -23,17 +15,17 @@ copy_clocks-requires-clause-second_apart c = (let low = c.requires.may.4.born in
 
 pub returns-clause-copied : goal.returns-clause-copied
 unfolding head_in
-returns-clause-copied c s words v name named hasa hass hasn h from source copied =
+returns-clause-copied c s words v name named hasa hass hasn h from source =
     let d = c.requires.may.0 in
     let isa = c.requires.may.3 in
     let m = c.requires.may.4 in
     let same : c.requires.may.1 ≡ h = ap (head_in h) (sym m.source_is.is ∙ source.is) in
-    let may : MayCopyCells d h from c.args.source.now c.args.newborn.now.clock.entity c.args.fresh.now c.args.table.now.0 = record {
+    let may : MayCopyCells d h from c.args.source.now c.args.newborn.now.clock.entity c.args.fresh.now = record {
       source_is = source;
       some = m.some;
       born = m.born;
-      may = subst (λ (x : Head). MayCopyPart d x c.args.newborn.now.clock.entity c.args.fresh.now c.args.table.now.0) same m.may;
+      may = subst (λ (x : Head). MayCopyPart d x c.args.newborn.now.clock.entity c.args.fresh.now) same m.may;
     } in
-    copied_cells s words v name c.args.fresh.now d h from c.args.table.now.0 c.args.atlas.now c.args.source.now c.args.newborn.now may isa c.requires.atlas hasa hass named copied _ _
-    (c.copy_parts.ensures.atlas d h from isa source s words) (c.copy_parts.ensures.cell h from source s words) c.copy_clocks.ensures.entity_atlas c.copy_clocks.ensures.entity_newborn
+    copied_cells s words v name c.args.fresh.now d h from c.args.atlas.now c.args.source.now c.args.newborn.now may isa c.requires.atlas hasa hass named _ _
+    (c.copy_parts.ensures.atlas d h from isa source s words) (c.copy_parts.ensures.blank h from source) c.copy_clocks.ensures.entity_atlas c.copy_clocks.ensures.entity_newborn
     (λ j l. c.copy_clocks.ensures.carries v hasa.clock hass.clock hasn.clock j l)

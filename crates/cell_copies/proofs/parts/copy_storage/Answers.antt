@@ -1,13 +1,13 @@
-use Rattle.std.proofs.Common.{◌≡◌, ◌≤◌, ℕ, ◌+◌, ◌++◌, ◌∷◌, [], if◌then◌else◌, ◌==◌, List, slice_index, sym, ap, subst, ◌∙◌, arith}
+use Rattle.std.proofs.Common.{◌≡◌, ◌≤◌, ℕ, ◌+◌, ◌++◌, ◌∷◌, [], if◌then◌else◌, ◌==◌, sym, ap, subst, ◌∙◌}
 use Rattle.std.specs.List.{All}
 use Rattle.base_types.specs.declared.capabilities.Region.{Region}
 use Rattle.act_alone.proofs.model_sound_steps_lemmas.RegionLists.{shown}
 use Rattle.data_atlas.specs.data_atlas_facts.Directory.{edges_of}
+use Rattle.cell_births.specs.act_alone.declared.loci.Head.{Head}
 use Rattle.cell_births.specs.act_alone.Loci.{container_with}
-use Rattle.model_copies.specs.Copies.{copied_container}
-use Rattle.model_copies.specs.model_kernel.State.{ContainerCell}
-use Rattle.cell_copies.specs.Copying.{table_words}
+use Rattle.std.proofs.lemmas.Option.{same_Some}
 use Rattle.cell_copies.proofs.Copies.{same_copied}
+use Rattle.cell_copies.proofs.Words.{storage_head}
 use Rattle.cell_copies.proofs.parts.copy_storage.Goals as goal
 
 -- any words serve
@@ -25,7 +25,6 @@ begin-requires c =
     record {
       some = subst (λ n. 1 ≤ n) (sym pages) c.requires.some;
       few = subst (λ n. n ≤ 256) (sym pages) c.requires.few;
-      none_past = λ page past. c.requires.none_past page (subst (λ n. n ≤ page) pages past);
     }
 
 pub returns-clause-atlas : goal.returns-clause-atlas
@@ -40,9 +39,10 @@ returns-clause-atlas c =
     (λ x y. c.link.ensures.counts x y ∙ ap (λ e. edges_of e x y + (if x == n then shown c.as_slice.result.now y else 0)) named ∙ ap (λ rs. edges_of d x y + (if x == n then shown rs y else 0)) regions) in
     same_copied d c.link.new.atlas n c.args.head.now.regions c.args.fresh.now containers loci counts
 
-pub returns-clause-cell : goal.returns-clause-cell
-returns-clause-cell c s words =
-    let tag : c.copy_head-copy.result.tag ≡ c.args.head.now.tag = ap (λ k. k.tag) (c.copy_head-copy.ensures some_words) in
-    c.begin.ensures.cell s words
-    ∙ ap (λ t. ContainerCell (container_with (table_words s t words c.args.table.now.0) c.copy_head-copy.result)) tag
-    ∙ ap ContainerCell (c.copy_head-copy.ensures (table_words s c.args.head.now.tag words c.args.table.now.0))
+pub returns-clause-blank : goal.returns-clause-blank
+returns-clause-blank c =
+    let same : c.begin.ensures.begun.head ≡ c.copy_head-copy.result = same_Some c.begin.ensures.begun.head c.copy_head-copy.result (sym (storage_head c.begin.new.storage c.begin.ensures.begun.head c.begin.ensures.begun.memory c.begin.ensures.begun.is) ∙ c.begin.ensures.head) in
+    record {
+      begun = c.begin.ensures.begun;
+      same = λ words. ap (λ (h : Head). container_with words h) same ∙ c.copy_head-copy.ensures words;
+    }

@@ -1,4 +1,3 @@
-use Rattle.std.proofs.Common.{◌≡◌, ◌∙◌}
 use Rattle.store_snapshots.specs.Paging.{GoesByPages-stay}
 use Rattle.node_store.proofs.Delivered.{by_pages}
 use Rattle.node_store.proofs.delivering.deliver_record.Goals as goal

@@ -6,7 +6,6 @@ use Rattle.std.proofs.lemmas.Result.{err_from_is_err_and}
 use Rattle.edge_disk.specs.Counts.{Rose}
 use Rattle.store_snapshots.specs.CommitAnswers.{CommitAnswers}
 use Rattle.store_snapshots.specs.store_facts.image_facts.Bodies.{blocks_for}
-use Rattle.data_blocks.specs.Ledger.{is_held}
 use Rattle.store_snapshots.specs.store_facts.State.{State, books}
 use Rattle.store_snapshots.specs.store_books.Books.{free_in}
 use Rattle.store_snapshots.specs.declared.faults.StoreFault.{StoreFault as Fault}

@@ -1,0 +1,2 @@
+pub mod Placing
+pub use Rattle.page_placing.specs as page_placing
