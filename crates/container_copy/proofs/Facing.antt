@@ -1,6 +1,6 @@
 -- What the cells of a copy ask and are, once they are made.
-use Rattle.std.proofs.Common.{◌≡◌, ◌≢◌, inl, inr, ℕ, zero, suc, ◌+◌, ◌^◌, ◌<◌, ◌≤◌, ◌==◌, if◌then◌else◌, nat_lt, Bool, true, false, List, [], ◌∷◌, replicate, length, take, Option, Some, None, refl, sym, ap, subst, ◌∙◌, arith}
-use Rattle.std.specs.Prelude.{All, slice_get, slice_index}
+use Rattle.std.proofs.Common.{◌≡◌, ◌≢◌, inl, inr, ℕ, zero, suc, ◌+◌, ◌<◌, ◌≤◌, ◌==◌, if◌then◌else◌, nat_lt, Bool, true, false, List, [], replicate, length, take, Option, Some, None, refl, sym, ap, subst, ◌∙◌, arith}
+use Rattle.std.specs.Prelude.{slice_get, slice_index}
 use Rattle.std.proofs.lemmas.Bool.{cases_eq, lt-ltb}
 use Rattle.std.proofs.lemmas.Bool.Decides.{nat_tests}
 use Rattle.std.proofs.lemmas.List.{length-replicate}
@@ -13,8 +13,7 @@ use Rattle.base_types.specs.declared.entities.Kind.TheVariants.{Atlas as AtlasKi
 use Rattle.base_types.specs.declared.records.Rec.{Rec}
 use Rattle.data_atlas.specs.data_atlas_facts.Directory.{Directory}
 use Rattle.data_stamps.specs.Stamps.{component}
-use Rattle.page_placing.specs.Copying.{blocks_in}
-use Rattle.cell_copies.specs.Copying.{HasCopy, IsBegun, IsBlankCopy, IsSource, MayPlace}
+use Rattle.cell_copies.specs.Copying.{HasCopy, IsBlankCopy, IsSource, MayPlace}
 use Rattle.cell_copies.specs.cell_births.act_alone.declared.loci.Head.{Head}
 use Rattle.cell_copies.specs.cell_births.act_alone.Loci.{container_with}
 use Rattle.cell_copies.specs.cell_births.act_calls.Calls.{atlas_state}
@@ -24,18 +23,17 @@ use Rattle.cell_copies.specs.cell_births.cell_states.declared.cells.Cell.{Cell}
 use Rattle.cell_copies.specs.cell_births.cell_states.declared.cells.Part.{Part}
 use Rattle.cell_copies.specs.cell_births.cell_states.declared.cells.Part.TheVariants as part
 use Rattle.cell_copies.specs.cell_births.cell_states.Cells.{HasCell, container_cell, locus_cell, part_of}
-use Rattle.cell_copies.specs.cell_births.page_memory.declared.paged.PagedMemory.{PagedMemory}
-use Rattle.cell_copies.specs.cell_births.page_memory.Words.{AreHeldBlocks, IsSoundTable, block_at}
-use Rattle.cell_copies.specs.model_copies.Copies.{IsCopied, copied_atlas, copied_container}
+use Rattle.cell_copies.specs.cell_births.page_memory.Words.{AreHeldBlocks, IsSoundTable}
+use Rattle.cell_copies.specs.model_copies.Copies.{IsCopied, copied_container}
 use Rattle.cell_copies.specs.model_copies.Needing.{LeavesCopy}
 use Rattle.cell_copies.specs.model_copies.model_kernel.Outcomes.{free_container}
 use Rattle.cell_copies.specs.model_copies.model_kernel.Scripts.{container_named}
-use Rattle.cell_copies.specs.model_copies.model_kernel.State.{AtlasCell, AtlasState, Cell as ModelCell, ContainerCell, ContainerState, EntityState, KernelState, LocusCell, NotBorn, Supply, Text}
+use Rattle.cell_copies.specs.model_copies.model_kernel.State.{AtlasCell, AtlasState, Cell as ModelCell, ContainerState, EntityState, KernelState, Supply, Text}
 use Rattle.cell_copies.specs.model_copies.model_kernel.Steps.{atlas_in}
 use Rattle.cell_copies.specs.model_copies.model_sound_states.States.{IsSoundState}
 use Rattle.store_copies.proofs.model_copies_lemmas.Copying.{leaves, sound}
 use Rattle.kernel_record_facts.specs.blob_grammar.Forms.{IsNumber}
-use Rattle.kernel_record_facts.specs.blob_grammar.Shapes.{AreCapsOver, IsContainerOver}
+use Rattle.kernel_record_facts.specs.blob_grammar.Shapes.{IsContainerOver}
 use Rattle.kernel_record_facts.specs.cell_blobs.Blobs.{HasFormedHead, IsFormed, spelt_in}
 use Rattle.kernel_record_facts.specs.image_meaning.Parts.{AtlasPart, ContainerPart, IsOf}
 use Rattle.kernel_record_facts.specs.Cells.{IsSoundIn, IsSpellable, table_of, words_on}
@@ -43,10 +41,9 @@ use Rattle.kernel_record_facts.proofs.Telling.{no_blocks}
 use Rattle.open_image.specs.table_laws.cell_blob_laws.Memories.{HasOwnMemory}
 use Rattle.kernel_views.proofs.cell_blob_laws_lemmas.Formed.{cell_formed}
 use Rattle.kernel_views.proofs.Leaving.{small_both}
-use Rattle.copy_commits.specs.kernel_records.kernel_block_laws.image_facts.Layout.{last_number, slot_count}
+use Rattle.copy_commits.specs.kernel_records.kernel_block_laws.image_facts.Layout.{last_number}
 use Rattle.copy_commits.specs.kernel_records.store_books.Books.{Books, recs_in}
 use Rattle.copy_commits.specs.kernel_records.store_facts.Putting.{are_small}
-use Rattle.copy_commits.specs.kernel_records.Committing.{MayCommit}
 use Rattle.copy_commits.specs.Committing.{MayCommitPair}
 use Rattle.copy_commits.specs.Putting.{MayPutCopy}
 use Rattle.copy_commits.proofs.Telling.{part_again}

@@ -1,13 +1,12 @@
 -- The cells that a copy touches, lent from a table that was opened.
-use Rattle.std.proofs.Common.{◌≡◌, inl, inr, ℕ, ◌+◌, ◌^◌, ◌<◌, ◌≤◌, List, [], ◌∷◌, ◌++◌, length, get_or, Some, None, Option, refl, sym, ap, subst, ◌∙◌, arith}
-use Rattle.std.specs.Prelude.{All, Any, slice_get, slice_index}
+use Rattle.std.proofs.Common.{◌≡◌, inl, inr, ℕ, ◌+◌, ◌^◌, ◌<◌, ◌≤◌, List, ◌++◌, length, get_or, Some, sym, ap, subst, ◌∙◌, arith}
+use Rattle.std.specs.Prelude.{All, Any, slice_get}
 use Rattle.std.proofs.lemmas.List.Elements.{All-from_recursion, All-get_or}
 use Rattle.edge_disk.specs.Image.{Image}
 use Rattle.base_types.specs.declared.records.Rec.{Rec}
 use Rattle.data_atlas.specs.data_atlas_facts.Directory.{Directory}
 use Rattle.cell_copies.specs.cell_births.act_calls.Calls.{atlas_state}
 use Rattle.cell_copies.specs.cell_births.cell_states.declared.cells.Cell.{Cell}
-use Rattle.cell_copies.specs.model_copies.model_kernel.Scripts.{container_named}
 use Rattle.cell_copies.specs.model_copies.model_kernel.State.{KernelState, Supply, Text}
 use Rattle.open_image.specs.image_meaning.Parts.{cut_of}
 use Rattle.open_image.specs.kernel_laws.Opening.{chosen_recs}

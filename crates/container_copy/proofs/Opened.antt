@@ -1,40 +1,36 @@
 -- The cells of a copy in a table that was opened.
-use Rattle.std.proofs.Common.{◌≡◌, ◌≢◌, ◌⊎◌, inl, inr, ℕ, zero, suc, ◌+◌, ◌*◌, ◌^◌, ◌<◌, ◌≤◌, ◌==◌, ◌&&◌, ◌||◌, nat_lt, nat_le, Bool, true, false, IsTrue, List, [], ◌∷◌, length, Option, Some, None, is_none, refl, sym, ap, subst, ◌∙◌, arith}
+use Rattle.std.proofs.Common.{◌≡◌, ℕ, ◌+◌, ◌^◌, ◌<◌, ◌≤◌, ◌&&◌, Bool, true, false, IsTrue, List, length, Option, Some, None, is_none, refl, sym, ap, subst, ◌∙◌, arith}
 use Rattle.std.specs.Prelude.{All, slice_get, slice_index}
 use Rattle.std.specs.List.{All as AllOf}
-use Rattle.std.proofs.lemmas.Bool.{lt-ltb}
 use Rattle.std.proofs.lemmas.Bool.Decides.{nat_tests}
 use Rattle.std.proofs.lemmas.List.Elements.{All-weaker}
 use Rattle.edge_disk.specs.Image.{Image}
 use Rattle.base_types.specs.declared.capabilities.Region.{Region}
 use Rattle.base_types.specs.declared.records.Rec.{Rec}
-use Rattle.data_atlas.specs.data_atlas_facts.Directory.{Directory, edges_of}
+use Rattle.data_atlas.specs.data_atlas_facts.Directory.{Directory}
 use Rattle.data_frames.specs.FrameTable.{FrameTable, empty_table, page_at}
-use Rattle.cell_copies.specs.Copying.{IsSource, MayCopyCells, MayCopyPart}
+use Rattle.cell_copies.specs.Copying.{IsSource, MayCopyPart}
 use Rattle.cell_copies.specs.Refusals.{copy_refusal}
 use Rattle.cell_copies.proofs.Refusing.{AreGood, good}
 use Rattle.cell_copies.proofs.Words.{none_in}
 use Rattle.cell_copies.specs.cell_births.act_alone.declared.loci.Head.{Head}
 use Rattle.cell_copies.specs.cell_births.act_alone.Loci.{container_with}
 use Rattle.cell_copies.specs.cell_births.act_calls.Calls.{atlas_state}
-use Rattle.cell_copies.specs.cell_births.cell_newborns.Bearing.{IsUnbornContainer}
 use Rattle.cell_copies.specs.cell_births.cell_states.declared.cells.Cell.{Cell}
-use Rattle.cell_copies.specs.cell_births.cell_states.declared.cells.Part.{Part}
 use Rattle.cell_copies.specs.cell_births.cell_states.declared.cells.Part.TheVariants as part
 use Rattle.cell_copies.specs.cell_births.cell_states.Cells.{HasCell, part_of}
 use Rattle.cell_copies.specs.cell_births.page_memory.declared.paged.PagedMemory.{PagedMemory}
-use Rattle.cell_copies.specs.cell_births.page_memory.Words.{IsSoundTable, words_of}
+use Rattle.cell_copies.specs.cell_births.page_memory.Words.{words_of}
 use Rattle.cell_copies.specs.model_copies.model_kernel.Outcomes.{free_container}
 use Rattle.cell_copies.specs.model_copies.model_kernel.Scripts.{container_named, number_of}
 use Rattle.cell_copies.specs.model_copies.model_kernel.Soundness.{AreSound, IsSoundContainer, IsSoundRegion, is_born_container, is_given_name, regions_onto}
 use Rattle.cell_copies.specs.model_copies.model_kernel.State.{AtlasState, Cell as ModelCell, ContainerCell, ContainerState, KernelState, NotBorn, Supply, Text}
-use Rattle.cell_copies.specs.model_copies.model_sound_states.States.{IsSoundState}
 use Rattle.model_sound_states.proofs.model_sound_runs_lemmas.Tables.{container_named_born}
 use Rattle.kernel_record_facts.specs.Cells.{IsSoundIn, words_on}
 use Rattle.kernel_records.proofs.Newest.{few_kept}
 use Rattle.open_image.specs.kernel_views.Views.{newest_at}
-use Rattle.open_image.specs.open_facts.Images.{IsOpened, IsOpenedTable}
-use Rattle.open_image.specs.store_books.Books.{Books, kept_in, recs_in}
+use Rattle.open_image.specs.open_facts.Images.{IsOpenedTable}
+use Rattle.open_image.specs.store_books.Books.{recs_in}
 use Rattle.open_image.specs.store_facts.State.{State, books}
 use Rattle.open_image.specs.table_laws.Steps.{HasDirectory}
 use Rattle.open_image.specs.table_laws.Tables.{IsOrderly, blocks_by, entity_in, memory_at, state_in, tables_in}

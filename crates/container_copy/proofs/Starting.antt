@@ -1,24 +1,22 @@
 -- The table and the store of an image that was opened stand for what it means.
-use Rattle.std.proofs.Common.{◌≡◌, ◌⊎◌, inl, inr, ℕ, ◌+◌, ◌*◌, ◌-◌, ◌^◌, ◌<◌, ◌≤◌, Bool, nat_lt, List, [], ◌∷◌, ◌++◌, filter, length, None, refl, sym, ap, subst, ◌∙◌, arith, ⊎_elim}
+use Rattle.std.proofs.Common.{◌≡◌, inl, inr, ℕ, ◌+◌, ◌-◌, ◌^◌, ◌<◌, ◌≤◌, List, [], ◌∷◌, length, None, refl, subst, arith, ⊎_elim}
 use Rattle.std.specs.List.{AllByRecursion}
 use Rattle.std.proofs.lemmas.Bool.{cases_lt}
 use Rattle.std.proofs.lemmas.List.{append-nil}
 use Rattle.edge_disk.specs.declared.disk.Disk.{Ghosts}
 use Rattle.edge_disk.specs.Disk.{Ticks}
 use Rattle.edge_tally.specs.Counts.{Begins, shown}
-use Rattle.base_types.specs.Edges.{upto}
 use Rattle.model_sound_states.proofs.Empty.{none_beyond}
 use Rattle.model_sound_states.proofs.model_kernel_lemmas.Lowering.{greatest_one}
 use Rattle.model_sound_states.proofs.model_run_laws_lemmas.Cuts.{cut_greatest, start_has}
 use Rattle.model_sound_states.proofs.model_run_laws_lemmas.Starts.{starts_held}
 use Rattle.kernel_invariant.specs.Beginnings.{Beginning, BeginsRight, completed}
-use Rattle.kernel_invariant.specs.Live.{HoldsCommits}
 use Rattle.kernel_invariant.specs.Records.{AreKeptRecords, IsKeptRecord}
 use Rattle.kernel_invariant.specs.image_meaning.Meaning.{Means}
 use Rattle.kernel_invariant.specs.image_meaning.Stores.{Kept, recs_of}
 use Rattle.kernel_invariant.specs.model_cut_laws.Agreeing.{HoldsStart, nothing}
 use Rattle.kernel_invariant.specs.model_cut_laws.Records.{commits_of}
-use Rattle.kernel_invariant.specs.model_kernel.Choices.{Commit, IsGreatest}
+use Rattle.kernel_invariant.specs.model_kernel.Choices.{IsGreatest}
 use Rattle.kernel_invariant.specs.model_kernel.Histories.{never, start_run}
 use Rattle.kernel_invariant.specs.model_kernel.State.{KernelState, Supply}
 use Rattle.kernel_invariant.proofs.model_cut_laws_lemmas.Joins.{same_greatest, to_nothing}

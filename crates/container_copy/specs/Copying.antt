@@ -1,5 +1,5 @@
 -- What copying a container in an image leaves.
-use Rattle.std.specs.Prelude.{◌≡◌, ◌⊎◌, ℕ, ◌+◌, ◌≤◌, ◌^◌, List, Some, None, codes, length, string_bytes}
+use Rattle.std.specs.Prelude.{◌≡◌, ℕ, ◌+◌, ◌≤◌, ◌^◌, List, Some, None, codes, length, string_bytes}
 use Rattle.edge_disk.specs.Image.{Image}
 use Rattle.data_atlas.specs.data_atlas_facts.Directory.{Directory}
 use Rattle.cell_copies.specs.Refusals.{copy_refusal}

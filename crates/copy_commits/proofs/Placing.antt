@@ -14,7 +14,6 @@ use Rattle.kernel_records.specs.act_alone.declared.loci.Head.{Head}
 use Rattle.kernel_records.specs.act_alone.Loci.{container_with}
 use Rattle.kernel_records.specs.cell_clocks.declared.Clock.{Clock}
 use Rattle.kernel_records.specs.cell_states.declared.cells.Cell.{Cell}
-use Rattle.kernel_records.specs.cell_states.declared.cells.Part.{Part}
 use Rattle.kernel_records.specs.cell_states.declared.cells.Part.TheVariants as part
 use Rattle.kernel_records.specs.page_memory.declared.paged.PagedMemory.{PagedMemory}
 use Rattle.kernel_records.specs.page_memory.Words.{AreHeldBlocks, IsSoundTable}

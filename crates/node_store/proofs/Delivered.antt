@@ -1,5 +1,5 @@
 -- A delivery, from the pages to the blocks given back.
-use Rattle.std.proofs.Common.{◌≡◌, ◌⊎◌, inl, inr, ℕ, ◌+◌, ◌^◌, ◌<◌, ◌&&◌, Bool, true, false, arith, List, [], ◌∷◌, ◌++◌, length, map, refl, sym, ap, subst, ◌∙◌}
+use Rattle.std.proofs.Common.{◌≡◌, ◌⊎◌, inl, inr, ℕ, ◌^◌, ◌<◌, ◌&&◌, Bool, true, false, arith, List, [], ◌∷◌, ◌++◌, length, map, refl, sym, ap, subst, ◌∙◌}
 use Rattle.std.specs.Prelude.{All, slice_index}
 use Rattle.edge_disk.specs.declared.disk.Disk.{Ghosts}
 use Rattle.edge_disk.specs.Image.{Image}

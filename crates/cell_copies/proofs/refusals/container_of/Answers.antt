@@ -1,4 +1,4 @@
-use Rattle.std.proofs.Common.{◌≡◌, ◌∙◌, None, Some, sym}
+use Rattle.std.proofs.Common.{◌≡◌, ◌∙◌, Some, sym}
 use Rattle.cell_births.specs.act_calls.Calls.{atlas_state}
 use Rattle.cell_births.proofs.act_atlas_laws_lemmas.NameLaws.{numbers_same}
 use Rattle.model_copies.specs.model_kernel.Scripts.{number_of}

@@ -1,4 +1,4 @@
-use Rattle.std.proofs.Common.{◌∙◌, sym}
+use Rattle.std.proofs.Common.{◌∙◌}
 use Rattle.open_image.specs.store_facts.State.{books}
 use Rattle.cell_copies.specs.cell_births.act_calls.Calls.{atlas_state}
 use Rattle.container_copy.proofs.Ending.{cause_of, named_in, number_in, stays}

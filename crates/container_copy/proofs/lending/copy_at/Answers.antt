@@ -1,4 +1,4 @@
-use Rattle.std.proofs.Common.{get_or, ◌≡◌, ◌∙◌, Some, sym, ap}
+use Rattle.std.proofs.Common.{get_or, ◌∙◌, Some, sym, ap}
 use Rattle.open_image.specs.table_laws.Tables.{tables_in}
 use Rattle.copy_commits.proofs.Coming.{map_ok}
 use Rattle.container_copy.proofs.Lent.{at_source, lent_before, lent_faces, source_number}

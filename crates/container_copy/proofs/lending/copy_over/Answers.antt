@@ -1,8 +1,6 @@
-use Rattle.std.proofs.Common.{◌≡◌, ◌≢◌, ◌∙◌, inl, inr, ℕ, ◌+◌, ◌≤◌, ◌<◌, true, List, sym, ap, subst, arith}
+use Rattle.std.proofs.Common.{◌≡◌, ◌≢◌, ◌∙◌, ℕ, true, List, sym, subst}
 use Rattle.std.specs.Prelude.{slice_index}
 use Rattle.cell_copies.specs.Copying.{MayPlace}
-use Rattle.page_placing.specs.Copying.{blocks_in}
-use Rattle.kernel_record_facts.specs.Cells.{table_of}
 use Rattle.store_snapshots.specs.Paging.{GoesByPages-stay}
 use Rattle.copy_commits.specs.Putting.{MayPutCopy}
 use Rattle.copy_commits.specs.store_facts.State.{books}

@@ -1,4 +1,4 @@
-use Rattle.std.proofs.Common.{◌∙◌, ℕ, ◌+◌, ◌≤◌, false, length, sym, arith}
+use Rattle.std.proofs.Common.{◌∙◌, ℕ, ◌+◌, ◌≤◌, length, sym, arith}
 use Rattle.kernel_record_facts.specs.cell_blobs.Blobs.{blob_need, bytes_of, spelt_in}
 use Rattle.kernel_record_facts.specs.Cells.{table_of}
 use Rattle.kernel_records.specs.store_books.Books.{free_in}
