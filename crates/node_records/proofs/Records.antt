@@ -117,21 +117,23 @@ module _ (b : Beginning) (es : List Entry) (entity version : ℕ) (stamp : List 
 
     told : IsKeptRecord b es k
     told = record {
-      components = ap length new.stamp_is ∙ is.components;
+      told = record {
+        components = ap length new.stamp_is ∙ is.components;
+        part = over table part;
+        describes = record {
+          spells = record {
+            kind = subst (λ (x : ℕ). IsOf x (over table part)) (sym new.entity_is) (kind_over entity table part is.kind);
+            spells = subst (Spells (over table part)) (sym new.blob_is) (spells table long small);
+            pages = paged;
+          };
+          cell = ap (λ (e : EntityState). e.cell) at ∙ (is.cell ∙ (cell_is b.supply pages image table have long part is.few is.within ∙ cell_same b.supply (block_at image) (bytes_of k.pages) (over table part) block_bytes));
+          version = ap (λ (e : EntityState). e.version) at ∙ (is.version_is ∙ sym new.version_is);
+          stamp = ap (λ (e : EntityState). e.stamp) at ∙ (is.stamp_is ∙ ap slice_index (sym new.stamp_is));
+        };
+        once = λ p q some same. have.apart p q (λ none. some (sym (named p) ∙ none)) (named p ∙ (same ∙ sym (named q)));
+      };
       from = subst (λ (x : ℕ). (b.state x).version ≤ k.rec.version) (sym new.entity_is) (subst (λ (n : ℕ). (b.state entity).version ≤ n) (sym new.version_is) is.from);
       reached = subst (λ (x : ℕ). k.rec.version ≤ (state_after b es x).version) (sym new.entity_is) (subst (λ (n : ℕ). n ≤ (state_after b es entity).version) (sym new.version_is) is.reached);
-      part = over table part;
-      describes = record {
-        spells = record {
-          kind = subst (λ (x : ℕ). IsOf x (over table part)) (sym new.entity_is) (kind_over entity table part is.kind);
-          spells = subst (Spells (over table part)) (sym new.blob_is) (spells table long small);
-          pages = paged;
-        };
-        cell = ap (λ (e : EntityState). e.cell) at ∙ (is.cell ∙ (cell_is b.supply pages image table have long part is.few is.within ∙ cell_same b.supply (block_at image) (bytes_of k.pages) (over table part) block_bytes));
-        version = ap (λ (e : EntityState). e.version) at ∙ (is.version_is ∙ sym new.version_is);
-        stamp = ap (λ (e : EntityState). e.stamp) at ∙ (is.stamp_is ∙ ap slice_index (sym new.stamp_is));
-      };
-      once = λ p q some same. have.apart p q (λ none. some (sym (named p) ∙ none)) (named p ∙ (same ∙ sym (named q)));
       few = (let few = few_pages image table (table_in (over table part)) named in let len = ap length new.pages_are in omega (arith, few, len));
     }
 
