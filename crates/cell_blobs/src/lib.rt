@@ -7,4 +7,4 @@ mod ranges;
 
 pub use blobs::write_part;
 pub use cell_states::{Cell, Part, Storage, Wish};
-pub use needs::{is_recorded, need_cell};
+pub use needs::{blob_need, is_recorded, need_cell};

@@ -18,8 +18,8 @@ fn page_need<B: PageStore>(part: &Part, store: &B) -> u32
     }
 }
 
-/// The blocks for the blob, which is written to see how long it is.
-fn blob_need(part: &Part, blob: &mut Blob) -> u32
+/// The blocks for the blob, at most 8; it is written to see how long it is, and what was in `blob` is lost.
+pub fn blob_need(part: &Part, blob: &mut Blob) -> u32
     requires { IsFormed part.now }
     ensures need { result ≡ blob_need part.now }
     ensures few { result ≤ 8 }

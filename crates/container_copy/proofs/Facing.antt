@@ -1,15 +1,12 @@
 -- What the cells of a copy ask and are, once they are made.
-use Rattle.std.proofs.Common.{◌≡◌, ◌≢◌, inl, inr, ℕ, zero, suc, ◌+◌, ◌<◌, ◌≤◌, ◌==◌, if◌then◌else◌, nat_lt, Bool, true, false, List, [], replicate, length, take, Option, Some, None, refl, sym, ap, subst, ◌∙◌, arith}
+use Rattle.std.proofs.Common.{◌≡◌, ◌≢◌, inl, inr, ℕ, zero, suc, ◌+◌, ◌<◌, ◌≤◌, true, false, List, [], replicate, length, take, Option, Some, None, refl, sym, ap, subst, ◌∙◌, arith}
 use Rattle.std.specs.Prelude.{slice_get, slice_index}
 use Rattle.std.proofs.lemmas.Bool.{cases_eq, lt-ltb}
-use Rattle.std.proofs.lemmas.Bool.Decides.{nat_tests}
 use Rattle.std.proofs.lemmas.List.{length-replicate}
 use Rattle.std.proofs.lemmas.List.Elements.{All-weaker}
 use Rattle.std.proofs.lemmas.Option.{same_Some}
 use Rattle.edge_disk.specs.Image.{Image}
 use Rattle.base_types.specs.declared.capabilities.Cap.{Cap}
-use Rattle.base_types.specs.Kinds.{kind_of}
-use Rattle.base_types.specs.declared.entities.Kind.TheVariants.{Atlas as AtlasKind, Container as ContainerKind, Locus as LocusKind}
 use Rattle.base_types.specs.declared.records.Rec.{Rec}
 use Rattle.data_atlas.specs.data_atlas_facts.Directory.{Directory}
 use Rattle.data_stamps.specs.Stamps.{component}
@@ -36,6 +33,7 @@ use Rattle.kernel_record_facts.specs.blob_grammar.Forms.{IsNumber}
 use Rattle.kernel_record_facts.specs.blob_grammar.Shapes.{IsContainerOver}
 use Rattle.kernel_record_facts.specs.cell_blobs.Blobs.{HasFormedHead, IsFormed, spelt_in}
 use Rattle.kernel_record_facts.specs.image_meaning.Parts.{AtlasPart, ContainerPart, IsOf}
+use Rattle.kernel_book_laws.proofs.Committable.{container_kind}
 use Rattle.kernel_record_facts.specs.Cells.{IsSoundIn, IsSpellable, table_of, words_on}
 use Rattle.kernel_record_facts.proofs.Telling.{no_blocks}
 use Rattle.open_image.specs.table_laws.cell_blob_laws.Memories.{HasOwnMemory}
@@ -77,16 +75,6 @@ none_used : (n slot : ℕ) (cap : Cap) → slice_get (replicate {A = Option Cap}
 none_used zero slot cap e = cc e
 none_used (suc n) zero cap e = cc e
 none_used (suc n) (suc slot) cap e = none_used n slot cap e
-
-container_kind : (x : ℕ) → 0 < x → x ≤ 40 → ContainerKind ≡ kind_of x
-container_kind x above low =
-    sym (ap (λ (t : Bool). if t then AtlasKind else if nat_lt x 41 then ContainerKind else LocusKind) first ∙ ap (λ (t : Bool). if t then ContainerKind else LocusKind) second)
-  where
-    first : (x == 0) ≡ false
-    first = grind (arith, nat_tests)
-
-    second : nat_lt x 41 ≡ true
-    second = grind (arith, nat_tests)
 
 -- a container without capabilities keeps its shape
 without_caps : (h : Head) (k : IsContainerOver IsNumber IsNumber (container_with (λ _. 0) h)) → IsContainerOver IsNumber IsNumber (copied_container (container_with (λ _. 0) h))

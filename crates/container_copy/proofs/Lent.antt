@@ -1,44 +1,24 @@
 -- The cells that a copy touches, lent from a table that was opened.
 use Rattle.std.proofs.Common.{◌≡◌, inl, inr, ℕ, ◌+◌, ◌^◌, ◌<◌, ◌≤◌, List, ◌++◌, length, get_or, Some, sym, ap, subst, ◌∙◌, arith}
-use Rattle.std.specs.Prelude.{All, Any, slice_get}
-use Rattle.std.proofs.lemmas.List.Elements.{All-from_recursion, All-get_or}
+use Rattle.std.specs.Prelude.{All, slice_get}
 use Rattle.edge_disk.specs.Image.{Image}
 use Rattle.base_types.specs.declared.records.Rec.{Rec}
 use Rattle.data_atlas.specs.data_atlas_facts.Directory.{Directory}
 use Rattle.cell_copies.specs.cell_births.act_calls.Calls.{atlas_state}
 use Rattle.cell_copies.specs.cell_births.cell_states.declared.cells.Cell.{Cell}
 use Rattle.cell_copies.specs.model_copies.model_kernel.State.{KernelState, Supply, Text}
-use Rattle.open_image.specs.image_meaning.Parts.{cut_of}
-use Rattle.open_image.specs.kernel_laws.Opening.{chosen_recs}
 use Rattle.open_image.specs.kernel_views.Views.{newest_at}
-use Rattle.open_image.specs.log_facts.Logs.{AreInRange}
 use Rattle.open_image.specs.open_facts.Images.{IsOpened, IsOpenedTable}
 use Rattle.open_image.specs.store_books.Books.{recs_in}
 use Rattle.open_image.specs.store_facts.State.{State, books}
 use Rattle.open_image.specs.table_laws.Tables.{entity_in, state_in, tables_in}
-use Rattle.open_image.proofs.open_facts_lemmas.Stored.{same_lists}
-use Rattle.open_image.proofs.store_facts_lemmas.Chosen.{chosen_is}
-use Rattle.open_image.proofs.store_facts_lemmas.ChosenAlone.{row_of}
-use Rattle.open_image.proofs.store_facts_lemmas.ChosenRows.{row_all}
+use Rattle.open_image.proofs.open_facts_lemmas.Stored.{low_any, low_row}
 use Rattle.table_laws.proofs.Having.{no_supply, no_words}
 use Rattle.table_laws.proofs.Places.{read_back, read_first, read_middle}
 use Rattle.model_sound_states.proofs.model_sound_runs_lemmas.Tables.{container_named_born}
 use Rattle.container_copy.specs.Copying.{MayCopyAt, StandsTable}
 use Rattle.container_copy.specs.Facing.{FacesCopy, StandsBefore}
 use Rattle.container_copy.proofs.Opened.{before, faces, few_containers, source_low}
-
--- no version of a chosen record is too large
-low_row : (count : ℕ) (recs : List Rec) → AreInRange count recs → All (λ (r : Rec). r.version ≤ 2 ^ 62) (chosen_recs recs)
-low_row count recs range =
-    subst (All (λ (r : Rec). r.version ≤ 2 ^ 62)) (same_lists recs)
-    (All-from_recursion (λ (r : Rec). r.version ≤ 2 ^ 62) (row_of recs)
-    (row_all (cut_of recs) recs (λ (r : Rec). r.version ≤ 2 ^ 62) 64 (λ x r lt is. (let c = chosen_is (cut_of recs) recs x r is in ((range c.place r c.here).versions.1)))))
-
-low_any : (recs : List Rec) (n x : ℕ) (stamp : List ℕ) → All (λ (r : Rec). r.version ≤ 2 ^ 62) recs → Any (λ (r : Rec). (r.entity ≡ x) × (r.version ≡ n) × (r.stamp ≡ stamp)) recs → n ≤ 2 ^ 62
-low_any recs n x stamp all (k, r, low, at, is) =
-    let le = subst (λ (q : Rec). q.version ≤ 2 ^ 62) at (All-get_or (λ (q : Rec). q.version ≤ 2 ^ 62) recs k r low all) in
-    let same = is.1 in
-    omega (arith, le, same)
 
 module _ {D : Type 0} (st : State D) (cs : List Cell) (t : IsOpenedTable 1 1 st cs) (d : Directory) (name fresh : Text) (source newborn : ℕ) (may : MayCopyAt cs d name fresh source newborn) where
   few : length d.containers < 40

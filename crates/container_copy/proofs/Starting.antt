@@ -1,10 +1,11 @@
 -- The table and the store of an image that was opened stand for what it means.
-use Rattle.std.proofs.Common.{◌≡◌, inl, inr, ℕ, ◌+◌, ◌-◌, ◌^◌, ◌<◌, ◌≤◌, List, [], ◌∷◌, length, None, refl, subst, arith, ⊎_elim}
+use Rattle.std.proofs.Common.{◌≡◌, inl, inr, ℕ, ◌+◌, ◌-◌, ◌^◌, ◌≤◌, List, [], ◌∷◌, length, None, refl, subst, arith}
 use Rattle.std.specs.List.{AllByRecursion}
 use Rattle.std.proofs.lemmas.Bool.{cases_lt}
 use Rattle.std.proofs.lemmas.List.{append-nil}
 use Rattle.edge_disk.specs.declared.disk.Disk.{Ghosts}
 use Rattle.edge_disk.specs.Disk.{Ticks}
+use Rattle.edge_tally.proofs.Counting.{first_ended}
 use Rattle.edge_tally.specs.Counts.{Begins, shown}
 use Rattle.model_sound_states.proofs.Empty.{none_beyond}
 use Rattle.model_sound_states.proofs.model_kernel_lemmas.Lowering.{greatest_one}
@@ -63,21 +64,6 @@ tick n = elim (cases_lt n (2 ^ 64 - 1)) as (λ _. (k : ℕ) × Ticks n k) [
   | inr ge ↦ (n, record { one_more = λ lt. absurd (omega (arith, lt, ge)); at_end = λ _. refl })
 ]
 
--- the sync of an opening has ended
-sync_ended : (most blocks blocks' faults faults' old now begun first : ℕ) → Begins most (record { blocks = blocks; clock = old; faults = faults; begun = 0 }) (record { blocks = blocks'; clock = now; faults = faults'; begun = begun })
-    → 0 < begun → Ticks old first → first ≤ now
-sync_ended most blocks blocks' faults faults' old now begun first begins some ticks = ⊎_elim
-    (λ (short : now < 2 ^ 64 - 1).
-    let later = begins.counts.clock_later in
-    let is = begins.counts.same old (omega arith) short in
-    let one = ticks.one_more (omega (arith, later, short)) in
-    omega (arith, is, one, some))
-    (λ (end : 2 ^ 64 - 1 ≤ now). ⊎_elim
-    (λ (before : old < 2 ^ 64 - 1). (let one = ticks.one_more before in omega (arith, one, before, end)))
-    (λ (past : 2 ^ 64 - 1 ≤ old). (let same = ticks.at_end past in let later = begins.counts.clock_later in omega (arith, same, later)))
-    (cases_lt old (2 ^ 64 - 1)))
-    (cases_lt now (2 ^ 64 - 1))
-
 module _ {D : Type 0} (disks : Ghosts D) (old : D) (st : State D) (cs : List Cell) (told : disks.tells) (t : IsOpenedTable 1 1 st cs) (starts : StartsFrom disks 1 old st cs)
     (begins : Begins 138 (shown disks old 0) (shown disks st.disk (books st).begun)) (s : Supply) (v : KernelState) (means : Means s (disks.reading old) v) (low : AreLowNumbers (disks.reading old) v) where
   abbrev first : (k : ℕ) × Ticks (disks.clock old) k
@@ -100,7 +86,7 @@ module _ {D : Type 0} (disks : Ghosts D) (old : D) (st : State D) (cs : List Cel
 
   at_start : StandsAtStart b disks (view_of disks.reading b cs st [] [] None) st.disk
   at_start = starts b first.0 right refl means low.epoch refl first.1 (omega arith)
-      (sync_ended 138 (disks.block_count old) (disks.block_count st.disk) (disks.faults old) (disks.faults st.disk) (disks.clock old) (disks.clock st.disk) (books st).begun first.0 begins t.opened.synced first.1)
+      (first_ended 138 (disks.block_count old) (disks.block_count st.disk) (disks.faults old) (disks.faults st.disk) (disks.clock old) (disks.clock st.disk) (books st).begun first.0 begins t.opened.synced first.1)
 
   pub stands : StandsTable s v (disks.reading st.disk) (books st) cs
   stands =

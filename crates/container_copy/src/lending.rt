@@ -14,12 +14,13 @@ ghost use Rattle.open_image.specs.open_facts.Images.{IsOpenedTable};
 ghost use Rattle.container_copy.specs.Copying.{MayCopyAt, StandsTable};
 ghost use Rattle.container_copy.specs.Facing.{FacesCopy, IsCopyShort, StandsBefore};
 
-use crate::needs::{need_of, table_of};
+use crate::needs::need_of;
 use base_bytes::Blob;
 use cell_copies::copy_cells;
 use copy_commits::put_copy;
 use edge_disk::{Disk, NoBlocks};
 use kernel_record_facts::Cell;
+use kernel_records::table_of;
 use store_snapshots::{Store, StoreFault};
 
 /// Makes the newborn a copy of the container under this new name, and commits both.

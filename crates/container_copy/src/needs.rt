@@ -1,33 +1,12 @@
 // How many blocks a copy needs.
 ghost use Rattle.std.specs.Prelude.{◌≡◌, ◌≤◌, ◌+◌, length};
 ghost use Rattle.kernel_record_facts.specs.cell_blobs.Blobs.{IsFormed, blob_need};
-ghost use Rattle.kernel_record_facts.specs.Cells.{table_of};
 ghost use Rattle.page_placing.specs.Copying.{blocks_in};
 
 use base_bytes::Blob;
 use data_blocks::ShadowTable;
-use kernel_record_facts::{Cell, Part, write_part};
+use kernel_record_facts::{Cell, blob_need};
 use page_placing::count_blocks;
-
-/// The block of each page, 0 for none; of what has no pages 0 for each.
-pub(crate) fn table_of(part: &Part) -> ShadowTable
-    ensures { result.0 ≡ table_of part.now }
-{
-    match part {
-        Part::Container(storage) => ShadowTable(*storage.memory.table()),
-        _ => ShadowTable::new(),
-    }
-}
-
-/// The blocks for the blob, which is written to see how long it is.
-fn blob_need(part: &Part, blob: &mut Blob) -> u32
-    requires { IsFormed part.now }
-    ensures need { result ≡ blob_need part.now }
-    ensures few { result ≤ 8 }
-{
-    write_part(part, blob);
-    ((blob.len() + 1023) / 1024) as u32
-}
 
 // A table has a place for each page.
 fn read_places(places: &[u32; 256])

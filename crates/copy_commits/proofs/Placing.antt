@@ -1,10 +1,8 @@
 -- The copy with its pages' blocks: what a record of it asks, and how long its blob is.
-use Rattle.std.proofs.Common.{◌≡◌, ℕ, ◌+◌, ◌*◌, ◌^◌, ◌<◌, ◌≤◌, Bool, List, ◌∷◌, ◌++◌, length, take, Some, refl, sym, ap, subst, ◌∙◌, arith, length-append}
+use Rattle.std.proofs.Common.{◌≡◌, ℕ, ◌+◌, ◌^◌, ◌<◌, ◌≤◌, Bool, List, length, take, Some, refl, sym, ap, subst, ◌∙◌, arith}
 use Rattle.std.specs.Prelude.{All}
-use Rattle.std.specs.List.{flat_map}
 use Rattle.std.proofs.lemmas.List.{length-take-le}
 use Rattle.std.proofs.lemmas.Option.{same_Some}
-use Rattle.page_store.specs.model_kernel.State.{ContainerState}
 use Rattle.base_types.specs.declared.records.Rec.{Rec}
 use Rattle.data_stamps.specs.Stamps.{component}
 use Rattle.data_atlas.specs.data_atlas_facts.Directory.{Directory}
@@ -25,33 +23,8 @@ use Rattle.kernel_records.specs.kernel_block_laws.image_facts.Bodies.{blocks_for
 use Rattle.kernel_records.specs.kernel_block_laws.image_facts.Layout.{slot_count}
 use Rattle.kernel_records.specs.store_books.Books.{Books, Logged, kept_in, logged_recs, recs_in}
 use Rattle.kernel_records.specs.Committing.{MayCommit}
-use Rattle.kernel_record_facts.specs.blob_grammar.Spelling.{caps_bytes, container_blob, entry_byte, instr_bytes, listed, region_bytes}
-use Rattle.kernel_record_facts.proofs.blob_grammar_lemmas.Sizes.{numbers_len}
-use Rattle.byteorder.specs.Endian.{little_bytes}
+use Rattle.kernel_records.proofs.Spelling.{container_same}
 use Rattle.copy_commits.specs.Committing.{MayCommitPair}
-
--- HOW LONG A CONTAINER'S BLOB IS doesn't depend on its blocks
-longer : (xs ys zs : List ℕ) → length ys ≡ length zs → length (xs ++ ys) ≡ length (xs ++ zs)
-longer xs ys zs e = length-append xs ys ∙ (ap (λ n. length xs + n) e ∙ sym (length-append xs zs))
-
-numbers_same : (t u : List ℕ) → length t ≡ length u → length t * 4 ≡ length u * 4
-numbers_same t u e = ap (λ n. n * 4) e
-
-container_same : (c : ContainerState) (t u : List ℕ) → length t ≡ length u → length (container_blob c t) ≡ length (container_blob c u)
-unfolding container_blob
-container_same c t u e =
-    let caps : List ℕ → List ℕ = λ v. caps_bytes c.caps ++ flat_map (little_bytes 4) v in
-    let regions : List ℕ → List ℕ = λ v. listed region_bytes c.regions ++ caps v in
-    let code : List ℕ → List ℕ = λ v. entry_byte c.entry ∷ listed instr_bytes c.code ++ regions v in
-    let every : List ℕ → List ℕ = λ v. little_bytes 4 c.every ++ code v in
-    let tag : List ℕ → List ℕ = λ v. little_bytes 8 c.tag ++ every v in
-    let last : length (flat_map (little_bytes 4) t) ≡ length (flat_map (little_bytes 4) u) = numbers_len 4 t ∙ (numbers_same t u e ∙ sym (numbers_len 4 u)) in
-    longer (1 ∷ little_bytes 2 c.pages) (tag t) (tag u)
-    (longer (little_bytes 8 c.tag) (every t) (every u)
-    (longer (little_bytes 4 c.every) (code t) (code u)
-    (longer (entry_byte c.entry ∷ listed instr_bytes c.code) (regions t) (regions u)
-    (longer (listed region_bytes c.regions) (caps t) (caps u)
-    (longer (caps_bytes c.caps) (flat_map (little_bytes 4) t) (flat_map (little_bytes 4) u) last)))))
 
 module _ (c d : Cell) (table from : List ℕ) (may : MayPlace c.part from) (is : HasPlaced c table d) (now : ℕ → Bool) (blocks : AreHeldBlocks now table) where
   sound_now : IsSoundTable now is.begun.memory

@@ -1,5 +1,7 @@
 -- Counts that go on together.
-use Rattle.std.proofs.Common.{◌≤◌, ◌+◌, ℕ, refl, ◌∙◌, arith}
+use Rattle.std.proofs.Common.{◌≤◌, ◌<◌, ◌-◌, ◌^◌, ◌+◌, ℕ, refl, ◌∙◌, ⊎_elim, arith}
+use Rattle.std.proofs.lemmas.Bool.{cases_lt}
+use Rattle.edge_disk.specs.Disk.{Ticks}
 use Rattle.edge_tally.specs.Counts.{Begins, CountsOn, Shown}
 
 pub CountsOn-stay : (a m : ℕ) → CountsOn a a m m
@@ -27,3 +29,18 @@ Begins-then m n a b c p q = record {
   counts = CountsOn-then a.clock b.clock c.clock a.begun b.begun c.begun p.counts q.counts;
   later = (let one = p.later in let two = q.later in omega (arith, one, two));
 }
+
+-- where something was begun, the first of it has ended
+pub first_ended : (most blocks blocks' faults faults' old now begun first : ℕ) → Begins most (record { blocks = blocks; clock = old; faults = faults; begun = 0 }) (record { blocks = blocks'; clock = now; faults = faults'; begun = begun })
+    → 0 < begun → Ticks old first → first ≤ now
+first_ended most blocks blocks' faults faults' old now begun first begins some ticks = ⊎_elim
+    (λ (short : now < 2 ^ 64 - 1).
+    let later = begins.counts.clock_later in
+    let is = begins.counts.same old (omega arith) short in
+    let one = ticks.one_more (omega (arith, later, short)) in
+    omega (arith, is, one, some))
+    (λ (end : 2 ^ 64 - 1 ≤ now). ⊎_elim
+    (λ (before : old < 2 ^ 64 - 1). (let one = ticks.one_more before in omega (arith, one, before, end)))
+    (λ (past : 2 ^ 64 - 1 ≤ old). (let same = ticks.at_end past in let later = begins.counts.clock_later in omega (arith, same, later)))
+    (cases_lt old (2 ^ 64 - 1)))
+    (cases_lt now (2 ^ 64 - 1))

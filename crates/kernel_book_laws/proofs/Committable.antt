@@ -40,7 +40,7 @@ own_sound held (part.Locus l) own = tt
 atlas_kind : (x : ℕ) → x ≡ 0 → AtlasKind ≡ kind_of x
 atlas_kind x is = ap kind_of (sym is)
 
-container_kind : (x : ℕ) → 0 < x → x ≤ 40 → ContainerKind ≡ kind_of x
+pub container_kind : (x : ℕ) → 0 < x → x ≤ 40 → ContainerKind ≡ kind_of x
 container_kind x above low =
     sym (ap (λ (t : Bool). if t then AtlasKind else if nat_lt x 41 then ContainerKind else LocusKind) first ∙ ap (λ (t : Bool). if t then ContainerKind else LocusKind) second)
   where

@@ -29,7 +29,7 @@ longer xs ys zs e = length-append xs ys ∙ (ap (λ n. length xs + n) e ∙ sym 
 numbers_same : (t u : List ℕ) → length t ≡ length u → length t * 4 ≡ length u * 4
 numbers_same t u e = ap (λ n. n * 4) e
 
-container_same : (c : ContainerState) (t u : List ℕ) → length t ≡ length u → length (container_blob c t) ≡ length (container_blob c u)
+pub container_same : (c : ContainerState) (t u : List ℕ) → length t ≡ length u → length (container_blob c t) ≡ length (container_blob c u)
 unfolding container_blob
 container_same c t u e =
     let caps : List ℕ → List ℕ = λ v. caps_bytes c.caps ++ flat_map (little_bytes 4) v in

@@ -12,5 +12,6 @@ pub use flushing::flush_part;
 pub use laws::{
     few_kept_law, kept_more_law, left_cell_law, newest_law, settled_store_law, told_commit_law,
 };
+pub use recording::{record_cell, table_of};
 pub use snaps::{FULL, mark_entry, snap_cell};
 pub use store_snapshots::{OpenFault, OpenWhy, Store, StoreFault, SyncedLog};

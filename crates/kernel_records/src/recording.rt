@@ -19,7 +19,7 @@ use kernel_record_facts::{Cell, Part, write_part};
 use store_snapshots::{Store, StoreFault};
 
 /// The block of each page, 0 for none; of what has no pages 0 for each.
-fn table_of(part: &Part) -> ShadowTable
+pub fn table_of(part: &Part) -> ShadowTable
     ensures { result.0 ≡ table_of part.now }
 {
     match part {
@@ -36,7 +36,7 @@ fn read_stamp(stamp: &[u64; 64])
 }
 
 /// Commits a record of a cell whose changed pages are written, and for whose blob enough blocks are free.
-pub(crate) fn record_cell<D: Disk>(
+pub fn record_cell<D: Disk>(
     cell: &Cell,
     store: &mut Store<D>,
     blob: &mut Blob,

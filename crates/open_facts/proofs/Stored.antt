@@ -1,16 +1,17 @@
 -- What is kept of an image that was read: where it stands, and that it is the image's.
-use Rattle.std.proofs.Common.{◌≡◌, ℕ, ◌<◌, ◌≤◌, List, [], ◌∷◌, length, map, take, get_or, Option, Some, None, refl, sym, ap, subst, ◌∙◌, ⊎_elim, arith}
-use Rattle.std.specs.Prelude.{All, Contains, slice_index}
+use Rattle.std.proofs.Common.{◌≡◌, ℕ, ◌^◌, ◌<◌, ◌≤◌, List, [], ◌∷◌, length, map, take, get_or, Option, Some, None, refl, sym, ap, subst, ◌∙◌, ⊎_elim, arith}
+use Rattle.std.specs.Prelude.{All, Any, Contains, slice_index}
 use Rattle.std.specs.List.{AllByRecursion, flat_map}
 use Rattle.std.proofs.lemmas.Bool.{cases_lt}
 use Rattle.std.proofs.lemmas.List.{get_or-take, get_or_default, get_or_past, length-take}
-use Rattle.std.proofs.lemmas.List.Elements.{All-contains}
+use Rattle.std.proofs.lemmas.List.Elements.{All-contains, All-from_recursion, All-get_or}
 use Rattle.edge_disk.specs.Image.{Image}
 use Rattle.base_types.specs.Edges.{upto}
 use Rattle.base_types.specs.declared.records.Rec.{Rec}
 use Rattle.image_facts.specs.Bodies.{blocks_for}
 use Rattle.image_facts.specs.Layout.{pool_at}
 use Rattle.image_facts.specs.Logs.{IsInRange}
+use Rattle.table_opened.specs.log_facts.Logs.{AreInRange}
 use Rattle.table_opened.specs.image_meaning.Parts.{Part, chosen, cut_of}
 use Rattle.table_opened.specs.image_meaning.Stores.{IsFound, IsHeld}
 use Rattle.table_opened.proofs.image_meaning_lemmas.Firsts.{spelt_at}
@@ -39,6 +40,20 @@ same_lists recs = ap (λ (f : ℕ → List Rec). flat_map f (upto 64)) (λ i x. 
     same : (o : Option Rec) → listed o ≡ rec_list o
     same None = refl
     same (Some r) = refl
+
+-- no version of a chosen record is too large
+pub low_row : (count : ℕ) (recs : List Rec) → AreInRange count recs → All (λ (r : Rec). r.version ≤ 2 ^ 62) (chosen_recs recs)
+low_row count recs range =
+    subst (All (λ (r : Rec). r.version ≤ 2 ^ 62)) (same_lists recs)
+    (All-from_recursion (λ (r : Rec). r.version ≤ 2 ^ 62) (row_of recs)
+    (row_all (cut_of recs) recs (λ (r : Rec). r.version ≤ 2 ^ 62) 64 (λ x r lt is. (let c = chosen_is (cut_of recs) recs x r is in ((range c.place r c.here).versions.1)))))
+
+-- nor that of one among them
+pub low_any : (recs : List Rec) (n x : ℕ) (stamp : List ℕ) → All (λ (r : Rec). r.version ≤ 2 ^ 62) recs → Any (λ (r : Rec). (r.entity ≡ x) × (r.version ≡ n) × (r.stamp ≡ stamp)) recs → n ≤ 2 ^ 62
+low_any recs n x stamp all (k, r, low, at, is) =
+    let le = subst (λ (q : Rec). q.version ≤ 2 ^ 62) at (All-get_or (λ (q : Rec). q.version ≤ 2 ^ 62) recs k r low all) in
+    let same = is.1 in
+    omega (arith, le, same)
 
 module _ {D : Type 0} (log : ImageLog) (parts : ImageParts) (tables : List ShadowTable) (st : State D) (is : IsRead log parts tables st) where
   abbrev recs : List Rec

@@ -1,9 +1,7 @@
 -- What comes of a beginning over the cells and the store of an image that was opened.
-use Rattle.std.proofs.Common.{◌≡◌, ℕ, ◌-◌, ◌<◌, ◌≤◌, ◌^◌, false, List, [], Option, None, refl, sym, ap, subst, ⊎_elim, arith}
+use Rattle.std.proofs.Common.{◌≡◌, ℕ, ◌-◌, ◌<◌, ◌≤◌, false, List, [], Option, None, refl, sym, ap, subst}
 use Rattle.std.specs.Prelude.{Err, IfErr, IfOk, MatchResult, Ok, Result}
-use Rattle.std.proofs.lemmas.Bool.{cases_lt}
 use Rattle.edge_disk.specs.declared.disk.Disk.{Ghosts}
-use Rattle.edge_tally.specs.Counts.{Begins}
 use Rattle.edge_disk.specs.Disk.{Ticks}
 use Rattle.edge_disk.specs.Image.{Image}
 use Rattle.base_types.specs.declared.histories.Entry.{Entry}
@@ -44,21 +42,6 @@ module _ (b : Beginning) (steps : ℕ) (is : b.script ≡ empty_script steps) wh
 
   nobody_born : HasNoBirths b
   nobody_born = subst (λ (p : Script). births_owed p (start_run b.state) ≡ false) (sym is) refl
-
--- the sync of an opening has ended
-pub sync_ended : (most blocks blocks' faults faults' old now begun first : ℕ) → Begins most (record { blocks = blocks; clock = old; faults = faults; begun = 0 }) (record { blocks = blocks'; clock = now; faults = faults'; begun = begun })
-    → 0 < begun → Ticks old first → first ≤ now
-sync_ended most blocks blocks' faults faults' old now begun first begins some ticks = ⊎_elim
-    (λ (short : now < 2 ^ 64 - 1).
-    let later = begins.counts.clock_later in
-    let is = begins.counts.same old (omega arith) short in
-    let one = ticks.one_more (omega (arith, later, short)) in
-    omega (arith, is, one, some))
-    (λ (end : 2 ^ 64 - 1 ≤ now). ⊎_elim
-    (λ (before : old < 2 ^ 64 - 1). (let one = ticks.one_more before in omega (arith, one, before, end)))
-    (λ (past : 2 ^ 64 - 1 ≤ old). (let same = ticks.at_end past in let later = begins.counts.clock_later in omega (arith, same, later)))
-    (cases_lt old (2 ^ 64 - 1)))
-    (cases_lt now (2 ^ 64 - 1))
 
 -- a kernel over these, of which nothing was run
 pub record IsNew {D : Type 0} (st : State D) (cs : List Cell) (k : Held D) : Type 0 where

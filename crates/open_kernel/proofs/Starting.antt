@@ -1,40 +1,19 @@
 -- A kernel may begin with the cells and the store of an image that was opened, and is live where they stand at the start.
-use Rattle.std.proofs.Common.{◌≡◌, ◌⊎◌, inl, inr, ℕ, ◌+◌, ◌<◌, ◌≤◌, ◌^◌, List, [], Option, Some, None, refl, sym, ap, subst, ◌∙◌, arith}
-use Rattle.std.specs.Prelude.{All, Any, slice_get}
-use Rattle.std.proofs.lemmas.List.Elements.{All-from_recursion, All-get_or}
+use Rattle.std.proofs.Common.{◌≡◌, inl, inr, ℕ, ◌≤◌, ◌^◌, List, [], Option, Some, None, refl, sym, ap, subst, ◌∙◌, arith}
+use Rattle.std.specs.Prelude.{All, slice_get}
 use Rattle.edge_disk.specs.declared.disk.Disk.{Ghosts}
 use Rattle.base_types.specs.declared.records.Rec.{Rec}
 use Rattle.kernel_core.specs.model_kernel.Histories.{start_run}
-use Rattle.kernel_core.specs.model_kernel.State.{KernelState, Supply}
+use Rattle.kernel_core.specs.model_kernel.State.{KernelState}
 use Rattle.kernel_core.specs.cell_states.declared.cells.Cell.{Cell}
 use Rattle.kernel_core.specs.cell_states.Wishes.{HasWish}
-use Rattle.kernel_core.specs.kernel_book_laws.Matching.{MatchesBooks, newest_of, version_of}
+use Rattle.kernel_core.specs.kernel_book_laws.Matching.{newest_of, version_of}
 use Rattle.open_image.specs.table_laws.Tables.{entity_in, state_in}
 use Rattle.open_image.specs.open_facts.Images.{IsOpened, IsOpenedTable}
-use Rattle.open_image.proofs.store_facts_lemmas.ChosenAlone.{row_of}
-use Rattle.open_image.proofs.store_facts_lemmas.ChosenRows.{row_all}
-use Rattle.open_image.proofs.open_facts_lemmas.Stored.{same_lists}
-use Rattle.open_image.specs.image_meaning.Parts.{cut_of}
+use Rattle.open_image.proofs.open_facts_lemmas.Stored.{low_any, low_row}
 use Rattle.kernel_core.specs.kernel_core_facts.Kernels.{MayBegin}
-use Rattle.open_image.specs.kernel_laws.Opening.{chosen_recs}
-use Rattle.open_image.specs.log_facts.Logs.{AreInRange}
-use Rattle.open_image.proofs.store_facts_lemmas.Chosen.{chosen_is}
 use Rattle.open_image.specs.store_facts.State.{State, books}
 use Rattle.open_image.specs.store_books.Books.{AreTrue, recs_in}
-
--- no version of a chosen record is too large
-low_row : (count : ℕ) (recs : List Rec) → AreInRange count recs → All (λ (r : Rec). r.version ≤ 2 ^ 62) (chosen_recs recs)
-low_row count recs range =
-    subst (All (λ (r : Rec). r.version ≤ 2 ^ 62)) (same_lists recs)
-    (All-from_recursion (λ (r : Rec). r.version ≤ 2 ^ 62) (row_of recs)
-    (row_all (cut_of recs) recs (λ (r : Rec). r.version ≤ 2 ^ 62) 64 (λ x r lt is. (let c = chosen_is (cut_of recs) recs x r is in ((range c.place r c.here).versions.1)))))
-
--- nor that of one among them
-low_any : (recs : List Rec) (n x : ℕ) (stamp : List ℕ) → All (λ (r : Rec). r.version ≤ 2 ^ 62) recs → Any (λ (r : Rec). (r.entity ≡ x) × (r.version ≡ n) × (r.stamp ≡ stamp)) recs → n ≤ 2 ^ 62
-low_any recs n x stamp all (k, r, low, at, is) =
-    let le = subst (λ (q : Rec). q.version ≤ 2 ^ 62) at (All-get_or (λ (q : Rec). q.version ≤ 2 ^ 62) recs k r low all) in
-    let same = is.1 in
-    omega (arith, le, same)
 
 module _ {D : Type 0} (disks : Ghosts D) (frames steps : ℕ) (st : State D) (cs : List Cell) (t : IsOpenedTable frames steps st cs) where
   abbrev at_start : KernelState

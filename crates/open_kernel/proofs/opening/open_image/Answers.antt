@@ -5,7 +5,8 @@ use Rattle.edge_disk.specs.Moments.{LeavesOnly}
 use Rattle.open_image.specs.image_blocks.Checks.{Bad as BadPlace}
 use Rattle.open_image.specs.open_facts.Images.{HasBegun, MeansSame, MeansSince, StopsShort, WasRefused}
 use Rattle.kernel_core.specs.cell_states.declared.cells.Cell.{Cell}
-use Rattle.open_kernel.proofs.Begun.{came, clean_begun, failed, lives_begun, opens_begun, sync_ended}
+use Rattle.edge_tally.proofs.Counting.{first_ended}
+use Rattle.open_kernel.proofs.Begun.{came, clean_begun, failed, lives_begun, opens_begun}
 use Rattle.open_kernel.proofs.Starting.{may_begin}
 use Rattle.open_image.specs.store_facts.State.{State, books}
 use Rattle.open_image.specs.store_snapshots.declared.opening.OpenWhy.{OpenWhy}
@@ -48,7 +49,7 @@ returns-clause-opened g c t =
     let st : State g.row.D.Denot = c.in-Ok.opened.0 in
     opens_begun c.in-Ok.opened.0 c.in-Ok.opened.1.items c.begin.result g.D.Disk c.args.frames c.args.steps c.args.disk c.begin.ensures.parts c.begin.ensures.nothing c.in-Ok.ensures.table c.requires.steps_few
     (c.in-Ok.ensures.means t) (c.in-Ok.ensures.starts t)
-    (λ first. sync_ended 138 (g.D.Disk.block_count c.args.disk) (g.D.Disk.block_count st.disk) (g.D.Disk.faults c.args.disk) (g.D.Disk.faults st.disk) (g.D.Disk.clock c.args.disk) (g.D.Disk.clock st.disk) (books st).begun first
+    (λ first. first_ended 138 (g.D.Disk.block_count c.args.disk) (g.D.Disk.block_count st.disk) (g.D.Disk.faults c.args.disk) (g.D.Disk.faults st.disk) (g.D.Disk.clock c.args.disk) (g.D.Disk.clock st.disk) (books st).begun first
     c.in-Ok.ensures.begins c.in-Ok.ensures.table.opened.synced)
 
 pub returns-clause-clean : goal.returns-clause-clean
