@@ -14,14 +14,14 @@ use Rattle.kernel_runs.specs.kernel_commit_facts.Short.{AreWithin}
 use Rattle.kernel_runs.specs.kernel_commits.Stops.{IsCause}
 use Rattle.kernel_runs.specs.kernel_commits.Telling.{Tells}
 use Rattle.kernel_runs.specs.kernel_commits.declared.stopping.Stop.{Stop}
-use Rattle.kernel_runs.proofs.Caused.{cause_kept}
+use Rattle.kernel_runs.proofs.kernel_run_facts_lemmas.Caused.{cause_kept}
 use Rattle.open_kernel.specs.kernel_invariant.declared.stopping.Stopped.{Stopped}
 use Rattle.open_kernel.specs.kernel_invariant.declared.stopping.Stopped.TheVariants as reason
 use Rattle.kernel_runs.specs.kernel_core_facts.Kernels.{Held, Lives}
 use Rattle.open_kernel.specs.kernel_invariant.Beginnings.{Beginning, state_after}
 use Rattle.open_kernel.specs.kernel_invariant.Live.{IsRunning, KernelView}
 use Rattle.open_kernel.specs.kernel_block_laws.Room.{enough_blocks}
-use Rattle.kernel_runs.specs.Running.{EndsRun, HasStopped, IsCauseOf, IsOver}
+use Rattle.kernel_runs.specs.kernel_run_facts.Running.{EndsRun, HasStopped, IsCauseOf, IsOver}
 use Rattle.open_kernel.specs.kernel_views.Views.{view_of}
 use Rattle.open_kernel.specs.kernel_record_facts.Cells.{words_on}
 use Rattle.model_serial.specs.Serial.{IsStopped, IsWhole}

@@ -1,6 +1,3 @@
-pub mod Course
-pub mod Called
-pub mod Alongs
-pub mod Born
-pub mod Caused
-pub use Rattle.kernel_core.proofs.table_births_lemmas
+pub use Rattle.kernel_run_facts.proofs as kernel_run_facts_lemmas
+pub use Rattle.kernel_run_facts.proofs.model_serial_lemmas
+pub use Rattle.kernel_run_facts.proofs.table_births_lemmas

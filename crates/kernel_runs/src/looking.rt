@@ -1,19 +1,22 @@
 // Looks at loci, by number and by name.
 ghost use Rattle.std.specs.Prelude.{◌≡◌, ◌+◌, ◌*◌, ◌++◌, ◌∷◌, [], ℕ, List, None, Some, Err, IfErr, IfSome, length, map, slice_get, string_bytes};
+ghost use Rattle.base_types.specs.declared.histories.Entry.{Entry as AnEntry};
 ghost use Rattle.script_types.specs.model_kernel.Scripts.{locus_named};
 ghost use Rattle.script_types.specs.model_kernel.Serial.{looks_of};
 ghost use Rattle.script_types.specs.model_kernel.Steps.{atlas_in};
-ghost use Rattle.kernel_core.specs.kernel_commit_facts.Pieces.{CountsWithin};
-ghost use Rattle.kernel_core.specs.kernel_commits.Telling.{Tells, TriesByAnswer, told_again};
-ghost use Rattle.kernel_core.specs.kernel_core_facts.Kernels.{Lives, StaysClean};
-ghost use Rattle.kernel_core.specs.kernel_invariant.Beginnings.{Beginning, run_of};
-ghost use Rattle.kernel_runs.specs.Running.{IsCauseOf, IsRunBy, RunsAlong, TakesOn, look_most, opened_in, past_idle};
-ghost use Rattle.kernel_core.specs.model_serial_turns.Turns.{ComeFirst, before_pick};
+ghost use Rattle.kernel_run_facts.specs.kernel_commit_facts.Pieces.{CountsWithin};
+ghost use Rattle.kernel_run_facts.specs.kernel_commits.Telling.{Tells, TriesByAnswer, told_again};
+ghost use Rattle.kernel_run_facts.specs.kernel_core_facts.Kernels.{Lives, StaysClean};
+ghost use Rattle.kernel_run_facts.specs.kernel_invariant.Beginnings.{Beginning, run_of};
+ghost use Rattle.kernel_run_facts.specs.Running.{IsCauseOf, IsRunBy, RunsAlong, TakesOn, look_most, opened_in, past_idle};
+ghost use Rattle.kernel_run_facts.specs.Watching.{GoesAlong, LooksLeave, answer_of};
+ghost use Rattle.kernel_run_facts.specs.model_serial_turns.Turns.{ComeFirst, before_pick};
 
+use crate::watching::{Unwatched, Watcher, ask};
 use base_types::{Entity, Kind};
 use edge_disk::Disk;
 use edge_managers::{Gate, Policy, Supplier};
-use kernel_core::{Kernel, Stop};
+use kernel_run_facts::{Halt, Kernel, Stop, kernel_answer};
 
 /// A look that made no step is passed over.
 fn unless_idle(stop: Stop) -> Result<(), Stop>
@@ -26,7 +29,7 @@ fn unless_idle(stop: Stop) -> Result<(), Stop>
 }
 
 /// One look at the locus with this number.
-pub(crate) fn look_at<D: Disk, S: Supplier, P: Policy>(
+fn look_at<D: Disk, S: Supplier, P: Policy>(
     kernel: &mut Kernel<D>,
     locus: Entity,
     gate: &Gate<S, P>,
@@ -43,11 +46,39 @@ pub(crate) fn look_at<D: Disk, S: Supplier, P: Policy>(
     ensures run { D.tells → (b : Beginning) (looked : List ℕ) → IsRunBy (S.word gate.now.supply) (P.wish gate.now.policy) b
         → ComeFirst b.script (opened_in b) (looked ++ locus ∷ []) → RunsAlong D.Disk b looked kernel.old
         → TakesOn D.Disk b (looked ++ locus ∷ []) kernel.new }
+    ensures grows { D.tells → (b : Beginning) → IsRunBy (S.word gate.now.supply) (P.wish gate.now.policy) b → Lives D.Disk b kernel.old
+        → (part : List AnEntry) × (kernel.new.parts.noted.entries ≡ kernel.old.parts.noted.entries ++ part) }
 {
     match kernel.step(locus, gate) {
         Ok(_) => Ok(()),
         Err(stop) => unless_idle(stop),
     }
+}
+
+/// One look at the locus with this number, and behind it one of the watcher.
+pub(crate) fn look_watched<D: Disk, S: Supplier, P: Policy, W: Watcher<D>>(
+    kernel: &mut Kernel<D>,
+    locus: Entity,
+    gate: &Gate<S, P>,
+    watcher: &mut W,
+) -> Result<(), Halt>
+    requires keeps { S.keeps gate.now.supply }
+    requires wishes { P.keeps gate.now.policy }
+    requires clean { StaysClean D.Disk (S.word gate.now.supply) kernel.old }
+    requires going { kernel.old.stop ≡ None }
+    ensures ends { Tells (answer_of result) kernel.new.stop }
+    ensures caused { IfErr (answer_of result) (IsCauseOf D.Disk (P.wish gate.now.policy) kernel.old.parts kernel.new.parts) }
+    ensures tries { TriesByAnswer (answer_of result) kernel.old.parts.noted.entries kernel.new.parts.noted.entries }
+    ensures clean { StaysClean D.Disk (S.word gate.now.supply) kernel.new }
+    ensures counts { CountsWithin D.Disk (look_most) kernel.old.parts.store kernel.new.parts.store }
+    ensures run { D.tells → (b : Beginning) (looked : List ℕ) → IsRunBy (S.word gate.now.supply) (P.wish gate.now.policy) b
+        → ComeFirst b.script (opened_in b) (looked ++ locus ∷ []) → GoesAlong D.Disk (W.watches watcher.old) b looked kernel.old
+        → LooksLeave D.Disk (W.watches watcher.new) (W.leaves watcher.new) b (looked ++ locus ∷ []) result kernel.new }
+{
+    if let Err(stop) = look_at(kernel, locus, gate) {
+        return Err(Halt::Kernel(stop));
+    }
+    ask(watcher, kernel)
 }
 
 /// The locus of a name, if it has one.
@@ -63,54 +94,56 @@ fn locus_called<D: Disk>(kernel: &Kernel<D>, name: &str) -> Option<Entity>
 }
 
 /// A look at the locus of this name; a name that no entity has is passed over.
-fn look_for<D: Disk, S: Supplier, P: Policy>(
+fn look_for<D: Disk, S: Supplier, P: Policy, W: Watcher<D>>(
     kernel: &mut Kernel<D>,
     name: &str,
     gate: &Gate<S, P>,
-) -> Result<(), Stop>
+    watcher: &mut W,
+) -> Result<(), Halt>
     requires keeps { S.keeps gate.now.supply }
     requires wishes { P.keeps gate.now.policy }
     requires clean { StaysClean D.Disk (S.word gate.now.supply) kernel.old }
     requires going { kernel.old.stop ≡ None }
-    ensures ends { Tells result kernel.new.stop }
-    ensures caused { IfErr result (IsCauseOf D.Disk (P.wish gate.now.policy) kernel.old.parts kernel.new.parts) }
-    ensures tries { TriesByAnswer result kernel.old.parts.noted.entries kernel.new.parts.noted.entries }
+    ensures ends { Tells (answer_of result) kernel.new.stop }
+    ensures caused { IfErr (answer_of result) (IsCauseOf D.Disk (P.wish gate.now.policy) kernel.old.parts kernel.new.parts) }
+    ensures tries { TriesByAnswer (answer_of result) kernel.old.parts.noted.entries kernel.new.parts.noted.entries }
     ensures clean { StaysClean D.Disk (S.word gate.now.supply) kernel.new }
     ensures counts { CountsWithin D.Disk (look_most) kernel.old.parts.store kernel.new.parts.store }
     ensures run { D.tells → (b : Beginning) (i : ℕ) → IsRunBy (S.word gate.now.supply) (P.wish gate.now.policy) b
         → slice_get b.script.order i ≡ Some name.now
-        → RunsAlong D.Disk b (before_pick b.script (opened_in b) i) kernel.old
-        → TakesOn D.Disk b (before_pick b.script (opened_in b) (i + 1)) kernel.new }
+        → GoesAlong D.Disk (W.watches watcher.old) b (before_pick b.script (opened_in b) i) kernel.old
+        → LooksLeave D.Disk (W.watches watcher.new) (W.leaves watcher.new) b (before_pick b.script (opened_in b) (i + 1)) result kernel.new }
 {
     match locus_called(kernel, name) {
-        Some(locus) => look_at(kernel, locus, gate),
+        Some(locus) => look_watched(kernel, locus, gate, watcher),
         None => Ok(()),
     }
 }
 
 /// A look at each pick of an order, by name.
-fn look_for_all<D: Disk, S: Supplier, P: Policy>(
+pub(crate) fn look_for_all<D: Disk, S: Supplier, P: Policy, W: Watcher<D>>(
     kernel: &mut Kernel<D>,
     order: &[String],
     gate: &Gate<S, P>,
-) -> Result<(), Stop>
+    watcher: &mut W,
+) -> Result<(), Halt>
     requires keeps { S.keeps gate.now.supply }
     requires wishes { P.keeps gate.now.policy }
     requires clean { StaysClean D.Disk (S.word gate.now.supply) kernel.old }
     requires going { kernel.old.stop ≡ None }
-    ensures ends { Tells result kernel.new.stop }
-    ensures caused { IfErr result (IsCauseOf D.Disk (P.wish gate.now.policy) kernel.old.parts kernel.new.parts) }
-    ensures tries { TriesByAnswer result kernel.old.parts.noted.entries kernel.new.parts.noted.entries }
+    ensures ends { Tells (answer_of result) kernel.new.stop }
+    ensures caused { IfErr (answer_of result) (IsCauseOf D.Disk (P.wish gate.now.policy) kernel.old.parts kernel.new.parts) }
+    ensures tries { TriesByAnswer (answer_of result) kernel.old.parts.noted.entries kernel.new.parts.noted.entries }
     ensures clean { StaysClean D.Disk (S.word gate.now.supply) kernel.new }
     ensures counts { CountsWithin D.Disk (length order.now * look_most) kernel.old.parts.store kernel.new.parts.store }
     ensures run { D.tells → (b : Beginning) → IsRunBy (S.word gate.now.supply) (P.wish gate.now.policy) b
         → b.script.order ≡ map string_bytes order.now
-        → RunsAlong D.Disk b [] kernel.old
-        → TakesOn D.Disk b (looks_of b.script (opened_in b) 0) kernel.new }
+        → GoesAlong D.Disk (W.watches watcher.old) b [] kernel.old
+        → LooksLeave D.Disk (W.watches watcher.new) (W.leaves watcher.new) b (looks_of b.script (opened_in b) 0) result kernel.new }
 {
     for i in 0..order.len() {
-        if let Err(stop) = look_for(kernel, order[i].as_str(), gate) {
-            return Err(stop);
+        if let Err(halt) = look_for(kernel, order[i].as_str(), gate, watcher) {
+            return Err(halt);
         }
     }
     Ok(())
@@ -143,5 +176,6 @@ pub fn play<D: Disk, S: Supplier, P: Policy>(
     if let Some(why) = kernel.stopped() {
         return Err(Stop::told_again(why));
     }
-    look_for_all(kernel, order, gate)
+    let went = look_for_all(kernel, order, gate, &mut Unwatched);
+    kernel_answer(went)
 }

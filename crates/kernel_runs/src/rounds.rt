@@ -2,17 +2,19 @@
 ghost use Rattle.std.specs.Prelude.{◌≡◌, ◌+◌, ◌*◌, ◌^◌, ◌≤◌, ℕ, None, Some, Err, IfErr, IfSome, length};
 ghost use Rattle.script_types.specs.model_kernel.Serial.{looks_of};
 ghost use Rattle.script_types.specs.model_kernel.Steps.{atlas_in};
-ghost use Rattle.kernel_core.specs.kernel_commit_facts.Pieces.{CountsWithin};
-ghost use Rattle.kernel_core.specs.kernel_commits.Telling.{Tells, TriesByAnswer, told_again};
-ghost use Rattle.kernel_core.specs.kernel_core_facts.Kernels.{Lives, StaysClean};
-ghost use Rattle.kernel_core.specs.kernel_invariant.Beginnings.{Beginning, run_of};
-ghost use Rattle.kernel_runs.specs.Running.{EndsRun, IsCauseOf, IsRunBy, RunsAlong, TakesOn, end_of, look_most, opened_in};
+ghost use Rattle.kernel_run_facts.specs.kernel_commit_facts.Pieces.{CountsWithin};
+ghost use Rattle.kernel_run_facts.specs.kernel_commits.Telling.{Tells, TriesByAnswer, told_again};
+ghost use Rattle.kernel_run_facts.specs.kernel_core_facts.Kernels.{Lives, StaysClean};
+ghost use Rattle.kernel_run_facts.specs.kernel_invariant.Beginnings.{Beginning, run_of};
+ghost use Rattle.kernel_run_facts.specs.Running.{EndsRun, IsCauseOf, IsRunBy, RunsAlong, end_of, look_most, opened_in};
+ghost use Rattle.kernel_run_facts.specs.Watching.{GoesAlong, LooksLeave, RunLeaves, answer_of};
 
-use crate::looking::look_at;
+use crate::looking::look_watched;
+use crate::watching::{Unwatched, Watcher};
 use base_types::{Entity, FIRST_LOCUS, Kind};
 use edge_disk::Disk;
 use edge_managers::{Gate, Policy, Supplier};
-use kernel_core::{Kernel, Stop};
+use kernel_run_facts::{Halt, Kernel, Stop, kernel_answer};
 
 /// The number behind the last locus that is born.
 fn loci_end<D: Disk>(kernel: &Kernel<D>) -> u8
@@ -24,27 +26,28 @@ fn loci_end<D: Disk>(kernel: &Kernel<D>) -> u8
 }
 
 /// A round: one look at each locus that is born, by number, and so at one that is born in the round, too.
-fn round<D: Disk, S: Supplier, P: Policy>(
+fn round<D: Disk, S: Supplier, P: Policy, W: Watcher<D>>(
     kernel: &mut Kernel<D>,
     gate: &Gate<S, P>,
-) -> Result<(), Stop>
+    watcher: &mut W,
+) -> Result<(), Halt>
     requires keeps { S.keeps gate.now.supply }
     requires wishes { P.keeps gate.now.policy }
     requires clean { StaysClean D.Disk (S.word gate.now.supply) kernel.old }
     requires going { kernel.old.stop ≡ None }
-    ensures ends { Tells result kernel.new.stop }
-    ensures caused { IfErr result (IsCauseOf D.Disk (P.wish gate.now.policy) kernel.old.parts kernel.new.parts) }
-    ensures tries { TriesByAnswer result kernel.old.parts.noted.entries kernel.new.parts.noted.entries }
+    ensures ends { Tells (answer_of result) kernel.new.stop }
+    ensures caused { IfErr (answer_of result) (IsCauseOf D.Disk (P.wish gate.now.policy) kernel.old.parts kernel.new.parts) }
+    ensures tries { TriesByAnswer (answer_of result) kernel.old.parts.noted.entries kernel.new.parts.noted.entries }
     ensures clean { StaysClean D.Disk (S.word gate.now.supply) kernel.new }
     ensures counts { CountsWithin D.Disk (23 * look_most) kernel.old.parts.store kernel.new.parts.store }
     ensures run { D.tells → (b : Beginning) (made : ℕ) → IsRunBy (S.word gate.now.supply) (P.wish gate.now.policy) b
-        → RunsAlong D.Disk b (looks_of b.script (opened_in b) made) kernel.old
-        → TakesOn D.Disk b (looks_of b.script (opened_in b) (made + 1)) kernel.new }
+        → GoesAlong D.Disk (W.watches watcher.old) b (looks_of b.script (opened_in b) made) kernel.old
+        → LooksLeave D.Disk (W.watches watcher.new) (W.leaves watcher.new) b (looks_of b.script (opened_in b) (made + 1)) result kernel.new }
 {
     let mut number = FIRST_LOCUS;
     while number < loci_end(kernel) {
-        if let Err(stop) = look_at(kernel, Entity::of(number), gate) {
-            return Err(stop);
+        if let Err(halt) = look_watched(kernel, Entity::of(number), gate, watcher) {
+            return Err(halt);
         }
         number += 1;
     }
@@ -60,27 +63,28 @@ fn entries_noted<D: Disk>(kernel: &Kernel<D>) -> usize
 }
 
 /// Rounds over the loci, until one makes no entry.
-fn go_round<D: Disk, S: Supplier, P: Policy>(
+pub(crate) fn go_round<D: Disk, S: Supplier, P: Policy, W: Watcher<D>>(
     kernel: &mut Kernel<D>,
     gate: &Gate<S, P>,
-) -> Result<(), Stop>
+    watcher: &mut W,
+) -> Result<(), Halt>
     requires keeps { S.keeps gate.now.supply }
     requires wishes { P.keeps gate.now.policy }
     requires clean { StaysClean D.Disk (S.word gate.now.supply) kernel.old }
     requires going { kernel.old.stop ≡ None }
-    ensures ends { Tells result kernel.new.stop }
-    ensures caused { IfErr result (IsCauseOf D.Disk (P.wish gate.now.policy) kernel.old.parts kernel.new.parts) }
-    ensures tries { TriesByAnswer result kernel.old.parts.noted.entries kernel.new.parts.noted.entries }
+    ensures ends { Tells (answer_of result) kernel.new.stop }
+    ensures caused { IfErr (answer_of result) (IsCauseOf D.Disk (P.wish gate.now.policy) kernel.old.parts kernel.new.parts) }
+    ensures tries { TriesByAnswer (answer_of result) kernel.old.parts.noted.entries kernel.new.parts.noted.entries }
     ensures clean { StaysClean D.Disk (S.word gate.now.supply) kernel.new }
     ensures counts { CountsWithin D.Disk ((2 ^ 22 + 1) * (23 * look_most)) kernel.old.parts.store kernel.new.parts.store }
     ensures run { D.tells → (b : Beginning) (made : ℕ) → IsRunBy (S.word gate.now.supply) (P.wish gate.now.policy) b
-        → RunsAlong D.Disk b (looks_of b.script (opened_in b) made) kernel.old
-        → EndsRun D.Disk b kernel.new }
+        → GoesAlong D.Disk (W.watches watcher.old) b (looks_of b.script (opened_in b) made) kernel.old
+        → RunLeaves D.Disk (W.watches watcher.new) (W.leaves watcher.new) b result kernel.new }
 {
     loop {
         let noted = entries_noted(kernel);
-        if let Err(stop) = round(kernel, gate) {
-            return Err(stop);
+        if let Err(halt) = round(kernel, gate, watcher) {
+            return Err(halt);
         }
         if entries_noted(kernel) <= noted {
             return Ok(());
@@ -114,5 +118,6 @@ pub fn finish<D: Disk, S: Supplier, P: Policy>(
     if let Some(why) = kernel.stopped() {
         return Err(Stop::told_again(why));
     }
-    go_round(kernel, gate)
+    let went = go_round(kernel, gate, &mut Unwatched);
+    kernel_answer(went)
 }

@@ -1,5 +1,5 @@
 use Rattle.std.proofs.Common.{sym, ◌∙◌}
-use Rattle.kernel_runs.proofs.Called.{finds, none_born}
+use Rattle.kernel_run_facts.proofs.Called.{finds, none_born}
 use Rattle.kernel_runs.proofs.looking.locus_called.Goals as goal
 
 pub returns-then-named-eq0 : goal.returns-then-named-eq0

@@ -1,10 +1,11 @@
 use Rattle.std.proofs.Common.{sym, subst}
 use Rattle.std.specs.Prelude.{IfErr}
 use Rattle.base_types.specs.declared.histories.Entry.{Entry}
-use Rattle.kernel_core.specs.kernel_commits.Telling.{Tells, TriesByAnswer}
-use Rattle.kernel_runs.specs.Running.{IsCauseOf}
-use Rattle.kernel_runs.proofs.Alongs.{takes_look}
-use Rattle.kernel_runs.proofs.Caused.{look_cause, tells_past, tries_past}
+use Rattle.kernel_run_facts.specs.kernel_commits.Telling.{Tells, TriesByAnswer}
+use Rattle.kernel_run_facts.specs.Running.{IsCauseOf}
+use Rattle.kernel_run_facts.proofs.Alongs.{takes_look}
+use Rattle.kernel_run_facts.proofs.Caused.{look_cause, tells_past, tries_past}
+use Rattle.kernel_run_facts.proofs.Watched.{grows}
 use Rattle.kernel_runs.proofs.looking.look_at.Goals as goal
 
 pub returns-in-Ok-clause-run : goal.returns-in-Ok-clause-run
@@ -34,3 +35,11 @@ returns-in-Err-clause-caused g c =
     subst (λ r. IfErr r (IsCauseOf d (g.P.Policy.wish c.args.gate.now.policy) c.args.kernel.now.parts c.step.new.self.parts)) (sym c.unless_idle.ensures)
     (look_cause Entry d (g.P.Policy.wish c.args.gate.now.policy) c.args.locus c.args.kernel.now.parts c.step.new.self.parts c.in-Err.stop c.step.new.self.stop (c.in-Err.ensures.ends c.requires.going) (c.in-Err.ensures.stopped c.requires.going).stopped
     (c.in-Err.ensures.fails c.requires.going))
+
+pub returns-in-Ok-clause-grows : goal.returns-in-Ok-clause-grows
+returns-in-Ok-clause-grows g c = λ told b given lives.
+    grows g.D.Disk b _ c.args.kernel.now c.step.new.self (c.step.ensures.notes told b given.same_supply given.same_policy lives c.requires.going)
+
+pub returns-in-Err-clause-grows : goal.returns-in-Err-clause-grows
+returns-in-Err-clause-grows g c = λ told b given lives.
+    grows g.D.Disk b _ c.args.kernel.now c.step.new.self (c.step.ensures.notes told b given.same_supply given.same_policy lives c.requires.going)

@@ -1,5 +1,5 @@
 use Rattle.std.proofs.Common.{sym}
-use Rattle.kernel_runs.proofs.Caused.{past_other}
+use Rattle.kernel_run_facts.proofs.Caused.{past_other}
 use Rattle.kernel_runs.proofs.looking.unless_idle.Goals as goal
 
 pub returns-in_default : goal.returns-in_default

@@ -1,23 +1,24 @@
 use Rattle.std.proofs.Common.{◌≡◌, ◌-◌, ◌*◌, ◌^◌, None, ℕ, length}
 use Rattle.script_types.specs.model_kernel.Serial.{looks_of}
-use Rattle.kernel_core.specs.kernel_commit_facts.Pieces.{CountsWithin}
-use Rattle.kernel_core.specs.kernel_commits.Telling.{AddsNoTried}
-use Rattle.kernel_core.specs.kernel_core_facts.Kernels.{StaysClean}
-use Rattle.kernel_core.specs.kernel_invariant.Beginnings.{Beginning}
-use Rattle.kernel_runs.specs.Running.{IsRunBy, RunsAlong, look_most, opened_in}
+use Rattle.kernel_run_facts.specs.kernel_commit_facts.Pieces.{CountsWithin}
+use Rattle.kernel_run_facts.specs.kernel_commits.Telling.{AddsNoTried}
+use Rattle.kernel_run_facts.specs.kernel_core_facts.Kernels.{StaysClean}
+use Rattle.kernel_run_facts.specs.kernel_invariant.Beginnings.{Beginning}
+use Rattle.kernel_run_facts.specs.Running.{IsRunBy, look_most, opened_in}
+use Rattle.kernel_run_facts.specs.Watching.{GoesAlong}
 use Rattle.kernel_runs.proofs.rounds.go_round.Given as goal
 
-abbrev pub invariant-loop-stop : goal.invariant-loop-stop
-invariant-loop-stop g l = record {
+abbrev pub invariant-loop-halt : goal.invariant-loop-halt
+invariant-loop-halt g l = record {
   going : l.kernel.stop ≡ None;
   tries : AddsNoTried l.fn.kernel.parts.noted.entries l.kernel.parts.noted.entries;
   clean : StaysClean g.D.Disk (g.S.Supplier.word l.gate.supply) l.kernel;
   counts : CountsWithin g.D.Disk (length l.kernel.parts.noted.entries * (23 * look_most)) l.fn.kernel.parts.store l.kernel.parts.store;
   run : g.D.Disk.tells → (b : Beginning) (made : ℕ) → IsRunBy (g.S.Supplier.word l.gate.supply) (g.P.Policy.wish l.gate.policy) b
-      → RunsAlong g.D.Disk b (looks_of b.script (opened_in b) made) l.fn.kernel
-      → (n : ℕ) × RunsAlong g.D.Disk b (looks_of b.script (opened_in b) n) l.kernel;
+      → GoesAlong g.D.Disk (g.W.Watcher.watches l.fn.watcher) b (looks_of b.script (opened_in b) made) l.fn.kernel
+      → (n : ℕ) × GoesAlong g.D.Disk (g.W.Watcher.watches l.watcher) b (looks_of b.script (opened_in b) n) l.kernel;
 }
 
 -- each round but the last notes an entry
-abbrev pub decreases-loop-stop : goal.decreases-loop-stop
-decreases-loop-stop g l = 2 ^ 22 - length l.kernel.parts.noted.entries
+abbrev pub decreases-loop-halt : goal.decreases-loop-halt
+decreases-loop-halt g l = 2 ^ 22 - length l.kernel.parts.noted.entries

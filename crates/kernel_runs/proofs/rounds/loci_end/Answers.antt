@@ -1,5 +1,5 @@
 use Rattle.std.proofs.Common.{arith}
-use Rattle.kernel_runs.proofs.Called.{born_before}
+use Rattle.kernel_run_facts.proofs.Called.{born_before}
 use Rattle.kernel_runs.proofs.rounds.loci_end.Goals as goal
 
 pub returns-clause-past : goal.returns-clause-past

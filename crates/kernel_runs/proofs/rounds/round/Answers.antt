@@ -1,14 +1,15 @@
-use Rattle.std.proofs.Common.{◌≤◌, ◌<◌, ◌+◌, ◌-◌, ◌*◌, ◌++◌, ◌∷◌, [], sym, ap, subst, ◌∙◌, arith, ◌≡◌, None, Some, Err, refl}
+use Rattle.std.proofs.Common.{◌≤◌, ◌<◌, ◌+◌, ◌-◌, ◌*◌, ◌++◌, ◌∷◌, [], sym, ap, subst, ◌∙◌, arith, Err, refl}
 use Rattle.std.proofs.lemmas.List.{append-nil}
 use Rattle.script_types.specs.model_kernel.Serial.{looks_of}
-use Rattle.kernel_core.specs.model_serial_turns.Turns.{ComeFirst, before_locus}
-use Rattle.kernel_runs.specs.Running.{RunsAlong, look_most, opened_in}
+use Rattle.kernel_run_facts.specs.model_serial_turns.Turns.{ComeFirst, before_locus}
+use Rattle.kernel_run_facts.specs.Running.{look_most, opened_in}
+use Rattle.kernel_run_facts.specs.Watching.{GoesAlong, answer_of}
 use Rattle.std.specs.Prelude.{⊤}
-use Rattle.kernel_runs.proofs.Caused.{cause_from, has_stopped}
-use Rattle.kernel_core.proofs.kernel_commits_lemmas.Telling.{adds_none, adds_then, answers_behind}
-use Rattle.kernel_runs.proofs.Alongs.{locus_first, locus_next}
-use Rattle.kernel_runs.proofs.Born.{round_over}
-use Rattle.kernel_core.proofs.kernel_commit_facts_lemmas.Counting.{CountsWithin-fewer, CountsWithin-stay, CountsWithin-then}
+use Rattle.kernel_run_facts.proofs.Watched.{cause_behind}
+use Rattle.kernel_run_facts.proofs.kernel_commits_lemmas.Telling.{adds_none, adds_then, answers_behind}
+use Rattle.kernel_run_facts.proofs.Alongs.{locus_first, locus_next}
+use Rattle.kernel_run_facts.proofs.Born.{round_over}
+use Rattle.kernel_run_facts.proofs.kernel_commit_facts_lemmas.Counting.{CountsWithin-fewer, CountsWithin-stay, CountsWithin-then}
 use Rattle.kernel_runs.proofs.rounds.round.Goals as goal
 
 pub loop-number-init : goal.loop-number-init
@@ -19,7 +20,7 @@ loop-number-init g c = record {
   tries = adds_none c.args.kernel.now.parts.noted.entries c.args.kernel.now.parts.noted.entries refl;
   clean = c.requires.clean;
   counts = CountsWithin-stay g.D.Disk 0 c.args.kernel.now.parts.store;
-  run = λ told b made given along. subst (λ ls. RunsAlong g.D.Disk b ls c.args.kernel.now) (sym (append-nil (looks_of b.script (opened_in b) made))) along;
+  run = λ told b made given goes. subst (λ ls. GoesAlong g.D.Disk (g.W.Watcher.watches c.args.watcher.now) b ls c.args.kernel.now) (sym (append-nil (looks_of b.script (opened_in b) made))) goes;
 }
 
 pub loop-number-preserved : goal.loop-number-preserved
@@ -32,39 +33,36 @@ loop-number-preserved g c =
       low = omega (arith, low);
       high = omega (arith, high);
       going = c.in_default.ensures.ends;
-      tries = adds_then c.args.kernel.now.parts.noted.entries c.loop-number.kernel.parts.noted.entries c.look_at.new.kernel.parts.noted.entries c.loop-number.invariant.tries c.in_default.ensures.tries;
-      clean = c.look_at.ensures.clean;
+      tries = adds_then c.args.kernel.now.parts.noted.entries c.loop-number.kernel.parts.noted.entries c.look_watched.new.kernel.parts.noted.entries c.loop-number.invariant.tries c.in_default.ensures.tries;
+      clean = c.look_watched.ensures.clean;
       counts =
-          CountsWithin-fewer d ((n - 41) * look_most + look_most) ((n + 1 - 41) * look_most) c.args.kernel.now.parts.store c.look_at.new.kernel.parts.store (omega (arith, low))
-          (CountsWithin-then d ((n - 41) * look_most) look_most c.args.kernel.now.parts.store c.loop-number.kernel.parts.store c.look_at.new.kernel.parts.store c.loop-number.invariant.counts c.look_at.ensures.counts);
-      run = λ told b made given along.
+          CountsWithin-fewer d ((n - 41) * look_most + look_most) ((n + 1 - 41) * look_most) c.args.kernel.now.parts.store c.look_watched.new.kernel.parts.store (omega (arith, low))
+          (CountsWithin-then d ((n - 41) * look_most) look_most c.args.kernel.now.parts.store c.loop-number.kernel.parts.store c.look_watched.new.kernel.parts.store c.loop-number.invariant.counts c.look_watched.ensures.counts);
+      run = λ told b made given goes.
           let first = subst (λ x. ComeFirst b.script (opened_in b) (before_locus b.script (opened_in b) made n ++ x ∷ [])) (sym c.of.ensures) (locus_first b made n low high) in
           let next = ap (λ x. before_locus b.script (opened_in b) made n ++ x ∷ []) c.of.ensures ∙ sym (locus_next b made n low high) in
-          subst (λ ls. RunsAlong d b ls c.look_at.new.kernel) next
-          ((c.in_default.ensures.run told b (before_locus b.script (opened_in b) made n) given first (c.loop-number.invariant.run told b made given along)).along c.in_default.ensures.ends);
+          subst (λ ls. GoesAlong d (g.W.Watcher.watches c.look_watched.new.watcher) b ls c.look_watched.new.kernel) next
+          (c.in_default.ensures.run told b (before_locus b.script (opened_in b) made n) given first (c.loop-number.invariant.run told b made given goes));
     }
 
 pub returns-in-Err-clause-caused : goal.returns-in-Err-clause-caused
 returns-in-Err-clause-caused g c =
-    cause_from g.D.Disk (g.P.Policy.wish c.args.gate.now.policy) c.args.kernel.now.parts c.loop-number.kernel.parts c.look_at.new.kernel.parts c.in-Err.stop c.loop-number.invariant.counts.later c.look_at.ensures.counts.later c.in-Err.ensures.caused
+    cause_behind g.D.Disk (g.P.Policy.wish c.args.gate.now.policy) c.args.kernel.now.parts c.loop-number.kernel.parts c.look_watched.new.kernel.parts (answer_of (Err c.in-Err.halt)) c.loop-number.invariant.counts.later c.look_watched.ensures.counts.later c.in-Err.ensures.caused
 
 pub returns-in-Err-clause-counts : goal.returns-in-Err-clause-counts
 returns-in-Err-clause-counts g c =
     let d = g.D.Disk in
     let n = c.loop-number.number in
     let high : n < 64 = (let few = c.loci_end.ensures.few in let lt = c.loop-number-test.true in omega (arith, few, lt)) in
-    CountsWithin-fewer d ((n - 41) * look_most + look_most) (23 * look_most) c.args.kernel.now.parts.store c.look_at.new.kernel.parts.store (omega (arith, high))
-    (CountsWithin-then d ((n - 41) * look_most) look_most c.args.kernel.now.parts.store c.loop-number.kernel.parts.store c.look_at.new.kernel.parts.store c.loop-number.invariant.counts c.look_at.ensures.counts)
+    CountsWithin-fewer d ((n - 41) * look_most + look_most) (23 * look_most) c.args.kernel.now.parts.store c.look_watched.new.kernel.parts.store (omega (arith, high))
+    (CountsWithin-then d ((n - 41) * look_most) look_most c.args.kernel.now.parts.store c.loop-number.kernel.parts.store c.look_watched.new.kernel.parts.store c.loop-number.invariant.counts c.look_watched.ensures.counts)
 
 pub returns-in-Err-clause-run : goal.returns-in-Err-clause-run
-returns-in-Err-clause-run g c = λ told b made given along.
+returns-in-Err-clause-run g c = λ told b made given goes.
     let n = c.loop-number.number in
     let high : n < 64 = (let few = c.loci_end.ensures.few in let lt = c.loop-number-test.true in omega (arith, few, lt)) in
     let first = subst (λ x. ComeFirst b.script (opened_in b) (before_locus b.script (opened_in b) made n ++ x ∷ [])) (sym c.of.ensures) (locus_first b made n c.loop-number.invariant.low high) in
-    record {
-      along = λ going. absurd (has_stopped ⊤ g.D.Disk (g.P.Policy.wish c.args.gate.now.policy) c.loop-number.kernel.parts c.look_at.new.kernel.parts c.in-Err.stop c.look_at.new.kernel.stop c.in-Err.ensures.ends c.in-Err.ensures.caused going);
-      stopped = (c.in-Err.ensures.run told b (before_locus b.script (opened_in b) made n) given first (c.loop-number.invariant.run told b made given along)).stopped;
-    }
+    c.in-Err.ensures.run told b (before_locus b.script (opened_in b) made n) given first (c.loop-number.invariant.run told b made given goes)
 
 pub returns-clause-counts : goal.returns-clause-counts
 returns-clause-counts g c =
@@ -73,20 +71,20 @@ returns-clause-counts g c =
     CountsWithin-fewer d ((c.loop-number.number - 41) * look_most) (23 * look_most) c.args.kernel.now.parts.store c.loop-number.kernel.parts.store (omega (arith, high)) c.loop-number.invariant.counts
 
 pub returns-clause-run : goal.returns-clause-run
-returns-clause-run g c = λ told b made given along.
+returns-clause-run g c = λ told b made given goes.
     let n = c.loop-number.number in
-    let at = c.loop-number.invariant.run told b made given along in
-    let r = at.lives.live.running in
-    let past = c.loci_end.ensures.past told b at.lives in
+    let at = c.loop-number.invariant.run told b made given goes in
+    let r = at.along.lives.live.running in
+    let past = c.loci_end.ensures.past told b at.along.lives in
     let behind = c.loop-number-test.false in
     record {
-      along = λ _. record {
-        lives = at.lives;
-        looks = round_over b c.loop-number.kernel.parts.noted.entries r.begins r.legal made n c.loop-number.invariant.low c.loop-number.invariant.high (omega (arith, past, behind)) at.looks;
+      along = record {
+        lives = at.along.lives;
+        looks = round_over b c.loop-number.kernel.parts.noted.entries r.begins r.legal made n c.loop-number.invariant.low c.loop-number.invariant.high (omega (arith, past, behind)) at.along.looks;
       };
-      stopped = λ why is. absurd (let clash : None ≡ Some why = sym c.loop-number.invariant.going ∙ is in cc clash);
+      knows = at.knows;
     }
 
 pub returns-in-Err-clause-tries : goal.returns-in-Err-clause-tries
 returns-in-Err-clause-tries g c =
-    answers_behind {T = ⊤} (Err c.in-Err.stop) c.args.kernel.now.parts.noted.entries c.loop-number.kernel.parts.noted.entries c.look_at.new.kernel.parts.noted.entries c.loop-number.invariant.tries c.in-Err.ensures.tries
+    answers_behind {T = ⊤} (answer_of (Err c.in-Err.halt)) c.args.kernel.now.parts.noted.entries c.loop-number.kernel.parts.noted.entries c.look_watched.new.kernel.parts.noted.entries c.loop-number.invariant.tries c.in-Err.ensures.tries

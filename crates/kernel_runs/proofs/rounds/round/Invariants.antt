@@ -1,11 +1,12 @@
 use Rattle.std.proofs.Common.{◌≡◌, ◌≤◌, ◌-◌, ◌*◌, None, ℕ}
 use Rattle.script_types.specs.model_kernel.Serial.{looks_of}
-use Rattle.kernel_core.specs.kernel_commit_facts.Pieces.{CountsWithin}
-use Rattle.kernel_core.specs.kernel_commits.Telling.{AddsNoTried}
-use Rattle.kernel_core.specs.kernel_core_facts.Kernels.{StaysClean}
-use Rattle.kernel_core.specs.kernel_invariant.Beginnings.{Beginning}
-use Rattle.kernel_core.specs.model_serial_turns.Turns.{before_locus}
-use Rattle.kernel_runs.specs.Running.{IsRunBy, RunsAlong, look_most, opened_in}
+use Rattle.kernel_run_facts.specs.kernel_commit_facts.Pieces.{CountsWithin}
+use Rattle.kernel_run_facts.specs.kernel_commits.Telling.{AddsNoTried}
+use Rattle.kernel_run_facts.specs.kernel_core_facts.Kernels.{StaysClean}
+use Rattle.kernel_run_facts.specs.kernel_invariant.Beginnings.{Beginning}
+use Rattle.kernel_run_facts.specs.model_serial_turns.Turns.{before_locus}
+use Rattle.kernel_run_facts.specs.Running.{IsRunBy, look_most, opened_in}
+use Rattle.kernel_run_facts.specs.Watching.{GoesAlong}
 use Rattle.kernel_runs.proofs.rounds.round.Given as goal
 
 abbrev pub invariant-loop-number : goal.invariant-loop-number
@@ -17,8 +18,8 @@ invariant-loop-number g l = record {
   clean : StaysClean g.D.Disk (g.S.Supplier.word l.gate.supply) l.kernel;
   counts : CountsWithin g.D.Disk ((l.number - 41) * look_most) l.fn.kernel.parts.store l.kernel.parts.store;
   run : g.D.Disk.tells → (b : Beginning) (made : ℕ) → IsRunBy (g.S.Supplier.word l.gate.supply) (g.P.Policy.wish l.gate.policy) b
-      → RunsAlong g.D.Disk b (looks_of b.script (opened_in b) made) l.fn.kernel
-      → RunsAlong g.D.Disk b (before_locus b.script (opened_in b) made l.number) l.kernel;
+      → GoesAlong g.D.Disk (g.W.Watcher.watches l.fn.watcher) b (looks_of b.script (opened_in b) made) l.fn.kernel
+      → GoesAlong g.D.Disk (g.W.Watcher.watches l.watcher) b (before_locus b.script (opened_in b) made l.number) l.kernel;
 }
 
 abbrev pub decreases-loop-number : goal.decreases-loop-number

@@ -12,8 +12,8 @@ use Rattle.kernel_core.specs.model_serial_turns.Turns.{HasLooked, before_locus}
 use Rattle.kernel_core.proofs.model_serial_turns_lemmas.Course.{rounded}
 use Rattle.kernel_core.proofs.model_serial_turns_lemmas.Whereabouts.{looked_idle}
 use Rattle.kernel_core.specs.kernel_invariant.Beginnings.{Beginning, BeginsRight, IsLegal, run_of}
-use Rattle.kernel_runs.specs.Running.{end_of, opened_in}
-use Rattle.kernel_runs.proofs.Alongs.{locus_next}
+use Rattle.kernel_run_facts.specs.Running.{end_of, opened_in}
+use Rattle.kernel_run_facts.proofs.Alongs.{locus_next}
 
 not_running : (a : AtlasState) (cells : ℕ → Cell) (l : ℕ) → AreSound a cells → end_of a ≤ l → running (cells l) ≡ None
 not_running a cells l h past =

@@ -26,8 +26,8 @@ use Rattle.kernel_core.specs.kernel_commit_facts.Pieces.{StopsIn}
 use Rattle.kernel_core.specs.kernel_invariant.declared.stopping.Stopped.{Stopped}
 use Rattle.kernel_core.specs.kernel_invariant.declared.stopping.Stopped.TheVariants as reason
 use Rattle.kernel_core.proofs.kernel_commit_facts_lemmas.Dues.{short_looks, short_opening}
-use Rattle.kernel_runs.specs.Running.{HasStopped, IsOver, IsRunBy, RunsAlong, TakesOn, opened_in}
-use Rattle.kernel_runs.proofs.Course.{one_look, over, part_of_look}
+use Rattle.kernel_run_facts.specs.Running.{HasStopped, IsOver, IsRunBy, RunsAlong, TakesOn, opened_in}
+use Rattle.kernel_run_facts.proofs.Course.{one_look, over, part_of_look}
 
 -- the next locus of a round
 pub locus_next : (b : Beginning) (made l : ℕ) → 41 ≤ l → l < 64 → before_locus b.script (opened_in b) made (l + 1) ≡ before_locus b.script (opened_in b) made l ++ l ∷ []
@@ -111,12 +111,12 @@ module _ {D : Type 0} (disks : Ghosts D) (supply : Supply) (policy : Policy) whe
             };
       }
 
-  -- a look at the locus of the pick
-  pub takes_pick : (b : Beginning) (i : ℕ) (name : Text) (old new : Held D) (l : ℕ) (p : IsPick b old.parts.noted.entries i name) → Some l ≡ Some p.locus
-      → (ComeFirst b.script (opened_in b) (before_pick b.script (opened_in b) i ++ l ∷ []) → TakesOn disks b (before_pick b.script (opened_in b) i ++ l ∷ []) new)
-      → TakesOn disks b (before_pick b.script (opened_in b) (i + 1)) new
-  takes_pick b i name old new l p same takes =
+  -- what holds behind a look at the locus of the pick holds behind the pick
+  pub takes_pick : (P : List ℕ → Type 0) (b : Beginning) (i : ℕ) (name : Text) (old : Held D) (l : ℕ) (p : IsPick b old.parts.noted.entries i name) → Some l ≡ Some p.locus
+      → (ComeFirst b.script (opened_in b) (before_pick b.script (opened_in b) i ++ l ∷ []) → P (before_pick b.script (opened_in b) i ++ l ∷ []))
+      → P (before_pick b.script (opened_in b) (i + 1))
+  takes_pick P b i name old l p same takes =
       let is : l ≡ p.locus = cc in
       let next : before_pick b.script (opened_in b) i ++ l ∷ [] ≡ before_pick b.script (opened_in b) (i + 1) = ap (λ x. before_pick b.script (opened_in b) i ++ x ∷ []) is ∙ sym p.next in
-      subst (λ looked. TakesOn disks b looked new) next
+      subst P next
       (takes (subst (λ x. ComeFirst b.script (opened_in b) (before_pick b.script (opened_in b) i ++ x ∷ [])) (sym is) p.first))

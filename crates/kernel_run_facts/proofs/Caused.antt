@@ -21,7 +21,7 @@ use Rattle.kernel_core.specs.kernel_invariant.declared.stopping.Stopped.{Stopped
 use Rattle.kernel_core.specs.kernel_invariant.declared.stopping.Stopped.TheVariants as reason
 use Rattle.kernel_core.specs.kernel_core_facts.Bearing.{IsShortBehind}
 use Rattle.kernel_core.specs.kernel_core_facts.Looking.{StopsLook, WasShort}
-use Rattle.kernel_runs.specs.Running.{IsCauseOf, past_idle}
+use Rattle.kernel_run_facts.specs.Running.{IsCauseOf, past_idle}
 use Rattle.edge_disk.proofs.Ticks.{Rose-before}
 
 -- the cause of a part of a stretch is one of the whole

@@ -1,0 +1,11 @@
+pub mod Course
+pub mod Called
+pub mod Alongs
+pub mod Born
+pub mod Caused
+pub mod Watched
+pub use Rattle.kernel_core.proofs.kernel_commit_facts_lemmas
+pub use Rattle.kernel_core.proofs.kernel_commits_lemmas
+pub use Rattle.kernel_core.proofs.model_serial_lemmas
+pub use Rattle.kernel_core.proofs.model_serial_turns_lemmas
+pub use Rattle.kernel_core.proofs.table_births_lemmas

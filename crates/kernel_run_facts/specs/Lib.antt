@@ -1,0 +1,13 @@
+pub mod Running
+pub mod Watching
+pub use Rattle.kernel_core.specs.cell_states
+pub use Rattle.kernel_core.specs.kernel_book_laws
+pub use Rattle.kernel_core.specs.kernel_commit_facts
+pub use Rattle.kernel_core.specs.kernel_commits
+pub use Rattle.kernel_core.specs.kernel_core_facts
+pub use Rattle.kernel_core.specs.kernel_invariant
+pub use Rattle.kernel_core.specs.kernel_laws
+pub use Rattle.kernel_core.specs.model_births
+pub use Rattle.kernel_core.specs.model_serial
+pub use Rattle.kernel_core.specs.model_serial_turns
+pub use Rattle.kernel_core.specs.table_births

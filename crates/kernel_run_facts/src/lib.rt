@@ -1,0 +1,8 @@
+//! Where a kernel is in the serial history of its run, how the run ends, and why it was stopped; and the same of a run that is watched. Beside one
+//! function `specs/` has the words, `proofs/` the lemmas.
+#![tactic(auto)]
+
+mod halts;
+
+pub use halts::{Halt, kernel_answer};
+pub use kernel_core::{Kernel, Stop};
