@@ -1,10 +1,10 @@
 -- Words are one command at most.
 use Rattle.std.proofs.Common.{◌≡◌, ◌∙◌, ◌+◌, ◌*◌, ℕ, List, [], ◌∷◌, ap, cond, length, sym, true, false}
-use Rattle.std.specs.Prelude.{◌==◌}
+use Rattle.std.specs.Prelude.{◌==◌, codes}
 use Rattle.std.specs.Str.Parse.{digits_value}
-use Rattle.command_words.specs.Commands.{IsCommand}
+use Rattle.command_words.specs.Commands.{IsCommand, IsCopyOf}
 use Rattle.command_words.specs.declared.Command.{Command}
-use Rattle.command_words.specs.declared.Command.TheVariants.{CheckTrace, Drill, Format, Report, Run, Show}
+use Rattle.command_words.specs.declared.Command.TheVariants.{CheckTrace, Copy, Drill, Format, Report, Run, Show}
 
 -- a number that tells the words of the commands apart
 abbrev mark : List (List ℕ) → ℕ
@@ -19,7 +19,7 @@ value (word ∷ digits ∷ words) = digits_value 10 digits
 -- the one command that words can be
 abbrev told : List (List ℕ) → Command
 told words = cond (mark words == 16) (Format (value words)) (cond (mark words == 15) (Drill (value words)) (cond (mark words == 13) (Run true)
-    (cond (mark words == 3) (Run false) (cond (mark words == 4) Show (cond (mark words == 6) Report CheckTrace)))))
+    (cond (mark words == 3) (Run false) (cond (mark words == 4) Show (cond (mark words == 6) Report (cond (mark words == 24) Copy CheckTrace))))))
 
 is_told : (words : List (List ℕ)) (command : Command) → IsCommand words command → told words ≡ command
 is_told words (Format blocks) (digits, is, number, size) = ap told is ∙ ap Format number.2
@@ -29,6 +29,13 @@ is_told words Show is = ap told is
 is_told words Report is = ap told is
 is_told words (Drill seed) (digits, is, number, size) = ap told is ∙ ap Drill number.2
 is_told words CheckTrace is = ap told is
+is_told words Copy (name, fresh, copy) = ap told copy.0
 
 pub one_command : (words : List (List ℕ)) (c d : Command) → IsCommand words c → IsCommand words d → c ≡ d
 one_command words c d is also = sym (is_told words c is) ∙ is_told words d also
+
+-- and have at most two names
+pub one_copy : (words : List (List ℕ)) (name fresh other new : List ℕ) → IsCopyOf words name fresh → IsCopyOf words other new → (name ≡ other) × (fresh ≡ new)
+one_copy words name fresh other new one two =
+    let same : codes "copy" ∷ name ∷ fresh ∷ [] ≡ codes "copy" ∷ other ∷ new ∷ [] = sym one.0 ∙ two.0 in
+    (cc same, cc same)

@@ -1,17 +1,19 @@
 -- Words, their bytes, and which are no command.
-use Rattle.std.proofs.Common.{◌≡◌, ◌∙◌, ◌<◌, ℕ, List, [], ◌∷◌, length, map, Option, Some, None, IfSome, IfNone, sym, ap, ap₂, refl, true, false, true≢false, is_some, unwrap_or, String, string_bytes, codes, slice_index, ne_eqb, arith}
+use Rattle.std.proofs.Common.{◌≡◌, ◌∙◌, ◌<◌, ℕ, Bool, List, [], ◌∷◌, length, map, Option, Some, None, IfSome, IfNone, sym, ap, ap₂, refl, true, false, true≢false, is_some, unwrap_or, String, string_bytes, codes, slice_index, ne_eqb, arith}
 use Rattle.std.specs.Prelude.{◌==◌, ◌&&◌, ◌||◌, slice_get, bytes_eq}
+use Rattle.std.specs.Bool.{then_some}
 use Rattle.std.specs.List.{list_any}
 use Rattle.std.specs.Borrow.{Bor}
 use Rattle.std.specs.Option.{option_map}
 use Rattle.std.specs.Str.Parse.{AllDigits, IsNumeral}
-use Rattle.std.proofs.lemmas.Bool.{false≢true}
+use Rattle.std.proofs.lemmas.Bool.{and_parts, false≢true}
+use Rattle.std.proofs.lemmas.Option.{same_Some}
 use Rattle.clap.proofs.WalkLemmas.{list_any-map}
 use Rattle.std.proofs.lemmas.Str.Parse.{digit_from_value}
 use Rattle.command_words.specs.Commands.{IsCommand}
 use Rattle.command_words.specs.Forms as form
 use Rattle.command_words.specs.declared.Command.{Command}
-use Rattle.command_words.specs.declared.Command.TheVariants.{CheckTrace, Drill, Format, Report, Run, Show}
+use Rattle.command_words.specs.declared.Command.TheVariants.{CheckTrace, Copy, Drill, Format, Report, Run, Show}
 
 -- what a getter gave, by its bytes
 pub value_given : (r : Option (Bor (List ℕ))) (name v : List ℕ) (words : List (List ℕ)) → option_map (λ s. s.now) r ≡ Some v → words ≡ name ∷ v ∷ []
@@ -52,6 +54,7 @@ commands_stand words (Run false) is = ap (list_any form.is_refused) is
 commands_stand words Show is = ap (list_any form.is_refused) is
 commands_stand words Report is = ap (list_any form.is_refused) is
 commands_stand words CheckTrace is = ap (list_any form.is_refused) is
+commands_stand words Copy (name, fresh, copy) = ap (list_any form.is_refused) copy.0 ∙ ap₂ (λ a b. a || (b || false)) copy.1.stands copy.2.stands
 
 pub no_command : (words : List (List ℕ)) → list_any form.is_refused words ≡ true → (command : Command) → IsCommand words command → ⊥
 no_command words e command is = true≢false (sym e ∙ commands_stand words command is)
@@ -74,15 +77,41 @@ no_number words k front low not_c hyphen (Run false) is = other_word words _ 114
 no_number words k front low not_c hyphen Show is = other_word words _ 115 k is refl front (λ e. omega arith)
 no_number words k front low not_c hyphen Report is = other_word words _ 114 k is refl front (λ e. omega arith)
 no_number words k front low not_c hyphen CheckTrace is = other_word words _ 99 k is refl front not_c
+no_number words k front low not_c hyphen Copy (name, fresh, copy) = other_word words _ 99 k copy.0 refl front not_c
 
 -- no word is refused, said of the bytes
 pub none_in_bytes : {Z : Type 0} (words : List (String Z)) → list_any (λ word. form.is_refused (string_bytes word)) words ≡ false → list_any form.is_refused (map string_bytes words) ≡ false
 none_in_bytes words none = sym (list_any-map form.is_refused string_bytes words) ∙ none
 
-string_front : {Z : Type 0} (words : List (String Z)) (first : String Z) → slice_get words 0 ≡ Some first → slice_get (map string_bytes words) 0 ≡ Some (string_bytes first)
+pub string_front : {Z : Type 0} (words : List (String Z)) (first : String Z) → slice_get words 0 ≡ Some first → slice_get (map string_bytes words) 0 ≡ Some (string_bytes first)
 string_front [] first e = absurd (false≢true (ap is_some e))
 string_front (w ∷ ws) first e = ap (option_map string_bytes) e
 
 pub first_letter : {Z : Type 0} (words : List (String Z)) (first : String Z) (name : List ℕ) → slice_get words 0 ≡ Some first → string_bytes first ≡ name
     → letter (map string_bytes words) ≡ slice_index name 0
 first_letter words first name at named = ap (λ o. slice_index (unwrap_or o []) 0) (string_front words first at) ∙ ap (λ word. slice_index word 0) named
+
+-- ---- the two names of a copy
+
+none_of : (a b : Bool) → (a || b) ≡ false → (a ≡ false) × (b ≡ false)
+none_of true b e = absurd (true≢false e)
+none_of false b e = (refl, e)
+
+-- three words, the first of which is the command's, of which none is refused, are a copy
+pub copy_of : (words : List (List ℕ)) (first : List ℕ) → slice_get words 0 ≡ Some first → first ≡ codes "copy" → list_any form.is_refused words ≡ false → form.has_two_names words ≡ true → IsCommand words Copy
+copy_of [] first front is fine two = absurd (true≢false (sym two))
+copy_of (a ∷ []) first front is fine two = absurd (true≢false (sym two))
+copy_of (a ∷ b ∷ []) first front is fine two = absurd (true≢false (sym two))
+copy_of (a ∷ b ∷ c ∷ d ∷ rest) first front is fine two = absurd (true≢false (sym two))
+copy_of (a ∷ b ∷ c ∷ []) first front is fine two =
+    let both = and_parts (form.is_name b) (form.is_name c) two in
+    let same : a ≡ codes "copy" = same_Some a first front ∙ is in
+    let rest = (none_of (form.is_refused a) (list_any form.is_refused (b ∷ c ∷ [])) fine).1 in
+    let one = none_of (form.is_refused b) (list_any form.is_refused (c ∷ [])) rest in
+    let other = none_of (form.is_refused c) false one.1 in
+    (b, c, (ap (λ (word : List ℕ). word ∷ b ∷ c ∷ []) same, record { stands = one.0; no_option = both.0 }, record { stands = other.0; no_option = both.1 }))
+
+pub if_copy : (words : List (List ℕ)) (first : List ℕ) (b : Bool) → slice_get words 0 ≡ Some first → first ≡ codes "copy" → list_any form.is_refused words ≡ false → b ≡ form.has_two_names words
+    → IfSome (then_some b Copy) (λ (command : Command). IsCommand words command)
+if_copy words first true front is fine two = copy_of words first front is fine (sym two)
+if_copy words first false front is fine two = tt

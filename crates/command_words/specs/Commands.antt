@@ -1,8 +1,9 @@
 -- Which words are a command. A word is the list of its bytes.
 use Rattle.std.specs.Prelude.{◌≡◌, ℕ, ◌≤◌, Bool, true, false, List, [], ◌∷◌, length, codes}
 use Rattle.std.specs.Str.Parse.{IsNumeral, digits_value}
+use Rattle.command_words.specs.Forms.{is_name, is_refused}
 use Rattle.command_words.specs.declared.Command.{Command}
-use Rattle.command_words.specs.declared.Command.TheVariants.{CheckTrace, Drill, Format, Report, Run, Show}
+use Rattle.command_words.specs.declared.Command.TheVariants.{CheckTrace, Copy, Drill, Format, Report, Run, Show}
 
 -- one to twenty decimal digits whose value is n; zeros may lead
 abbrev pub IsNumber : List ℕ → ℕ → Type 0
@@ -21,6 +22,15 @@ abbrev pub run_words : Bool → List (List ℕ)
 run_words false = []
 run_words true = codes "--trace" ∷ []
 
+-- a word that may stand for a name: not refused, and without a hyphen before the rest
+pub record IsNameWord (word : List ℕ) : Type 0 where
+  pub stands : is_refused word ≡ false
+  pub no_option : is_name word ≡ true
+
+-- THE COPY of the container with the one name under the other
+abbrev pub IsCopyOf : List (List ℕ) → List ℕ → List ℕ → Type 0
+IsCopyOf words name fresh = (words ≡ codes "copy" ∷ name ∷ fresh ∷ []) × IsNameWord name × IsNameWord fresh
+
 abbrev pub IsCommand : List (List ℕ) → Command → Type 0
 IsCommand words (Format blocks) = (digits : List ℕ) × (words ≡ codes "format" ∷ digits ∷ []) × IsNumber digits blocks × IsSize blocks
 IsCommand words (Run trace) = words ≡ codes "run" ∷ run_words trace
@@ -28,3 +38,4 @@ IsCommand words Show = words ≡ codes "show" ∷ []
 IsCommand words Report = words ≡ codes "report" ∷ []
 IsCommand words (Drill seed) = (digits : List ℕ) × (words ≡ codes "drill" ∷ digits ∷ []) × IsNumber digits seed × IsSeed seed
 IsCommand words CheckTrace = words ≡ codes "check-trace" ∷ []
+IsCommand words Copy = (name fresh : List ℕ) × IsCopyOf words name fresh

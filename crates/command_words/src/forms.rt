@@ -74,6 +74,26 @@ pub(crate) fn one_value<'a>(
     }
 }
 
+// Whether a word begins with no hyphen: such a word is no name, but an option.
+fn is_name(word: &String) -> bool
+    ensures { result ≡ form.is_name (string_bytes word.now) }
+{
+    match word.as_str().as_bytes().first() {
+        Some(byte) => *byte != b'-',
+        None => true,
+    }
+}
+
+/// Whether two words stand behind the name of the command, neither of which begins with a hyphen.
+pub(crate) fn has_two_names(words: &[String]) -> bool
+    ensures { result ≡ form.has_two_names (map string_bytes words.now) }
+{
+    if words.len() != 3 {
+        return false;
+    }
+    is_name(&words[1]) && is_name(&words[2])
+}
+
 /// Whether `--trace` stands behind the name of a run. None where other words do.
 pub(crate) fn trace_flag(alloc: Global, words: &[String]) -> Result<Option<bool>, AllocError>
     requires { list_any form.is_refused (map string_bytes words.now) ≡ false }

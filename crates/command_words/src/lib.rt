@@ -2,7 +2,8 @@
 #![tactic(auto)]
 
 ghost use Rattle.std.specs.Prelude.{IfNone, IfOk, IfSome, map, string_bytes};
-ghost use Rattle.command_words.specs.Commands.{IsCommand};
+ghost use Rattle.command_words.specs.Commands.{IsCommand, IsCopyOf};
+ghost use Rattle.command_words.specs.declared.Command.TheVariants.{Copy as CopyCommand};
 
 mod forms;
 mod numbers;
@@ -27,6 +28,8 @@ pub enum Command {
     Drill(u64),
     /// Whether the trace that the source holds is that of a legal history of its script.
     CheckTrace,
+    /// A second container in the image, as one that is there. `copied_names` has both names.
+    Copy,
 }
 
 /// The command that the words stand for, None where they are of no known form. The words are the
@@ -56,6 +59,15 @@ pub fn read_command(alloc: Global, words: &[String]) -> Result<Option<Command>, 
         "check-trace" => {
             Ok(forms::has_no_value(alloc, "check-trace", words)?.then_some(Command::CheckTrace))
         }
+        "copy" => Ok(forms::has_two_names(words).then_some(Command::Copy)),
         _ => Ok(None),
     }
+}
+
+/// Both names of a command `copy`: that of the container, and that of its copy.
+pub fn copied_names(words: &[String]) -> (&String, &String)
+    requires { IsCommand (map string_bytes words.now) CopyCommand }
+    ensures { IsCopyOf (map string_bytes words.now) (string_bytes result.0.now) (string_bytes result.1.now) }
+{
+    (&words[1], &words[2])
 }

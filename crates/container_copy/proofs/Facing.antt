@@ -2,7 +2,7 @@
 use Rattle.std.proofs.Common.{◌≡◌, ◌≢◌, inl, inr, ℕ, zero, suc, ◌+◌, ◌<◌, ◌≤◌, true, false, List, [], replicate, length, take, Option, Some, None, refl, sym, ap, subst, ◌∙◌, arith}
 use Rattle.std.specs.Prelude.{slice_get, slice_index}
 use Rattle.std.proofs.lemmas.Bool.{cases_eq, lt-ltb}
-use Rattle.std.proofs.lemmas.List.{length-replicate}
+use Rattle.std.proofs.lemmas.List.{length-replicate, length-take-le}
 use Rattle.std.proofs.lemmas.List.Elements.{All-weaker}
 use Rattle.std.proofs.lemmas.Option.{same_Some}
 use Rattle.edge_disk.specs.Image.{Image}
@@ -20,18 +20,19 @@ use Rattle.cell_copies.specs.cell_births.cell_states.declared.cells.Cell.{Cell}
 use Rattle.cell_copies.specs.cell_births.cell_states.declared.cells.Part.{Part}
 use Rattle.cell_copies.specs.cell_births.cell_states.declared.cells.Part.TheVariants as part
 use Rattle.cell_copies.specs.cell_births.cell_states.Cells.{HasCell, container_cell, locus_cell, part_of}
-use Rattle.cell_copies.specs.cell_births.page_memory.Words.{AreHeldBlocks, IsSoundTable}
+use Rattle.cell_copies.specs.cell_births.page_memory.Words.{AreHeldBlocks, IsSoundTable, words_of}
 use Rattle.cell_copies.specs.model_copies.Copies.{IsCopied, copied_container}
 use Rattle.cell_copies.specs.model_copies.Needing.{LeavesCopy}
 use Rattle.cell_copies.specs.model_copies.model_kernel.Outcomes.{free_container}
 use Rattle.cell_copies.specs.model_copies.model_kernel.Scripts.{container_named}
-use Rattle.cell_copies.specs.model_copies.model_kernel.State.{AtlasCell, AtlasState, Cell as ModelCell, ContainerState, EntityState, KernelState, Supply, Text}
+use Rattle.cell_copies.specs.model_copies.model_kernel.State.{AtlasCell, AtlasState, Cell as ModelCell, ContainerCell, ContainerState, EntityState, KernelState, Supply, Text}
 use Rattle.cell_copies.specs.model_copies.model_kernel.Steps.{atlas_in}
 use Rattle.cell_copies.specs.model_copies.model_sound_states.States.{IsSoundState}
 use Rattle.store_copies.proofs.model_copies_lemmas.Copying.{leaves, sound}
 use Rattle.kernel_record_facts.specs.blob_grammar.Forms.{IsNumber}
 use Rattle.kernel_record_facts.specs.blob_grammar.Shapes.{IsContainerOver}
-use Rattle.kernel_record_facts.specs.cell_blobs.Blobs.{HasFormedHead, IsFormed, spelt_in}
+use Rattle.kernel_record_facts.specs.blob_grammar.Spelling.{container_blob}
+use Rattle.kernel_record_facts.specs.cell_blobs.Blobs.{HasFormedHead, IsFormed, blob_need, spelt_in}
 use Rattle.kernel_record_facts.specs.image_meaning.Parts.{AtlasPart, ContainerPart, IsOf}
 use Rattle.kernel_book_laws.proofs.Committable.{container_kind}
 use Rattle.kernel_record_facts.specs.Cells.{IsSoundIn, IsSpellable, table_of, words_on}
@@ -39,13 +40,17 @@ use Rattle.kernel_record_facts.proofs.Telling.{no_blocks}
 use Rattle.open_image.specs.table_laws.cell_blob_laws.Memories.{HasOwnMemory}
 use Rattle.kernel_views.proofs.cell_blob_laws_lemmas.Formed.{cell_formed}
 use Rattle.kernel_views.proofs.Leaving.{small_both}
+use Rattle.copy_commits.specs.kernel_records.kernel_block_laws.image_facts.Bodies.{blocks_for}
 use Rattle.copy_commits.specs.kernel_records.kernel_block_laws.image_facts.Layout.{last_number}
 use Rattle.copy_commits.specs.kernel_records.store_books.Books.{Books, recs_in}
 use Rattle.copy_commits.specs.kernel_records.store_facts.Putting.{are_small}
 use Rattle.copy_commits.specs.Committing.{MayCommitPair}
 use Rattle.copy_commits.specs.Putting.{MayPutCopy}
 use Rattle.copy_commits.proofs.Telling.{part_again}
+use Rattle.kernel_records.proofs.Spelling.{container_same}
+use Rattle.page_placing.specs.Copying.{blocks_in}
 use Rattle.container_copy.specs.Facing.{FacesCopy, StandsBefore}
+use Rattle.container_copy.specs.Needs.{CellsNeed, NeedsBlocks, spelt_blocks}
 
 pub some_supply : Supply
 some_supply = λ tag page place. 0
@@ -89,6 +94,14 @@ without_caps h k = record {
   apart = k.apart;
   caps = record { slots = length-replicate {A = Option Cap} 32 None; each = λ slot cap e. absurd (none_used 32 slot cap e) };
 }
+
+same_container : (a b : ContainerState) → ContainerCell a ≡ ContainerCell b → a ≡ b
+same_container a b e = cc
+
+-- a blob has no words
+wordless : (h : Head) (words : ℕ → ℕ) (table : List ℕ) → container_blob (container_with (λ _. 0) h) table ≡ container_blob (container_with words h) table
+unfolding container_blob
+wordless h words table = refl
 
 module _ (b : Books) (fresh : Text) (a src n a' n' : Cell) (f : FacesCopy b fresh a src n)
     (copied : (s : Supply) (words : ℕ → List ℕ) (v : KernelState) (name : Text) → container_named (atlas_in (v 0).cell) name ≡ Some src.clock.entity
@@ -249,6 +262,55 @@ module _ (b : Books) (fresh : Text) (a src n a' n' : Cell) (f : FacesCopy b fres
 
   pub from_is : table_of src.part ≡ f.from
   from_is = ap table_of f.may.source_is.is ∙ f.may.source_is.table
+
+  -- THE NEED of a copy: its blobs are as long as those of the state's two cells
+  module _ (s : Supply) (words : ℕ → List ℕ) (v : KernelState) (name : Text) (sound_v : IsSoundState s v) (named : container_named (atlas_in (v 0).cell) name ≡ Some src.clock.entity)
+      (has_a : HasCell s words v a) (has_src : HasCell s words v src) (has_n : HasCell s words v n) where
+    abbrev put : (w : KernelState) × IsCopied name fresh v w × HasCopy s words w f.from a' n'
+    put = copied s words v name named has_a has_src has_n f.head f.from f.may.source_is
+
+    left : LeavesCopy name fresh v put.0
+    left = leaves s name fresh v put.0 sound_v put.1
+
+    atlas_spelt : blob_need a'.part ≡ spelt_blocks (put.0 0).cell
+    atlas_spelt =
+        let is : (put.0 0).cell ≡ AtlasCell (atlas_state is_atlas'.0) = ap (λ (x : ℕ). (put.0 x).cell) (sym at_zero) ∙ (put.2.atlas.part ∙ ap (part_of s words) is_atlas'.1) in
+        ap blob_need is_atlas'.1 ∙ sym (ap spelt_blocks is)
+
+    source_at : left.source ≡ src.clock.entity
+    source_at = same_Some left.source src.clock.entity (sym left.named ∙ (ap (λ (x : AtlasState). container_named x name) (sym (ap atlas_in left.was_atlas)) ∙ named))
+
+    abbrev source_words : ℕ → ℕ
+    source_words = words_of s words f.may.source_is.memory
+
+    container_is : left.container ≡ container_with source_words f.head
+    container_is = same_container left.container (container_with source_words f.head)
+        (sym left.was_container ∙ (ap (λ (x : ℕ). (v x).cell) source_at ∙ (has_src.part ∙ ap (part_of s words) f.may.source_is.is)))
+
+    copy_spelt : blob_need n'.part ≡ spelt_blocks (put.0 left.number).cell
+    copy_spelt =
+        let k = is_blank in
+        let cell : (put.0 left.number).cell ≡ ContainerCell (container_with source_words k.begun.head) = left.copy ∙ ap ContainerCell (ap copied_container container_is ∙ sym (k.same source_words)) in
+        let few = k.begun.few in
+        let long : length k.begun.memory.table ≡ 256 = ap length k.begun.table_is ∙ length-replicate {A = ℕ} 256 0 in
+        let fronts : length (take k.begun.head.pages k.begun.memory.table) ≡ length (replicate k.begun.head.pages 0) =
+        length-take-le k.begun.head.pages k.begun.memory.table (omega (arith, few, long)) ∙ sym (length-replicate {A = ℕ} k.begun.head.pages 0) in
+        ap blob_need k.begun.is
+        ∙ (ap blocks_for (container_same (container_with (λ _. 0) k.begun.head) (take k.begun.head.pages k.begun.memory.table) (replicate k.begun.head.pages 0) fronts
+        ∙ ap length (wordless k.begun.head source_words (replicate k.begun.head.pages 0)))
+        ∙ sym (ap spelt_blocks cell))
+
+    need_put : (need : ℕ) → need ≡ blocks_in (table_of src.part) + (blob_need a'.part + blob_need n'.part) → NeedsBlocks (λ x. table_of src.part) name fresh v need
+    need_put need is = record {
+      state = put.0;
+      copied = put.1;
+      leaves = left;
+      need_is = is ∙ (ap (λ (k : ℕ). blocks_in (table_of src.part) + (k + blob_need n'.part)) atlas_spelt
+          ∙ ap (λ (k : ℕ). blocks_in (table_of src.part) + (spelt_blocks (put.0 0).cell + k)) copy_spelt);
+    }
+
+  pub cells_need : (need : ℕ) → need ≡ blocks_in (table_of src.part) + (blob_need a'.part + blob_need n'.part) → CellsNeed fresh a src n need
+  cells_need need is s words v name sound_v named has_a has_src has_n = need_put s words v name sound_v named has_a has_src has_n need is
 
   -- THE STATE OF BEFORE, as a copy is put from it
   module _ (s : Supply) (name : Text) (v : KernelState) (image : Image) (tables : ℕ → List ℕ) (named : container_named (atlas_in (v 0).cell) name ≡ Some src.clock.entity)

@@ -18,7 +18,8 @@ use Rattle.table_laws.proofs.Places.{read_back, read_first, read_middle}
 use Rattle.model_sound_states.proofs.model_sound_runs_lemmas.Tables.{container_named_born}
 use Rattle.container_copy.specs.Copying.{MayCopyAt, StandsTable}
 use Rattle.container_copy.specs.Facing.{FacesCopy, StandsBefore}
-use Rattle.container_copy.proofs.Opened.{before, faces, few_containers, source_low}
+use Rattle.container_copy.specs.Needs.{CellsNeed, TableNeeds}
+use Rattle.container_copy.proofs.Opened.{before, faces, few_containers, needs_in, source_low}
 
 module _ {D : Type 0} (st : State D) (cs : List Cell) (t : IsOpenedTable 1 1 st cs) (d : Directory) (name fresh : Text) (source newborn : ℕ) (may : MayCopyAt cs d name fresh source newborn) where
   few : length d.containers < 40
@@ -48,7 +49,7 @@ module _ {D : Type 0} (st : State D) (cs : List Cell) (t : IsOpenedTable 1 1 st 
     at_a : slice_get cs 0 ≡ Some (get_or first 0 x)
     at_a = read_first cs front back first rest newborn source 0 x splits len parts low above below
 
-    pub at_source : slice_get cs source ≡ Some (get_or rest 0 y)
+    at_source : slice_get cs source ≡ Some (get_or rest 0 y)
     at_source = read_middle cs front back first rest newborn source y splits len parts low below
 
     at_n : slice_get cs (length d.containers + 1) ≡ Some (get_or back 0 z)
@@ -74,3 +75,6 @@ module _ {D : Type 0} (st : State D) (cs : List Cell) (t : IsOpenedTable 1 1 st 
 
     pub source_number : (get_or rest 0 y).clock.entity ≡ source
     source_number = t.orderly.numbers.each source (get_or rest 0 y) at_source
+
+    pub lent_needs : (need : ℕ) → CellsNeed fresh (get_or first 0 x) (get_or rest 0 y) (get_or back 0 z) need → TableNeeds cs name fresh need
+    lent_needs need k = needs_in st cs t d may.directory name fresh may.chosen.none source may.chosen.named (get_or first 0 x) (get_or rest 0 y) (get_or back 0 z) at_a at_source at_n need k

@@ -26,7 +26,7 @@ use Rattle.cell_copies.specs.model_copies.model_kernel.Scripts.{container_named,
 use Rattle.cell_copies.specs.model_copies.model_kernel.Soundness.{AreSound, IsSoundContainer, IsSoundRegion, is_born_container, is_given_name, regions_onto}
 use Rattle.cell_copies.specs.model_copies.model_kernel.State.{AtlasState, Cell as ModelCell, ContainerCell, ContainerState, KernelState, NotBorn, Supply, Text}
 use Rattle.model_sound_states.proofs.model_sound_runs_lemmas.Tables.{container_named_born}
-use Rattle.kernel_record_facts.specs.Cells.{IsSoundIn, words_on}
+use Rattle.kernel_record_facts.specs.Cells.{IsSoundIn, table_of, words_on}
 use Rattle.kernel_records.proofs.Newest.{few_kept}
 use Rattle.open_image.specs.kernel_views.Views.{newest_at}
 use Rattle.open_image.specs.open_facts.Images.{IsOpenedTable}
@@ -42,6 +42,11 @@ use Rattle.table_laws.proofs.Having.{no_supply, no_words, state_has}
 use Rattle.table_laws.proofs.cell_step_laws_lemmas.SoundParts.{IsBornPart, born_part}
 use Rattle.container_copy.specs.Copying.{StandsTable}
 use Rattle.container_copy.specs.Facing.{FacesCopy, StandsBefore}
+use Rattle.container_copy.specs.Needs.{CellsNeed, TableNeeds, spelt_blocks}
+use Rattle.page_placing.specs.Copying.{blocks_in}
+use Rattle.table_births.proofs.AtlasStates.{has_atlas, same_atlas}
+use Rattle.cell_copies.specs.model_copies.model_kernel.Steps.{atlas_in}
+use Rattle.std.proofs.lemmas.Option.{same_Some}
 
 none_is : (o : Option ℕ) → is_none o ≡ true → o ≡ None
 none_is None e = refl
@@ -195,6 +200,22 @@ module _ {D : Type 0} (st : State D) (cs : List Cell) (t : IsOpenedTable 1 1 st 
       room = (let few = few_kept (λ x. newest_at (slice_get cs x)) t.newest.stamps 1 (books st) t.newest.newest t.newest.few in omega (arith, few));
       epoch = (let is = t.opened.epoch in let le = t.opened.known.epoch in omega (arith, is, le));
     }
+
+    -- THE NEED of a copy, by the tables of the cells
+    pub needs_in : (need : ℕ) → CellsNeed fresh a src n need → TableNeeds cs name fresh need
+    needs_in need k s words =
+        let atlas : atlas_in (state_in s words cs 0).cell ≡ atlas_state d = same_atlas s words cs ∙ has_atlas cs d has in
+        let r = k s words (state_in s words cs) name (t.orderly.sound s words) (ap (λ (x : AtlasState). container_named x name) atlas ∙ (named ∙ ap Some (sym at)))
+        (state_has s words cs a (ap (slice_get cs) (t.orderly.numbers.each 0 a at_a) ∙ at_a)) (state_has s words cs src (ap (slice_get cs) at ∙ at_src)) (state_has s words cs n (ap (slice_get cs) at_newborn ∙ at_n)) in
+        let here : r.leaves.source ≡ source = same_Some r.leaves.source source (sym r.leaves.named ∙ (ap (λ (x : AtlasState). container_named x name) (sym (ap atlas_in r.leaves.was_atlas) ∙ atlas) ∙ named)) in
+        let table : tables_in cs r.leaves.source ≡ table_of src.part =
+        ap (tables_in cs) here ∙ (ap (λ o. blocks_by (memory_at o)) at_src ∙ (ap (λ q. blocks_by (memory_of q)) born_src.is ∙ sym (ap table_of born_src.is))) in
+        record {
+          state = r.state;
+          copied = r.copied;
+          leaves = r.leaves;
+          need_is = r.need_is ∙ ap (λ (u : List ℕ). blocks_in u + (spelt_blocks (r.state 0).cell + spelt_blocks (r.state r.leaves.number).cell)) (sym table);
+        }
 
     pub before : (s : Supply) (v : KernelState) (image : Image) → StandsTable s v image (books st) cs → StandsBefore s v image (books st) (tables_in cs) a src n
     before s v image k = record {

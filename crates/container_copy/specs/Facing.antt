@@ -1,7 +1,6 @@
 -- The three cells of a copy, and the store that they are in.
 use Rattle.std.specs.Prelude.{◌≡◌, ℕ, ◌+◌, ◌<◌, ◌≤◌, ◌^◌, false, All, List, length, Some, slice_index}
 use Rattle.edge_disk.specs.Image.{Image}
-use Rattle.edge_disk.specs.declared.disk.NoBlocks.{NoBlocks}
 use Rattle.base_types.specs.declared.records.Rec.{Rec}
 use Rattle.data_atlas.specs.data_atlas_facts.Directory.{Directory}
 use Rattle.cell_copies.specs.Copying.{MayCopyCells}
@@ -14,12 +13,10 @@ use Rattle.cell_copies.specs.cell_births.cell_states.Cells.{HasCell}
 use Rattle.cell_copies.specs.model_copies.model_kernel.Scripts.{container_named}
 use Rattle.cell_copies.specs.model_copies.model_kernel.State.{KernelState, Supply, Text}
 use Rattle.cell_copies.specs.model_copies.model_sound_states.States.{IsSoundState}
-use Rattle.page_placing.specs.Copying.{blocks_in}
 use Rattle.store_copies.specs.Images.{AreRecordsOf, IsMeantState}
-use Rattle.kernel_record_facts.specs.cell_blobs.Blobs.{blob_need}
-use Rattle.kernel_record_facts.specs.Cells.{IsSoundIn, table_of, words_on}
+use Rattle.kernel_record_facts.specs.Cells.{IsSoundIn, words_on}
 use Rattle.copy_commits.specs.kernel_records.kernel_block_laws.image_facts.Layout.{slot_count}
-use Rattle.copy_commits.specs.kernel_records.store_books.Books.{AreSmall, Books, free_in, kept_in, kept_of, recs_in}
+use Rattle.copy_commits.specs.kernel_records.store_books.Books.{AreSmall, Books, kept_in, kept_of, recs_in}
 use Rattle.copy_commits.specs.kernel_records.store_books.Owning.{AreOwned}
 
 -- THE CELLS OF A COPY, whatever the disk tells: the atlas's, a born container's, and the newborn's, of a sound state whatever the blocks hold. The
@@ -59,8 +56,3 @@ pub record StandsBefore (s : Supply) (v : KernelState) (image : Image) (b : Book
   pub has_atlas : HasCell s (words_on image) v a
   pub has_source : HasCell s (words_on image) v src
   pub has_newborn : HasCell s (words_on image) v n
-
--- fewer blocks are free than the pages that have one and both new blobs need; both numbers
-pub record IsCopyShort (b : Books) (src a n : Cell) (m : NoBlocks) : Type 0 where
-  pub fewer : free_in b < blocks_in (table_of src.part) + (blob_need a.part + blob_need n.part)
-  pub numbers : m ≡ record { need = blocks_in (table_of src.part) + (blob_need a.part + blob_need n.part); free = free_in b }

@@ -1,5 +1,5 @@
 -- What copying a container in an image leaves, and why it is not done.
-use Rattle.std.specs.Prelude.{◌≡◌, ℕ, ◌≤◌, List, string_bytes}
+use Rattle.std.specs.Prelude.{◌≡◌, ℕ, ◌<◌, ◌≤◌, List, string_bytes}
 use Rattle.edge_disk.specs.declared.disk.Disk.{Ghosts}
 use Rattle.edge_disk.specs.Counts.{Rose}
 use Rattle.edge_disk.specs.Disk.{Ticks}
@@ -9,12 +9,12 @@ use Rattle.cell_copies.specs.cell_births.cell_states.declared.cells.Cell.{Cell}
 use Rattle.cell_copies.specs.model_copies.Needing.{LeavesCopy}
 use Rattle.cell_copies.specs.model_copies.model_kernel.State.{AtlasState, KernelState, Supply, Text}
 use Rattle.cell_copies.specs.model_copies.model_kernel.Steps.{atlas_in}
+use Rattle.script_types.specs.declared.refusals.Refusal.{Refusal}
 use Rattle.script_types.specs.declared.refusals.Why.{Why}
 use Rattle.open_image.specs.image_meaning.Foreign.{IsForeign}
 use Rattle.open_image.specs.image_meaning.Meaning.{Means}
-use Rattle.open_image.specs.open_facts.Images.{AreOfImage, IsOpenedTable, StopsShort}
+use Rattle.open_image.specs.open_facts.Images.{HasBegun, HasTurnLeft, MeansSince, StopsShort}
 use Rattle.open_image.specs.store_books.Books.{Books}
-use Rattle.open_image.specs.store_facts.State.{State, books}
 use Rattle.store_snapshots.specs.declared.opening.OpenWhy.{OpenWhy}
 use Rattle.store_snapshots.specs.declared.opening.OpenWhy.TheVariants as opening
 use Rattle.store_snapshots.specs.declared.faults.StoreFault.{StoreFault}
@@ -24,7 +24,7 @@ use Rattle.container_copy.specs.declared.copying.Copied.{Copied}
 use Rattle.container_copy.specs.declared.copying.CopyWhy.{CopyWhy}
 use Rattle.container_copy.specs.declared.copying.CopyWhy.TheVariants as why
 use Rattle.container_copy.specs.Copying.{AreLowNumbers, IsCopyRefusal, copy_key}
-use Rattle.container_copy.specs.Facing.{IsCopyShort}
+use Rattle.container_copy.specs.Needs.{CountsBlocks, IsShort, TableNeeds}
 
 -- the refusal, or want of memory for its key
 abbrev pub HasCopyWhy : Why → Text → Text → CopyWhy → Type 0
@@ -49,36 +49,56 @@ IsStoreCause fault.ReadFault w = w ≡ why.ReadFault
 IsStoreCause fault.WriteFault w = w ≡ why.WriteFault
 IsStoreCause fault.Shut w = w ≡ why.WriteFault
 
+-- a call of the disk failed; behind each other reason nothing was begun but the opening
+abbrev pub IsDiskWhy : CopyWhy → Type 0
+IsDiskWhy (why.Foreign bad) = ⊥
+IsDiskWhy (why.Refused r) = ⊥
+IsDiskWhy (why.NoBlocks m) = ⊥
+IsDiskWhy why.ReadFault = Unit {0}
+IsDiskWhy why.WriteFault = Unit {0}
+IsDiskWhy why.Memory = ⊥
+
 -- WHY NOT, over cells and a store that were opened: one of the three refusals, the first that holds; fewer blocks are free than are needed; or a call
 -- failed where the count of faults rose
-abbrev pub HasTableCause : AtlasState → Text → Text → Books → ℕ → ℕ → CopyWhy → Type 0
-HasTableCause a name fresh b before now (why.Foreign bad) = ⊥
-HasTableCause a name fresh b before now (why.Refused r) = IsCopyRefusal a name fresh r
-HasTableCause a name fresh b before now (why.NoBlocks m) = (src : Cell) × (atlas copy : Cell) × IsCopyShort b src atlas copy m
-HasTableCause a name fresh b before now why.ReadFault = Rose before now
-HasTableCause a name fresh b before now why.WriteFault = Rose before now
-HasTableCause a name fresh b before now why.Memory = Unit {0}
+abbrev pub HasTableCause : AtlasState → List Cell → Text → Text → Books → ℕ → ℕ → CopyWhy → Type 0
+HasTableCause a cs name fresh b before now (why.Foreign bad) = ⊥
+HasTableCause a cs name fresh b before now (why.Refused r) = IsCopyRefusal a name fresh r
+HasTableCause a cs name fresh b before now (why.NoBlocks m) = IsShort b m × TableNeeds cs name fresh m.need
+HasTableCause a cs name fresh b before now why.ReadFault = Rose before now
+HasTableCause a cs name fresh b before now why.WriteFault = Rose before now
+HasTableCause a cs name fresh b before now why.Memory = Unit {0}
+
+-- what the image means has one of the three refusals, the first that holds
+abbrev pub RefusesMeant : Image → Text → Text → Refusal → Type 0
+RefusesMeant image name fresh r = (s : Supply) → (v : KernelState) × Means s image v × IsCopyRefusal (atlas_in (v 0).cell) name fresh r
+
+-- fewer blocks of the image are free than the copy needs; both numbers
+pub record LacksBlocks (tells : Type 0) (image : Image) (name fresh : Text) (m : NoBlocks) : Type 0 where
+  pub fewer : m.free < m.need
+  pub most : m.need ≤ 272
+  pub counted : tells → CountsBlocks image name fresh m.need m.free
+
+-- it needs no more than are free
+pub record FindsBlocks (image : Image) (name fresh : Text) : Type 0 where
+  pub need : ℕ
+  pub free : ℕ
+  pub enough : need ≤ free
+  pub counted : CountsBlocks image name fresh need free
 
 module _ {D : Type 0} (disks : Ghosts D) where
-  -- fewer blocks are free in a store of the image than the pages of the container and both new blobs need
-  pub record IsWanting (image : Image) (m : NoBlocks) : Type 0 where
-    pub store : State D
-    pub cells : List Cell
-    pub opened : IsOpenedTable 1 1 store cells
-    pub of_image : disks.tells → AreOfImage image store cells
-    pub source : Cell
-    pub atlas : Cell
-    pub copy : Cell
-    pub short : IsCopyShort (books store) source atlas copy m
-
   -- WHY NOT, by the image that the disk held
   abbrev pub HasCopyCause : Text → Text → D → D → CopyWhy → Type 0
   HasCopyCause name fresh old new (why.Foreign bad) = disks.tells → IsForeign (disks.reading old) bad
-  HasCopyCause name fresh old new (why.Refused r) = disks.tells → (s : Supply) (v : KernelState) → Means s (disks.reading old) v → IsCopyRefusal (atlas_in (v 0).cell) name fresh r
-  HasCopyCause name fresh old new (why.NoBlocks m) = IsWanting (disks.reading old) m
+  HasCopyCause name fresh old new (why.Refused r) = disks.tells → RefusesMeant (disks.reading old) name fresh r
+  HasCopyCause name fresh old new (why.NoBlocks m) = LacksBlocks disks.tells (disks.reading old) name fresh m
   HasCopyCause name fresh old new why.ReadFault = Rose (disks.faults old) (disks.faults new)
   HasCopyCause name fresh old new why.WriteFault = Rose (disks.faults old) (disks.faults new)
   HasCopyCause name fresh old new why.Memory = Unit {0}
+
+  -- NOTHING WAS BEGUN FOR THE COPY: only the writes and syncs of an opening were, and a stop leaves images of what was meant
+  pub record IsOnlyOpened (old new : D) : Type 0 where
+    pub begun : HasBegun disks 138 0 old new
+    pub since : disks.tells → HasTurnLeft (disks.reading old) → MeansSince disks old new
 
   -- each image that a stop may leave now means the state with the copy, which has this number
   pub record PutsCopy (s : Supply) (name fresh : Text) (v : KernelState) (new : D) (number : ℕ) : Type 0 where

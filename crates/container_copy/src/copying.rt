@@ -1,19 +1,20 @@
 // A container copied in the image that a disk holds.
-ghost use Rattle.std.specs.Prelude.{◌≡◌, ◌⊎◌, ◌≤◌, IfOk, IfErr, MatchResult, Some};
+ghost use Rattle.std.specs.Prelude.{◌≡◌, ◌⊎◌, ◌≤◌, ℕ, IfOk, IfErr, MatchResult, Some};
 ghost use Rattle.edge_disk.specs.Moments.{LeavesOnly};
 ghost use Rattle.cell_copies.specs.cell_births.act_calls.Calls.{atlas_state};
 ghost use Rattle.cell_copies.specs.model_copies.model_kernel.State.{KernelState, Supply};
 ghost use Rattle.copy_commits.specs.Putting.{MeansBeforeOr};
-ghost use Rattle.copy_commits.specs.kernel_records.store_books.Books.{AreTrue};
+ghost use Rattle.copy_commits.specs.kernel_records.store_books.Books.{AreTrue, free_in};
 ghost use Rattle.copy_commits.specs.store_facts.State.{books};
 ghost use Rattle.data_atlas.specs.data_atlas_facts.Directory.{Directory};
 ghost use Rattle.open_image.specs.image_meaning.Meaning.{Accepted};
-ghost use Rattle.open_image.specs.open_facts.Images.{HasTurnLeft, IsOpenedTable};
+ghost use Rattle.open_image.specs.open_facts.Images.{HasTurnLeft, IsOpenedTable, WasRefused};
 ghost use Rattle.open_image.specs.table_laws.Steps.{HasDirectory};
 ghost use Rattle.cell_copies.specs.Refusals.{copy_refusal};
 ghost use Rattle.open_image.specs.image_blocks.Checks.{Bad as BadPlace};
 ghost use Rattle.container_copy.specs.Copying.{IsChosenPair, StandsTable, copy_key};
-ghost use Rattle.container_copy.specs.Leaving.{CopiesSince, HasCopyCause, HasCopyWhy, HasTableCause, IsOpenCause, IsStoreCause, MadeCopy, PutsCopy, StopsShortCopy};
+ghost use Rattle.container_copy.specs.Leaving.{CopiesSince, FindsBlocks, HasCopyCause, HasCopyWhy, HasTableCause, IsDiskWhy, IsOnlyOpened, IsOpenCause, IsStoreCause, MadeCopy, PutsCopy, StopsShortCopy};
+ghost use Rattle.container_copy.specs.Needs.{TableNeeds};
 
 use crate::lending::copy_at;
 use base_bytes::Blob;
@@ -140,7 +141,9 @@ fn copy_in<D: Disk>(
         → LeavesOnly D.Disk store.old.disk store.new.disk (MeansBeforeOr s name.now fresh.now v) }
     ensures made { D.tells → IfOk result (λ number. (s : Supply) → (v : KernelState) → StandsTable s v (D.reading store.old.disk) (books store.old) cells.old
         → PutsCopy D.Disk s name.now fresh.now v store.new.disk number) }
-    ensures cause { (d : Directory) → HasDirectory cells.old d → IfErr result (HasTableCause (atlas_state d) name.now fresh.now (books store.old) (D.faults store.old.disk) (D.faults store.new.disk)) }
+    ensures cause { (d : Directory) → HasDirectory cells.old d → IfErr result (HasTableCause (atlas_state d) cells.old name.now fresh.now (books store.old) (D.faults store.old.disk) (D.faults store.new.disk)) }
+    ensures room { IfOk result (λ number. (need : ℕ) × (need ≤ free_in (books store.old)) × TableNeeds cells.old name.now fresh.now need) }
+    ensures kept { IfErr result (λ why. IsDiskWhy why ⊎ (store.new ≡ store.old)) }
     ensures later { D.faults store.old.disk ≤ D.faults store.new.disk }
 {
     let (source, newborn) = match numbers(atlas_of(cells), name, fresh) {
@@ -178,6 +181,9 @@ pub fn copy_container<D: Disk>(
     ensures made { D.tells → IfOk result (MadeCopy D.Disk (D.reading disk) name.now fresh.now) }
     ensures cause { IfErr result (λ f. HasCopyCause D.Disk name.now fresh.now disk f.disk f.why) }
     ensures not_foreign { D.tells → Accepted (D.reading disk) → IfErr result (λ f. (bad : BadPlace) → f.why ≡ CopyWhy.Foreign bad → ⊥) }
+    ensures room { D.tells → IfOk result (λ c. FindsBlocks (D.reading disk) name.now fresh.now) }
+    ensures refused { IfErr result (λ f. (bad : BadPlace) → f.why ≡ CopyWhy.Foreign bad → WasRefused D.Disk disk f.disk) }
+    ensures kept { IfErr result (λ f. IsDiskWhy f.why ⊎ IsOnlyOpened D.Disk disk f.disk) }
     ensures since { D.tells → HasTurnLeft (D.reading disk) → MatchResult result
         (λ c. CopiesSince D.Disk name.now fresh.now disk c.disk)
         (λ f. StopsShortCopy D.Disk f.why disk f.disk ⊎ CopiesSince D.Disk name.now fresh.now disk f.disk) }

@@ -1,18 +1,18 @@
 // A copy over the cells that it touches.
-ghost use Rattle.std.specs.Prelude.{◌≡◌, ◌⊎◌, ◌<◌, ◌≤◌, ℕ, List, false, Some, length, slice_get, OnOk, IsErrOf};
+ghost use Rattle.std.specs.Prelude.{◌≡◌, ◌⊎◌, ◌<◌, ◌≤◌, ℕ, List, false, Some, length, OnOk, IsErrOf};
 ghost use Rattle.edge_disk.specs.Counts.{Rose};
 ghost use Rattle.edge_disk.specs.Moments.{LeavesOnly};
-ghost use Rattle.cell_copies.specs.cell_births.cell_states.declared.cells.Cell.{Cell as ACell};
 ghost use Rattle.cell_copies.specs.model_copies.model_kernel.Scripts.{container_named};
 ghost use Rattle.cell_copies.specs.model_copies.model_kernel.State.{KernelState, Supply, Text};
 ghost use Rattle.cell_copies.specs.model_copies.model_kernel.Steps.{atlas_in};
 ghost use Rattle.copy_commits.specs.Putting.{LeavesCopyOf, MeansBeforeOr};
-ghost use Rattle.copy_commits.specs.kernel_records.store_books.Books.{AreTrue};
+ghost use Rattle.copy_commits.specs.kernel_records.store_books.Books.{AreTrue, free_in};
 ghost use Rattle.copy_commits.specs.store_facts.State.{books};
 ghost use Rattle.data_atlas.specs.data_atlas_facts.Directory.{Directory};
 ghost use Rattle.open_image.specs.open_facts.Images.{IsOpenedTable};
 ghost use Rattle.container_copy.specs.Copying.{MayCopyAt, StandsTable};
-ghost use Rattle.container_copy.specs.Facing.{FacesCopy, IsCopyShort, StandsBefore};
+ghost use Rattle.container_copy.specs.Facing.{FacesCopy, StandsBefore};
+ghost use Rattle.container_copy.specs.Needs.{CellsNeed, IsShort, TableNeeds};
 
 use crate::needs::need_of;
 use base_bytes::Blob;
@@ -45,7 +45,8 @@ pub(crate) fn copy_over<D: Disk>(
         → StandsBefore s v (D.reading store.old.disk) (books store.old) tables atlas.old source.now newborn.old
         → LeavesCopyOf D.Disk s name fresh.now v store.new.disk) }
     ensures no_blocks { (m : NoBlocks) → IsErrOf result (StoreFault.NoBlocks m)
-        → (store.new ≡ store.old) × ((a n : ACell) × IsCopyShort (books store.old) source.now a n m) }
+        → (store.new ≡ store.old) × IsShort (books store.old) m × CellsNeed fresh.now atlas.old source.now newborn.old m.need }
+    ensures room { OnOk result ((need : ℕ) × (need ≤ free_in (books store.old)) × CellsNeed fresh.now atlas.old source.now newborn.old need) }
     ensures no_shut { IsErrOf result StoreFault.Shut → ⊥ }
     ensures failed { (e : StoreFault) → IsErrOf result e → (e ≡ StoreFault.ReadFault) ⊎ (e ≡ StoreFault.WriteFault) → Rose (D.faults store.old.disk) (D.faults store.new.disk) }
     ensures later { D.faults store.old.disk ≤ D.faults store.new.disk }
@@ -80,7 +81,8 @@ pub(crate) fn copy_at<D: Disk>(
     ensures done { D.tells → OnOk result ((s : Supply) → (name : Text) → (v : KernelState) → StandsTable s v (D.reading store.old.disk) (books store.old) cells.old
         → container_named (atlas_in (v 0).cell) name ≡ Some source → LeavesCopyOf D.Disk s name fresh.now v store.new.disk) }
     ensures no_blocks { (m : NoBlocks) → IsErrOf result (StoreFault.NoBlocks m)
-        → (store.new ≡ store.old) × ((src : ACell) × (a n : ACell) × (slice_get cells.old source ≡ Some src) × IsCopyShort (books store.old) src a n m) }
+        → (store.new ≡ store.old) × IsShort (books store.old) m × ((d : Directory) → (name : Text) → MayCopyAt cells.old d name fresh.now source newborn → TableNeeds cells.old name fresh.now m.need) }
+    ensures room { OnOk result ((need : ℕ) × (need ≤ free_in (books store.old)) × ((d : Directory) → (name : Text) → MayCopyAt cells.old d name fresh.now source newborn → TableNeeds cells.old name fresh.now need)) }
     ensures no_shut { IsErrOf result StoreFault.Shut → ⊥ }
     ensures failed { (e : StoreFault) → IsErrOf result e → (e ≡ StoreFault.ReadFault) ⊎ (e ≡ StoreFault.WriteFault) → Rose (D.faults store.old.disk) (D.faults store.new.disk) }
     ensures later { D.faults store.old.disk ≤ D.faults store.new.disk }

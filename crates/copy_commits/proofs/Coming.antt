@@ -1,36 +1,50 @@
 -- What comes of the calls, one behind the other.
-use Rattle.std.proofs.Common.{◌≡◌, ◌⊎◌, ◌∙◌, inl, inr, ℕ, ◌-◌, ◌^◌, ◌<◌, ◌≤◌, true, false, sym, arith}
+use Rattle.std.proofs.Common.{◌≡◌, ◌⊎◌, ◌∙◌, inl, inr, sym}
 use Rattle.std.specs.Prelude.{OnOk, Result, Ok, Err}
-use Rattle.std.specs.Result.{is_err}
-use Rattle.std.proofs.lemmas.Bool.{cases_lt}
-use Rattle.edge_disk.specs.Counts.{Rose}
+use Rattle.edge_disk.specs.declared.disk.Disk.{Ghosts}
 use Rattle.page_store.specs.declared.faults.PageFault.{PageFault}
 use Rattle.page_store.specs.declared.faults.PageFault.TheVariants as page
+use Rattle.kernel_record_facts.specs.cell_blobs.Blobs.{bytes_of, spelt_in}
+use Rattle.kernel_record_facts.specs.Cells.{table_of}
+use Rattle.kernel_records.specs.cell_states.declared.cells.Cell.{Cell}
+use Rattle.kernel_records.specs.Committing.{HasRecord}
+use Rattle.kernel_records.specs.store_facts.Committed.{CommitsInFreeBlocks}
+use Rattle.kernel_records.specs.store_facts.State.{State, books}
 use Rattle.store_snapshots.specs.declared.faults.StoreFault.{StoreFault}
 use Rattle.store_snapshots.specs.declared.faults.StoreFault.TheVariants as fault
 use Rattle.copy_commits.specs.Putting.{IsFaultOf}
 
-pub worked : {T E : Type 0} {P : Type 0} (r : Result T E) → is_err r ≡ false → OnOk r P → P
-worked (Ok x) e h = h
-worked (Err e) is h = absurd (cc is)
-
-pub not_made : {T E : Type 0} (P : Type 0) (r : Result T E) → is_err r ≡ true → OnOk r P
-not_made P (Ok x) e = absurd (cc e)
-not_made P (Err e) is = tt
-
-pub rose_before : (a b c : ℕ) → a ≤ b → b ≤ c → Rose b c → Rose a c
-rose_before a b c low later rose = λ short. elim (cases_lt b (2 ^ 64 - 1)) as (λ _. a < c) [
-  | inl lt ↦ (let more = rose lt in omega (arith, more, low))
-  | inr at ↦ omega (arith, at, later, short)
-]
-
-pub all_four : {T E : Type 0} {A B C F P : Type 0} (r : Result T E) → OnOk r A → OnOk r B → OnOk r C → OnOk r F → (A → B → C → F → P) → OnOk r P
-all_four (Ok x) a b c d f = f a b c d
-all_four (Err e) a b c d f = tt
-
-pub map_ok : {T E : Type 0} {A P : Type 0} (r : Result T E) → OnOk r A → (A → P) → OnOk r P
+pub map_ok : {T E A P : Type 0} (r : Result T E) → OnOk r A → (A → P) → OnOk r P
 map_ok (Ok x) a f = f a
 map_ok (Err e) a f = tt
+
+pub any_ok : {T E P : Type 0} (r : Result T E) → P → OnOk r P
+any_ok (Ok x) p = p
+any_ok (Err e) p = tt
+
+pub both_ok : {T E A B P : Type 0} (r : Result T E) → OnOk r A → OnOk r B → (A → B → P) → OnOk r P
+both_ok (Ok x) a b f = f a b
+both_ok (Err e) a b f = tt
+
+-- a record in memory, of a disk that tells its content
+pub committed_by : {D : Type 0} (disks : Ghosts D) (c : Cell) (old new : State D) → disks.tells → HasRecord disks c old new
+    → CommitsInFreeBlocks c.clock.entity c.clock.version c.clock.stamp.0 (bytes_of (spelt_in c.part)) (table_of c.part) (disks.reading new.disk) (books old) (books new)
+committed_by disks c old new t h = record {
+  commits = record {
+    rec = h.made.rec;
+    entity_is = h.made.entity_is;
+    version_is = h.made.version_is;
+    stamp_is = h.made.stamp_is;
+    length_is = h.made.length_is;
+    blob_is = h.blob t;
+    log = h.made.log;
+    same_held = h.made.same_held;
+    same_found = h.made.same_found;
+    same_count = h.made.same_count;
+  };
+  free = h.made.free;
+  epoch = h.made.epoch;
+}
 
 -- the fault of a page that could not be copied
 pub fault_is : (p : PageFault) (f e : StoreFault) → IsFaultOf p f → f ≡ e → (e ≡ fault.ReadFault) ⊎ (e ≡ fault.WriteFault)

@@ -1,5 +1,5 @@
 -- What a stop leaves of the two commits.
-use Rattle.std.proofs.Common.{◌≡◌, inl, ℕ, ◌≤◌, ◌&&◌, true, false, List, refl, ◌∙◌, arith}
+use Rattle.std.proofs.Common.{◌≡◌, inl, ℕ, ◌≤◌, true, false, List, refl, ◌∙◌, arith}
 use Rattle.edge_disk.specs.declared.disk.Disk.{Ghosts}
 use Rattle.edge_disk.specs.Image.{Image}
 use Rattle.edge_disk.specs.Moments.{LeavesOnly}
@@ -12,12 +12,13 @@ use Rattle.kernel_copies.proofs.Pairing.{first_moments, pair_done, pair_moments}
 use Rattle.kernel_records.specs.cell_states.declared.cells.Cell.{Cell}
 use Rattle.kernel_record_facts.specs.cell_blobs.Blobs.{bytes_of, spelt_in}
 use Rattle.kernel_record_facts.specs.Cells.{table_of}
-use Rattle.kernel_records.specs.Committing.{IsSpelt}
+use Rattle.kernel_records.specs.Committing.{HasRecord, IsSpelt}
 use Rattle.kernel_records.specs.store_books.Books.{AreSmall, AreTrue}
-use Rattle.kernel_records.specs.store_facts.Committed.{CommitsInFreeBlocks, SameUsed, StoresKeptOrMore}
+use Rattle.kernel_records.specs.store_facts.Committed.{SameUsed, StoresKeptOrMore}
 use Rattle.kernel_records.specs.store_facts.Putting.{are_small}
 use Rattle.kernel_records.specs.store_facts.State.{State, books}
 use Rattle.copy_commits.specs.Committing.{AreCopyCells, MayCommitPair}
+use Rattle.copy_commits.proofs.Coming.{committed_by}
 use Rattle.copy_commits.proofs.Telling.{may_atlas, may_copy}
 
 module _ {D : Type 0} (disks : Ghosts D) (s : Supply) (name fresh : Text) (v w : KernelState) (old mid : State D) (tables : ℕ → List ℕ) (a n : Cell)
@@ -31,19 +32,17 @@ module _ {D : Type 0} (disks : Ghosts D) (s : Supply) (name fresh : Text) (v w :
       (may_atlas s name fresh v w (disks.reading old.disk) (books old) tables a n may are spelt) mid.disk (one are.small are.atlas.fits))
 
   module _ (new : State D) (spelt_n : IsSpelt n) (right : AreTrue disks (books old) old.disk) (working : (books old).shut ≡ false)
-      (committed : CommitsInFreeBlocks a.clock.entity a.clock.version a.clock.stamp.0 (bytes_of (spelt_in a.part)) (table_of a.part) (disks.reading mid.disk) (books old) (books mid))
-      (small : (books mid).small ≡ ((books old).small && are_small a.clock.version a.clock.stamp.0)) (same : SameUsed (books old) (disks.reading old.disk) (disks.reading mid.disk))
-      (right_mid : AreTrue disks (books mid) mid.disk) (working_mid : (books mid).shut ≡ false)
+      (made : HasRecord disks a old mid) (same : SameUsed (books old) (disks.reading old.disk) (disks.reading mid.disk)) (right_mid : AreTrue disks (books mid) mid.disk)
       (two : AreSmall (books mid) → are_small n.clock.version n.clock.stamp.0 ≡ true
       → LeavesOnly disks mid.disk new.disk (StoresKeptOrMore (disks.reading mid.disk) (books mid) n.clock.entity n.clock.version n.clock.stamp.0 (bytes_of (spelt_in n.part)) (table_of n.part)))
       (only_now : (d : D) (c : Image) → disks.tells → disks.left_since d (disks.clock d) c → disks.may_leave d c) where
     first : CommitsFirst disks old.disk mid.disk (books old) (books mid) a.clock.entity a.clock.version a.clock.stamp.0 (bytes_of (spelt_in a.part)) (table_of a.part)
-    first = record { committed = committed; same_used = same; small = small; true_books = right_mid; working = working_mid }
+    first = record { committed = committed_by disks a old mid t made; same_used = same; small = made.small; true_books = right_mid; working = made.made.working }
 
     small_mid : AreSmall (books mid)
     small_mid = record {
-      recs = small ∙ (let x = are.small.recs in let y = are.atlas.fits in rw (x, y) refl);
-      epoch = (let rise = committed.epoch.1 in let low = are.epoch in omega (arith, rise, low));
+      recs = made.small ∙ (let x = are.small.recs in let y = are.atlas.fits in rw (x, y) refl);
+      epoch = (let rise = made.made.epoch.1 in let low = are.epoch in omega (arith, rise, low));
     }
 
     pub by_both : LeavesOnly disks old.disk new.disk (MeansEither s v w)
@@ -52,20 +51,18 @@ module _ {D : Type 0} (disks : Ghosts D) (s : Supply) (name fresh : Text) (v w :
         (may_copy s name fresh v w (disks.reading old.disk) (books old) tables a n may are spelt spelt_n) first new.disk
         (one are.small are.atlas.fits) (two small_mid are.copy.fits)
 
-    module _ (committed2 : CommitsInFreeBlocks n.clock.entity n.clock.version n.clock.stamp.0 (bytes_of (spelt_in n.part)) (table_of n.part) (disks.reading new.disk) (books mid) (books new))
-        (small2 : (books new).small ≡ ((books mid).small && are_small n.clock.version n.clock.stamp.0)) (same2 : SameUsed (books mid) (disks.reading mid.disk) (disks.reading new.disk))
-        (right_new : AreTrue disks (books new) new.disk) (working_new : (books new).shut ≡ false)
+    module _ (made2 : HasRecord disks n mid new) (same2 : SameUsed (books mid) (disks.reading mid.disk) (disks.reading new.disk)) (right_new : AreTrue disks (books new) new.disk)
         (counts_now : (d : D) (k : ℕ) (c : Image) → disks.tells → k ≤ disks.clock d → disks.may_leave d c → disks.left_since d k c) where
       pub behind_both : (c : Image) → disks.may_leave new.disk c → Means s c w
       behind_both = pair_done disks only_now s name fresh v w old.disk mid.disk (books old) (books mid) tables a.clock.entity a.clock.version a.clock.stamp.0 (bytes_of (spelt_in a.part)) (table_of a.part)
           n.clock.entity n.clock.version n.clock.stamp.0 (bytes_of (spelt_in n.part)) (table_of n.part) t right working
           (may_copy s name fresh v w (disks.reading old.disk) (books old) tables a n may are spelt spelt_n) first new.disk (books new)
           (record {
-            committed = committed2;
+            committed = committed_by disks n mid new t made2;
             same_used = same2;
-            small = small2;
+            small = made2.small;
             fits = are.copy.fits;
-            epoch = (let rise = committed.epoch.1 in let low = are.epoch in omega (arith, rise, low));
+            epoch = (let rise = made.made.epoch.1 in let low = are.epoch in omega (arith, rise, low));
             true_books = right_new;
-            working = working_new;
+            working = made2.made.working;
           }) counts_now (two small_mid are.copy.fits)

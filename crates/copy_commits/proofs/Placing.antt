@@ -17,7 +17,7 @@ use Rattle.kernel_records.specs.page_memory.declared.paged.PagedMemory.{PagedMem
 use Rattle.kernel_records.specs.page_memory.Words.{AreHeldBlocks, IsSoundTable}
 use Rattle.kernel_record_facts.specs.cell_blobs.Blobs.{HasFormedHead, IsFormed, blob_need, spelt_in}
 use Rattle.kernel_record_facts.specs.image_meaning.Parts.{ContainerPart, IsOf, Part as Spelt, kind_in}
-use Rattle.kernel_record_facts.specs.Cells.{IsSoundIn, IsSpellable, table_of}
+use Rattle.kernel_record_facts.specs.Cells.{IsSoundIn, IsSpellable}
 use Rattle.kernel_records.specs.kernel_block_laws.image_blocks.Logs.{Place}
 use Rattle.kernel_records.specs.kernel_block_laws.image_facts.Bodies.{blocks_for}
 use Rattle.kernel_records.specs.kernel_block_laws.image_facts.Layout.{slot_count}
@@ -85,9 +85,6 @@ module _ (c d : Cell) (table from : List ℕ) (may : MayPlace c.part from) (is :
       ap blob_need part_now
       ∙ (ap blocks_for (container_same (container_with (λ _. 0) may.begun.head) (take may.begun.head.pages is.begun.memory.table) (take may.begun.head.pages was.table) (fronts_same f.0.size f.2))
       ∙ ap blob_need (sym may.begun.is))
-
-  pub table_now : table_of d.part ≡ table
-  table_now = ap table_of is.begun.is ∙ is.begun.table_is
 
 -- the same books but for the blocks that are held
 module _ (b now : Books) (logged : now.logged ≡ b.logged) (place : now.place ≡ b.place) (found : now.found ≡ b.found) where

@@ -68,5 +68,5 @@ pub fn put_copy<D: Disk>(
     }
     store.held_law();
     place_pages(copy, &table);
-    commit_pair(atlas, copy, &table, store, blob)
+    commit_pair(atlas, copy, store, blob)
 }

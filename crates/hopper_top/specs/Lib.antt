@@ -1,5 +1,6 @@
 pub mod Leaving
 pub use Rattle.command_format.specs as command_format
+pub use Rattle.command_copy.specs as command_copy
 pub use Rattle.command_check_trace.specs.command_promises
 pub use Rattle.command_show.specs as command_show
 pub use Rattle.command_run.specs.command_source

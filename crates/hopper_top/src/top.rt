@@ -3,19 +3,21 @@ ghost use Rattle.std.specs.Prelude.{◌≡◌, ◌≤◌, ◌<◌, ◌^◌, ℕ,
 ghost use Rattle.edge_disk.specs.Counts.{Rose};
 ghost use Rattle.edge_disk.specs.declared.disk.NoBlocks.{NoBlocks};
 ghost use Rattle.command_check_trace.specs.image_facts.Layout.{least_blocks, most_blocks};
-ghost use Rattle.command_words.specs.Commands.{IsCommand};
-ghost use Rattle.command_words.specs.declared.Command.TheVariants.{Format as FormatCommand};
+ghost use Rattle.command_words.specs.Commands.{IsCommand, IsCopyOf};
+ghost use Rattle.command_words.specs.declared.Command.TheVariants.{Copy as CopyCommand, Format as FormatCommand};
 ghost use Rattle.command_outcomes.specs.Seen.{gave, seen_disk, seen_sink, seen_source};
 ghost use Rattle.command_outcomes.specs.Statuses.{IsComplete};
 ghost use Rattle.command_check_trace.specs.command_promises.Openings.{Managers};
-ghost use Rattle.hopper_top.specs.Leaving.{CanDo, CommandLeaves, HasCause, IsNoCommand, Leaves, UsageLeaves, asked_lines as told_lines};
+ghost use Rattle.command_run.specs.model_kernel.State.{Text};
+ghost use Rattle.hopper_top.specs.Leaving.{CanDo, CommandLeaves, CompletesBy, CompletesCopy, CopiesBy, CopiesOrStays, HasCause, IsNoCommand, Leaves, UsageLeaves, asked_lines as told_lines};
 
 use command_check_trace::check_trace;
+use command_copy::copy_image;
 use command_format::format_image;
 use command_outcomes::{Fault, Outcome, Status, end_with};
 use command_run::{Lines, run_drill, run_script};
 use command_show::{report_image, show_image};
-use command_words::{Command, read_command};
+use command_words::{Command, copied_names, read_command};
 use edge_disk::Disk;
 use edge_streams::{Sink, Source};
 use std::alloc::Global;
@@ -35,6 +37,7 @@ fn asked_lines(trace: bool) -> Lines
 fn do_command<R: Source, W: Sink, D: Disk, S: Fn(u64, u32, u16) -> u64, P: Fn(u32, u64) -> bool>(
     alloc: Global,
     command: Command,
+    words: &[String],
     source: &mut R,
     sink: &mut W,
     disk: D,
@@ -48,11 +51,22 @@ fn do_command<R: Source, W: Sink, D: Disk, S: Fn(u64, u32, u16) -> u64, P: Fn(u3
     requires wishes { (e n : ℕ) → e < 2 ^ 32 → n < 2 ^ 64 → P.pre policy.now e n }
     requires wished { (e n : ℕ) (r : Bool) → e < 2 ^ 32 → n < 2 ^ 64 → P.post policy.now e n r → r ≡ m.policy e n }
     requires sized { (blocks : ℕ) → command ≡ FormatCommand blocks → (least_blocks ≤ blocks) × (blocks ≤ most_blocks) }
+    requires copying { command ≡ CopyCommand → IsCommand (map string_bytes words.now) CopyCommand }
     ensures leaves { CommandLeaves m command (record {
       source = seen_source R.left R.faults source.old source.new;
       sink = seen_sink W.held W.faults sink.old sink.new;
       disk = seen_disk D.Disk disk result.disk;
     }) (gave result) }
+    ensures copies { CopiesBy (map string_bytes words.now) command (record {
+      source = seen_source R.left R.faults source.old source.new;
+      sink = seen_sink W.held W.faults sink.old sink.new;
+      disk = seen_disk D.Disk disk result.disk;
+    }) (gave result) }
+    ensures copied { CompletesBy (map string_bytes words.now) command (record {
+      source = seen_source R.left R.faults source.old source.new;
+      sink = seen_sink W.held W.faults sink.old sink.new;
+      disk = seen_disk D.Disk disk result.disk;
+    }) result.status }
     ensures blocks { D.block_count result.disk ≡ D.block_count disk }
     ensures complete { CanDo m command (record {
       source = seen_source R.left R.faults source.old source.new;
@@ -71,6 +85,10 @@ fn do_command<R: Source, W: Sink, D: Disk, S: Fn(u64, u32, u16) -> u64, P: Fn(u3
         Command::Report => report_image(alloc, sink, disk, supply),
         Command::Drill(number) => run_drill(alloc, number, sink, disk, supply, policy),
         Command::CheckTrace => check_trace(alloc, source, sink, disk, supply, policy),
+        Command::Copy => {
+            let (name, fresh) = copied_names(words);
+            copy_image(alloc, name, fresh, sink, disk)
+        }
     }
 }
 
@@ -78,7 +96,8 @@ fn do_command<R: Source, W: Sink, D: Disk, S: Fn(u64, u32, u16) -> u64, P: Fn(u3
 /// script that the source stands for, from the state that the disk's image means, and keeps it up to each record, and puts the lines that
 /// loci print, `run --trace` a line for each entry in their place; `drill N` runs the script that is drawn from the number N, and puts one
 /// line with its summary; `show` puts the state that the image means, `report` the log with the cut; `check-trace` tells whether the trace
-/// behind the script in the source is that of a legal history from that state. In a run and in a check of a trace the managers that the
+/// behind the script in the source is that of a legal history from that state; `copy NAME NEW` makes a second container in the image, as the one
+/// with that name, under the new name, in full or not at all, and puts its number. In a run and in a check of a trace the managers that the
 /// script brings answer for their numbers before the handed-in ones; `show` and `drill` ask the handed-in ones alone.
 ///
 /// What stops the call first decides: the words, the source, the image, the script against it, the run, the output; a sink that fails at the
@@ -105,6 +124,18 @@ pub fn hopper<R: Source, W: Sink, D: Disk, S: Fn(u64, u32, u16) -> u64, P: Fn(u3
       sink = seen_sink W.held W.faults sink.old sink.new;
       disk = seen_disk D.Disk disk result.disk;
     }) (gave result) }
+
+    // What a copy leaves of the image, by the two names.
+    ensures copies { (name fresh : Text) → IsCopyOf (map string_bytes words.now) name fresh → CopiesOrStays name fresh (record {
+      source = seen_source R.left R.faults source.old source.new;
+      sink = seen_sink W.held W.faults sink.old sink.new;
+      disk = seen_disk D.Disk disk result.disk;
+    }) (gave result) }
+    ensures copied { (name fresh : Text) → IsCopyOf (map string_bytes words.now) name fresh → CompletesCopy name fresh (record {
+      source = seen_source R.left R.faults source.old source.new;
+      sink = seen_sink W.held W.faults sink.old sink.new;
+      disk = seen_disk D.Disk disk result.disk;
+    }) result.status }
 
     // Words of no known form.
     ensures no_command { IsNoCommand (map string_bytes words.now) → UsageLeaves (record {
@@ -133,6 +164,8 @@ pub fn hopper<R: Source, W: Sink, D: Disk, S: Fn(u64, u32, u16) -> u64, P: Fn(u3
     match read_command(alloc, words) {
         Err(_) => end_with(alloc, sink, disk, Fault::Memory),
         Ok(None) => end_with(alloc, sink, disk, Fault::Usage),
-        Ok(Some(command)) => do_command(alloc, command, source, sink, disk, supply, policy),
+        Ok(Some(command)) => {
+            do_command(alloc, command, words, source, sink, disk, supply, policy)
+        }
     }
 }

@@ -10,7 +10,7 @@ use Rattle.command_outcomes.specs.Faults.{line}
 use Rattle.command_outcomes.specs.declared.statuses.Status.{Status}
 use Rattle.command_outcomes.specs.declared.statuses.Status.TheVariants.{Done, Usage, Script, Foreign, DiskFault, SourceFault, SinkFault, Memory, BlocksFull, TraceWrong}
 
--- WHERE A SCRIPT IS REFUSED: at its key, or as a whole
+-- WHERE A SCRIPT OR A COPY IS REFUSED: at its key, or the script as a whole
 abbrev pub subject_by : Text → Why → Text
 subject_by key NotToml = codes "it"
 subject_by key Long = codes "it"
@@ -32,7 +32,7 @@ reason_by key NotToml = codes " is no TOML in UTF-8 (docs/SCRIPTS.md)"
 reason_by key Missing = codes " is missing (docs/SCRIPTS.md)"
 reason_by key Kind = codes " is a value of another kind than it has to be (docs/SCRIPTS.md)"
 reason_by key Name = codes " is no name, or a name that is taken (docs/SCRIPTS.md)"
-reason_by key Unknown = codes " is no key of a script, or names what the script does not have before it (docs/SCRIPTS.md)"
+reason_by key Unknown = codes " is no key of a script, or names what is not there (docs/SCRIPTS.md)"
 reason_by key Range = codes " is out of its range (docs/SCRIPTS.md)"
 reason_by key TooMany = codes " has too many items (docs/SCRIPTS.md)"
 reason_by key Long = codes " has more than 1048576 bytes (docs/SCRIPTS.md)"
@@ -52,7 +52,7 @@ abbrev pub blocks_text : NoBlocks → Text
 blocks_text n = decimal n.need ++ codes " are needed and " ++ decimal n.free ++ codes " are free"
 
 abbrev pub refusal_sentence : Text → Text → Text
-refusal_sentence subject reason = line (codes "script refused: " ++ subject ++ reason)
+refusal_sentence subject reason = line (codes "refused: " ++ subject ++ reason)
 
 abbrev pub foreign_sentence : Text → Text
 foreign_sentence place = line (codes "image refused: " ++ place ++ codes " is not as in an image; name another file, or make an empty image by format N (docs/IMAGE.md)")
@@ -65,12 +65,12 @@ abbrev pub trace_text : ℕ → Text
 trace_text number = codes "line " ++ decimal number
 
 abbrev pub trace_sentence : Text → Text
-trace_sentence place = line (codes "trace refused: " ++ place ++ codes " is that of no entry that may come next in a run of the script; the output tells the birth or step that it may have been (README.md)")
+trace_sentence place = line (codes "trace refused: " ++ place ++ codes " is that of no entry that may come next in a run of the script; the output tells the birth or step that it may have been (docs/OUTPUT.md)")
 
 -- THE SENTENCE on a status
 abbrev pub sentence : Status → Text
 sentence Done = []
-sentence Usage = line (codes "usage: hopper_program IMAGE COMMAND; a command is format N, with N from 2600 to 65536 blocks, run, run --trace, drill N, show, report or check-trace; run reads a script from standard input, and check-trace a script, a line --- and a trace (README.md)")
+sentence Usage = line (codes "usage: hopper_program IMAGE COMMAND; a command is format N, with N from 2600 to 65536 blocks, run, run --trace, drill N, show, report, copy NAME NEW or check-trace; run reads a script from standard input, and check-trace a script, a line --- and a trace (docs/SCRIPTS.md)")
 sentence (Script refusal) = refusal_sentence (subject refusal) (reason refusal)
 sentence (Foreign block place) = foreign_sentence (place_text block place)
 sentence DiskFault = line (codes "disk fault: the image's file could not be read, written or synced; its disk may be full or gone, and when that is mended the command can be given again")

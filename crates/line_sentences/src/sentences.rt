@@ -17,7 +17,7 @@ const NUMBERS_TEXT: usize = 64;
 
 /// The sentence on words that are no command's.
 const USAGE: &[u8] =
-    b"usage: hopper_program IMAGE COMMAND; a command is format N, with N from 2600 to 65536 blocks, run, run --trace, drill N, show, report or check-trace; run reads a script from standard input, and check-trace a script, a line --- and a trace (README.md)\n";
+    b"usage: hopper_program IMAGE COMMAND; a command is format N, with N from 2600 to 65536 blocks, run, run --trace, drill N, show, report, copy NAME NEW or check-trace; run reads a script from standard input, and check-trace a script, a line --- and a trace (docs/SCRIPTS.md)\n";
 
 /// The sentence on a fault of the disk.
 const DISK_FAULT: &[u8] =
@@ -35,7 +35,7 @@ const SINK_FAULT: &[u8] =
 const NO_MEMORY: &[u8] =
     b"out of memory: nothing was run, and the image means what it meant; a script with fewer steps takes less (docs/SCRIPTS.md)\n";
 
-/// What a refusal speaks of: its key, or the script as a whole.
+/// What a refusal of a script or of a copy speaks of: its key, or the script as a whole.
 fn subject(refusal: &Refusal) -> &str
     ensures { result.now ≡ subject refusal.now }
 {
@@ -72,8 +72,7 @@ fn reason(refusal: &Refusal) -> &'static str
         Why::Missing => " is missing (docs/SCRIPTS.md)",
         Why::Kind => " is a value of another kind than it has to be (docs/SCRIPTS.md)",
         Why::Name => " is no name, or a name that is taken (docs/SCRIPTS.md)",
-        Why::Unknown =>
-            " is no key of a script, or names what the script does not have before it (docs/SCRIPTS.md)",
+        Why::Unknown => " is no key of a script, or names what is not there (docs/SCRIPTS.md)",
         Why::Range => " is out of its range (docs/SCRIPTS.md)",
         Why::TooMany => " has too many items (docs/SCRIPTS.md)",
         Why::BadCode => misspelling(refusal.key.as_str()),
@@ -145,12 +144,7 @@ pub fn put_sentence<W: Sink>(sink: &mut W, status: &Status) -> Result<(), SinkFa
     match status {
         Status::Done => Ok(()),
         Status::Usage => sink.put(USAGE),
-        Status::Script(refusal) => put_line(
-            sink,
-            "script refused: ",
-            subject(refusal),
-            reason(refusal),
-        ),
+        Status::Script(refusal) => put_line(sink, "refused: ", subject(refusal), reason(refusal)),
         Status::Foreign { block, place } => put_line(
             sink,
             "image refused: ",
@@ -171,7 +165,7 @@ pub fn put_sentence<W: Sink>(sink: &mut W, status: &Status) -> Result<(), SinkFa
             sink,
             "trace refused: ",
             trace_text(*line).as_str(),
-            " is that of no entry that may come next in a run of the script; the output tells the birth or step that it may have been (README.md)",
+            " is that of no entry that may come next in a run of the script; the output tells the birth or step that it may have been (docs/OUTPUT.md)",
         ),
     }
 }

@@ -8,10 +8,12 @@ use data_blocks::ShadowTable;
 use page_store::{PageFault, PageStore};
 
 /// How many pages of a table have a block.
-pub fn count_blocks(table: &ShadowTable) -> usize
-    ensures { result ≡ blocks_in table.now.0 }
+pub fn count_blocks(table: &ShadowTable) -> u16
+    ensures count { result ≡ blocks_in table.now.0 }
+    ensures few { result ≤ 256 }
 {
-    table.0.iter().filter(|block| **block != 0).count()
+    read_places(&table.0);
+    table.0.iter().filter(|block| **block != 0).count() as u16
 }
 
 /// Copies each page of a table that has a block to a block that was free, and puts its number into the other table; a page without a block

@@ -28,22 +28,22 @@ fn a_refused_script_is_told_by_its_key(rt: HostRuntime) -> Result<(), Fail> {
         (
             Why::BadCode,
             "program.p.3",
-            "script refused: program.p.3 is no instruction (docs/SCRIPTS.md)\n",
+            "refused: program.p.3 is no instruction (docs/SCRIPTS.md)\n",
         ),
         (
             Why::BadCode,
             "container.0.caps.1",
-            "script refused: container.0.caps.1 is no region or capability (docs/SCRIPTS.md)\n",
+            "refused: container.0.caps.1 is no region or capability (docs/SCRIPTS.md)\n",
         ),
         (
             Why::Range,
             "steps",
-            "script refused: steps is out of its range (docs/SCRIPTS.md)\n",
+            "refused: steps is out of its range (docs/SCRIPTS.md)\n",
         ),
         (
             Why::NotToml,
             "-",
-            "script refused: it is no TOML in UTF-8 (docs/SCRIPTS.md)\n",
+            "refused: it is no TOML in UTF-8 (docs/SCRIPTS.md)\n",
         ),
     ];
     for &(why, key, sentence) in &refusals {
@@ -74,7 +74,7 @@ fn numbers_stand_in_their_sentences(rt: HostRuntime) -> Result<(), Fail> {
         want: None,
     };
     let sentence =
-        "trace refused: line 6 is that of no entry that may come next in a run of the script; the output tells the birth or step that it may have been (README.md)\n";
+        "trace refused: line 6 is that of no entry that may come next in a run of the script; the output tells the birth or step that it may have been (docs/OUTPUT.md)\n";
     assert!(rt; says(alloc, &wrong, sentence)?);
     assert!(rt; says(alloc, &Status::Done, "")?);
     Ok(())

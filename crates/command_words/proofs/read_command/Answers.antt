@@ -1,9 +1,11 @@
-use Rattle.std.proofs.Common.{rules, ◌≡◌, ◌∙◌, sym, string_bytes, true, codes, Some, arith}
+use Rattle.std.proofs.Common.{rules, ◌≡◌, ◌∙◌, sym, map, subst, string_bytes, true, codes, IfSome, Option, Some, arith}
 use Rattle.std.specs.Prelude.{slice_get}
 use Rattle.std.specs.List.{list_any}
 use Rattle.clap.proofs.WalkLemmas.{list_any-map}
 use Rattle.command_words.specs.Forms as form
-use Rattle.command_words.proofs.Words.{first_letter, no_command, no_number, none_in_bytes}
+use Rattle.command_words.specs.Commands.{IsCommand}
+use Rattle.command_words.specs.declared.Command.{Command}
+use Rattle.command_words.proofs.Words.{first_letter, if_copy, no_command, no_number, none_in_bytes, string_front}
 use Rattle.command_words.proofs.read_command.Goals as goal
 
 pub returns-then-any_is_refused-clause-none : goal.returns-then-any_is_refused-clause-none
@@ -40,3 +42,11 @@ returns-in-None-2-clause-none c =
     let front : slice_get c.args.words.now 0 ≡ Some c.in-Some.first.now = search rules in
     let named : string_bytes c.in-Some.first.now ≡ codes "drill" = search rules in
     no_number _ 100 (first_letter c.args.words.now c.in-Some.first.now _ front named) (omega arith) (λ e. omega arith) (search rules)
+
+pub returns-in-copy-clause-some : goal.returns-in-copy-clause-some
+returns-in-copy-clause-some c =
+    let words = map string_bytes c.args.words.now in
+    let front : slice_get c.args.words.now 0 ≡ Some c.in-Some.first.now = search rules in
+    let named : string_bytes c.in-Some.first.now ≡ codes "copy" = search rules in
+    subst (λ (o : Option Command). IfSome o (λ (command : Command). IsCommand words command)) (sym c.then_some-in-copy.ensures)
+    (if_copy words (string_bytes c.in-Some.first.now) c.has_two_names.result (string_front c.args.words.now c.in-Some.first.now front) named (none_in_bytes c.args.words.now (search rules)) c.has_two_names.ensures)
