@@ -1,4 +1,4 @@
-// Steps of a locus that look at no container, by what else is lent.
+// Steps of a locus that look at no container, by what else is lent. Each asks that the cells are those that the plan touches.
 ghost use Rattle.std.specs.Prelude.{◌≡◌, ◌≢◌, ℕ, [], ◌∷◌};
 ghost use Rattle.table_laws.specs.cell_plans.Plans.{IsPlanned};
 ghost use Rattle.table_laws.specs.cell_plans.declared.plans.Reach.{Reach as AReach};
@@ -14,7 +14,7 @@ use table_laws::{
 };
 
 /// The step of a locus by an act that touches it alone.
-pub(crate) fn go_alone(locus: &mut Cell, instr: Instr, reach: Reach) -> Entry
+pub fn go_alone(locus: &mut Cell, instr: Instr, reach: Reach) -> Entry
     requires lent { AreLent locus.old [] [] }
     requires few { AreFewWrites (locus.old ∷ []) }
     requires planned { IsPlanned locus.old instr reach }
@@ -27,7 +27,7 @@ pub(crate) fn go_alone(locus: &mut Cell, instr: Instr, reach: Reach) -> Entry
 }
 
 /// The step of a locus beside one other entity.
-pub(crate) fn go_beside(locus: &mut Cell, other: &mut Cell, instr: Instr) -> Entry
+pub fn go_beside(locus: &mut Cell, other: &mut Cell, instr: Instr) -> Entry
     requires lent { AreLent locus.old [] (other.old ∷ []) }
     requires few { AreFewWrites (locus.old ∷ other.old ∷ []) }
     requires planned { (r : AReach) × IsPlanned locus.old instr r × ((x : ℕ) → r ≢ reach.Look x) }
@@ -37,7 +37,7 @@ pub(crate) fn go_beside(locus: &mut Cell, other: &mut Cell, instr: Instr) -> Ent
 }
 
 /// The step of a locus beside the atlas, or one for which no number is free.
-pub(crate) fn go_with_atlas(locus: &mut Cell, atlas: &mut Cell, instr: Instr, reach: Reach) -> Entry
+pub fn go_with_atlas(locus: &mut Cell, atlas: &mut Cell, instr: Instr, reach: Reach) -> Entry
     requires lent { AreLent locus.old (atlas.old ∷ []) [] }
     requires few { AreFewWrites (locus.old ∷ atlas.old ∷ []) }
     requires planned { IsPlanned locus.old instr reach }
@@ -50,7 +50,7 @@ pub(crate) fn go_with_atlas(locus: &mut Cell, atlas: &mut Cell, instr: Instr, re
 }
 
 /// The step of a locus that maps pages, makes a container or spawns a locus.
-pub(crate) fn go_with_both(
+pub fn go_with_both(
     locus: &mut Cell,
     atlas: &mut Cell,
     other: &mut Cell,

@@ -19,8 +19,8 @@ use page_store::{PageFault, PageStore};
 use table_laws::{Cell, Plan, Reach, advance_looking, next_plan};
 use table_steps::{Made, StepFault};
 
-/// A step that makes one look of a load or a store at a container.
-fn go_look<B: PageStore, S: Supplier, P: Policy>(
+/// A step that makes one look of a load or a store at a container, by this plan.
+pub fn go_look<B: PageStore, S: Supplier, P: Policy>(
     locus: &mut Cell,
     other: &mut Cell,
     store: &mut B,

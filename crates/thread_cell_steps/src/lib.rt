@@ -1,0 +1,11 @@
+//! Steps of a locus by cells that are lent from under their locks, over the table that the authority knows: one, two or three of them, for
+//! every kind of act. Each is the table's step, with all that `advance` of `table_steps` says of it.
+#![tactic(auto)]
+
+mod advancing;
+mod fitting;
+mod steps;
+
+pub use steps::{plan_lent, step_one, step_three, step_two};
+pub use table_laws::{Idle, Plan};
+pub use table_steps::{Made, StepFault};

@@ -1,0 +1,4 @@
+pub mod Along
+pub mod Lent
+pub mod Over
+pub mod Wished

@@ -1,0 +1,10 @@
+//! Records of a kernel's cells, each lent to the side that knows all of them: of one cell, and of those that a step wrote.
+#![tactic(auto)]
+
+mod recording;
+mod snapping;
+mod touching;
+
+pub use recording::{commit_lent, record_lent};
+pub use snapping::snap_lent;
+pub use touching::{snap_touched_one, snap_touched_three, snap_touched_two};

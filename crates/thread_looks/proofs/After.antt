@@ -1,0 +1,163 @@
+-- A look by what its step came to, and the Snaps behind it.
+use Rattle.std.proofs.Common.{◌≡◌, ◌⊎◌, inl, inr, ℕ, ◌*◌, ◌+◌, false, List, if◌then◌else◌, Some, None, Ok, Err, refl, sym, ap, subst, ◌∙◌, arith}
+use Rattle.std.specs.Prelude.{IsErrOf, Result, ⊤}
+use Rattle.edge_disk.specs.declared.disk.Disk.{Ghosts}
+use Rattle.edge_disk.specs.declared.disk.NoBlocks.{NoBlocks}
+use Rattle.base_types.specs.declared.histories.Entry.{Entry}
+use Rattle.kernel_core_facts.specs.table_births.model_kernel.Histories.{Policy}
+use Rattle.kernel_core_facts.specs.table_births.model_kernel.State.{Supply}
+use Rattle.kernel_core_facts.specs.cell_plans.declared.idle.Idle.{Idle as AnIdle}
+use Rattle.kernel_core_facts.specs.table_steps.declared.stepping.Made.{Made as Step}
+use Rattle.kernel_core_facts.specs.kernel_invariant.Beginnings.{Beginning, run_of}
+use Rattle.kernel_core_facts.specs.kernel_invariant.Live.{IsCalm}
+use Rattle.kernel_core_facts.specs.kernel_commit_facts.Parts.{Noted, Parts, StandsAs}
+use Rattle.kernel_core_facts.specs.kernel_commit_facts.Short.{AreShortBehind}
+use Rattle.kernel_core_facts.specs.kernel_commit_facts.Steady.{IsSteady}
+use Rattle.kernel_core_facts.specs.kernel_commits.Stops.{LeavesStopped}
+use Rattle.kernel_core_facts.specs.kernel_commits.Telling.{AddsNoTried, CommitsNote, TriesAtWrite}
+use Rattle.kernel_core_facts.specs.kernel_invariant.declared.stopping.Stopped.{Stopped}
+use Rattle.kernel_core_facts.specs.kernel_invariant.declared.stopping.Stopped.TheVariants as reason
+use Rattle.kernel_core_facts.specs.model_serial.Serial.{written_in}
+use Rattle.kernel_core_facts.specs.Looking.{LooksInRun}
+use Rattle.kernel_core_facts.specs.Stepping.{is_owing}
+use Rattle.kernel_core_facts.proofs.kernel_commit_facts_lemmas.Counting.{CountsWithin-fewer, CountsWithin-then}
+use Rattle.kernel_core_facts.proofs.kernel_commits_lemmas.Telling.{adds_none, adds_then}
+use Rattle.kernel_core_facts.proofs.kernel_commits_lemmas.Wishing.{err_over}
+use Rattle.kernel_core_facts.proofs.LookMade.{free_then, lacks_behind_step, look_behind_step, look_still, owes_is, part_at_step, part_behind_step}
+use Rattle.kernel_core.proofs.LookMade.{rose_at, rose_behind, step_untried}
+use Rattle.thread_commits.specs.Snapping.{SnapsWritten}
+use Rattle.thread_looks.specs.Looking.{LooksAsSerial}
+use Rattle.thread_looks.specs.Making.{MakesStep}
+use Rattle.thread_looks.specs.declared.noting.Looked.{Looked}
+use Rattle.thread_looks.specs.declared.noting.Looked.TheVariants.{Idle, Made}
+
+abbrev ok_look : Looked → Result Looked Stopped
+ok_look o = Ok o
+
+abbrev err_look : Stopped → Result Looked Stopped
+err_look why = Err why
+
+stopped_for : (why : Stopped) (n : NoBlocks) → IsErrOf (err_look why) (reason.NoBlocks n) → Some why ≡ Some (reason.NoBlocks n)
+stopped_for why n is = let same : why ≡ reason.NoBlocks n = cc is in ap (λ (w : Stopped). Some w) same
+
+-- the same fault of a call that answers another thing
+over_faults : {T : Type 0} (why : Stopped) → (IsErrOf (err_look why) reason.ReadFault) ⊎ (IsErrOf (err_look why) reason.WriteFault) → (IsErrOf {T = T} (Err why) reason.ReadFault) ⊎ (IsErrOf {T = T} (Err why) reason.WriteFault)
+over_faults {T = T} why failed = elim failed as (λ _. (IsErrOf {T = T} (Err why) reason.ReadFault) ⊎ (IsErrOf {T = T} (Err why) reason.WriteFault)) [
+  | inl is ↦ inl (err_over Looked T why reason.ReadFault is)
+  | inr is ↦ inr (err_over Looked T why reason.WriteFault is)
+]
+
+no_faults : {P : Type 0} (o : Looked) → (IsErrOf (ok_look o) reason.ReadFault) ⊎ (IsErrOf (ok_look o) reason.WriteFault) → P
+no_faults {P = P} o failed = elim failed as (λ _. P) [
+  | inl is ↦ absurd (cc is)
+  | inr is ↦ absurd (cc is)
+]
+
+tries_none : (why : Stopped) (old new : List Entry) → new ≡ old → TriesAtWrite (err_look why) old new
+tries_none (reason.NoBlocks n) old new same = adds_none old new same
+tries_none reason.ReadFault old new same = adds_none old new same
+tries_none reason.WriteFault old new same = tt
+
+tries_behind : (why : Stopped) (old mid new : List Entry) → AddsNoTried old mid → CommitsNote {T = ⊤} (Err why) mid new → TriesAtWrite (err_look why) old new
+tries_behind (reason.NoBlocks n) old mid new first more = adds_then old mid new first more
+tries_behind reason.ReadFault old mid new first more = absurd more
+tries_behind reason.WriteFault old mid new first more = tt
+
+module _ {D : Type 0} (disks : Ghosts D) (supply : Supply) (policy : Policy) (me : ℕ) (old mid : Parts D) where
+  -- NONE WAS MADE
+  pub look_idle : (why : AnIdle) → IsSteady disks old → MakesStep disks supply me old mid (Ok (Idle why)) → LooksAsSerial disks supply policy me old mid (Ok (Idle why))
+  look_idle why steady step = record {
+    idle = step.idle;
+    still = step.still;
+    steady = step.steady;
+    made = tt;
+    stopped = record { stopped = tt; wanting = λ n wants. absurd (let is = (step.short n).1 wants in cc is) };
+    tries = adds_none old.noted.entries mid.noted.entries (ap (λ (p : Parts D). p.noted.entries) (step.still why refl));
+    run = λ told b same_supply same_policy stands calm. subst (λ (p : Parts D). LooksInRun disks b policy me (ok_look (Idle why)) old p) (sym (step.still why refl))
+        (look_still disks b policy same_policy me old stands calm (step.run told b same_supply stands calm) (ok_look (Idle why)) (Idle why) refl);
+    part = λ told b same_supply same_policy stands calm. tt;
+    enough = λ told b same_supply same_policy stands calm n is. absurd (cc is);
+    faults = no_faults (Idle why);
+    clean = step.clean;
+    counts = CountsWithin-fewer disks 1 (1 + 64 * 1556) old.store mid.store (omega arith) step.counts;
+  }
+
+  -- IT STOPPED AT ITS STEP
+  pub look_failed : (why : Stopped) → MakesStep disks supply me old mid (Err why) → LooksAsSerial disks supply policy me old mid (Err why)
+  look_failed why step = record {
+    idle = step.idle;
+    still = step.still;
+    steady = tt;
+    made = tt;
+    stopped = record { stopped = inl step.failed; wanting = λ n wants. stopped_for why n ((step.short n).1 wants) };
+    tries = tries_none why old.noted.entries mid.noted.entries (ap (λ (n : Noted). n.entries) step.failed.noted);
+    run = λ told b same_supply same_policy stands calm. record { stands = tt; calm = tt; entries = tt; lives = step.run told b same_supply stands calm };
+    part = λ told b same_supply same_policy stands calm. part_at_step disks b policy same_policy me old stands calm mid step.failed.noted;
+    enough = λ told b same_supply same_policy stands calm n is. step.enough told b same_supply stands calm n is;
+    faults = λ failed. rose_at disks me old mid why step.failed.cause (over_faults why failed);
+    clean = λ told. tt;
+    counts = CountsWithin-fewer disks 1 (1 + 64 * 1556) old.store mid.store (omega arith) step.counts;
+  }
+
+  -- A STEP WAS MADE that owes no Stable
+  module _ (m : Step) (step : MakesStep disks supply me old mid (Ok (Made m))) (free : is_owing m.instr m.entry.answer ≡ false) (new : Parts D) where
+    module _ (r : Result ⊤ Stopped) (snaps : SnapsWritten disks policy (written_in m.entry.touched) r mid new) (b : Beginning) (told : disks.tells) (same_supply : b.supply ≡ supply) (same_policy : b.policy ≡ policy)
+        (stands : StandsAs disks b old) (calm : IsCalm b old.noted.entries) where
+      owes : (run_of b mid.noted.entries).owed ≡ None
+      owes = owes_is disks b policy same_policy me old stands calm mid m.entry step.made (step.run told b same_supply stands calm) m.instr step.next ∙ ap (λ t. if t then Some me else None) free
+
+      look_run : LooksInRun disks b policy me r old new
+      look_run = look_behind_step disks b policy same_policy me old stands calm mid m.entry step.made (step.run told b same_supply stands calm) false owes r new
+          (λ yes. absurd (cc yes)) (λ yes. absurd (cc yes)) (λ no free. snaps.run told b free)
+
+    pub look_ended : SnapsWritten disks policy (written_in m.entry.touched) (Ok tt) mid new → LooksAsSerial disks supply policy me old new (Ok (Made m))
+    look_ended snaps = record {
+      idle = step.idle;
+      still = λ why is. absurd (cc is);
+      steady = snaps.steady;
+      made = record { mid = mid; stepped = step.made; behind = snaps.notes };
+      stopped = record { stopped = tt; wanting = λ n wants. absurd (let is = (step.short n).1 wants in cc is) };
+      tries = adds_then old.noted.entries mid.noted.entries new.noted.entries (step_untried disks me old mid m.entry step.made) snaps.notes;
+      run = λ told b same_supply same_policy stands calm.
+          let l = look_run (Ok tt) snaps b told same_supply same_policy stands calm in
+          record { stands = l.stands; calm = l.calm; entries = l.entries; lives = tt };
+      part = λ told b same_supply same_policy stands calm. tt;
+      enough = λ told b same_supply same_policy stands calm n is. absurd (cc is);
+      faults = no_faults (Made m);
+      clean = λ told. snaps.clean told supply (step.clean told);
+      counts = CountsWithin-then disks 1 (64 * 1556) old.store mid.store new.store step.counts snaps.counts;
+    }
+
+    pub look_stopped : (why : Stopped) → SnapsWritten disks policy (written_in m.entry.touched) (Err why) mid new → LooksAsSerial disks supply policy me old new (Err why)
+    look_stopped why snaps = record {
+      idle = λ z words w. ((λ is. absurd (let none = (step.idle z words w).0 is in cc none)), (λ is. absurd (cc is)));
+      still = λ w is. absurd (cc is);
+      steady = tt;
+      made = tt;
+      stopped = record {
+        stopped = inr (record {
+          mid = mid;
+          entry = m.entry;
+          stepped = step.made;
+          instr = m.instr;
+          next = step.next;
+          leaves = subst (λ t. LeavesStopped disks.faults (AreShortBehind disks policy t (written_in m.entry.touched) new) mid new why) (sym free) snaps.stopped;
+        });
+        wanting = λ n wants. absurd (let is = (step.short n).1 wants in cc is);
+      };
+      tries = tries_behind why old.noted.entries mid.noted.entries new.noted.entries (step_untried disks me old mid m.entry step.made) snaps.notes;
+      run = λ told b same_supply same_policy stands calm.
+          let l = look_run (Err why) snaps b told same_supply same_policy stands calm in
+          record { stands = tt; calm = tt; entries = tt; lives = l.lives };
+      part = λ told b same_supply same_policy stands calm.
+          part_behind_step disks b policy same_policy me old stands calm mid m.entry step.made (step.run told b same_supply stands calm) false
+          (owes (Err why) snaps b told same_supply same_policy stands calm) new.noted.entries (λ yes. absurd (cc yes)) (λ no free. snaps.part told b free);
+      enough = λ told b same_supply same_policy stands calm n is.
+          lacks_behind_step disks b policy same_policy me old stands calm mid m.entry step.made (step.run told b same_supply stands calm) false
+          (owes (Err why) snaps b told same_supply same_policy stands calm) new n
+          (snaps.enough told b (free_then disks b policy same_policy me old stands calm mid m.entry step.made (step.run told b same_supply stands calm) false (owes (Err why) snaps b told same_supply same_policy stands calm) refl)
+          n (err_over Looked ⊤ why (reason.NoBlocks n) is));
+      faults = λ failed. rose_behind disks.faults old mid new why step.counts.later snaps.counts.later snaps.stopped.cause (over_faults why failed);
+      clean = λ told. tt;
+      counts = CountsWithin-then disks 1 (64 * 1556) old.store mid.store new.store step.counts snaps.counts;
+    }

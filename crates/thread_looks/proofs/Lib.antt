@@ -1,0 +1,5 @@
+pub mod Made
+pub mod After
+pub mod Ends
+pub mod Free
+pub mod Others

@@ -1,0 +1,12 @@
+//! Looks at a locus by cells that are lent from under their locks, over a kernel's parts as the side that keeps the history knows them: the
+//! step, and behind it the Snaps that are wished. Each is the look of the serial kernel.
+#![tactic(auto)]
+
+mod behind;
+mod looking;
+mod making;
+mod noting;
+
+pub use looking::{look_one, look_three, look_two};
+pub use making::{make_one, make_three, make_two};
+pub use noting::Looked;

@@ -1,0 +1,137 @@
+// One look at a locus by lent cells: its step, and what comes behind it.
+ghost use Rattle.std.specs.Prelude.{◌≡◌, ◌↔◌, ◌⊎◌, ◌∷◌, [], true, false, None, IfOk, IfSome};
+ghost use Rattle.kernel_core_facts.specs.table_laws.Steps.{IsInOrder};
+ghost use Rattle.kernel_core_facts.specs.table_laws.Tables.{AreClean};
+ghost use Rattle.kernel_core_facts.specs.kernel_record_facts.Cells.{words_on};
+ghost use Rattle.kernel_core_facts.specs.kernel_commit_facts.Parts.{parts_of};
+ghost use Rattle.kernel_core_facts.specs.kernel_commit_facts.Steady.{IsSteady};
+ghost use Rattle.thread_cell_steps.specs.Advancing.{TouchesThese, WantsOthers};
+ghost use Rattle.thread_commits.specs.Lent.{OthersStay};
+ghost use Rattle.thread_looks.specs.Looking.{LooksAsSerial, WantsStable};
+ghost use Rattle.thread_looks.specs.Making.{IfMade};
+
+use crate::behind::{snap_behind_one, snap_behind_three, snap_behind_two};
+use crate::making::{make_one, make_three, make_two};
+use crate::noting::Looked;
+use base_bytes::Blob;
+use base_types::{Entry, Instr};
+use edge_disk::Disk;
+use edge_managers::{Gate, Policy, Supplier};
+use kernel_core_facts::{Cell, Notes, Stopped, Store};
+use thread_cell_steps::plan_lent;
+use thread_cells::LockedCell;
+use thread_history::Run;
+use thread_ties::{Authority, Bond};
+
+/// Whether the next step of the locus may owe a Stable, for which all cells are to be lent.
+fn wants_stable<B: Bond<Cell> + Run<Entry>>(
+    all: &mut Authority<Cell, B>,
+    locus: &mut LockedCell<B>,
+) -> bool
+    requires order { IsInOrder all.old }
+    ensures same { (all.new ≡ all.old) × (locus.new ≡ locus.old) }
+    ensures wants { (result ≡ true) ↔ WantsStable all.old locus.old.number }
+{
+    match plan_lent(all, locus) {
+        Ok(plan) => matches!(plan.instr, Instr::Stabilise(_)),
+        Err(_) => false,
+    }
+}
+
+/// One look at a locus whose step touches it alone and owes no Stable: the step, and behind it the Snap that is wished. `None`, and nothing
+/// done, exactly where other cells are wanted: its act touches another entity, or it is a stabilise, for which all cells are to be lent.
+///
+/// It is the look of the serial kernel, with its stops (`LooksAsSerial`). It takes no memory. What was in `blob` is lost.
+pub fn look_one<D: Disk, B: Bond<Cell> + Run<Entry>, S: Supplier, P: Policy>(
+    all: &mut Authority<Cell, B>,
+    locus: &mut LockedCell<B>,
+    store: &mut Store<D>,
+    notes: &mut Notes,
+    blob: &mut Blob,
+    gate: &Gate<S, P>,
+) -> Option<Result<Looked, Stopped>>
+    requires keeps { S.keeps gate.now.supply }
+    requires wishes { P.keeps gate.now.policy }
+    requires steady { IsSteady D.Disk (parts_of store.old all.old notes.old) }
+    requires clean { D.tells → AreClean (S.word gate.now.supply) (words_on (D.reading store.old.disk)) all.old }
+    ensures others { OthersStay (locus.old.number ∷ []) all.old all.new }
+    ensures locus { (locus.new.number ≡ locus.old.number) × (locus.new.known ≡ locus.old.known) }
+    ensures unfit { (result ≡ None) ↔ (WantsOthers all.old locus.old.number [] ⊎ WantsStable all.old locus.old.number) }
+    ensures undone { result ≡ None → parts_of store.new all.new notes.new ≡ parts_of store.old all.old notes.old }
+    ensures looks { IfSome result (LooksAsSerial D.Disk (S.word gate.now.supply) (P.wish gate.now.policy) locus.old.number (parts_of store.old all.old notes.old) (parts_of store.new all.new notes.new)) }
+    ensures touches { IfSome result (λ came. IfOk came (λ o. IfMade o (TouchesThese all.old locus.old.number []))) }
+{
+    if wants_stable(all, locus) {
+        return None;
+    }
+    match make_one(all, locus, store, notes, gate) {
+        None => None,
+        Some(came) => Some(snap_behind_one(all, locus, store, notes, blob, came, gate)),
+    }
+}
+
+/// One look at a locus whose step touches one entity beside it: the step, and behind it the Snaps that are wished. `None`, and nothing done,
+/// exactly where its act touches others.
+///
+/// It is the look of the serial kernel, with its stops (`LooksAsSerial`). It takes no memory. What was in `blob` is lost.
+pub fn look_two<D: Disk, B: Bond<Cell> + Run<Entry>, S: Supplier, P: Policy>(
+    all: &mut Authority<Cell, B>,
+    locus: &mut LockedCell<B>,
+    other: &mut LockedCell<B>,
+    store: &mut Store<D>,
+    notes: &mut Notes,
+    blob: &mut Blob,
+    gate: &Gate<S, P>,
+) -> Option<Result<Looked, Stopped>>
+    requires keeps { S.keeps gate.now.supply }
+    requires wishes { P.keeps gate.now.policy }
+    requires steady { IsSteady D.Disk (parts_of store.old all.old notes.old) }
+    requires clean { D.tells → AreClean (S.word gate.now.supply) (words_on (D.reading store.old.disk)) all.old }
+    ensures others { OthersStay (locus.old.number ∷ other.old.number ∷ []) all.old all.new }
+    ensures locus { (locus.new.number ≡ locus.old.number) × (locus.new.known ≡ locus.old.known) }
+    ensures other { (other.new.number ≡ other.old.number) × (other.new.known ≡ other.old.known) }
+    ensures unfit { (result ≡ None) ↔ (WantsOthers all.old locus.old.number (other.old.number ∷ [])) }
+    ensures undone { result ≡ None → parts_of store.new all.new notes.new ≡ parts_of store.old all.old notes.old }
+    ensures looks { IfSome result (LooksAsSerial D.Disk (S.word gate.now.supply) (P.wish gate.now.policy) locus.old.number (parts_of store.old all.old notes.old) (parts_of store.new all.new notes.new)) }
+    ensures touches { IfSome result (λ came. IfOk came (λ o. IfMade o (TouchesThese all.old locus.old.number (other.old.number ∷ [])))) }
+{
+    match make_two(all, locus, other, store, notes, gate) {
+        None => None,
+        Some(came) => Some(snap_behind_two(all, locus, other, store, notes, blob, came, gate)),
+    }
+}
+
+/// One look at a locus whose step touches the atlas and another entity: the step, and behind it the Snaps that are wished. `None`, and
+/// nothing done, exactly where its act touches others.
+///
+/// It is the look of the serial kernel, with its stops (`LooksAsSerial`). It takes no memory. What was in `blob` is lost.
+pub fn look_three<D: Disk, B: Bond<Cell> + Run<Entry>, S: Supplier, P: Policy>(
+    all: &mut Authority<Cell, B>,
+    locus: &mut LockedCell<B>,
+    atlas: &mut LockedCell<B>,
+    other: &mut LockedCell<B>,
+    store: &mut Store<D>,
+    notes: &mut Notes,
+    blob: &mut Blob,
+    gate: &Gate<S, P>,
+) -> Option<Result<Looked, Stopped>>
+    requires keeps { S.keeps gate.now.supply }
+    requires wishes { P.keeps gate.now.policy }
+    requires steady { IsSteady D.Disk (parts_of store.old all.old notes.old) }
+    requires clean { D.tells → AreClean (S.word gate.now.supply) (words_on (D.reading store.old.disk)) all.old }
+    ensures others { OthersStay (locus.old.number ∷ atlas.old.number ∷ other.old.number ∷ []) all.old all.new }
+    ensures locus { (locus.new.number ≡ locus.old.number) × (locus.new.known ≡ locus.old.known) }
+    ensures atlas { (atlas.new.number ≡ atlas.old.number) × (atlas.new.known ≡ atlas.old.known) }
+    ensures other { (other.new.number ≡ other.old.number) × (other.new.known ≡ other.old.known) }
+    ensures unfit { (result ≡ None) ↔ (WantsOthers all.old locus.old.number (atlas.old.number ∷ other.old.number ∷ [])) }
+    ensures undone { result ≡ None → parts_of store.new all.new notes.new ≡ parts_of store.old all.old notes.old }
+    ensures looks { IfSome result (LooksAsSerial D.Disk (S.word gate.now.supply) (P.wish gate.now.policy) locus.old.number (parts_of store.old all.old notes.old) (parts_of store.new all.new notes.new)) }
+    ensures touches { IfSome result (λ came. IfOk came (λ o. IfMade o (TouchesThese all.old locus.old.number (atlas.old.number ∷ other.old.number ∷ [])))) }
+{
+    match make_three(all, locus, atlas, other, store, notes, gate) {
+        None => None,
+        Some(came) => Some(snap_behind_three(
+            all, locus, atlas, other, store, notes, blob, came, gate,
+        )),
+    }
+}

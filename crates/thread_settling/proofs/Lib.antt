@@ -1,0 +1,4 @@
+pub mod Lent
+pub mod Locking
+pub mod Settled
+pub mod Turns
