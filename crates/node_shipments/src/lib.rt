@@ -1,0 +1,11 @@
+//! What is shipped of an entity to a second node: all that a record of it tells, with the words of its pages in place of their blocks.
+#![tactic(auto)]
+
+mod parts;
+mod reading;
+mod shipments;
+
+pub use page_placing::PageWords;
+pub use parts::ShipPart;
+pub use reading::read_shipment;
+pub use shipments::{Shipped, shipment_law};
