@@ -6,9 +6,9 @@ use Rattle.base_types.specs.declared.histories.Entry.{Entry}
 use Rattle.kernel_core.specs.kernel_core_facts.Kernels.{Held, Lives}
 use Rattle.kernel_core.specs.kernel_invariant.Beginnings.{Beginning, run_of}
 use Rattle.kernel_core.specs.kernel_invariant.declared.stopping.Stopped.{Stopped}
-use Rattle.kernel_core.specs.model_serial.Serial.{look}
+use Rattle.kernel_core.specs.model_serial.Serial.{look, opening}
 use Rattle.kernel_core.specs.model_serial_turns.Turns.{HasLooked}
-use Rattle.kernel_core.proofs.model_serial_turns_lemmas.Whereabouts.{looked_more}
+use Rattle.kernel_core.proofs.model_serial_turns_lemmas.Whereabouts.{looked_more, looked_opening}
 use Rattle.kernel_clients.specs.Serving.{Serves}
 
 module _ {D : Type 0} (disks : Ghosts D) where
@@ -27,4 +27,14 @@ module _ {D : Type 0} (disks : Ghosts D) where
         let es : List Entry = old.parts.noted.entries in
         subst (HasLooked b.supply b.policy b.script b.state (looked ++ l ∷ [])) (sym (notes before going))
         (looked_more b.supply b.policy b.script b.state looked es l (s.looks before));
+  }
+
+  -- behind its births
+  pub serves_born : (b : Beginning) (old new : Held D) → old.parts.noted.entries ≡ [] → Lives disks b new
+      → (new.stop ≡ None → new.parts.noted.entries ≡ old.parts.noted.entries ++ opening b.supply b.script b.state) → Serves disks b [] new
+  serves_born b old new nothing lives notes = record {
+    lives = lives;
+    looks = λ going.
+        subst (HasLooked b.supply b.policy b.script b.state []) (sym (notes going ∙ ap (λ (es : List Entry). es ++ opening b.supply b.script b.state) nothing))
+        (looked_opening b.supply b.policy b.script b.state);
   }

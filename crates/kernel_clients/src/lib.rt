@@ -1,9 +1,12 @@
-//! A runtime that keeps its objects in an image, by the kernel's own calls: it lets loci run in the
+//! A runtime that keeps its objects in an image, by the kernel's own calls: it opens the image, gives births by a script, lets loci run in the
 //! order that it chooses, and finds its objects again behind a stop at any moment.
 #![tactic(auto)]
 
 mod serving;
 mod stopping;
+#[cfg(test)]
+mod tests;
 
-pub use serving::let_run;
-pub use stopping::{Found, stop_and_find};
+pub use command_open::{Kernel, Unopened};
+pub use serving::{let_run, open_objects};
+pub use stopping::{Found, Lost, keep_and_stop, stop_and_find};

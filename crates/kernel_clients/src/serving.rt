@@ -1,13 +1,48 @@
-//! A kernel that a runtime keeps its objects in, and its loci stepping as the runtime says.
-ghost use Rattle.std.specs.Prelude.{◌≡◌, ◌++◌, ℕ, List};
+//! A kernel that a runtime keeps its objects in: opened, with those born who are to live there, and its loci stepping as the runtime says.
+ghost use Rattle.std.specs.Prelude.{◌≡◌, ◌≤◌, ◌++◌, ℕ, List, [], IfOk, IfErr};
+ghost use Rattle.command_outcomes.specs.Seen.{seen_disk};
+ghost use Rattle.command_open.specs.command_promises.Openings.{HasOpened, Managers};
+ghost use Rattle.command_open.specs.command_promises.Ready.{StopsOpening};
 ghost use Rattle.kernel_core.specs.kernel_core_facts.Kernels.{StaysClean};
 ghost use Rattle.kernel_core.specs.kernel_invariant.Beginnings.{Beginning};
 ghost use Rattle.kernel_clients.specs.Serving.{Serves};
+ghost use Rattle.script_types.specs.Rules.{IsScript};
+ghost use Rattle.script_types.specs.Scripts.{tables_of};
+ghost use Rattle.script_types.specs.model_kernel.State.{Supply};
 
 use base_types::Entity;
+use command_open::{Kernel, Unopened, open_for};
 use edge_disk::Disk;
 use edge_managers::{Gate, Policy, Supplier};
-use kernel_core::Kernel;
+use script_types::Script;
+use std::alloc::Global;
+
+/// Opens the image on a disk for a script, and makes the births that it lacks, with their Stable. Where that stops, for a fault of the disk or
+/// for want of blocks, the kernel tells why (`Kernel::stopped`), and does nothing more.
+///
+/// Whoever the managers are: the image meant a state, and while its numbers are low the kernel is live in the run of the script from there.
+/// It costs what `open_for` does, 138 writes and syncs, and a record of each newborn and of the atlas. Behind it no memory is taken.
+pub fn open_objects<D: Disk>(
+    alloc: Global,
+    script: &Script,
+    disk: D,
+) -> Result<Kernel<D>, Unopened<D>>
+    requires allowed { IsScript (tables_of script.now) }
+    requires frames { (1 ≤ script.now.frames) × (script.now.frames ≤ 256) }
+    ensures serves { D.tells → (m : Managers) → IfOk result (λ k. HasOpened m (tables_of script.now) (D.reading disk) (D.clock disk) (λ b. Serves D.Disk b [] k)) }
+    ensures clean { (s : Supply) → IfOk result (StaysClean D.Disk s) }
+    ensures stops { IfErr result (λ stopped. StopsOpening (tables_of script.now)
+        (seen_disk D.Disk disk stopped.disk) stopped.fault) }
+{
+    match open_for(alloc, script, disk) {
+        Ok(mut kernel) => {
+            // why it stops, if it does, stands in the kernel
+            let _ = kernel.births(script);
+            Ok(kernel)
+        }
+        Err(stopped) => Err(stopped),
+    }
+}
 
 /// One look at each of these loci, one behind the other: a step, with the Stable that it owes, or with a record of each entity that it wrote
 /// and for which one is wished. A locus that can't step is passed over, and a kernel that has stopped looks at none.
