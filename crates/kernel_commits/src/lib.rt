@@ -13,6 +13,7 @@ pub use cores::Core;
 pub use kernel_commit_facts::{Idle, OpenFault, OpenWhy, Store};
 pub use kernel_invariant::Stopped;
 pub use notes::Notes;
+pub use recording::note_fault;
 pub use snapping::{snap_one, snap_written};
 pub use stabilising::settle;
 pub use stopping::{Stop, told_of};

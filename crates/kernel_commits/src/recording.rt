@@ -45,7 +45,7 @@ fn version_among(cells: &[Cell], entity: Entity) -> u64
 }
 
 /// Why a fault of a commit stops the kernel. Where a write failed, its Tried is noted.
-fn note_fault(notes: &mut Notes, entity: Entity, version: u64, fault: StoreFault) -> Stopped
+pub fn note_fault(notes: &mut Notes, entity: Entity, version: u64, fault: StoreFault) -> Stopped
     requires room { length notes.old.entries < notes.old.room }
     requires kind { IsOfCommit fault }
     ensures why { result ≡ why_of fault }

@@ -10,8 +10,8 @@ use Rattle.kernel_core_facts.specs.table_steps.declared.stepping.Made.{Made as S
 use Rattle.kernel_core_facts.specs.table_steps.declared.stepping.StepFault.{StepFault}
 use Rattle.kernel_core_facts.specs.table_steps.declared.stepping.StepFault.TheVariants.{Idle, Paging}
 use Rattle.kernel_core_facts.specs.Stepping.{stop_by}
-use Rattle.kernel_core.specs.declared.stepping.Stepping.{Stepping}
-use Rattle.kernel_core.specs.declared.stepping.Stepping.TheVariants.{Idle as IdleFor, Made}
+use Rattle.kernel_core_facts.specs.declared.looked.Looked.{Looked}
+use Rattle.kernel_core_facts.specs.declared.looked.Looked.TheVariants.{Idle as IdleFor, Made}
 use Rattle.kernel_core_facts.specs.kernel_invariant.declared.stopping.Stopped.{Stopped}
 use Rattle.kernel_core_facts.specs.kernel_invariant.declared.stopping.Stopped.TheVariants as reason
 
@@ -45,13 +45,13 @@ pub not_false : (t : Bool) → false ≡ not t → t ≡ true
 not_false true is = refl
 not_false false is = absurd (cc is)
 
-abbrev pub ok_made : Step → Result Stepping Stopped
+abbrev pub ok_made : Step → Result Looked Stopped
 ok_made m = Ok (Made m)
 
-abbrev pub ok_idle : AnIdle → Result Stepping Stopped
+abbrev pub ok_idle : AnIdle → Result Looked Stopped
 ok_idle why = Ok (IdleFor why)
 
-abbrev pub err_why : Stopped → Result Stepping Stopped
+abbrev pub err_why : Stopped → Result Looked Stopped
 err_why why = Err why
 
 pub made_not : (m : Step) (why : AnIdle) → ok_made m ≡ ok_idle why → ⊥

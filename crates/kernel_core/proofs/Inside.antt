@@ -9,8 +9,8 @@ use Rattle.kernel_core_facts.specs.table_laws.Tables.{AreClean}
 use Rattle.kernel_core_facts.specs.kernel_record_facts.Cells.{words_on}
 use Rattle.kernel_core_facts.specs.kernel_commit_facts.Parts.{Noted, Parts, parts_of}
 use Rattle.kernel_core_facts.specs.kernel_commit_facts.Steady.{IsSteady}
-use Rattle.kernel_core.specs.Stepping.{StepsOnce}
-use Rattle.kernel_core.specs.declared.stepping.Stepping.{Stepping}
+use Rattle.kernel_core_facts.specs.Looked.{StepsOnce}
+use Rattle.kernel_core_facts.specs.declared.looked.Looked.{Looked}
 use Rattle.kernel_core_facts.specs.kernel_invariant.declared.stopping.Stopped.{Stopped}
 
 pub steady_inside : {D : Type 0} (disks : Ghosts D) (old : Parts D) (st : State D) (cs cs1 : List Cell) (n : Noted) → parts_of st cs n ≡ old → cs1 ≡ cs → IsSteady disks old → IsSteady disks (parts_of st cs1 n)
@@ -22,7 +22,7 @@ clean_inside {D = D} disks s old st cs cs1 n view deref clean =
     subst (AreClean s (words_on (disks.reading st.disk))) (sym deref) (subst (λ (p : Parts D). AreClean s (words_on (disks.reading p.store.disk)) p.cells) (sym view) clean)
 
 pub once_outside : {D : Type 0} (disks : Ghosts D) (s : Supply) (me : ℕ) (old : Parts D) (st : State D) (cs cs1 : List Cell) (n : Noted) → parts_of st cs n ≡ old → cs1 ≡ cs
-    → (st' : State D) (cs' kept : List Cell) (n' : Noted) (r : Result Stepping Stopped) → kept ≡ cs' → StepsOnce disks s me (parts_of st cs1 n) (parts_of st' cs' n') r → StepsOnce disks s me old (parts_of st' kept n') r
+    → (st' : State D) (cs' kept : List Cell) (n' : Noted) (r : Result Looked Stopped) → kept ≡ cs' → StepsOnce disks s me (parts_of st cs1 n) (parts_of st' cs' n') r → StepsOnce disks s me old (parts_of st' kept n') r
 once_outside {D = D} disks s me old st cs cs1 n view deref st' cs' kept n' r same once =
     subst (λ (ks : List Cell). StepsOnce disks s me old (parts_of st' ks n') r) (sym same)
     (subst (λ (p : Parts D). StepsOnce disks s me p (parts_of st' cs' n') r) (ap (λ (ks : List Cell). parts_of st ks n) deref ∙ view) once)

@@ -12,8 +12,8 @@ use Rattle.kernel_core_facts.specs.kernel_invariant.Live.{IsCalm}
 use Rattle.kernel_core_facts.specs.model_serial.Serial.{look}
 use Rattle.kernel_core_facts.specs.kernel_commit_facts.Parts.{Parts, StandsAs}
 use Rattle.kernel_core_facts.specs.Looking.{LooksInRun}
-use Rattle.kernel_core.specs.declared.stepping.Stepping.{Stepping}
-use Rattle.kernel_core.specs.declared.stepping.Stepping.TheVariants.{Idle, Made}
+use Rattle.kernel_core_facts.specs.declared.looked.Looked.{Looked}
+use Rattle.kernel_core_facts.specs.declared.looked.Looked.TheVariants.{Idle, Made}
 use Rattle.kernel_core_facts.specs.cell_plans.declared.idle.Idle.{Idle as AnIdle}
 use Rattle.kernel_core_facts.specs.Stepping.{HasCause, HasStepped}
 use Rattle.kernel_core_facts.specs.table_steps.declared.stepping.Made.{Made as Step}
@@ -23,14 +23,14 @@ use Rattle.kernel_core_facts.proofs.kernel_commits_lemmas.Telling.{adds_none, ad
 use Rattle.kernel_core_facts.specs.kernel_invariant.declared.stopping.Stopped.{Stopped}
 use Rattle.kernel_core_facts.specs.kernel_invariant.declared.stopping.Stopped.TheVariants as reason
 
-abbrev pub ok_look : Stepping → Result Stepping Stopped
+abbrev pub ok_look : Looked → Result Looked Stopped
 ok_look look = Ok look
 
-abbrev pub err_result : Stopped → Result Stepping Stopped
+abbrev pub err_result : Stopped → Result Looked Stopped
 err_result why = Err why
 
 -- what ended well wanted no block, and what failed for want of some has stopped for them
-pub never_wanting : {P : Type 0} (o : Stepping) (n : NoBlocks) → IsErrOf (ok_look o) (reason.NoBlocks n) → P
+pub never_wanting : {P : Type 0} (o : Looked) (n : NoBlocks) → IsErrOf (ok_look o) (reason.NoBlocks n) → P
 never_wanting o n is = absurd (cc is)
 
 pub stopped_for : (why : Stopped) (n : NoBlocks) → IsErrOf (err_result why) (reason.NoBlocks n) → Some why ≡ Some (reason.NoBlocks n)
@@ -57,7 +57,7 @@ tries_none reason.ReadFault old new same = adds_none old new same
 tries_none reason.WriteFault old new same = tt
 
 -- where it ended well no fault came
-pub no_faults : {P : Type 0} (o : Stepping) → (IsErrOf (ok_look o) reason.ReadFault) ⊎ (IsErrOf (ok_look o) reason.WriteFault) → P
+pub no_faults : {P : Type 0} (o : Looked) → (IsErrOf (ok_look o) reason.ReadFault) ⊎ (IsErrOf (ok_look o) reason.WriteFault) → P
 no_faults {P = P} o failed = elim failed as (λ _. P) [
   | inl is ↦ absurd (cc is)
   | inr is ↦ absurd (cc is)

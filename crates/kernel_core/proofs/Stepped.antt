@@ -52,8 +52,8 @@ use Rattle.kernel_core_facts.specs.kernel_commit_facts.Pieces.{CountsWithin}
 use Rattle.kernel_core_facts.specs.kernel_commit_facts.Short.{AreWithin, IsPageWanting, IsShortFor, WantsPage}
 use Rattle.kernel_core_facts.specs.kernel_commit_facts.Steady.{IsSteady, entries_taken, steps_to_come}
 use Rattle.kernel_core_facts.specs.Stepping.{HasCause, IsOfOpen, StepsInRun, idle_at, stop_by}
-use Rattle.kernel_core.specs.Stepping.{StepsOnce}
-use Rattle.kernel_core.specs.declared.stepping.Stepping.TheVariants.{Idle as IdleFor, Made}
+use Rattle.kernel_core_facts.specs.Looked.{StepsOnce}
+use Rattle.kernel_core_facts.specs.declared.looked.Looked.TheVariants.{Idle as IdleFor, Made}
 use Rattle.kernel_core_facts.specs.kernel_invariant.declared.stopping.Stopped.TheVariants as reason
 use Rattle.kernel_core_facts.proofs.kernel_commit_facts_lemmas.Dues.{due_first}
 use Rattle.kernel_core_facts.proofs.kernel_commit_facts_lemmas.Enough.{none_lacks}

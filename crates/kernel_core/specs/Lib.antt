@@ -1,5 +1,5 @@
 pub mod Parts
-pub mod Stepping
+pub mod Answering
 pub use Rattle.kernel_core_facts.specs.act_calls
 pub use Rattle.kernel_core_facts.specs.cell_states
 pub use Rattle.kernel_core_facts.specs.kernel_book_laws

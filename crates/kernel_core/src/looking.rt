@@ -19,8 +19,8 @@ ghost use Rattle.kernel_core_facts.specs.kernel_commit_facts.Steady.{IsSteady, e
 ghost use Rattle.kernel_core_facts.specs.kernel_commits.Stops.{LeavesStopped};
 ghost use Rattle.kernel_core_facts.specs.kernel_commits.Telling.{CommitsNote, TriesAtWrite};
 ghost use Rattle.kernel_core_facts.specs.Stepping.{idle_at};
-ghost use Rattle.kernel_core.specs.declared.stepping.Stepping.TheVariants as AStep;
-ghost use Rattle.kernel_core.specs.Stepping.{IfMade};
+ghost use Rattle.kernel_core_facts.specs.declared.looked.Looked.TheVariants as AStep;
+ghost use Rattle.kernel_core_facts.specs.Looked.{IfMade};
 ghost use Rattle.kernel_core_facts.specs.cell_plans.declared.idle.Idle.{Idle as AnIdle};
 ghost use Rattle.kernel_core_facts.specs.kernel_invariant.Beginnings.{Beginning, run_of};
 ghost use Rattle.kernel_core_facts.specs.kernel_invariant.Live.{IsCalm};
@@ -28,11 +28,11 @@ ghost use Rattle.kernel_core_facts.specs.kernel_record_facts.Cells.{words_on};
 ghost use Rattle.kernel_core_facts.specs.model_serial.Serial.{kept_behind, look, wished_snaps, written_in};
 
 use crate::owing::owes_stable;
-use crate::stepping::{Stepping, step_core};
+use crate::stepping::step_core;
 use base_types::{Entity, Entry};
 use edge_disk::{Disk, NoBlocks};
 use edge_managers::{Gate, Policy, Supplier};
-use kernel_core_facts::{Core, Stopped, settle, snap_written};
+use kernel_core_facts::{Core, Looked, Stopped, settle, snap_written};
 
 /// Behind a step: the Stable that it owes, or the Snaps of what it wrote whose wishes are open.
 fn keep_behind<D: Disk, S: Supplier, P: Policy>(
@@ -76,7 +76,7 @@ pub(crate) fn look_core<D: Disk, S: Supplier, P: Policy>(
     core: &mut Core<D>,
     me: Entity,
     gate: &Gate<S, P>,
-) -> Result<Stepping, Stopped>
+) -> Result<Looked, Stopped>
     requires keeps { S.keeps gate.now.supply }
     requires wishes { P.keeps gate.now.policy }
     requires steady { IsSteady D.Disk core.old }
@@ -101,14 +101,14 @@ pub(crate) fn look_core<D: Disk, S: Supplier, P: Policy>(
     ensures counts { CountsWithin D.Disk (1 + 64 * 1556) core.old.store core.new.store }
 {
     match step_core(core, me, gate) {
-        Ok(Stepping::Made(made)) => {
+        Ok(Looked::Made(made)) => {
             let owes = owes_stable(&made);
             match keep_behind(core, &made.entry, owes, gate) {
-                Ok(()) => Ok(Stepping::Made(made)),
+                Ok(()) => Ok(Looked::Made(made)),
                 Err(why) => Err(why),
             }
         }
-        Ok(Stepping::Idle(why)) => Ok(Stepping::Idle(why)),
+        Ok(Looked::Idle(why)) => Ok(Looked::Idle(why)),
         Err(why) => Err(why),
     }
 }

@@ -3,37 +3,14 @@ ghost use Rattle.std.specs.Prelude.{◌≡◌};
 ghost use Rattle.std.specs.Result.{result_err};
 ghost use Rattle.kernel_core_facts.specs.table_laws.Tables.{AreClean};
 ghost use Rattle.kernel_core_facts.specs.kernel_commit_facts.Steady.{IsSteady};
-ghost use Rattle.kernel_core.specs.Stepping.{StepsOnce, answer_by};
-ghost use Rattle.kernel_core_facts.specs.Stepping.{IsOfOpen, stop_by};
+ghost use Rattle.kernel_core.specs.Answering.{answer_by};
+ghost use Rattle.kernel_core_facts.specs.Looked.{StepsOnce};
 ghost use Rattle.kernel_core_facts.specs.kernel_record_facts.Cells.{words_on};
 
 use base_types::{Entity, Entry};
 use edge_disk::Disk;
 use edge_managers::{Gate, Policy, Supplier};
-use kernel_core_facts::{Core, Idle, Made, StepFault, Stop, Stopped, advance};
-use page_store::PageFault;
-
-/// What came of a step, or of a look.
-#[derive(Clone, Copy)]
-pub(crate) enum Stepping {
-    /// It was made.
-    Made(Made),
-    /// None was made: the locus can't step.
-    Idle(Idle),
-}
-
-/// Why a fault of paging stops the kernel. While it goes on its store works, and is not shut.
-fn page_stop(fault: PageFault) -> Stopped
-    requires { IsOfOpen fault }
-    ensures { result ≡ stop_by fault }
-{
-    match fault {
-        PageFault::NoBlocks(blocks) => Stopped::NoBlocks(blocks),
-        PageFault::ReadFault => Stopped::ReadFault,
-        PageFault::WriteFault => Stopped::WriteFault,
-        PageFault::Shut => unreachable!(),
-    }
-}
+use kernel_core_facts::{Core, Looked, StepFault, Stop, Stopped, advance, page_stop};
 
 /// One step of the locus with this number, with its entry noted; none where it can't step, and then why.
 ///
@@ -42,7 +19,7 @@ pub(crate) fn step_core<D: Disk, S: Supplier, P: Policy>(
     core: &mut Core<D>,
     me: Entity,
     gate: &Gate<S, P>,
-) -> Result<Stepping, Stopped>
+) -> Result<Looked, Stopped>
     requires keeps { S.keeps gate.now.supply }
     requires steady { IsSteady D.Disk core.old }
     requires clean { D.tells → AreClean (S.word gate.now.supply) (words_on (D.reading core.old.store.disk)) core.old.cells }
@@ -51,15 +28,15 @@ pub(crate) fn step_core<D: Disk, S: Supplier, P: Policy>(
     match advance(&mut core.cells, me, &mut core.store, gate) {
         Ok(made) => {
             core.notes.push_entry(made.entry);
-            Ok(Stepping::Made(made))
+            Ok(Looked::Made(made))
         }
-        Err(StepFault::Idle(why)) => Ok(Stepping::Idle(why)),
+        Err(StepFault::Idle(why)) => Ok(Looked::Idle(why)),
         Err(StepFault::Paging(fault)) => Err(page_stop(fault)),
     }
 }
 
 /// Why a look stopped the kernel, if it did.
-pub(crate) fn why_stopped(came: &Result<Stepping, Stopped>) -> Option<Stopped>
+pub(crate) fn why_stopped(came: &Result<Looked, Stopped>) -> Option<Stopped>
     ensures { result ≡ result_err came.now }
 {
     match came {
@@ -69,12 +46,12 @@ pub(crate) fn why_stopped(came: &Result<Stepping, Stopped>) -> Option<Stopped>
 }
 
 /// What a call of the kernel answers that came to this.
-pub(crate) fn answered(came: &Result<Stepping, Stopped>) -> Result<Entry, Stop>
+pub(crate) fn answered(came: &Result<Looked, Stopped>) -> Result<Entry, Stop>
     ensures { result ≡ answer_by came.now }
 {
     match came {
-        Ok(Stepping::Made(made)) => Ok(made.entry),
-        Ok(Stepping::Idle(why)) => Err(Stop::Idle(*why)),
+        Ok(Looked::Made(made)) => Ok(made.entry),
+        Ok(Looked::Idle(why)) => Err(Stop::Idle(*why)),
         Err(why) => Err(Stop::told(*why)),
     }
 }

@@ -1,5 +1,6 @@
 pub mod Bearing
 pub mod Kernels
+pub mod Looked
 pub mod Looking
 pub mod Stepping
 pub mod Births

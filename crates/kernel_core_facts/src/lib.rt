@@ -1,12 +1,14 @@
 //! Births and looks of the kernel in its run: what is made of each, what is kept behind it, and what stands where one was
-//! stopped. Beside one law no function stands here: `specs/` has the words, `proofs/` the lemmas.
+//! stopped. Beside a law, and why a fault of paging stops a kernel, no function stands here: `specs/` has the words, `proofs/` the lemmas.
 #![tactic(auto)]
 
 mod birth;
+mod looked;
 
 pub use birth::birth_law;
 pub use kernel_commits::{
     Core, Idle, Notes, OpenFault, OpenWhy, Stop, Stopped, Store, settle, snap_one, snap_written,
     told_of,
 };
+pub use looked::{Looked, page_stop};
 pub use table_births::{Cell, Made, Part, Progress, StepFault, advance, bear_next};

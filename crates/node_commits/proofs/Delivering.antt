@@ -14,18 +14,12 @@ use Rattle.kernel_block_laws.specs.kernel_invariant.Beginnings.{Beginning, IsLeg
 use Rattle.kernel_block_laws.specs.kernel_invariant.Records.{AreKeptRecords, IsKeptRecord, StoresCommits}
 use Rattle.kernel_block_laws.proofs.kernel_invariant_lemmas.Apart.{kept_apart, more_apart}
 use Rattle.kernel_block_laws.proofs.kernel_invariant_lemmas.Growing.{records_grow}
+use Rattle.kernel_block_laws.proofs.kernel_invariant_lemmas.Stretches.{leaves_map}
 use Rattle.store_facts.specs.Committed.{StoresKeptOrMore, StoresMoreInFreeBlocks}
 use Rattle.node_commits.specs.Deliveries.{IsShipped, KeepsCommits, StoresOneMore, one_table}
 
 one_at : (entity : ℕ) (table : List ℕ) (x : ℕ) → x ≡ entity → one_table entity table x ≡ table
 one_at entity table x is = (let t = eq-eqb x entity is in ap (λ b. if b then table else []) t)
-
-pub weaker : {D : Type 0} (disks : Ghosts D) (P Q : Image → Type 0) (a b : D) → ((c : Image) → P c → Q c) → LeavesOnly disks a b P → LeavesOnly disks a b Q
-weaker disks P Q a b f h = record {
-  later = h.later;
-  each = λ c left. f c (h.each c left);
-  before = λ t c le left. elim (h.before t c le left) as (λ _. disks.left_since a t c ⊎ Q c) [ inl k ↦ inl k | inr k ↦ inr (f c k) ];
-}
 
 -- an image that stores what is kept stores the commits
 pub kept_stored : (b : Beginning) (es : List Entry) (cs : List Commit) (image at : Image) (bk : Books) (tables : ℕ → List ℕ) → KeepsCommits b es cs image bk tables → Stores bk.count (kept_of image bk) at → StoresCommits b es bk.count cs at
@@ -60,6 +54,6 @@ pub delivered_moments : {D : Type 0} (disks : Ghosts D) (b : Beginning) (es : Li
     → LeavesOnly disks old new (StoresOneMore b es bk.count cs c)
 delivered_moments disks b es cs c old mid new bk fl m n entity version stamp blob table told right small working k pages kf s commit =
     LeavesOnly-join disks (StoresOneMore b es bk.count cs c) old mid new
-    (weaker disks (Stores bk.count (kept_of (disks.reading old) bk)) (StoresOneMore b es bk.count cs c) old mid (λ at st. inl (kept_stored b es cs (disks.reading old) at bk (λ x. []) k st)) (pages.moments told right small working))
-    (weaker disks (StoresKeptOrMore (disks.reading mid) fl entity version stamp blob table) (StoresOneMore b es bk.count cs c) mid new
+    (leaves_map disks old mid (Stores bk.count (kept_of (disks.reading old) bk)) (StoresOneMore b es bk.count cs c) (λ at st. inl (kept_stored b es cs (disks.reading old) at bk (λ x. []) k st)) (pages.moments told right small working))
+    (leaves_map disks mid new (StoresKeptOrMore (disks.reading mid) fl entity version stamp blob table) (StoresOneMore b es bk.count cs c)
     (λ at st. subst (λ (count : ℕ). StoresOneMore b es count cs c at) pages.same_count (delivered b es cs c (disks.reading mid) fl entity version stamp blob table kf s at st)) commit)

@@ -4,6 +4,7 @@ use Rattle.std.specs.Prelude.{All, slice_index}
 use Rattle.edge_disk.specs.declared.disk.Disk.{Ghosts}
 use Rattle.edge_disk.specs.Image.{Image}
 use Rattle.edge_disk.specs.Moments.{LeavesOnly}
+use Rattle.node_commits.proofs.kernel_invariant_lemmas.Stretches.{leaves_map}
 use Rattle.base_types.specs.declared.histories.Entry.{Entry}
 use Rattle.node_commits.specs.kernel_invariant.model_kernel.Choices.{Commit}
 use Rattle.node_commits.specs.kernel_invariant.Beginnings.{Beginning}
@@ -19,7 +20,7 @@ use Rattle.store_snapshots.specs.store_books.Between.{LeavesOnly-join}
 use Rattle.store_snapshots.specs.store_books.Books.{AreSmall, AreStored, AreTrue, IsNewKept, Logged, kept_for, kept_in, kept_of, recs_in}
 use Rattle.store_snapshots.specs.store_books.Owning.{AreOwned}
 use Rattle.node_commits.specs.Deliveries.{HasDelivered, IsShipped, KeepsCommits, StoresOneMore, one_table}
-use Rattle.node_commits.proofs.Delivering.{delivered_moments, kept_stored, weaker}
+use Rattle.node_commits.proofs.Delivering.{delivered_moments, kept_stored}
 use Rattle.node_commits.proofs.Standing.{delivered_books, same_kept_in}
 use Rattle.page_placing.specs.declared.writing.PageWords.{PageWords}
 use Rattle.page_placing.specs.Writing.{HasGivenBack}
@@ -36,7 +37,7 @@ module _ {D : Type 0} (disks : Ghosts D)
 
   -- where nothing was committed
   pub by_pages : (new : State D) → GoesByPages disks old new → LeavesOnly disks old.disk new.disk One
-  by_pages new go = weaker disks (Stores (books old).count (kept_of (disks.reading old.disk) (books old))) One old.disk new.disk
+  by_pages new go = leaves_map disks old.disk new.disk (Stores (books old).count (kept_of (disks.reading old.disk) (books old))) One
       (λ at st. inl (kept_stored b es cs (disks.reading old.disk) at (books old) (λ x. []) may.keeps st)) (go.only.moments t right may.small working)
 
   module _ (table : List ℕ) (mid : State D) (w : Placed disks pages table old mid) (go : GoesByPages disks old mid) (pool : HoldsPoolBlocks (books mid))
@@ -144,7 +145,7 @@ module _ {D : Type 0} (disks : Ghosts D)
 
         pub by_all : LeavesOnly disks old.disk given.disk One
         by_all = LeavesOnly-join disks One old.disk put.disk given.disk by_commit
-            (weaker disks (Stores (books put).count (kept_of (disks.reading put.disk) (books put))) One put.disk given.disk one_more (back.only.moments t true_put small_put shut_put))
+            (leaves_map disks put.disk given.disk (Stores (books put).count (kept_of (disks.reading put.disk) (books put))) One one_more (back.only.moments t true_put small_put shut_put))
 
 -- WHAT IS IN MEMORY behind all of it
 pub takes_record : {D : Type 0} (disks : Ghosts D) (pages : List PageWords) (table : List ℕ) (old mid put given : State D) (entity version blob_length : ℕ) (stamp : List ℕ) → Placed disks pages table old mid → GoesByPages disks old mid

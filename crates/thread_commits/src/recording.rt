@@ -1,21 +1,19 @@
 // One record of a lent cell.
 ghost use Rattle.std.specs.Prelude.{◌≡◌, ◌↔◌, ◌<◌, false, Some, IsErrOf, OnErr, OnOk, length, slice_get, slice_set};
-ghost use Rattle.base_types.specs.declared.histories.Event.TheVariants as AnEvent;
-ghost use Rattle.kernel_commit_facts.specs.model_kernel.Histories.{mark};
 ghost use Rattle.kernel_commit_facts.specs.cell_blobs.Blobs.{is_recorded};
 ghost use Rattle.kernel_commit_facts.specs.cell_states.declared.cells.Cell.{Cell as ACell};
 ghost use Rattle.kernel_commit_facts.specs.Lacking.{LacksBlocks};
 ghost use Rattle.kernel_commit_facts.specs.Parts.{parts_of};
-ghost use Rattle.kernel_commit_facts.specs.Recording.{CanRecord, HasMade, HasNotMade, HasRecorded, IsShort, MayRecord, with_fault};
+ghost use Rattle.kernel_commit_facts.specs.Recording.{CanRecord, HasMade, HasNotMade, HasRecorded, IsShort, MayRecord};
 ghost use Rattle.kernel_commit_facts.specs.kernel_invariant.Beginnings.{Beginning, run_of};
 ghost use Rattle.kernel_commit_facts.specs.kernel_records.Committing.{CellFaults, CommitCounts};
-ghost use Rattle.kernel_commits.specs.Recording.{Fails, GoesOnBy, IsOfCommit, why_of};
+ghost use Rattle.kernel_commits.specs.Recording.{Fails, GoesOnBy};
 
 use base_bytes::Blob;
 use base_types::{Entity, Entry, Event};
 use edge_disk::{Disk, NoBlocks};
 use kernel_commit_facts::{Cell, Store, StoreFault, commit_cell, mark_entry};
-use kernel_commits::{Notes, Stopped};
+use kernel_commits::{Notes, Stopped, note_fault};
 use thread_cells::{LockedCell, tell};
 use thread_history::Run;
 use thread_ties::{Authority, Bond};
@@ -44,23 +42,6 @@ pub fn commit_lent<D: Disk, B: Bond<Cell> + Run<Entry>>(
     let made = commit_cell(&mut cell.cell, store, blob);
     tell(all, &mut cell.fragment, &cell.cell);
     made
-}
-
-/// Why a fault of a commit stops the kernel. Where a write failed, its Tried is noted.
-fn note_fault(notes: &mut Notes, entity: Entity, version: u64, fault: StoreFault) -> Stopped
-    requires room { length notes.old.entries < notes.old.room }
-    requires kind { IsOfCommit fault }
-    ensures why { result ≡ why_of fault }
-    ensures noted { notes.new ≡ with_fault fault (mark AnEvent.Tried entity version) notes.old }
-{
-    match fault {
-        StoreFault::NoBlocks(blocks) => Stopped::NoBlocks(blocks),
-        StoreFault::WriteFault => {
-            notes.push_entry(mark_entry(Event::Tried, entity, version));
-            Stopped::WriteFault
-        }
-        StoreFault::ReadFault | StoreFault::Shut => unreachable!(),
-    }
 }
 
 /// Whose the lent cell is, and at which version.

@@ -27,9 +27,9 @@ use Rattle.kernel_core_facts.proofs.LookMade.{free_then, lacks_behind_step, look
 use Rattle.kernel_core.proofs.LookMade.{rose_at, rose_behind, step_untried}
 use Rattle.thread_commits.specs.Snapping.{SnapsWritten}
 use Rattle.thread_looks.specs.Looking.{LooksAsSerial}
-use Rattle.thread_looks.specs.Making.{MakesStep}
-use Rattle.thread_looks.specs.declared.noting.Looked.{Looked}
-use Rattle.thread_looks.specs.declared.noting.Looked.TheVariants.{Idle, Made}
+use Rattle.kernel_core_facts.specs.Looked.{StepsOnce}
+use Rattle.kernel_core_facts.specs.declared.looked.Looked.{Looked}
+use Rattle.kernel_core_facts.specs.declared.looked.Looked.TheVariants.{Idle, Made}
 
 abbrev ok_look : Looked → Result Looked Stopped
 ok_look o = Ok o
@@ -65,7 +65,7 @@ tries_behind reason.WriteFault old mid new first more = tt
 
 module _ {D : Type 0} (disks : Ghosts D) (supply : Supply) (policy : Policy) (me : ℕ) (old mid : Parts D) where
   -- NONE WAS MADE
-  pub look_idle : (why : AnIdle) → IsSteady disks old → MakesStep disks supply me old mid (Ok (Idle why)) → LooksAsSerial disks supply policy me old mid (Ok (Idle why))
+  pub look_idle : (why : AnIdle) → IsSteady disks old → StepsOnce disks supply me old mid (Ok (Idle why)) → LooksAsSerial disks supply policy me old mid (Ok (Idle why))
   look_idle why steady step = record {
     idle = step.idle;
     still = step.still;
@@ -83,7 +83,7 @@ module _ {D : Type 0} (disks : Ghosts D) (supply : Supply) (policy : Policy) (me
   }
 
   -- IT STOPPED AT ITS STEP
-  pub look_failed : (why : Stopped) → MakesStep disks supply me old mid (Err why) → LooksAsSerial disks supply policy me old mid (Err why)
+  pub look_failed : (why : Stopped) → StepsOnce disks supply me old mid (Err why) → LooksAsSerial disks supply policy me old mid (Err why)
   look_failed why step = record {
     idle = step.idle;
     still = step.still;
@@ -100,7 +100,7 @@ module _ {D : Type 0} (disks : Ghosts D) (supply : Supply) (policy : Policy) (me
   }
 
   -- A STEP WAS MADE that owes no Stable
-  module _ (m : Step) (step : MakesStep disks supply me old mid (Ok (Made m))) (free : is_owing m.instr m.entry.answer ≡ false) (new : Parts D) where
+  module _ (m : Step) (step : StepsOnce disks supply me old mid (Ok (Made m))) (free : is_owing m.instr m.entry.answer ≡ false) (new : Parts D) where
     module _ (r : Result ⊤ Stopped) (snaps : SnapsWritten disks policy (written_in m.entry.touched) r mid new) (b : Beginning) (told : disks.tells) (same_supply : b.supply ≡ supply) (same_policy : b.policy ≡ policy)
         (stands : StandsAs disks b old) (calm : IsCalm b old.noted.entries) where
       owes : (run_of b mid.noted.entries).owed ≡ None

@@ -5,9 +5,10 @@ use Rattle.kernel_core_facts.specs.table_steps.declared.stepping.Made.{Made as S
 use Rattle.kernel_core_facts.specs.table_steps.declared.stepping.StepFault.{StepFault}
 use Rattle.kernel_core_facts.specs.table_steps.declared.stepping.StepFault.TheVariants.{Idle as IdleStep, Paging}
 use Rattle.kernel_core_facts.specs.kernel_invariant.declared.stopping.Stopped.{Stopped}
-use Rattle.thread_looks.specs.Making.{IfMade, looked_by}
-use Rattle.thread_looks.specs.declared.noting.Looked.{Looked}
-use Rattle.thread_looks.specs.declared.noting.Looked.TheVariants.{Idle, Made}
+use Rattle.kernel_core_facts.specs.Looked.{IfMade}
+use Rattle.thread_looks.specs.Making.{looked_by}
+use Rattle.kernel_core_facts.specs.declared.looked.Looked.{Looked}
+use Rattle.kernel_core_facts.specs.declared.looked.Looked.TheVariants.{Idle, Made}
 
 abbrev pub ok_look : Looked → Result Looked Stopped
 ok_look o = Ok o

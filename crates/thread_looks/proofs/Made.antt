@@ -25,10 +25,11 @@ use Rattle.kernel_core_facts.proofs.kernel_commits_lemmas.Wishing.{err_over}
 use Rattle.kernel_core.proofs.Answered.{no_fault, no_idle, no_paging}
 use Rattle.kernel_core.proofs.Stepped.{once_failed, once_idle, once_made, open_fault}
 use Rattle.thread_cell_steps.specs.Advancing.{HasAdvanced}
-use Rattle.thread_looks.specs.Making.{IsOpenly, MakesStep, looked_by, noted_by}
+use Rattle.kernel_core_facts.specs.Looked.{StepsOnce}
+use Rattle.thread_looks.specs.Making.{IsOpenly, looked_by, noted_by}
 use Rattle.thread_looks.specs.Stores.{pages_of}
-use Rattle.thread_looks.specs.declared.noting.Looked.{Looked}
-use Rattle.thread_looks.specs.declared.noting.Looked.TheVariants.{Idle as IdleFor}
+use Rattle.kernel_core_facts.specs.declared.looked.Looked.{Looked}
+use Rattle.kernel_core_facts.specs.declared.looked.Looked.TheVariants.{Idle as IdleFor}
 
 abbrev ok_looked : Looked → Result Looked Stopped
 ok_looked o = Ok o
@@ -59,7 +60,7 @@ module _ {D : Type 0} (disks : Ghosts D)
   openly (Err (Idle why)) a = tt
   openly (Err (Paging f)) a = open_fault disks counts_later only_now s me cs cs' st st' noted k (left (Err (Paging f)) a) (clean_after (Err (Paging f)) a) (Paging f) f refl a.cause
 
-  pub makes : (came : Result Step StepFault) → HasAdvanced (pages_of disks) s me cs cs' st st' came → MakesStep disks s me (parts_of st cs noted) (parts_of st' cs' (noted_by came noted)) (looked_by came)
+  pub makes : (came : Result Step StepFault) → HasAdvanced (pages_of disks) s me cs cs' st st' came → StepsOnce disks s me (parts_of st cs noted) (parts_of st' cs' (noted_by came noted)) (looked_by came)
   makes (Ok m) a =
       let once = once_made disks counts_later only_now s me cs cs' st st' noted k (left (Ok m) a) (clean_after (Ok m) a) m a.idle a.no_blocks a.enters a.instr a.same_shut
       (λ b told same working. steps_over disks s me cs cs' st st' k.sound.matches.orderly a.orderly a.between a.one_write a.news b same working (Ok m) (a.idle s (words_on (disks.reading st.disk)) Absent) (a.step told) a.enters a.same_shut) in

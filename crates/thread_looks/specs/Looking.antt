@@ -27,9 +27,9 @@ use Rattle.kernel_core_facts.specs.kernel_invariant.declared.stopping.Stopped.{S
 use Rattle.kernel_core_facts.specs.kernel_invariant.declared.stopping.Stopped.TheVariants as reason
 use Rattle.kernel_core_facts.specs.Looking.{LooksInRun, LooksOnce, StopsWhere}
 use Rattle.kernel_core_facts.specs.Stepping.{idle_at}
-use Rattle.thread_looks.specs.declared.noting.Looked.{Looked}
-use Rattle.thread_looks.specs.declared.noting.Looked.TheVariants.{Idle as IdleFor}
-use Rattle.thread_looks.specs.Making.{IfMade}
+use Rattle.kernel_core_facts.specs.declared.looked.Looked.{Looked}
+use Rattle.kernel_core_facts.specs.declared.looked.Looked.TheVariants.{Idle as IdleFor}
+use Rattle.kernel_core_facts.specs.Looked.{IfMade}
 
 -- THE NEXT STEP of the locus is one that owes a Stable where it is answered Ok
 pub record WantsStable (cs : List Cell) (me : ℕ) : Type 0 where

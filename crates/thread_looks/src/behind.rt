@@ -7,15 +7,14 @@ ghost use Rattle.kernel_core_facts.specs.Stepping.{is_owing};
 ghost use Rattle.thread_commits.specs.Lent.{OthersStay};
 ghost use Rattle.thread_commits.specs.Snapping.{WritesAmong};
 ghost use Rattle.thread_looks.specs.Looking.{LooksAsSerial};
-ghost use Rattle.thread_looks.specs.Making.{IfMade, MakesStep};
-ghost use Rattle.thread_looks.specs.declared.noting.Looked.TheVariants as ALooked;
+ghost use Rattle.kernel_core_facts.specs.Looked.{IfMade, StepsOnce};
+ghost use Rattle.kernel_core_facts.specs.declared.looked.Looked.TheVariants as ALooked;
 
-use crate::noting::Looked;
 use base_bytes::Blob;
 use base_types::Entry;
 use edge_disk::Disk;
 use edge_managers::{Gate, Policy, Supplier};
-use kernel_core_facts::{Cell, Notes, Stopped, Store};
+use kernel_core_facts::{Cell, Looked, Notes, Stopped, Store};
 use thread_cells::LockedCell;
 use thread_commits::{snap_touched_one, snap_touched_three, snap_touched_two};
 use thread_history::Run;
@@ -37,7 +36,7 @@ pub(crate) fn snap_behind_one<D: Disk, B: Bond<Cell> + Run<Entry>, S: Supplier, 
     ensures others { OthersStay (locus.old.number ∷ []) all.old all.new }
     ensures locus { (locus.new.number ≡ locus.old.number) × (locus.new.known ≡ locus.old.known) }
     ensures same { IfOk result (λ o. IfMade o (λ m. came ≡ Ok (ALooked.Made m))) }
-    ensures looks { (supply : Supply) (me : ℕ) (old : Parts D) → IsSteady D.Disk old → MakesStep D.Disk supply me old (parts_of store.old all.old notes.old) came
+    ensures looks { (supply : Supply) (me : ℕ) (old : Parts D) → IsSteady D.Disk old → StepsOnce D.Disk supply me old (parts_of store.old all.old notes.old) came
         → IfOk came (λ o. IfMade o (λ m. is_owing m.instr m.entry.answer ≡ false)) → LooksAsSerial D.Disk supply (P.wish gate.now.policy) me old (parts_of store.new all.new notes.new) result }
 {
     match came {
@@ -78,7 +77,7 @@ pub(crate) fn snap_behind_two<D: Disk, B: Bond<Cell> + Run<Entry>, S: Supplier, 
     ensures locus { (locus.new.number ≡ locus.old.number) × (locus.new.known ≡ locus.old.known) }
     ensures other { (other.new.number ≡ other.old.number) × (other.new.known ≡ other.old.known) }
     ensures same { IfOk result (λ o. IfMade o (λ m. came ≡ Ok (ALooked.Made m))) }
-    ensures looks { (supply : Supply) (me : ℕ) (old : Parts D) → IsSteady D.Disk old → MakesStep D.Disk supply me old (parts_of store.old all.old notes.old) came
+    ensures looks { (supply : Supply) (me : ℕ) (old : Parts D) → IsSteady D.Disk old → StepsOnce D.Disk supply me old (parts_of store.old all.old notes.old) came
         → IfOk came (λ o. IfMade o (λ m. is_owing m.instr m.entry.answer ≡ false)) → LooksAsSerial D.Disk supply (P.wish gate.now.policy) me old (parts_of store.new all.new notes.new) result }
 {
     match came {
@@ -122,7 +121,7 @@ pub(crate) fn snap_behind_three<D: Disk, B: Bond<Cell> + Run<Entry>, S: Supplier
     ensures atlas { (atlas.new.number ≡ atlas.old.number) × (atlas.new.known ≡ atlas.old.known) }
     ensures other { (other.new.number ≡ other.old.number) × (other.new.known ≡ other.old.known) }
     ensures same { IfOk result (λ o. IfMade o (λ m. came ≡ Ok (ALooked.Made m))) }
-    ensures looks { (supply : Supply) (me : ℕ) (old : Parts D) → IsSteady D.Disk old → MakesStep D.Disk supply me old (parts_of store.old all.old notes.old) came
+    ensures looks { (supply : Supply) (me : ℕ) (old : Parts D) → IsSteady D.Disk old → StepsOnce D.Disk supply me old (parts_of store.old all.old notes.old) came
         → IfOk came (λ o. IfMade o (λ m. is_owing m.instr m.entry.answer ≡ false)) → LooksAsSerial D.Disk supply (P.wish gate.now.policy) me old (parts_of store.new all.new notes.new) result }
 {
     match came {

@@ -7,6 +7,6 @@ mod looking;
 mod making;
 mod noting;
 
+pub use kernel_core_facts::Looked;
 pub use looking::{look_one, look_three, look_two};
 pub use making::{make_one, make_three, make_two};
-pub use noting::Looked;

@@ -8,16 +8,15 @@ ghost use Rattle.kernel_core_facts.specs.kernel_commit_facts.Steady.{IsSteady};
 ghost use Rattle.thread_cell_steps.specs.Advancing.{TouchesThese, WantsOthers};
 ghost use Rattle.thread_commits.specs.Lent.{OthersStay};
 ghost use Rattle.thread_looks.specs.Looking.{LooksAsSerial, WantsStable};
-ghost use Rattle.thread_looks.specs.Making.{IfMade};
+ghost use Rattle.kernel_core_facts.specs.Looked.{IfMade};
 
 use crate::behind::{snap_behind_one, snap_behind_three, snap_behind_two};
 use crate::making::{make_one, make_three, make_two};
-use crate::noting::Looked;
 use base_bytes::Blob;
 use base_types::{Entry, Instr};
 use edge_disk::Disk;
 use edge_managers::{Gate, Policy, Supplier};
-use kernel_core_facts::{Cell, Notes, Stopped, Store};
+use kernel_core_facts::{Cell, Looked, Notes, Stopped, Store};
 use thread_cell_steps::plan_lent;
 use thread_cells::LockedCell;
 use thread_history::Run;

@@ -5,13 +5,13 @@ ghost use Rattle.kernel_core_facts.specs.kernel_record_facts.Cells.{words_on};
 ghost use Rattle.kernel_core_facts.specs.kernel_commit_facts.Parts.{parts_of};
 ghost use Rattle.kernel_core_facts.specs.kernel_commit_facts.Steady.{IsSteady};
 ghost use Rattle.thread_cell_steps.specs.Advancing.{TouchesThese, WantsOthers};
-ghost use Rattle.thread_looks.specs.Making.{IfMade, MakesStep};
+ghost use Rattle.kernel_core_facts.specs.Looked.{IfMade, StepsOnce};
 
-use crate::noting::{Looked, note_came};
+use crate::noting::note_came;
 use base_types::Entry;
 use edge_disk::Disk;
 use edge_managers::{Gate, Policy, Supplier};
-use kernel_core_facts::{Cell, Notes, Stopped, Store};
+use kernel_core_facts::{Cell, Looked, Notes, Stopped, Store};
 use thread_cell_steps::{step_one, step_three, step_two};
 use thread_cells::LockedCell;
 use thread_history::Run;
@@ -34,7 +34,7 @@ pub fn make_one<D: Disk, B: Bond<Cell> + Run<Entry>, S: Supplier, P: Policy>(
     ensures locus { (locus.new.number ≡ locus.old.number) × (locus.new.known ≡ locus.old.known) }
     ensures unfit { (result ≡ None) ↔ WantsOthers all.old locus.old.number [] }
     ensures undone { result ≡ None → parts_of store.new all.new notes.new ≡ parts_of store.old all.old notes.old }
-    ensures makes { IfSome result (MakesStep D.Disk (S.word gate.now.supply) locus.old.number (parts_of store.old all.old notes.old) (parts_of store.new all.new notes.new)) }
+    ensures makes { IfSome result (StepsOnce D.Disk (S.word gate.now.supply) locus.old.number (parts_of store.old all.old notes.old) (parts_of store.new all.new notes.new)) }
     ensures touches { IfSome result (λ came. IfOk came (λ o. IfMade o (TouchesThese all.old locus.old.number []))) }
 {
     match step_one(all, locus, store, gate) {
@@ -62,7 +62,7 @@ pub fn make_two<D: Disk, B: Bond<Cell> + Run<Entry>, S: Supplier, P: Policy>(
     ensures other { (other.new.number ≡ other.old.number) × (other.new.known ≡ other.old.known) }
     ensures unfit { (result ≡ None) ↔ WantsOthers all.old locus.old.number (other.old.number ∷ []) }
     ensures undone { result ≡ None → parts_of store.new all.new notes.new ≡ parts_of store.old all.old notes.old }
-    ensures makes { IfSome result (MakesStep D.Disk (S.word gate.now.supply) locus.old.number (parts_of store.old all.old notes.old) (parts_of store.new all.new notes.new)) }
+    ensures makes { IfSome result (StepsOnce D.Disk (S.word gate.now.supply) locus.old.number (parts_of store.old all.old notes.old) (parts_of store.new all.new notes.new)) }
     ensures touches { IfSome result (λ came. IfOk came (λ o. IfMade o (TouchesThese all.old locus.old.number (other.old.number ∷ [])))) }
 {
     match step_two(all, locus, other, store, gate) {
@@ -93,7 +93,7 @@ pub fn make_three<D: Disk, B: Bond<Cell> + Run<Entry>, S: Supplier, P: Policy>(
     ensures other { (other.new.number ≡ other.old.number) × (other.new.known ≡ other.old.known) }
     ensures unfit { (result ≡ None) ↔ WantsOthers all.old locus.old.number (atlas.old.number ∷ other.old.number ∷ []) }
     ensures undone { result ≡ None → parts_of store.new all.new notes.new ≡ parts_of store.old all.old notes.old }
-    ensures makes { IfSome result (MakesStep D.Disk (S.word gate.now.supply) locus.old.number (parts_of store.old all.old notes.old) (parts_of store.new all.new notes.new)) }
+    ensures makes { IfSome result (StepsOnce D.Disk (S.word gate.now.supply) locus.old.number (parts_of store.old all.old notes.old) (parts_of store.new all.new notes.new)) }
     ensures touches { IfSome result (λ came. IfOk came (λ o. IfMade o (TouchesThese all.old locus.old.number (atlas.old.number ∷ other.old.number ∷ [])))) }
 {
     match step_three(all, locus, atlas, other, store, gate) {

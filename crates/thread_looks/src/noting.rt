@@ -1,32 +1,8 @@
 //! What came of a step, noted.
-ghost use Rattle.std.specs.Prelude.{◌≡◌, ◌<◌, IfErr, length};
-ghost use Rattle.kernel_core_facts.specs.Stepping.{IsOfOpen, stop_by};
+ghost use Rattle.std.specs.Prelude.{◌≡◌, ◌<◌, length};
 ghost use Rattle.thread_looks.specs.Making.{looked_by, noted_by, IsOpenly};
 
-use kernel_core_facts::{Idle, Made, Notes, StepFault, Stopped};
-use page_store::PageFault;
-
-/// What came of a look at a locus.
-#[derive(Clone, Copy, PartialEq, Eq, Debug)]
-pub enum Looked {
-    /// A step was made.
-    Made(Made),
-    /// None was: the locus can't step.
-    Idle(Idle),
-}
-
-/// Why a fault of paging stops the kernel. While it goes on its store works, and is not shut.
-fn page_stop(fault: PageFault) -> Stopped
-    requires { IsOfOpen fault }
-    ensures { result ≡ stop_by fault }
-{
-    match fault {
-        PageFault::NoBlocks(blocks) => Stopped::NoBlocks(blocks),
-        PageFault::ReadFault => Stopped::ReadFault,
-        PageFault::WriteFault => Stopped::WriteFault,
-        PageFault::Shut => unreachable!(),
-    }
-}
+use kernel_core_facts::{Looked, Made, Notes, StepFault, Stopped, page_stop};
 
 /// Notes the entry of a step that was made.
 pub(crate) fn note_came(notes: &mut Notes, came: Result<Made, StepFault>) -> Result<Looked, Stopped>

@@ -1,13 +1,13 @@
 use Rattle.std.proofs.Common.{◌≡◌, ◌*◌, inl, inr, Some, None, Ok, sym, ap, subst, refl, ◌∙◌, if◌then◌else◌}
 use Rattle.std.specs.Prelude.{⊤}
 use Rattle.kernel_core_facts.specs.Looking.{LooksInRun}
-use Rattle.kernel_core.specs.declared.stepping.Stepping.{Stepping}
-use Rattle.kernel_core.specs.declared.stepping.Stepping.TheVariants.{Idle, Made}
+use Rattle.kernel_core_facts.specs.declared.looked.Looked.{Looked}
+use Rattle.kernel_core_facts.specs.declared.looked.Looked.TheVariants.{Idle, Made}
 use Rattle.kernel_core_facts.specs.kernel_commit_facts.Parts.{Noted, Parts}
 use Rattle.kernel_core_facts.specs.kernel_commit_facts.Short.{AreShortBehind}
 use Rattle.kernel_core_facts.specs.kernel_commits.Stops.{LeavesStopped}
 use Rattle.kernel_core_facts.specs.model_serial.Serial.{written_in}
-use Rattle.kernel_core.specs.Stepping.{StepsOnce}
+use Rattle.kernel_core_facts.specs.Looked.{StepsOnce}
 use Rattle.kernel_core_facts.specs.Stepping.{idle_at}
 use Rattle.kernel_core_facts.specs.kernel_invariant.declared.stopping.Stopped.TheVariants as reason
 use Rattle.kernel_core_facts.proofs.kernel_commits_lemmas.Telling.{adds_none, adds_then}
@@ -20,7 +20,7 @@ use Rattle.kernel_core.proofs.looking.look_core.Goals as goal
 pub returns-in-Ok-clause-run : goal.returns-in-Ok-clause-run
 returns-in-Ok-clause-run g c = λ told b same policy stands calm.
     let d = g.D.Disk in
-    let once = subst (λ (o : Stepping). StepsOnce d (g.S.Supplier.word c.args.gate.now.supply) c.args.me c.args.core.now c.step_core.new.core (Ok o)) c.in-Ok-Made.field-0-is c.in-Ok-Made.ensures in
+    let once = subst (λ (o : Looked). StepsOnce d (g.S.Supplier.word c.args.gate.now.supply) c.args.me c.args.core.now c.step_core.new.core (Ok o)) c.in-Ok-Made.field-0-is c.in-Ok-Made.ensures in
     let run = once.run told b same stands calm in
     let owed = owes_is d b (g.P.Policy.wish c.args.gate.now.policy) policy c.args.me c.args.core.now stands calm c.step_core.new.core c.in-Ok-Made.made.entry once.made run c.in-Ok-Made.made.instr once.next in
     ok_stepped d b (g.P.Policy.wish c.args.gate.now.policy) policy c.args.me c.args.core.now stands calm c.keep_behind.result c.in-Ok.field-0 c.in-Ok-Made.made c.keep_behind.new.core c.in-Ok.is
@@ -31,7 +31,7 @@ returns-in-Ok-clause-run g c = λ told b same policy stands calm.
 pub returns-in-Err-keep_behind-clause-run : goal.returns-in-Err-keep_behind-clause-run
 returns-in-Err-keep_behind-clause-run g c = λ told b same policy stands calm.
     let d = g.D.Disk in
-    let once = subst (λ (o : Stepping). StepsOnce d (g.S.Supplier.word c.args.gate.now.supply) c.args.me c.args.core.now c.step_core.new.core (Ok o)) c.in-Ok-Made.field-0-is c.in-Ok-Made.ensures in
+    let once = subst (λ (o : Looked). StepsOnce d (g.S.Supplier.word c.args.gate.now.supply) c.args.me c.args.core.now c.step_core.new.core (Ok o)) c.in-Ok-Made.field-0-is c.in-Ok-Made.ensures in
     let run = once.run told b same stands calm in
     let owed = owes_is d b (g.P.Policy.wish c.args.gate.now.policy) policy c.args.me c.args.core.now stands calm c.step_core.new.core c.in-Ok-Made.made.entry once.made run c.in-Ok-Made.made.instr once.next in
     err_stepped d b (g.P.Policy.wish c.args.gate.now.policy) policy c.args.me c.args.core.now stands calm c.keep_behind.result c.in-Err-keep_behind.why c.keep_behind.new.core c.in-Err-keep_behind.is
@@ -42,7 +42,7 @@ returns-in-Err-keep_behind-clause-run g c = λ told b same policy stands calm.
 pub returns-in-Ok-Idle-clause-run : goal.returns-in-Ok-Idle-clause-run
 returns-in-Ok-Idle-clause-run g c = λ told b same policy stands calm.
     let d = g.D.Disk in
-    let once = subst (λ (o : Stepping). StepsOnce d (g.S.Supplier.word c.args.gate.now.supply) c.args.me c.args.core.now c.step_core.new.core (Ok o)) c.in-Ok-Idle.field-0-is c.in-Ok-Idle.ensures in
+    let once = subst (λ (o : Looked). StepsOnce d (g.S.Supplier.word c.args.gate.now.supply) c.args.me c.args.core.now c.step_core.new.core (Ok o)) c.in-Ok-Idle.field-0-is c.in-Ok-Idle.ensures in
     subst (λ (p : Parts g.row.D.Denot). LooksInRun d b (g.P.Policy.wish c.args.gate.now.policy) c.args.me (ok_look (Idle c.in-Ok-Idle.why)) c.args.core.now p) (sym (once.still c.in-Ok-Idle.why refl))
     (look_still d b (g.P.Policy.wish c.args.gate.now.policy) policy c.args.me c.args.core.now stands calm (once.run told b same stands calm) (ok_look (Idle c.in-Ok-Idle.why)) (Idle c.in-Ok-Idle.why) refl)
 
@@ -51,13 +51,13 @@ returns-in-Ok-Idle-clause-run g c = λ told b same policy stands calm.
 pub returns-in-Ok-clause-stopped : goal.returns-in-Ok-clause-stopped
 returns-in-Ok-clause-stopped g c =
     let d = g.D.Disk in
-    let once = subst (λ (o : Stepping). StepsOnce d (g.S.Supplier.word c.args.gate.now.supply) c.args.me c.args.core.now c.step_core.new.core (Ok o)) c.in-Ok-Made.field-0-is c.in-Ok-Made.ensures in
+    let once = subst (λ (o : Looked). StepsOnce d (g.S.Supplier.word c.args.gate.now.supply) c.args.me c.args.core.now c.step_core.new.core (Ok o)) c.in-Ok-Made.field-0-is c.in-Ok-Made.ensures in
     record { stopped = tt; wanting = λ n wants. never_wanting (Made c.in-Ok-Made.made) n ((once.short n).1 wants) }
 
 pub returns-in-Ok-Idle-clause-stopped : goal.returns-in-Ok-Idle-clause-stopped
 returns-in-Ok-Idle-clause-stopped g c =
     let d = g.D.Disk in
-    let once = subst (λ (o : Stepping). StepsOnce d (g.S.Supplier.word c.args.gate.now.supply) c.args.me c.args.core.now c.step_core.new.core (Ok o)) c.in-Ok-Idle.field-0-is c.in-Ok-Idle.ensures in
+    let once = subst (λ (o : Looked). StepsOnce d (g.S.Supplier.word c.args.gate.now.supply) c.args.me c.args.core.now c.step_core.new.core (Ok o)) c.in-Ok-Idle.field-0-is c.in-Ok-Idle.ensures in
     record { stopped = tt; wanting = λ n wants. never_wanting (Idle c.in-Ok-Idle.why) n ((once.short n).1 wants) }
 
 pub returns-in-Err-clause-stopped : goal.returns-in-Err-clause-stopped
@@ -67,7 +67,7 @@ returns-in-Err-clause-stopped g c =
 pub returns-in-Err-keep_behind-clause-stopped : goal.returns-in-Err-keep_behind-clause-stopped
 returns-in-Err-keep_behind-clause-stopped g c =
     let d = g.D.Disk in
-    let once = subst (λ (o : Stepping). StepsOnce d (g.S.Supplier.word c.args.gate.now.supply) c.args.me c.args.core.now c.step_core.new.core (Ok o)) c.in-Ok-Made.field-0-is c.in-Ok-Made.ensures in
+    let once = subst (λ (o : Looked). StepsOnce d (g.S.Supplier.word c.args.gate.now.supply) c.args.me c.args.core.now c.step_core.new.core (Ok o)) c.in-Ok-Made.field-0-is c.in-Ok-Made.ensures in
     let made = c.in-Ok-Made.made in
     let new = c.keep_behind.new.core in
     record {
@@ -87,7 +87,7 @@ returns-in-Err-keep_behind-clause-stopped g c =
 pub returns-in-Err-keep_behind-clause-part : goal.returns-in-Err-keep_behind-clause-part
 returns-in-Err-keep_behind-clause-part g c = λ told b same policy stands calm.
     let d = g.D.Disk in
-    let once = subst (λ (o : Stepping). StepsOnce d (g.S.Supplier.word c.args.gate.now.supply) c.args.me c.args.core.now c.step_core.new.core (Ok o)) c.in-Ok-Made.field-0-is c.in-Ok-Made.ensures in
+    let once = subst (λ (o : Looked). StepsOnce d (g.S.Supplier.word c.args.gate.now.supply) c.args.me c.args.core.now c.step_core.new.core (Ok o)) c.in-Ok-Made.field-0-is c.in-Ok-Made.ensures in
     let run = once.run told b same stands calm in
     let owed = owes_is d b (g.P.Policy.wish c.args.gate.now.policy) policy c.args.me c.args.core.now stands calm c.step_core.new.core c.in-Ok-Made.made.entry once.made run c.in-Ok-Made.made.instr once.next in
     part_behind_step d b (g.P.Policy.wish c.args.gate.now.policy) policy c.args.me c.args.core.now stands calm c.step_core.new.core c.in-Ok-Made.made.entry once.made run
@@ -110,7 +110,7 @@ returns-in-Err-keep_behind-clause-counts g c =
 pub returns-in-Err-keep_behind-clause-enough : goal.returns-in-Err-keep_behind-clause-enough
 returns-in-Err-keep_behind-clause-enough g c = λ told b same policy stands calm n is.
     let d = g.D.Disk in
-    let once = subst (λ (o : Stepping). StepsOnce d (g.S.Supplier.word c.args.gate.now.supply) c.args.me c.args.core.now c.step_core.new.core (Ok o)) c.in-Ok-Made.field-0-is c.in-Ok-Made.ensures in
+    let once = subst (λ (o : Looked). StepsOnce d (g.S.Supplier.word c.args.gate.now.supply) c.args.me c.args.core.now c.step_core.new.core (Ok o)) c.in-Ok-Made.field-0-is c.in-Ok-Made.ensures in
     let run = once.run told b same stands calm in
     let owed = owes_is d b (g.P.Policy.wish c.args.gate.now.policy) policy c.args.me c.args.core.now stands calm c.step_core.new.core c.in-Ok-Made.made.entry once.made run c.in-Ok-Made.made.instr once.next in
     let owes = owed ∙ ap (λ t. if t then Some c.args.me else None) (sym c.owes_stable-owes.ensures) in
@@ -118,7 +118,7 @@ returns-in-Err-keep_behind-clause-enough g c = λ told b same policy stands calm
     (c.in-Err-keep_behind.ensures.enough told b
     (owes_then d b (g.P.Policy.wish c.args.gate.now.policy) policy c.args.me c.args.core.now stands calm c.step_core.new.core c.in-Ok-Made.made.entry once.made run c.owes_stable-owes.result owes)
     (free_then d b (g.P.Policy.wish c.args.gate.now.policy) policy c.args.me c.args.core.now stands calm c.step_core.new.core c.in-Ok-Made.made.entry once.made run c.owes_stable-owes.result owes)
-    n (err_over Stepping ⊤ c.in-Err-keep_behind.why (reason.NoBlocks n) is))
+    n (err_over Looked ⊤ c.in-Err-keep_behind.why (reason.NoBlocks n) is))
 
 pub returns-in-Err-clause-enough : goal.returns-in-Err-clause-enough
 returns-in-Err-clause-enough g c = λ told b same policy stands calm n is.
@@ -129,19 +129,19 @@ returns-in-Err-clause-enough g c = λ told b same policy stands calm n is.
 pub returns-in-Ok-clause-idle : goal.returns-in-Ok-clause-idle
 returns-in-Ok-clause-idle g c = λ s words why.
     let d = g.D.Disk in
-    let once = subst (λ (o : Stepping). StepsOnce d (g.S.Supplier.word c.args.gate.now.supply) c.args.me c.args.core.now c.step_core.new.core (Ok o)) c.in-Ok-Made.field-0-is c.in-Ok-Made.ensures in
+    let once = subst (λ (o : Looked). StepsOnce d (g.S.Supplier.word c.args.gate.now.supply) c.args.me c.args.core.now c.step_core.new.core (Ok o)) c.in-Ok-Made.field-0-is c.in-Ok-Made.ensures in
     once.idle s words why
 
 pub returns-in-Err-keep_behind-clause-idle : goal.returns-in-Err-keep_behind-clause-idle
 returns-in-Err-keep_behind-clause-idle g c = λ s words why.
     let d = g.D.Disk in
-    let once = subst (λ (o : Stepping). StepsOnce d (g.S.Supplier.word c.args.gate.now.supply) c.args.me c.args.core.now c.step_core.new.core (Ok o)) c.in-Ok-Made.field-0-is c.in-Ok-Made.ensures in
+    let once = subst (λ (o : Looked). StepsOnce d (g.S.Supplier.word c.args.gate.now.supply) c.args.me c.args.core.now c.step_core.new.core (Ok o)) c.in-Ok-Made.field-0-is c.in-Ok-Made.ensures in
     idle_behind c.in-Ok-Made.made c.in-Err-keep_behind.why why (idle_at s words c.args.me c.args.core.now.cells ≡ Some why) (once.idle s words why)
 
 pub returns-in-Ok-Idle-clause-idle : goal.returns-in-Ok-Idle-clause-idle
 returns-in-Ok-Idle-clause-idle g c = λ s words why.
     let d = g.D.Disk in
-    let once = subst (λ (o : Stepping). StepsOnce d (g.S.Supplier.word c.args.gate.now.supply) c.args.me c.args.core.now c.step_core.new.core (Ok o)) c.in-Ok-Idle.field-0-is c.in-Ok-Idle.ensures in
+    let once = subst (λ (o : Looked). StepsOnce d (g.S.Supplier.word c.args.gate.now.supply) c.args.me c.args.core.now c.step_core.new.core (Ok o)) c.in-Ok-Idle.field-0-is c.in-Ok-Idle.ensures in
     once.idle s words why
 
 pub returns-in-Err-clause-idle : goal.returns-in-Err-clause-idle
@@ -155,27 +155,27 @@ returns-in-Ok-clause-clean g c = λ told. c.in-Ok.ensures.clean told (g.S.Suppli
 pub returns-in-Ok-clause-made : goal.returns-in-Ok-clause-made
 returns-in-Ok-clause-made g c =
     let d = g.D.Disk in
-    let once = subst (λ (o : Stepping). StepsOnce d (g.S.Supplier.word c.args.gate.now.supply) c.args.me c.args.core.now c.step_core.new.core (Ok o)) c.in-Ok-Made.field-0-is c.in-Ok-Made.ensures in
+    let once = subst (λ (o : Looked). StepsOnce d (g.S.Supplier.word c.args.gate.now.supply) c.args.me c.args.core.now c.step_core.new.core (Ok o)) c.in-Ok-Made.field-0-is c.in-Ok-Made.ensures in
     record { mid = c.step_core.new.core; stepped = once.made; behind = c.in-Ok.ensures.notes }
 
 pub returns-in-Ok-clause-tries : goal.returns-in-Ok-clause-tries
 returns-in-Ok-clause-tries g c =
     let d = g.D.Disk in
-    let once = subst (λ (o : Stepping). StepsOnce d (g.S.Supplier.word c.args.gate.now.supply) c.args.me c.args.core.now c.step_core.new.core (Ok o)) c.in-Ok-Made.field-0-is c.in-Ok-Made.ensures in
+    let once = subst (λ (o : Looked). StepsOnce d (g.S.Supplier.word c.args.gate.now.supply) c.args.me c.args.core.now c.step_core.new.core (Ok o)) c.in-Ok-Made.field-0-is c.in-Ok-Made.ensures in
     adds_then c.args.core.now.noted.entries c.step_core.new.core.noted.entries c.keep_behind.new.core.noted.entries
     (step_untried d c.args.me c.args.core.now c.step_core.new.core c.in-Ok-Made.made.entry once.made) c.in-Ok.ensures.notes
 
 pub returns-in-Err-keep_behind-clause-tries : goal.returns-in-Err-keep_behind-clause-tries
 returns-in-Err-keep_behind-clause-tries g c =
     let d = g.D.Disk in
-    let once = subst (λ (o : Stepping). StepsOnce d (g.S.Supplier.word c.args.gate.now.supply) c.args.me c.args.core.now c.step_core.new.core (Ok o)) c.in-Ok-Made.field-0-is c.in-Ok-Made.ensures in
+    let once = subst (λ (o : Looked). StepsOnce d (g.S.Supplier.word c.args.gate.now.supply) c.args.me c.args.core.now c.step_core.new.core (Ok o)) c.in-Ok-Made.field-0-is c.in-Ok-Made.ensures in
     tries_look c.in-Err-keep_behind.why c.args.core.now.noted.entries c.step_core.new.core.noted.entries c.keep_behind.new.core.noted.entries
     (step_untried d c.args.me c.args.core.now c.step_core.new.core c.in-Ok-Made.made.entry once.made) c.in-Err-keep_behind.ensures.notes
 
 pub returns-in-Ok-Idle-clause-tries : goal.returns-in-Ok-Idle-clause-tries
 returns-in-Ok-Idle-clause-tries g c =
     let d = g.D.Disk in
-    let once = subst (λ (o : Stepping). StepsOnce d (g.S.Supplier.word c.args.gate.now.supply) c.args.me c.args.core.now c.step_core.new.core (Ok o)) c.in-Ok-Idle.field-0-is c.in-Ok-Idle.ensures in
+    let once = subst (λ (o : Looked). StepsOnce d (g.S.Supplier.word c.args.gate.now.supply) c.args.me c.args.core.now c.step_core.new.core (Ok o)) c.in-Ok-Idle.field-0-is c.in-Ok-Idle.ensures in
     adds_none c.args.core.now.noted.entries c.step_core.new.core.noted.entries (ap (λ (p : Parts g.row.D.Denot). p.noted.entries) (once.still c.in-Ok-Idle.why refl))
 
 pub returns-in-Err-clause-tries : goal.returns-in-Err-clause-tries

@@ -2,8 +2,8 @@ use Rattle.std.proofs.Common.{◌≡◌, Err, Ok, length, sym, subst, ◌∙◌,
 use Rattle.kernel_core_facts.specs.kernel_commit_facts.Parts.{Noted, parts_of}
 use Rattle.kernel_core_facts.specs.table_laws.Tables.{AreClean}
 use Rattle.kernel_core_facts.specs.kernel_record_facts.Cells.{words_on}
-use Rattle.kernel_core.specs.Stepping.{StepsOnce}
-use Rattle.kernel_core.specs.declared.stepping.Stepping.TheVariants.{Made}
+use Rattle.kernel_core_facts.specs.Looked.{StepsOnce}
+use Rattle.kernel_core_facts.specs.declared.looked.Looked.TheVariants.{Made}
 use Rattle.kernel_core_facts.specs.cell_plans.declared.idle.Idle.TheVariants.{Absent}
 use Rattle.kernel_core_facts.specs.kernel_invariant.declared.stopping.Stopped.{Stopped}
 use Rattle.kernel_core_facts.proofs.Paired.{few_writes}
@@ -88,7 +88,7 @@ returns-in-Err-Idle g c =
     let left = leaves d s me now cs' st st' orderly made.orderly made.between made.one_write (Err c.in-Err-Idle.field-0) made.enters made.still made.faulted in
     let clean : d.tells → AreClean s (words_on (d.reading st'.disk)) cs' =
     λ told. stays_clean d s me now cs' st st' orderly made.orderly made.between made.one_write (Err c.in-Err-Idle.field-0) told (clean_inside d s c.args.core.now st cs now n c.core.view_is c.deref_mut.ensures.value (c.requires.clean told)) (made.step told) made.still made.faulted in
-    once_outside d s me c.args.core.now st cs now n c.core.view_is c.deref_mut.ensures.value st' cs' _ n (Ok (Rattle.kernel_core.specs.declared.stepping.Stepping.TheVariants.Idle c.in-Err-Idle.why)) whole
+    once_outside d s me c.args.core.now st cs now n c.core.view_is c.deref_mut.ensures.value st' cs' _ n (Ok (Rattle.kernel_core_facts.specs.declared.looked.Looked.TheVariants.Idle c.in-Err-Idle.why)) whole
     (once_idle d g.met.D.Disk.counts_later g.met.D.Disk.only_now s me now cs' st st' n k left clean c.in-Err-Idle.field-0 c.in-Err-Idle.why c.in-Err-Idle.field-0-is made.idle made.still made.no_blocks)
 
 pub returns-in-Err-Paging : goal.returns-in-Err-Paging

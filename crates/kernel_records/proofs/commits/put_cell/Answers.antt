@@ -4,6 +4,7 @@ use Rattle.std.specs.Result.{is_err}
 use Rattle.std.proofs.lemmas.Result.{err_from_is_err_and}
 use Rattle.std.proofs.lemmas.Bool.{cases_lt}
 use Rattle.edge_disk.specs.Counts.{Rose}
+use Rattle.edge_disk.proofs.Ticks.{Rose-before}
 use Rattle.edge_tally.proofs.Counting.{CountsOn-then}
 use Rattle.kernel_block_laws.specs.store_books.Books.{free_in, kept_names}
 use Rattle.store_snapshots.specs.store_facts.State.{State, books}
@@ -26,13 +27,6 @@ worked (Err e) is h = absurd (cc is)
 failed_flush : {T : Type 0} (r : Result T PageFault) (free before now : ℕ) (was is : Bool) → is_err r ≡ true → IfErr r IsWriteFault → IfErr r (IsCausedBy free before now was is) → was ≡ false → Rose before now × (is ≡ true)
 failed_flush (Ok x) free before now was is e h cause working = absurd (cc e)
 failed_flush (Err e) free before now was is failed h cause working = failed_by e free before now was is h cause working
-
--- a count that rose later rose from before, too
-rose_before : (a b c : ℕ) → a ≤ b → b ≤ c → Rose b c → Rose a c
-rose_before a b c low later rose = λ short. elim (cases_lt b (2 ^ 64 - 1)) as (λ _. a < c) [
-  | inl lt ↦ (let more = rose lt in omega (arith, more, low))
-  | inr at ↦ omega (arith, at, later, short)
-]
 
 pub record_cell-requires-clause-may : goal.record_cell-requires-clause-may
 record_cell-requires-clause-may g c =
@@ -92,7 +86,7 @@ returns-in_err-record_cell-clause-failed g c = λ e is.
     let failed = c.record_cell.ensures.failed c.in_err-record_cell.field-0.0 c.in_err-record_cell.was in
     let why : c.in_err-record_cell.field-0.0 ≡ WriteFault = failed.0 in
     let same : e ≡ WriteFault = cc (gives, handed, why, is) in
-    (same, rose_before (g.D.Disk.faults c.args.store.now.disk) (g.D.Disk.faults c.flush_part-flushed.new.store.disk) (g.D.Disk.faults c.record_cell.new.store.disk) c.flush_part-flushed.ensures.faults c.record_cell.ensures.begins.later failed.1, failed.2.shut)
+    (same, Rose-before (g.D.Disk.faults c.args.store.now.disk) (g.D.Disk.faults c.flush_part-flushed.new.store.disk) (g.D.Disk.faults c.record_cell.new.store.disk) c.flush_part-flushed.ensures.faults c.record_cell.ensures.begins.later failed.1, failed.2.shut)
 
 pub returns-in_err-record_cell-clause-any_moment : goal.returns-in_err-record_cell-clause-any_moment
 returns-in_err-record_cell-clause-any_moment g c = λ t small own.

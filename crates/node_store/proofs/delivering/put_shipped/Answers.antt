@@ -4,6 +4,7 @@ use Rattle.std.specs.Result.{is_err}
 use Rattle.std.proofs.lemmas.Bool.{cases_lt, false≢true}
 use Rattle.std.proofs.lemmas.Result.{err_from_is_err_and}
 use Rattle.edge_disk.specs.Counts.{Rose}
+use Rattle.edge_disk.proofs.Ticks.{Rose-before}
 use Rattle.store_snapshots.specs.CommitAnswers.{CommitAnswers}
 use Rattle.store_snapshots.specs.store_facts.image_facts.Bodies.{blocks_for}
 use Rattle.store_snapshots.specs.store_facts.State.{State, books}
@@ -26,12 +27,6 @@ none_named : (n k : ℕ) → slice_index (replicate n 0) k ≡ 0
 none_named zero k = refl
 none_named (suc n) zero = refl
 none_named (suc n) (suc k) = none_named n k
-
-rose_before : (a b c : ℕ) → a ≤ b → b ≤ c → Rose b c → Rose a c
-rose_before a b c low later rose = λ short. elim (cases_lt b (2 ^ 64 - 1)) as (λ _. a < c) [
-  | inl lt ↦ (let more = rose lt in omega (arith, more, low))
-  | inr at ↦ omega (arith, at, later, short)
-]
 
 -- where there is room and the store works, only a write fails
 only_write : {D T : Type 0} (faults : D → ℕ) (length : ℕ) (r : Result T Fault) (old new : State D) → CommitAnswers faults length r old new → (books old).shut ≡ false → blocks_for length ≤ free_in (books old)
@@ -78,7 +73,7 @@ returns-in_err-commit-clause-failed g c = λ e is.
     let handed : p.0 ≡ c.in_err-commit.field-0.0 = p.2 in
     let why : c.in_err-commit.field-0.0 ≡ fault.WriteFault = failed.0 in
     let same : e ≡ fault.WriteFault = cc (gives, handed, why, is) in
-    (same, rose_before (g.D.Disk.faults c.args.store.now.disk) (g.D.Disk.faults c.write_pages-written.new.store.disk) (g.D.Disk.faults c.commit.new.self.disk) c.write_pages-written.ensures.goes_on.later c.commit.ensures.begins.later failed.1, failed.2)
+    (same, Rose-before (g.D.Disk.faults c.args.store.now.disk) (g.D.Disk.faults c.write_pages-written.new.store.disk) (g.D.Disk.faults c.commit.new.self.disk) c.write_pages-written.ensures.goes_on.later c.commit.ensures.begins.later failed.1, failed.2)
   where
     fits : (pages blob free now : ℕ) → now + pages ≡ free → pages + blob ≤ free → blob ≤ now
     fits pages blob free now is room = omega arith

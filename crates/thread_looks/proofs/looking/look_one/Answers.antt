@@ -14,7 +14,7 @@ use Rattle.thread_commits.specs.Lent.{OthersStay}
 use Rattle.thread_commits.specs.Snapping.{WritesAmong}
 use Rattle.thread_commits.proofs.Lent.{others_begin, others_then}
 use Rattle.thread_looks.specs.Looking.{LooksAsSerial, WantsStable}
-use Rattle.thread_looks.specs.Making.{IfMade}
+use Rattle.kernel_core_facts.specs.Looked.{IfMade}
 use Rattle.thread_looks.proofs.Ends.{either_not, if_made, if_same}
 use Rattle.thread_looks.proofs.Free.{unwanted_free}
 use Rattle.thread_looks.proofs.Others.{stay_one}

@@ -5,8 +5,9 @@ use Rattle.std.specs.Prelude.{IfOk, Result}
 use Rattle.kernel_core_facts.proofs.Paired.{few_writes}
 use Rattle.kernel_core_facts.proofs.kernel_commit_facts_lemmas.Steadying.{entry_room}
 use Rattle.thread_cell_steps.specs.Advancing.{TouchesThese}
-use Rattle.thread_looks.specs.Making.{IfMade, MakesStep, looked_by}
-use Rattle.thread_looks.specs.declared.noting.Looked.{Looked}
+use Rattle.kernel_core_facts.specs.Looked.{IfMade, StepsOnce}
+use Rattle.thread_looks.specs.Making.{looked_by}
+use Rattle.kernel_core_facts.specs.declared.looked.Looked.{Looked}
 use Rattle.thread_looks.proofs.Ends.{if_looked, none_still, some_not}
 use Rattle.thread_looks.proofs.Made.{makes, openly}
 use Rattle.thread_looks.proofs.making.make_two.Goals as goal
@@ -37,8 +38,8 @@ returns-in-Some-clause-makes g c =
     let d = g.D.Disk in
     let s = g.S.Supplier.word c.args.gate.now.supply in
     let old = parts_of c.args.store.now c.args.all.now c.args.notes.now in
-    subst (λ (q : Result Looked Stopped). MakesStep d s c.args.locus.now.number old (parts_of c.step_two.new.store c.step_two.new.all c.note_came.new.notes) q) (sym c.note_came.ensures.looked)
-    (subst (λ (n : Noted). MakesStep d s c.args.locus.now.number old (parts_of c.step_two.new.store c.step_two.new.all n) (looked_by c.in-Some.came)) (sym c.note_came.ensures.noted)
+    subst (λ (q : Result Looked Stopped). StepsOnce d s c.args.locus.now.number old (parts_of c.step_two.new.store c.step_two.new.all c.note_came.new.notes) q) (sym c.note_came.ensures.looked)
+    (subst (λ (n : Noted). StepsOnce d s c.args.locus.now.number old (parts_of c.step_two.new.store c.step_two.new.all n) (looked_by c.in-Some.came)) (sym c.note_came.ensures.noted)
     (makes d g.met.D.Disk.counts_later g.met.D.Disk.only_now s c.args.locus.now.number c.args.all.now c.step_two.new.all c.args.store.now c.step_two.new.store c.args.notes.now c.requires.steady c.requires.clean
     c.in-Some.came c.in-Some.ensures.advanced))
 

@@ -10,8 +10,8 @@ use Rattle.kernel_core_facts.specs.model_serial.Serial.{look}
 use Rattle.kernel_core_facts.specs.Kernels.{Held, Lives, NotesAlong}
 use Rattle.kernel_core_facts.specs.Looking.{LooksOnce, StopsWhere}
 use Rattle.kernel_core_facts.specs.Stepping.{idle_at}
-use Rattle.kernel_core.specs.Stepping.{IfMade}
-use Rattle.kernel_core.specs.declared.stepping.Stepping.TheVariants.{Idle}
+use Rattle.kernel_core_facts.specs.Looked.{IfMade}
+use Rattle.kernel_core_facts.specs.declared.looked.Looked.TheVariants.{Idle}
 use Rattle.kernel_core_facts.specs.kernel_commit_facts.Parts.{Parts}
 use Rattle.kernel_core_facts.specs.kernel_commits.Telling.{FailsByDisk, Tells, TriesAtWrite, TriesByAnswer}
 use Rattle.kernel_core_facts.specs.kernel_commits.declared.stopping.Stop.{Stop}
