@@ -2,9 +2,9 @@
 ghost use Rattle.std.specs.Prelude.{◌≡◌};
 ghost use Rattle.kernel_core_facts.specs.Stepping.{IsOfOpen, stop_by};
 
-use kernel_commits::Stopped;
+use kernel_commits::{Idle, Stopped};
 use page_store::PageFault;
-use table_births::{Idle, Made};
+use table_births::Made;
 
 /// What came of a step, or of a look at a locus.
 #[derive(Clone, Copy, PartialEq, Eq, Debug)]

@@ -2,6 +2,8 @@
 #![tactic(auto)]
 
 #[cfg(test)]
+mod copy_command_tests;
+#[cfg(test)]
 mod drill_gen_tests;
 #[cfg(test)]
 mod entry_lines_tests;

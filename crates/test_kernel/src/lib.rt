@@ -24,4 +24,6 @@ mod scripts;
 #[cfg(test)]
 mod side_tests;
 #[cfg(test)]
+mod step_tests;
+#[cfg(test)]
 mod stop_tests;

@@ -11,7 +11,7 @@ use base_types::{Entity, Entry};
 use edge_disk::Disk;
 use edge_managers::{CountedWords, EveryVersions, Gate};
 use kernel_core::{Ended, Kernel};
-use kernel_runs::{finish, play};
+use kernel_watchers::{Halt, finish, play, run_steps};
 use open_kernel::{Stop, open_image};
 use script_fits::against;
 use script_types::Script;
@@ -160,6 +160,24 @@ impl<D: Disk> OwnKernel<D> {
     {
         let gate = Gate::new(CountedWords, EveryVersions);
         play(&mut self.kernel, &script.order, &gate)
+    }
+
+    /// A run of a script until so many steps are made, and how it ended; none where its births can't be made.
+    pub fn run_steps(
+        &mut self,
+        alloc: Global,
+        script: &Script,
+        steps: u64,
+    ) -> Option<Result<(), Halt>>
+        requires script { IsScript (tables_of script.now) }
+        requires some { 0 < steps }
+        ensures unfit { result ≡ None → self.new ≡ self.old }
+    {
+        if !may_bear(alloc, &self.kernel, script) {
+            return None;
+        }
+        let gate = Gate::new(CountedWords, EveryVersions);
+        Some(run_steps(&mut self.kernel, script, &gate, steps))
     }
 
     /// Rounds over all loci, until none can step.
