@@ -11,7 +11,7 @@ use Rattle.data_atlas.specs.data_atlas_facts.Directory.{Directory}
 use Rattle.data_frames.specs.FrameTable.{FrameTable, empty_table, page_at}
 use Rattle.cell_copies.specs.Copying.{IsSource, MayCopyPart}
 use Rattle.cell_copies.specs.Refusals.{copy_refusal}
-use Rattle.cell_copies.proofs.Refusing.{AreGood, good}
+use Rattle.cell_copies.proofs.Refusing.{good}
 use Rattle.cell_copies.proofs.Words.{none_in}
 use Rattle.cell_copies.specs.cell_births.act_alone.declared.loci.Head.{Head}
 use Rattle.cell_copies.specs.cell_births.act_alone.Loci.{container_with}
@@ -80,9 +80,6 @@ module _ {D : Type 0} (st : State D) (cs : List Cell) (t : IsOpenedTable 1 1 st 
 
   sound : AreSound (atlas_state d) (cells (books st).held cs ord)
   sound = directory_sound (books st).held cs t.orderly d has
-
-  abbrev g : AreGood (atlas_state d) name fresh
-  g = good (atlas_state d) name fresh none
 
   tests : (is_given_name fresh ≡ true) × (is_none (number_of (atlas_state d) fresh) ≡ true)
   tests = both_true (is_given_name fresh) (is_none (number_of (atlas_state d) fresh)) (good (atlas_state d) name fresh none).tests

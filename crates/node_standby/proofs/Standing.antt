@@ -1,10 +1,9 @@
 -- What is true of every standby stays true.
-use Rattle.std.proofs.Common.{◌≡◌, ◌⊎◌, inl, inr, ℕ, ◌+◌, ◌≤◌, true, false, arith, List, [], sym, ap, subst, ◌∙◌}
+use Rattle.std.proofs.Common.{◌≡◌, ◌⊎◌, inl, inr, ℕ, ◌≤◌, true, false, arith, [], sym, ap, subst, ◌∙◌}
 use Rattle.std.specs.Prelude.{IsErrOf, Result}
 use Rattle.std.proofs.lemmas.Bool.{false≢true}
 use Rattle.edge_disk.specs.declared.disk.Disk.{Ghosts}
 use Rattle.edge_disk.specs.declared.disk.NoBlocks.{NoBlocks}
-use Rattle.node_shipments.specs.node_store.Shipping.{TakesRecord}
 use Rattle.node_standby.specs.Standing.{IsStandby, Standing}
 use Rattle.store_snapshots.specs.declared.faults.StoreFault.{StoreFault}
 use Rattle.store_snapshots.specs.declared.faults.StoreFault.TheVariants as fault
@@ -26,15 +25,6 @@ module _ {D : Type 0} (disks : Ghosts D) where
     where
       no : (books new).shut ≡ false → ⊥
       no works = false≢true (sym works ∙ shut)
-
-  pub standby_taken : (old new : State D) (count number entity version : ℕ) (stamp : List ℕ) → IsStandby disks (record { store = old; count = count }) → (books old).shut ≡ false → number ≡ count + 1
-      → TakesRecord entity version stamp (books old) (books new) → (disks.tells → AreTrue disks (books new) new.disk) → IsStandby disks (record { store = new; count = number })
-  standby_taken old new count number entity version stamp s works next taken right = record {
-    read = λ _. taken.read;
-    none_held = λ _. taken.none_held (s.none_held works);
-    epoch = λ _. (let was = s.epoch works in let up = taken.epoch in omega (arith, was, up, next));
-    true_books = right;
-  }
 
   pub standby_fresh : (st : State D) (log : ImageLog) → IsOver log st → IsFresh st → log.recs.items ≡ [] → log.epoch ≤ last_number
       → (disks.tells → recs_in (books st) ≡ [] → AreTrue disks (books st) st.disk) → IsStandby disks (record { store = st; count = 0 })

@@ -44,9 +44,6 @@ first_is b es k le = take-append-le k (completed b es) (option_to_list (run_of b
 pub most_shut : {D : Type 0} (st : Standing D) → (books st.store).shut ≡ true → most_in st ≡ st.count + 1
 most_shut st shut = ap (λ (t : Bool). if t then st.count + 1 else st.count) shut
 
-pub most_working : {D : Type 0} (st : Standing D) → (books st.store).shut ≡ false → most_in st ≡ st.count
-most_working st working = ap (λ (t : Bool). if t then st.count + 1 else st.count) working
-
 pub low_most : {D : Type 0} (st : Standing D) → st.count ≤ most_in st
 low_most st = elim (books st.store).shut as (λ t. st.count ≤ (if t then st.count + 1 else st.count)) [ true ↦ omega arith | false ↦ omega arith ]
 

@@ -1,5 +1,5 @@
 -- A step by lent cells that looks at a container is the table's.
-use Rattle.std.proofs.Common.{◌≡◌, ◌≢◌, ◌<◌, ◌≤◌, List, [], ◌∷◌, slice_get, Some, Ok, Err, sym, ap, subst, ◌∙◌, arith}
+use Rattle.std.proofs.Common.{◌≡◌, ◌<◌, ◌≤◌, List, [], ◌∷◌, slice_get, Some, Ok, Err, sym, ap, subst, ◌∙◌, arith}
 use Rattle.base_types.specs.declared.histories.Entry.{Entry}
 use Rattle.base_types.specs.declared.instructions.Instr.{Instr}
 use Rattle.page_store.specs.declared.faults.PageFault.{PageFault}
@@ -23,9 +23,6 @@ module _ {B : Type 0} (stores : Ghosts B) (s : Supply) (cs : List Cell) (b b' : 
 
   low : o.clock.entity ≤ 40
   low = (subst (HasKind o.clock.entity) memory.was (orderly.kinds o.clock.entity o there)).1
-
-  pub look_apart : c.clock.entity ≢ o.clock.entity
-  look_apart same = (let up = high in let down = low in absurd (omega (arith, up, down, same)))
 
   module _ (cs' : List Cell) (lends : Lends cs cs' (c ∷ o ∷ []) (c' ∷ o' ∷ [])) where
     pub two : ChangesTwo cs cs' c.clock.entity o.clock.entity c o c' o'

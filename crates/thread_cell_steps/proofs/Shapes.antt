@@ -20,7 +20,6 @@ use Rattle.table_laws.specs.cell_plans.declared.plans.Reach.{Reach}
 use Rattle.table_laws.specs.cell_plans.declared.plans.Reach.TheVariants as reach
 use Rattle.table_laws.specs.Lending.{ForPairs, IsSameNumber, Lends}
 use Rattle.table_laws.specs.Steps.{HasDirectory, StepsQuietly}
-use Rattle.table_laws.proofs.cell_plans_lemmas.Once.{planned_once}
 use Rattle.table_steps.specs.declared.stepping.Made.{Made}
 use Rattle.table_steps.specs.declared.stepping.StepFault.{StepFault}
 use Rattle.table_steps.specs.declared.stepping.StepFault.TheVariants.{Paging}
@@ -44,9 +43,6 @@ no_cell k e = cc
 
 module _ {B : Type 0} (stores : Ghosts B) (stays : (b : B) → stores.Pages b b) (s : Supply) (cs : List Cell) (b : B) (may : MayAdvance stores s cs b)
     (c : Cell) (at : slice_get cs c.clock.entity ≡ Some c) (d : Directory) (has : HasDirectory cs d) (i : Instr) (r : Reach) (planned : IsPlanned c i r) where
-  no_looks : ((y : ℕ) → r ≢ reach.Look y) → (j : Instr) (y : ℕ) → IsPlanned c j (reach.Look y) → ⊥
-  no_looks look j y p = look y (planned_once c i j r y planned p)
-
   -- a step that was made by this plan
   abbrev by_plan : Entry → Made
   by_plan e = record { entry = e; instr = i }

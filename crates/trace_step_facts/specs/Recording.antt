@@ -21,11 +21,7 @@ AreRecordsAt versions clocks (x ∷ xs) (rec ∷ recs) = IsRecordAt versions clo
 abbrev pub is_changed : List ℕ → List ℕ → ℕ → Bool
 is_changed newest versions x = nat_lt (slice_index newest x) (slice_index versions x)
 
--- the entities that have changed, ascending
-abbrev pub all_changed : List ℕ → List ℕ → List ℕ
-all_changed newest versions = filter (is_changed newest versions) (upto 64)
-
--- the first of them
+-- the first of the entities that have changed
 unfoldable pub first_changed : List ℕ → List ℕ → Option ℕ
 first_changed newest versions = find (is_changed newest versions) (upto 64)
 
