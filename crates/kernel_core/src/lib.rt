@@ -5,7 +5,6 @@ mod bearing;
 pub mod examples;
 mod kernels;
 mod looking;
-mod owing;
 mod parts;
 mod stepping;
 

@@ -27,12 +27,11 @@ ghost use Rattle.kernel_core_facts.specs.kernel_invariant.Live.{IsCalm};
 ghost use Rattle.kernel_core_facts.specs.kernel_record_facts.Cells.{words_on};
 ghost use Rattle.kernel_core_facts.specs.model_serial.Serial.{kept_behind, look, wished_snaps, written_in};
 
-use crate::owing::owes_stable;
 use crate::stepping::step_core;
 use base_types::{Entity, Entry};
 use edge_disk::{Disk, NoBlocks};
 use edge_managers::{Gate, Policy, Supplier};
-use kernel_core_facts::{Core, Looked, Stopped, settle, snap_written};
+use kernel_core_facts::{Core, Looked, Stopped, owes_stable, settle, snap_written};
 
 /// Behind a step: the Stable that it owes, or the Snaps of what it wrote whose wishes are open.
 fn keep_behind<D: Disk, S: Supplier, P: Policy>(
