@@ -1,0 +1,4 @@
+mod Pages
+mod Paged
+mod Stored
+pub mod Lists
