@@ -1,5 +1,5 @@
 -- A look by what its step came to, and the Snaps behind it.
-use Rattle.std.proofs.Common.{◌≡◌, ◌⊎◌, inl, inr, ℕ, ◌*◌, ◌+◌, false, List, if◌then◌else◌, Some, None, Ok, Err, refl, sym, ap, subst, ◌∙◌, arith}
+use Rattle.std.proofs.Common.{◌≡◌, ◌⊎◌, inl, inr, ℕ, ◌*◌, ◌+◌, Bool, false, List, if◌then◌else◌, Some, None, Ok, Err, refl, sym, ap, subst, ◌∙◌, arith}
 use Rattle.std.specs.Prelude.{IsErrOf, Result, ⊤}
 use Rattle.edge_disk.specs.declared.disk.Disk.{Ghosts}
 use Rattle.edge_disk.specs.declared.disk.NoBlocks.{NoBlocks}
@@ -23,9 +23,10 @@ use Rattle.kernel_core_facts.specs.Stepping.{is_owing}
 use Rattle.kernel_core_facts.proofs.kernel_commit_facts_lemmas.Counting.{CountsWithin-fewer, CountsWithin-then}
 use Rattle.kernel_core_facts.proofs.kernel_commits_lemmas.Telling.{adds_none, adds_then}
 use Rattle.kernel_core_facts.proofs.kernel_commits_lemmas.Wishing.{err_over}
-use Rattle.kernel_core_facts.proofs.LookMade.{free_then, lacks_behind_step, look_behind_step, look_still, owes_is, part_at_step, part_behind_step}
+use Rattle.kernel_core_facts.proofs.LookMade.{free_then, lacks_behind_step, look_behind_step, look_still, owes_is, owes_then, part_at_step, part_behind_step}
 use Rattle.kernel_core.proofs.LookMade.{rose_at, rose_behind, step_untried}
 use Rattle.thread_commits.specs.Snapping.{SnapsWritten}
+use Rattle.thread_looks.specs.Behind.{KeepsBehind}
 use Rattle.thread_looks.specs.Looking.{LooksAsSerial}
 use Rattle.kernel_core_facts.specs.Looked.{StepsOnce}
 use Rattle.kernel_core_facts.specs.declared.looked.Looked.{Looked}
@@ -63,6 +64,23 @@ tries_behind (reason.NoBlocks n) old mid new first more = adds_then old mid new 
 tries_behind reason.ReadFault old mid new first more = absurd more
 tries_behind reason.WriteFault old mid new first more = tt
 
+-- Snaps are what comes behind a step that owes no Stable
+pub snaps_behind : {D : Type 0} (disks : Ghosts D) (policy : Policy) (e : Entry) (r : Result ⊤ Stopped) (mid new : Parts D)
+    → SnapsWritten disks policy (written_in e.touched) r mid new → KeepsBehind disks policy false e r mid new
+snaps_behind disks policy e r mid new snaps = record {
+  steady = snaps.steady;
+  stopped = snaps.stopped;
+  notes = snaps.notes;
+  stabilised = λ yes. absurd (cc yes);
+  stable = λ yes. absurd (cc yes);
+  snaps = λ no. snaps.run;
+  stable_part = λ yes. absurd (cc yes);
+  snaps_part = λ no. snaps.part;
+  enough = λ told b owes free n is. snaps.enough told b (free refl) n is;
+  clean = snaps.clean;
+  counts = snaps.counts;
+}
+
 module _ {D : Type 0} (disks : Ghosts D) (supply : Supply) (policy : Policy) (me : ℕ) (old mid : Parts D) where
   -- NONE WAS MADE
   pub look_idle : (why : AnIdle) → IsSteady disks old → StepsOnce disks supply me old mid (Ok (Idle why)) → LooksAsSerial disks supply policy me old mid (Ok (Idle why))
@@ -99,37 +117,37 @@ module _ {D : Type 0} (disks : Ghosts D) (supply : Supply) (policy : Policy) (me
     counts = CountsWithin-fewer disks 1 (1 + 64 * 1556) old.store mid.store (omega arith) step.counts;
   }
 
-  -- A STEP WAS MADE that owes no Stable
-  module _ (m : Step) (step : StepsOnce disks supply me old mid (Ok (Made m))) (free : is_owing m.instr m.entry.answer ≡ false) (new : Parts D) where
-    module _ (r : Result ⊤ Stopped) (snaps : SnapsWritten disks policy (written_in m.entry.touched) r mid new) (b : Beginning) (told : disks.tells) (same_supply : b.supply ≡ supply) (same_policy : b.policy ≡ policy)
+  -- A STEP WAS MADE, which owes a Stable or not, with what it owes behind it
+  module _ (m : Step) (step : StepsOnce disks supply me old mid (Ok (Made m))) (owes : Bool) (owing : is_owing m.instr m.entry.answer ≡ owes) (new : Parts D) where
+    module _ (r : Result ⊤ Stopped) (keeps : KeepsBehind disks policy owes m.entry r mid new) (b : Beginning) (told : disks.tells) (same_supply : b.supply ≡ supply) (same_policy : b.policy ≡ policy)
         (stands : StandsAs disks b old) (calm : IsCalm b old.noted.entries) where
-      owes : (run_of b mid.noted.entries).owed ≡ None
-      owes = owes_is disks b policy same_policy me old stands calm mid m.entry step.made (step.run told b same_supply stands calm) m.instr step.next ∙ ap (λ t. if t then Some me else None) free
+      owed : (run_of b mid.noted.entries).owed ≡ (if owes then Some me else None)
+      owed = owes_is disks b policy same_policy me old stands calm mid m.entry step.made (step.run told b same_supply stands calm) m.instr step.next ∙ ap (λ t. if t then Some me else None) owing
 
       look_run : LooksInRun disks b policy me r old new
-      look_run = look_behind_step disks b policy same_policy me old stands calm mid m.entry step.made (step.run told b same_supply stands calm) false owes r new
-          (λ yes. absurd (cc yes)) (λ yes. absurd (cc yes)) (λ no free. snaps.run told b free)
+      look_run = look_behind_step disks b policy same_policy me old stands calm mid m.entry step.made (step.run told b same_supply stands calm) owes owed r new
+          keeps.stabilised (λ yes. keeps.stable yes told b) (λ no. keeps.snaps no told b)
 
-    pub look_ended : SnapsWritten disks policy (written_in m.entry.touched) (Ok tt) mid new → LooksAsSerial disks supply policy me old new (Ok (Made m))
-    look_ended snaps = record {
+    pub kept_ended : KeepsBehind disks policy owes m.entry (Ok tt) mid new → LooksAsSerial disks supply policy me old new (Ok (Made m))
+    kept_ended keeps = record {
       idle = step.idle;
       still = λ why is. absurd (cc is);
-      steady = snaps.steady;
-      made = record { mid = mid; stepped = step.made; behind = snaps.notes };
+      steady = keeps.steady;
+      made = record { mid = mid; stepped = step.made; behind = keeps.notes };
       stopped = record { stopped = tt; wanting = λ n wants. absurd (let is = (step.short n).1 wants in cc is) };
-      tries = adds_then old.noted.entries mid.noted.entries new.noted.entries (step_untried disks me old mid m.entry step.made) snaps.notes;
+      tries = adds_then old.noted.entries mid.noted.entries new.noted.entries (step_untried disks me old mid m.entry step.made) keeps.notes;
       run = λ told b same_supply same_policy stands calm.
-          let l = look_run (Ok tt) snaps b told same_supply same_policy stands calm in
+          let l = look_run (Ok tt) keeps b told same_supply same_policy stands calm in
           record { stands = l.stands; calm = l.calm; entries = l.entries; lives = tt };
       part = λ told b same_supply same_policy stands calm. tt;
       enough = λ told b same_supply same_policy stands calm n is. absurd (cc is);
       faults = no_faults (Made m);
-      clean = λ told. snaps.clean told supply (step.clean told);
-      counts = CountsWithin-then disks 1 (64 * 1556) old.store mid.store new.store step.counts snaps.counts;
+      clean = λ told. keeps.clean told supply (step.clean told);
+      counts = CountsWithin-then disks 1 (64 * 1556) old.store mid.store new.store step.counts keeps.counts;
     }
 
-    pub look_stopped : (why : Stopped) → SnapsWritten disks policy (written_in m.entry.touched) (Err why) mid new → LooksAsSerial disks supply policy me old new (Err why)
-    look_stopped why snaps = record {
+    pub kept_stopped : (why : Stopped) → KeepsBehind disks policy owes m.entry (Err why) mid new → LooksAsSerial disks supply policy me old new (Err why)
+    kept_stopped why keeps = record {
       idle = λ z words w. ((λ is. absurd (let none = (step.idle z words w).0 is in cc none)), (λ is. absurd (cc is)));
       still = λ w is. absurd (cc is);
       steady = tt;
@@ -141,23 +159,33 @@ module _ {D : Type 0} (disks : Ghosts D) (supply : Supply) (policy : Policy) (me
           stepped = step.made;
           instr = m.instr;
           next = step.next;
-          leaves = subst (λ t. LeavesStopped disks.faults (AreShortBehind disks policy t (written_in m.entry.touched) new) mid new why) (sym free) snaps.stopped;
+          leaves = subst (λ t. LeavesStopped disks.faults (AreShortBehind disks policy t (written_in m.entry.touched) new) mid new why) (sym owing) keeps.stopped;
         });
         wanting = λ n wants. absurd (let is = (step.short n).1 wants in cc is);
       };
-      tries = tries_behind why old.noted.entries mid.noted.entries new.noted.entries (step_untried disks me old mid m.entry step.made) snaps.notes;
+      tries = tries_behind why old.noted.entries mid.noted.entries new.noted.entries (step_untried disks me old mid m.entry step.made) keeps.notes;
       run = λ told b same_supply same_policy stands calm.
-          let l = look_run (Err why) snaps b told same_supply same_policy stands calm in
+          let l = look_run (Err why) keeps b told same_supply same_policy stands calm in
           record { stands = tt; calm = tt; entries = tt; lives = l.lives };
       part = λ told b same_supply same_policy stands calm.
-          part_behind_step disks b policy same_policy me old stands calm mid m.entry step.made (step.run told b same_supply stands calm) false
-          (owes (Err why) snaps b told same_supply same_policy stands calm) new.noted.entries (λ yes. absurd (cc yes)) (λ no free. snaps.part told b free);
+          part_behind_step disks b policy same_policy me old stands calm mid m.entry step.made (step.run told b same_supply stands calm) owes
+          (owed (Err why) keeps b told same_supply same_policy stands calm) new.noted.entries (λ yes. keeps.stable_part yes told b) (λ no. keeps.snaps_part no told b);
       enough = λ told b same_supply same_policy stands calm n is.
-          lacks_behind_step disks b policy same_policy me old stands calm mid m.entry step.made (step.run told b same_supply stands calm) false
-          (owes (Err why) snaps b told same_supply same_policy stands calm) new n
-          (snaps.enough told b (free_then disks b policy same_policy me old stands calm mid m.entry step.made (step.run told b same_supply stands calm) false (owes (Err why) snaps b told same_supply same_policy stands calm) refl)
+          let o = owed (Err why) keeps b told same_supply same_policy stands calm in
+          let run = step.run told b same_supply stands calm in
+          lacks_behind_step disks b policy same_policy me old stands calm mid m.entry step.made run owes o new n
+          (keeps.enough told b (owes_then disks b policy same_policy me old stands calm mid m.entry step.made run owes o)
+          (free_then disks b policy same_policy me old stands calm mid m.entry step.made run owes o)
           n (err_over Looked ⊤ why (reason.NoBlocks n) is));
-      faults = λ failed. rose_behind disks.faults old mid new why step.counts.later snaps.counts.later snaps.stopped.cause (over_faults why failed);
+      faults = λ failed. rose_behind disks.faults old mid new why step.counts.later keeps.counts.later keeps.stopped.cause (over_faults why failed);
       clean = λ told. tt;
-      counts = CountsWithin-then disks 1 (64 * 1556) old.store mid.store new.store step.counts snaps.counts;
+      counts = CountsWithin-then disks 1 (64 * 1556) old.store mid.store new.store step.counts keeps.counts;
     }
+
+  -- one that owes none
+  module _ (m : Step) (step : StepsOnce disks supply me old mid (Ok (Made m))) (free : is_owing m.instr m.entry.answer ≡ false) (new : Parts D) where
+    pub look_ended : SnapsWritten disks policy (written_in m.entry.touched) (Ok tt) mid new → LooksAsSerial disks supply policy me old new (Ok (Made m))
+    look_ended snaps = kept_ended m step false free new (snaps_behind disks policy m.entry (Ok tt) mid new snaps)
+
+    pub look_stopped : (why : Stopped) → SnapsWritten disks policy (written_in m.entry.touched) (Err why) mid new → LooksAsSerial disks supply policy me old new (Err why)
+    look_stopped why snaps = kept_stopped m step false free new why (snaps_behind disks policy m.entry (Err why) mid new snaps)

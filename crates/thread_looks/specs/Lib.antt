@@ -1,3 +1,4 @@
+pub mod Behind
 pub mod Making
 pub mod Looking
 pub mod Stores

@@ -5,5 +5,5 @@ mod needing;
 mod rows;
 mod settling;
 
-pub use rows::{RowFault, lend_all, lock_all};
+pub use rows::{RowFault, lend_all, lock_all, number_of};
 pub use settling::settle_lent;

@@ -75,7 +75,7 @@ pub fn lock_all<B: Bond<Cell> + Run<Entry>>(
 }
 
 /// The number of a lent cell's entity.
-fn number_of<B: Bond<Cell> + Run<Entry>>(cell: &LockedCell<B>) -> u8
+pub fn number_of<B: Bond<Cell> + Run<Entry>>(cell: &LockedCell<B>) -> u8
     ensures { result ≡ cell.now.number }
 {
     cell.cell.clock.entity.number()
