@@ -1,0 +1,47 @@
+-- What the side beside the history knows, and what is true of it.
+use Rattle.std.specs.Prelude.{◌≡◌, ◌++◌, List, Option, Some, slice_get}
+use Rattle.edge_disk.specs.declared.disk.Disk.{Ghosts}
+use Rattle.base_types.specs.declared.histories.Entry.{Entry}
+use Rattle.kernel_core_facts.specs.cell_states.declared.cells.Cell.{Cell}
+use Rattle.kernel_core_facts.specs.kernel_commit_facts.Parts.{Noted}
+use Rattle.kernel_core_facts.specs.kernel_invariant.Beginnings.{Beginning}
+use Rattle.kernel_core_facts.specs.kernel_invariant.declared.stopping.Stopped.{Stopped}
+use Rattle.kernel_core_facts.specs.kernel_laws.Opening.{empty_script}
+use Rattle.kernel_core_facts.specs.store_facts.State.{State}
+use Rattle.kernel_core_facts.specs.table_births.model_kernel.Histories.{never}
+use Rattle.kernel_core_facts.specs.table_births.model_kernel.State.{empty_state}
+use Rattle.kernel_core_facts.specs.Kernels.{Held, IsKept, Lives}
+use Rattle.kernel_core.specs.Parts.{held_of}
+use Rattle.thread_desk.specs.Alongs.{IsAlong}
+
+-- the store that it knows, the only one of its list; the cells that it knows; the history with its marks; the entries after the kept ones that the
+-- shares are told of; and why the kernel has stopped, if it has
+pub record Knowing (D : Type 0) : Type 0 where
+  pub stores : List (State D)
+  pub cells : List Cell
+  pub noted : Noted
+  pub told : List Entry
+  pub stop : Option Stopped
+
+abbrev pub knowing : {D : Type 0} → List (State D) → List Cell → Noted → List Entry → Option Stopped → Knowing D
+knowing stores cells noted told stop = record { stores = stores; cells = cells; noted = noted; told = told; stop = stop }
+
+-- the kernel that they make with this store
+abbrev pub held_with : {D : Type 0} → State D → Knowing D → Held D
+held_with st k = held_of st k.cells k.noted k.stop
+
+-- THEY ARE A KERNEL as the serial one is. Where the disk tells its content it is live in the run, behind looks at some loci; and the shares are told
+-- of its whole history
+pub record IsKernel {D : Type 0} (disks : Ghosts D) (b : Beginning) (kept : List Entry) (k : Knowing D) (st : State D) : Type 0 where
+  pub is_kept : IsKept disks (held_with st k)
+  pub lives : disks.tells → Lives disks b (held_with st k)
+  pub along : disks.tells → IsAlong disks b (held_with st k)
+  pub entries : k.noted.entries ≡ kept ++ k.told
+
+-- THE INVARIANT: so it is with the store that is known
+abbrev pub IsDesk : {D : Type 0} → Ghosts D → Beginning → List Entry → Knowing D → Type 0
+IsDesk {D} disks b kept k = (st : State D) → slice_get k.stores 0 ≡ Some st → IsKernel disks b kept k st
+
+-- a beginning of nothing
+abbrev pub no_beginning : Beginning
+no_beginning = record { supply = λ t p a. 0; policy = never; script = empty_script 1; state = empty_state; since = 0; first = 0 }

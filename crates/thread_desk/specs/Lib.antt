@@ -1,0 +1,6 @@
+pub mod Alongs
+pub mod Desks
+pub mod Sights
+pub use Rattle.kernel_core.specs as kernel_core
+pub use Rattle.kernel_core.specs.kernel_core_facts
+pub use Rattle.thread_cells.specs as thread_cells
