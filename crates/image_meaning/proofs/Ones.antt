@@ -44,7 +44,7 @@ plain_one x (ContainerPart c t) (LocusPart m) bytes kind one other = cc
 plain_one x (LocusPart l) (AtlasPart b) bytes kind one other = cc
 plain_one x (LocusPart l) (ContainerPart d u) bytes kind one other = cc
 
-plain_cell : (s : Supply) (bytes : ℕ → List ℕ) (p : Part) → cell_of s bytes p ≡ cell_of s bytes (plain p)
+pub plain_cell : (s : Supply) (bytes : ℕ → List ℕ) (p : Part) → cell_of s bytes p ≡ cell_of s bytes (plain p)
 plain_cell s bytes (AtlasPart a) = refl
 plain_cell s bytes (ContainerPart c table) = refl
 plain_cell s bytes (LocusPart l) = refl

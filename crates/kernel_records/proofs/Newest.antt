@@ -63,7 +63,7 @@ put_other f k v x apart = ap (λ (b : Bool). if b then v else f x) test
 
 module _ (n : ℕ → ℕ) (stamps : ℕ → List ℕ) where
   -- no cut is above them
-  cut_low : (recs : List Rec) → All (λ (r : Rec). r.version ≤ n r.entity) recs → (x : ℕ) → cut_of recs x ≤ n x
+  pub cut_low : (recs : List Rec) → All (λ (r : Rec). r.version ≤ n r.entity) recs → (x : ℕ) → cut_of recs x ≤ n x
   cut_low recs most x = elim (greatest_closed nothing (commits_of recs) x) as (λ _. cut_of recs x ≤ n x) [
     | inl none ↦ omega (arith, none)
     | inr some ↦ among recs (recursion_from_All (λ (r : Rec). r.version ≤ n r.entity) recs most) some

@@ -16,7 +16,7 @@ use Rattle.kernel_invariant.specs.Live.{IsLive, IsRunning, KernelView}
 use Rattle.kernel_invariant.specs.declared.stopping.Stopped.{Stopped}
 use Rattle.kernel_invariant.specs.declared.stopping.Stopped.TheVariants as reason
 use Rattle.kernel_laws.specs.Going.{OnlyReads, StoppedBetween}
-use Rattle.kernel_records.proofs.Staying.{clean_stays, part_stays}
+use Rattle.kernel_records.proofs.Staying.{clean_stays}
 use Rattle.kernel_records.specs.cell_states.declared.cells.Cell.{Cell}
 use Rattle.kernel_records.specs.cell_states.declared.cells.Part.{Part}
 use Rattle.kernel_records.specs.cell_states.declared.cells.Part.TheVariants as part
@@ -29,6 +29,7 @@ use Rattle.kernel_views.proofs.Following.{cells_follow, follows}
 use Rattle.kernel_views.proofs.Stopping.{stops}
 use Rattle.kernel_views.specs.Views.{FollowsRun, view_of}
 use Rattle.kernel_views.specs.cell_blob_laws.Memories.{HasOwnMemory}
+use Rattle.open_facts.proofs.Starting.{sound_own, state_stays}
 use Rattle.node_lending.specs.Lending.{StopsForReads}
 use Rattle.node_pages.specs.Reading.{GoesByReads}
 use Rattle.store_snapshots.specs.store_books.Books.{Books}
@@ -39,19 +40,7 @@ use Rattle.table_laws.specs.cell_calls.Besides.{memory_of}
 
 -- CELLS, where the blocks that are held have the same words
 
-sound_own : (held : ℕ → Bool) (p : Part) → HasOwnMemory held p → IsSoundIn held p
-sound_own held (part.Atlas a) own = tt
-sound_own held (part.Container b) own = own.1
-sound_own held (part.Locus l) own = tt
-
 module _ (s : Supply) (held : ℕ → Bool) (words words' : ℕ → List ℕ) (cs : List Cell) (same : (n : ℕ) → held n ≡ true → words' n ≡ words n) (orderly : IsOrderly held cs) where
-  state_stays : state_in s words' cs ≡ state_in s words cs
-  state_stays = λ i x. at x (slice_get cs x) refl i
-    where
-      at : (x : ℕ) (o : Option Cell) → slice_get cs x ≡ o → entity_in s words' x o ≡ entity_in s words x o
-      at x None is = refl
-      at x (Some c) is = ap (λ (cell : CellState). record { cell = cell; version = c.clock.version; stamp = λ y. component c.clock.stamp y }) (part_stays s held words words' same c.part (sound_own held c.part (orderly.own x c is)))
-
   all_clean : AreClean s words cs → AreClean s words' cs
   all_clean clean x m at = by_cell (slice_get cs x) refl at
     where

@@ -24,7 +24,7 @@ module _ {A : Type 0} where
   skip [] ys n = (let e : 0 + n ≡ n = omega arith in ap (slice_get ys) e)
   skip (x ∷ xs) ys n = (let e : suc (length xs) + n ≡ suc (length xs + n) = omega arith in ap (slice_get (x ∷ (xs ++ ys))) e ∙ skip xs ys n)
 
-  near : (xs ys : List A) (n : ℕ) (x : A) → slice_get xs n ≡ Some x → slice_get (xs ++ ys) n ≡ Some x
+  pub near : (xs ys : List A) (n : ℕ) (x : A) → slice_get xs n ≡ Some x → slice_get (xs ++ ys) n ≡ Some x
   near [] ys n x is = absurd (none_some x is)
   near (z ∷ xs) ys zero x is = is
   near (z ∷ xs) ys (suc n) x is = near xs ys n x is

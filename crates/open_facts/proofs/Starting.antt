@@ -40,12 +40,12 @@ use Rattle.table_opened.proofs.image_chosen_facts_lemmas.Naming.{block_pool}
 
 -- CELLS over another image, whose pool is the same
 
-sound_own : (held : ℕ → Bool) (p : Part) → HasOwnMemory held p → IsSoundIn held p
+pub sound_own : (held : ℕ → Bool) (p : Part) → HasOwnMemory held p → IsSoundIn held p
 sound_own held (part.Atlas a) own = tt
 sound_own held (part.Container b) own = own.1
 sound_own held (part.Locus l) own = tt
 
-state_stays : (s : Supply) (held : ℕ → Bool) (words words' : ℕ → List ℕ) (cs : List Cell) → ((n : ℕ) → held n ≡ true → words' n ≡ words n) → IsOrderly held cs → state_in s words' cs ≡ state_in s words cs
+pub state_stays : (s : Supply) (held : ℕ → Bool) (words words' : ℕ → List ℕ) (cs : List Cell) → ((n : ℕ) → held n ≡ true → words' n ≡ words n) → IsOrderly held cs → state_in s words' cs ≡ state_in s words cs
 state_stays s held words words' cs same orderly = λ i x. at x (slice_get cs x) refl i
   where
     at : (x : ℕ) (o : Option Cell) → slice_get cs x ≡ o → entity_in s words' x o ≡ entity_in s words x o
