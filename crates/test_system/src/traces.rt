@@ -1,6 +1,4 @@
-//! Traces, their checks and drills: `worked` has traces that were worked out by hand, `drawn` draws scripts from numbers, `tracing`
-//! makes runs and checks.
-mod drawn;
+//! Traces, their checks and drills: `worked` has traces that were worked out by hand, `tracing` makes runs and checks.
 mod drill_tests;
 mod own_tests;
 mod refusal_tests;

@@ -1,5 +1,5 @@
 -- What comes behind a step: the Stable that it owes, or the Snaps of what it wrote.
-use Rattle.std.specs.Prelude.{◌≡◌, ◌*◌, ℕ, Bool, true, false, [], ◌∷◌, if◌then◌else◌, Some, None, IfErr, IsErrOf, OnErr, OnOk, Result, ⊤}
+use Rattle.std.specs.Prelude.{◌≡◌, ◌*◌, Bool, true, false, [], ◌∷◌, if◌then◌else◌, Some, None, IfErr, IsErrOf, OnErr, OnOk, Result, ⊤}
 use Rattle.edge_disk.specs.declared.disk.Disk.{Ghosts}
 use Rattle.edge_disk.specs.declared.disk.NoBlocks.{NoBlocks}
 use Rattle.base_types.specs.declared.histories.Entry.{Entry}

@@ -4,7 +4,6 @@ use Rattle.kernel_core_facts.specs.cell_plans.declared.idle.Idle.{Idle}
 use Rattle.kernel_core_facts.specs.table_steps.declared.stepping.Made.{Made as Step}
 use Rattle.kernel_core_facts.specs.table_steps.declared.stepping.StepFault.{StepFault}
 use Rattle.kernel_core_facts.specs.table_steps.declared.stepping.StepFault.TheVariants as fault
-use Rattle.kernel_core_facts.specs.model_serial.Serial.{look}
 use Rattle.kernel_core_facts.specs.kernel_commit_facts.Parts.{Noted}
 use Rattle.kernel_core_facts.specs.kernel_invariant.declared.stopping.Stopped.{Stopped}
 use Rattle.kernel_core_facts.specs.Stepping.{stop_by, IsOfOpen}

@@ -1,4 +1,4 @@
-use Rattle.std.proofs.Common.{Ok, Err, ap, refl, subst, ◌∙◌}
+use Rattle.std.proofs.Common.{ap, refl, subst, ◌∙◌}
 use Rattle.std.specs.Prelude.{Result, ⊤}
 use Rattle.kernel_core_facts.specs.Looked.{StepsOnce}
 use Rattle.kernel_core_facts.specs.Stepping.{is_owing}

@@ -143,7 +143,7 @@ caps = ['c0 {first}', 'c1 {second}', 'c2 {third}', 'atlas st', 'l{number} sk', '
 }
 
 /// The script of a number.
-pub(crate) fn drawn(alloc: Global, number: u64) -> Result<String, AllocError> {
+pub fn drawn(alloc: Global, number: u64) -> Result<String, AllocError> {
     let mut words = Lcg64Xsh32::new(number, 7);
     let mut script = String::from_str(alloc, "steps = 30\norder = ['l1', 'l0', 'l1']\n")?;
     for number in 0..3 {
