@@ -78,6 +78,13 @@ impl<W> WriteSink<W> {
     {
         WriteSink { writer, faults: 0 }
     }
+
+    /// The writer, with all that was put.
+    pub fn into_writer(self) -> W
+        ensures { result ≡ writer_of self }
+    {
+        self.writer
+    }
 }
 
 impl<W: Write> Sink for WriteSink<W> {

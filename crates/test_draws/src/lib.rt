@@ -1,6 +1,6 @@
 //! Scripts that are drawn from numbers, for tests over all instructions.
 #![tactic(auto)]
 
-mod drawn;
+mod scripts;
 
-pub use drawn::drawn;
+pub use scripts::drawn;
