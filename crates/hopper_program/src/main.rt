@@ -4,13 +4,14 @@
 #![tactic(auto)]
 
 use command_outcomes::{Fault, Status, put_fault, status_of};
+use edge_gathered::GatheringWriter;
 use edge_managers::{CountedWords, EveryVersions, Policy, Supplier};
 use edge_streams::{FileDisk, ReadSource, Sink, WriteSink};
 use hopper_top::hopper;
 use line_sentences::{put_sentence, put_unopened};
 use std::alloc::Global;
 use std::fs::{Files, OpenOptions};
-use std::io::ErrorKind;
+use std::io::{ErrorKind, Write};
 use std::process::ExitCode;
 use std::rt::Env;
 use std::{env, io};
@@ -48,6 +49,15 @@ fn refuse<W: Sink, E: Sink>(sink: &mut W, people: &mut E, fault: Fault) -> ExitC
     ExitCode::from(status.number())
 }
 
+/// How the command ended, once all that was gathered is handed on: one whose last lines can't be is told as one whose sink failed.
+fn ended<W: Write + Drop>(sink: WriteSink<GatheringWriter<W>>, status: Status) -> Status {
+    let handed_on = sink.into_writer().finish();
+    match (status, handed_on) {
+        (Status::Done, Err(_)) => Status::SinkFault,
+        (status, _) => status,
+    }
+}
+
 fn main(rt: HostRuntime) -> ExitCode {
     let mut source = ReadSource::new(rt.stdin().lock());
     let mut sink = WriteSink::new(rt.stdout().lock());
@@ -64,15 +74,21 @@ fn main(rt: HostRuntime) -> ExitCode {
         let _ = put_unopened(&mut people, path.as_str());
         return ExitCode::from(Status::DiskFault.number());
     };
+    let Ok(writer) = GatheringWriter::new(rt.alloc(), sink.into_writer()) else {
+        let mut sink = WriteSink::new(rt.stdout().lock());
+        return refuse(&mut sink, &mut people, Fault::Memory);
+    };
+    let mut gathered = WriteSink::new(writer);
     let outcome = hopper(
         rt.alloc(),
         command,
         &mut source,
-        &mut sink,
+        &mut gathered,
         FileDisk::new(file),
         &|tag, page, place| CountedWords.word(tag, page, place),
         &|every, since| EveryVersions.wish(every, since),
     );
-    let _ = put_sentence(&mut people, &outcome.status);
-    ExitCode::from(outcome.status.number())
+    let status = ended(gathered, outcome.status);
+    let _ = put_sentence(&mut people, &status);
+    ExitCode::from(status.number())
 }
