@@ -1,4 +1,4 @@
 mod Pages
 mod Paged
-mod Stored
+pub mod Stored
 pub mod Lists

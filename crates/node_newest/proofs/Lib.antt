@@ -1,0 +1,7 @@
+mod Answering
+mod Words
+mod Commits
+mod Told
+mod Whole
+mod Lent
+mod Behind

@@ -1,0 +1,8 @@
+//! The newest record of an entity, read out of a running kernel's image as a shipment.
+#![tactic(auto)]
+
+mod asking;
+mod recording;
+
+pub use asking::newest;
+pub use node_pages::ShipFault;
