@@ -1,5 +1,7 @@
-ghost use Rattle.std.specs.Prelude.{◌≡◌, [], IfOk, OnOk};
+ghost use Rattle.std.specs.Prelude.{◌≡◌, [], IfOk, IfErr, IsOk, OnOk};
+ghost use Rattle.std.specs.IoError.{error_kind};
 ghost use Rattle.std.specs.Io.KnownBytes.{Keeps};
+ghost use Rattle.std.specs.declared.io.ErrorKind.TheVariants.{OutOfMemory};
 ghost use Rattle.edge_gathered.specs.Gathering.{gathered, gathered_contents, inner_of};
 
 use std::alloc::Global;
@@ -25,6 +27,7 @@ impl<W: Write + Drop> GatheringWriter<W> {
     pub fn new(alloc: Global, writer: W) -> io::Result<GatheringWriter<W>>
         ensures writer { IfOk result (λ made. inner_of made ≡ writer) }
         ensures empty { IfOk result (λ made. gathered made ≡ []) }
+        ensures err { IfErr result (λ e. error_kind e ≡ OutOfMemory) }
     {
         Ok(GatheringWriter {
             writer: BufWriter::with_capacity(alloc, GATHERED_BYTES, writer)?,
@@ -47,7 +50,11 @@ impl<W: Write + Drop> Write for GatheringWriter<W> {
         self.writer.write(buf)
     }
 
-    fn flush(&mut self) -> io::Result<()> {
+    fn flush(&mut self) -> io::Result<()>
+        ensures bytes { Keeps (gathered_contents W.contents self.old) (gathered_contents W.contents self.new) }
+        ensures ok { IsOk result }
+        ensures unchanged { self.new ≡ self.old }
+    {
         Ok(())
     }
 }
