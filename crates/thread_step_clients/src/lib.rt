@@ -1,0 +1,10 @@
+//! Clients of `step_cells`: the step of a locus over a table of cells, of which the cells that the step touches are lent, and no others.
+#![tactic(auto)]
+
+mod advancing;
+mod images;
+mod lending;
+
+pub use advancing::advance_lent;
+pub use images::advance_over_image;
+pub use thread_steps::{Made, StepFault};
