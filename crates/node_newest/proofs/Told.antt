@@ -13,7 +13,7 @@ use Rattle.kernel_invariant.specs.Records.{AreKeptRecords, IsKeptRecord}
 use Rattle.kernel_records.proofs.Newest.{cut_low}
 use Rattle.kernel_records.specs.Keeping.{HasNewest}
 use Rattle.kernel_record_facts.specs.Cells.{words_on}
-use Rattle.kernel_record_facts.specs.image_meaning.Parts.{AtlasPart, ContainerPart, IsOf, LocusPart, Part, Spells, cell_of, cut_of, kind_in, table_in}
+use Rattle.kernel_record_facts.specs.image_meaning.Parts.{AtlasPart, ContainerPart, IsOf, LocusPart, Part, Spells, cell_of, cut_of, table_in}
 use Rattle.kernel_record_facts.specs.kernel_invariant.model_kernel.State.{ContainerCell, Supply}
 use Rattle.model_new_commits.specs.Found.{newest_commit}
 use Rattle.model_run_rules.specs.Newest.{newest_in}
@@ -25,7 +25,9 @@ use Rattle.node_newest.proofs.Words.{block_words, found_all, word_found}
 use Rattle.node_newest.specs.Newest.{IsNewest}
 use Rattle.node_newest.specs.Reading.{IsReadOf}
 use Rattle.node_pages.specs.Reading.{last_rec, pages_to}
-use Rattle.node_records.specs.Shipments.{IsShippedOf, over, page_words, shipped_cell, size_of}
+use Rattle.node_records.proofs.Records.{kind_over}
+use Rattle.node_records.specs.Shipments.{IsShippedOf, over, page_words, shipped_cell}
+use Rattle.node_shipments.proofs.Spelling.{size_few}
 use Rattle.node_shipments.specs.Parts.{IsSoundShipment, Shipment, part_in}
 use Rattle.node_shipments.specs.Runs.{commit_in}
 use Rattle.node_store.specs.page_placing.declared.writing.PageWords.{PageWords}
@@ -34,20 +36,10 @@ use Rattle.store_snapshots.specs.store_books.Books.{Books, Logged, kept_for, kep
 
 -- PARTS
 
-kind_over : (table : List ℕ) (p : Part) → kind_in (over table p) ≡ kind_in p
-kind_over table (AtlasPart a) = refl
-kind_over table (ContainerPart c was) = refl
-kind_over table (LocusPart l) = refl
-
 table_few : (p : Part) (bytes : List ℕ) → Spells p bytes → length (table_in p) ≤ 256
 table_few (AtlasPart a) bytes s = omega arith
 table_few (ContainerPart c table) bytes s = (let each = s.form.blocks.each_page in let size = s.form.shape.size in omega (arith, each, size))
 table_few (LocusPart l) bytes s = omega arith
-
-size_few : (p : Part) (bytes : List ℕ) → Spells p bytes → size_of p ≤ 256
-size_few (AtlasPart a) bytes s = omega arith
-size_few (ContainerPart c table) bytes s = s.form.shape.size
-size_few (LocusPart l) bytes s = omega arith
 
 -- the cell over the words that were read is that over the blocks
 over_cell : (s : Supply) (image : Image) (pages : List PageWords) (table : List ℕ) (p : Part)
@@ -104,7 +96,7 @@ module _ (b : Beginning) (es : List Entry) (image : Image) (l : Logged) (s : Shi
     version_is = kept.told.describes.version;
     stamp_is = kept.told.describes.stamp;
     within = sound.within;
-    few = size_few sent sound.spelt.0 sound.spelt.1;
+    few = size_few s.part sound.spelt;
   }
 
   pub shipped : IsShippedOf b es s.entity s.version s.stamp sent s.pages

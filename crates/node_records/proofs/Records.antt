@@ -8,7 +8,7 @@ use Rattle.base_types.specs.declared.histories.Entry.{Entry}
 use Rattle.kernel_record_facts.specs.kernel_invariant.model_kernel.State.{ContainerCell, EntityState, Supply}
 use Rattle.kernel_record_facts.specs.kernel_invariant.image_facts.Bodies.{number_at}
 use Rattle.kernel_record_facts.specs.kernel_invariant.image_meaning.Describing.{HasPage, bytes_of}
-use Rattle.kernel_record_facts.specs.kernel_invariant.image_meaning.Parts.{AtlasPart, ContainerPart, IsOf, LocusPart, Part, Spells, cell_of, table_in, word_in, words_in}
+use Rattle.kernel_record_facts.specs.kernel_invariant.image_meaning.Parts.{AtlasPart, ContainerPart, IsOf, LocusPart, Part, Spells, cell_of, kind_in, table_in, word_in, words_in}
 use Rattle.kernel_record_facts.specs.kernel_invariant.image_meaning.Stores.{Kept, Page}
 use Rattle.kernel_record_facts.specs.kernel_invariant.store_books.Books.{IsNewKept, page_for}
 use Rattle.kernel_record_facts.specs.kernel_invariant.Beginnings.{Beginning, entity_at, state_after}
@@ -90,10 +90,11 @@ module _ (s : Supply) (pages : List PageWords) (image : Image) (table : List ℕ
   named_is (ContainerPart c was) few within p = sym (front c.pages few within p)
   named_is (LocusPart l) few within p = none_there p (λ k q at same. (let lt = within k q at in omega (arith, lt)))
 
-kind_over : (x : ℕ) (table : List ℕ) (part : Part) → IsOf x part → IsOf x (over table part)
-kind_over x table (AtlasPart a) is = is
-kind_over x table (ContainerPart c was) is = is
-kind_over x table (LocusPart l) is = is
+-- over another table of blocks it is of the same kind
+pub kind_over : (table : List ℕ) (part : Part) → kind_in (over table part) ≡ kind_in part
+kind_over table (AtlasPart a) = refl
+kind_over table (ContainerPart c was) = refl
+kind_over table (LocusPart l) = refl
 
 module _ (b : Beginning) (es : List Entry) (entity version : ℕ) (stamp : List ℕ) (part : Part) (pages : List PageWords) (bytes : List ℕ → List ℕ) (image : Image) (table : List ℕ)
     (is : IsShippedOf b es entity version stamp part pages) (spells : SpellsOver part bytes) (long : length table ≡ 256) (small : All (λ n. n < 2 ^ 32) table) (have : HaveBlocks pages table image) where
@@ -122,7 +123,7 @@ module _ (b : Beginning) (es : List Entry) (entity version : ℕ) (stamp : List 
         part = over table part;
         describes = record {
           spells = record {
-            kind = subst (λ (x : ℕ). IsOf x (over table part)) (sym new.entity_is) (kind_over entity table part is.kind);
+            kind = subst (λ (x : ℕ). IsOf x (over table part)) (sym new.entity_is) (kind_over table part ∙ is.kind);
             spells = subst (Spells (over table part)) (sym new.blob_is) (spells table long small);
             pages = paged;
           };

@@ -70,7 +70,8 @@ head_spelt h table bytes s = (let f = s.form in (
 
 -- PAGES THAT ASCEND
 
-size_few : (part : ShipPart) → HasSpelling part → size_of (part_in part) ≤ 256
+-- what has a spelling has at most 256 pages
+pub size_few : (part : ShipPart) → HasSpelling part → size_of (part_in part) ≤ 256
 size_few (ship.Atlas a) has = omega arith
 size_few (ship.Container h) has = has.1.form.shape.size
 size_few (ship.Locus l) has = omega arith
