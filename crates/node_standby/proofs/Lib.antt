@@ -1,3 +1,4 @@
+mod Kept
 mod Narrow
 pub mod Small
 pub mod Taking

@@ -1,11 +1,12 @@
 // A standby.
-ghost use Rattle.std.specs.Prelude.{◌≡◌, ◌↔◌, ◌⊎◌, ◌+◌, ◌^◌, ◌<◌, ◌≤◌, ℕ, List, [], true, false, length, Ok, IfErr, IfOk, IsErrOf, MatchResult, OnOk};
+ghost use Rattle.std.specs.Prelude.{◌≡◌, ◌↔◌, ◌⊎◌, ◌+◌, ◌^◌, ◌<◌, ◌≤◌, ℕ, All, List, [], true, false, count_by, length, slice_index, Ok, IfErr, IfOk, IsErrOf, IsTrue, MatchResult, OnOk};
 ghost use Rattle.edge_disk.specs.Counts.{Rose};
 ghost use Rattle.edge_disk.specs.Moments.{LeavesOnly};
 ghost use Rattle.base_types.specs.declared.histories.Entry.{Entry as AnEntry};
 ghost use Rattle.node_shipments.specs.Parts.{length_in};
 ghost use Rattle.node_shipments.specs.Runs.{IsShipmentAt};
 ghost use Rattle.node_shipments.specs.kernel_invariant.Beginnings.{Beginning as ABeginning, BeginsRight, IsLegal};
+ghost use Rattle.node_shipments.specs.kernel_invariant.model_cut_laws.Records.{is_rec_from};
 ghost use Rattle.node_shipments.specs.node_store.Shipping.{IsShort, TakesRecord};
 ghost use Rattle.node_standby.specs.Causes.{HasStandbyCauseIn, IsEmptyImage};
 ghost use Rattle.node_standby.specs.Following.{Follows, IsImageBetween, MayTake, most_in};
@@ -13,10 +14,13 @@ ghost use Rattle.node_world.specs.Worlds.{is_next};
 ghost use Rattle.store_snapshots.specs.store_facts.Opening.{IsSynced, SyncsOnly};
 ghost use Rattle.store_snapshots.specs.store_facts.State.{books};
 ghost use Rattle.store_snapshots.specs.store_facts.image_facts.Bodies.{blocks_for};
-ghost use Rattle.store_snapshots.specs.store_books.Books.{is_used, kept_names, recs_in};
+ghost use Rattle.store_snapshots.specs.store_facts.image_facts.Layout.{slot_count};
+ghost use Rattle.store_snapshots.specs.store_books.Books.{is_used, kept_in, kept_names, recs_in};
 
 use crate::faults::{StandbyFault, StandbyWhy};
 use base_bytes::Blob;
+use base_types::{Cut, Entity, Rec};
+use data_cuts::MOST_RECORDS;
 use edge_disk::{Disk, NoBlocks};
 use node_shipments::Shipped;
 use node_store::deliver_record;
@@ -48,6 +52,44 @@ fn is_next(count: u64, number: u64) -> bool
     ensures { result ≡ is_next count number }
 {
     number > 0 && number - 1 == count
+}
+
+// So many shipments may be counted.
+const MOST_SHIPMENTS: u64 = 1 << 62;
+
+// How many records are at or above a cut.
+fn count_from(recs: &[Rec], cut: &Cut) -> usize
+    ensures { result ≡ count_by (is_rec_from (slice_index cut.now.0)) recs.now }
+{
+    recs.iter()
+        .filter(|rec| cut.0[rec.entity.number() as usize] <= rec.version)
+        .count()
+}
+
+// Whether each record of the entity has a lower version.
+fn is_newer(recs: &[Rec], entity: Entity, version: u64) -> bool
+    ensures { IsTrue result ↔ All (λ r. r.entity ≡ entity → r.version < version) recs.now }
+{
+    recs.iter()
+        .all(|rec| rec.entity != entity || rec.version < version)
+}
+
+// Whether fewer records are kept than a log has slots.
+fn has_room<D: Disk>(store: &Store<D>) -> bool
+    ensures { IsTrue result ↔ length (kept_in (books store.now)) < slot_count }
+{
+    let kept = count_from(store.recs(), &store.cut());
+    kept < MOST_RECORDS
+}
+
+// Whether a standby with this store, which took so many shipments, may take this one next.
+fn may_take<D: Disk>(store: &Store<D>, count: u64, shipped: &Shipped) -> bool
+    ensures { IsTrue result ↔ MayTake (record { store = store.now; count = count }) shipped.now }
+{
+    let few = count < MOST_SHIPMENTS;
+    let room = has_room(store);
+    let newer = is_newer(store.recs(), shipped.entity(), shipped.version());
+    few && room && newer
 }
 
 // A standby over an image that was read and has no record.
@@ -124,6 +166,22 @@ impl<D: Disk> Standby<D> {
         ensures { result ≡ self.now.count }
     {
         self.count
+    }
+
+    /// Whether this is the number of the next shipment: one more than the count.
+    pub fn is_next(&self, number: u64) -> bool
+        ensures { result ≡ is_next self.now.count number }
+    {
+        is_next(self.count, number)
+    }
+
+    /// Whether the next shipment may be this one: a count and a slot of the log are left for it, where only the records at or above the cut are
+    /// kept, and each record of its entity has a lower version. True of each next shipment of a run that it follows, while its store works. It looks at
+    /// each record of the log twice.
+    pub fn may_take(&self, shipped: &Shipped) -> bool
+        ensures { IsTrue result ↔ MayTake self.now shipped.now }
+    {
+        may_take(&self.store, self.count, shipped)
     }
 
     /// The disk, as the standby left it.
