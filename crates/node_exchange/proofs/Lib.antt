@@ -1,0 +1,4 @@
+mod Places
+mod Playing
+mod Taking
+mod Coming
