@@ -1,5 +1,5 @@
 //! The side that stands beside a chronicle: it writes all items, and has the ledger's book.
-ghost use Rattle.std.specs.Prelude.{◌≡◌, ◌<◌, ◌≤◌, ◌^◌, ◌++◌, ◌∷◌, [], false, true, length, MatchBool};
+ghost use Rattle.std.specs.Prelude.{◌≡◌, ◌↔◌, ◌<◌, ◌≤◌, ◌^◌, ◌++◌, ◌∷◌, [], false, true, length, MatchBool};
 ghost use Rattle.thread_board.specs.Items.{AllOf, Each, IsRising, IsWithin};
 ghost use Rattle.thread_board.specs.Lines.{has_stop};
 ghost use Rattle.thread_history.specs.Rules.{AllDiffer};
@@ -7,7 +7,7 @@ ghost use Rattle.thread_history.specs.Rules.{AllDiffer};
 use crate::lines::{Line, Placed};
 use crate::notices::StopNote;
 use crate::passes::{Fresh, MOST_COUNT, Pass};
-use crate::seats::{add_item, cut_note};
+use crate::seats::{ITEMS, add_item, cut_note, look};
 use crate::sides::{show_items, take_pass, tell_items};
 use crate::slates::{Bench, Slate};
 use crate::views::{BoardSeat, PassItem};
@@ -64,6 +64,14 @@ impl<C: Line, T: Placed, B: Bench> Slip<C, T, B> {
     {
         show_items(&slate.table, &mut self.seat, &mut pass.seat);
         tell_items(&slate.table, &mut self.seat, &mut pass.seat);
+    }
+
+    /// Whether there are 2^62 items, and no more can be noted. One step at the table.
+    pub fn is_full(&mut self, slate: &Slate<C, T, B>) -> bool
+        ensures slip { self.new ≡ self.old }
+        ensures full { (result ≡ true) ↔ (2 ^ 62 ≤ length self.old.items) }
+    {
+        look(&slate.table, &mut self.seat, ITEMS) >= MOST_COUNT
     }
 
     /// Notes an item of the pass, after all others. False where there are 2^62 items, and then nothing is noted. Six steps at the
