@@ -1,5 +1,5 @@
 -- The Snaps of what a step wrote, one after another: where a kernel stands behind so many touches.
-use Rattle.std.proofs.Common.{◌≡◌, ℕ, ◌+◌, ◌<◌, ◌≤◌, Bool, true, false, List, ◌∷◌, length, get_or, drop, Ok, Err, refl, sym, ap, subst}
+use Rattle.std.proofs.Common.{◌≡◌, ℕ, ◌+◌, ◌<◌, ◌≤◌, Bool, true, false, List, [], ◌∷◌, length, get_or, drop, Ok, Err, refl, sym, ap, subst}
 use Rattle.std.specs.Prelude.{Result, ⊤}
 use Rattle.edge_disk.specs.declared.disk.Disk.{Ghosts}
 use Rattle.base_types.specs.Touches.{IsRising}
@@ -22,13 +22,15 @@ use Rattle.kernel_commits.proofs.Along.{SnapsAlong, begins_along, ends_along, la
 use Rattle.kernel_commits.proofs.Stops.{stop_left}
 use Rattle.kernel_commits.proofs.Telling.{adds_none, adds_then, notes_again}
 use Rattle.kernel_commits.proofs.Wishing.{err_over}
-use Rattle.thread_commits.specs.Snapping.{SnapsWished, SnapsWritten}
+use Rattle.thread_commits.specs.Snapping.{AddsAmong, SnapsWished, SnapsWritten}
+use Rattle.thread_commits.proofs.Adding.{among_still, among_then}
 
 module _ {D : Type 0} (disks : Ghosts D) (policy : Policy) (ts : List Touch) (first : Parts D) where
   -- BEHIND SO MANY TOUCHES: the Snaps of those that wrote were made, and the kernel goes on
   pub record GoesAlong (i : ℕ) (now : Parts D) : Type 0 where
     pub steady : IsSteady disks now
     pub notes : AddsNoTried first.noted.entries now.noted.entries
+    pub adds : AddsAmong [] first.noted.entries now.noted.entries
     pub counts : CountsAlong disks i first.store now.store
     pub clean : disks.tells → (s : Supply) → AreClean s (words_on (disks.reading first.store.disk)) first.cells → AreClean s (words_on (disks.reading now.store.disk)) now.cells
     pub run : disks.tells → (b : Beginning) → RunsFree disks b policy first → SnapsAlong disks b policy ts (drop i ts) first now
@@ -37,6 +39,7 @@ module _ {D : Type 0} (disks : Ghosts D) (policy : Policy) (ts : List Touch) (fi
   begins steady = record {
     steady = steady;
     notes = adds_none first.noted.entries first.noted.entries refl;
+    adds = among_still [] first.noted.entries first.noted.entries refl;
     counts = counts_begin disks first.store;
     clean = λ told s clean. clean;
     run = λ told b free. begins_along disks b policy ts first free;
@@ -54,6 +57,7 @@ module _ {D : Type 0} (disks : Ghosts D) (policy : Policy) (ts : List Touch) (fi
     passes_on read = record {
       steady = g.steady;
       notes = g.notes;
+      adds = g.adds;
       counts = counts_skip disks i first.store now.store g.counts;
       clean = g.clean;
       run = λ told b free. skip disks b policy ts left t first now (along told b free) read;
@@ -69,6 +73,7 @@ module _ {D : Type 0} (disks : Ghosts D) (policy : Policy) (ts : List Touch) (fi
       snaps_on v s = record {
         steady = s.steady;
         notes = adds_then first.noted.entries now.noted.entries next.noted.entries g.notes s.notes;
+        adds = among_then [] first.noted.entries now.noted.entries next.noted.entries g.adds s.adds;
         counts = counted (Ok v) s;
         clean = λ told supply clean. s.clean told supply (g.clean told supply clean);
         run = λ told b free. take_one disks b policy ts left t first now (along told b free) wrote v next (s.run told b (along told b free).runs);
@@ -90,6 +95,7 @@ module _ {D : Type 0} (disks : Ghosts D) (policy : Policy) (ts : List Touch) (fi
             })
             why refl;
         notes = notes_again ⊤ Bool why first.noted.entries now.noted.entries next.noted.entries g.notes s.notes;
+        adds = among_then [] first.noted.entries now.noted.entries next.noted.entries g.adds s.adds;
         clean = λ told supply clean. tt;
         counts = counts_end disks (i + 1) first.store next.store (counted (Err why) s);
       }
@@ -103,6 +109,7 @@ module _ {D : Type 0} (disks : Ghosts D) (policy : Policy) (ts : List Touch) (fi
     enough = λ told b free n same. absurd (cc same);
     stopped = tt;
     notes = g.notes;
+    adds = g.adds;
     clean = g.clean;
     counts = counts_end disks i first.store now.store g.counts;
   }

@@ -40,6 +40,13 @@ among_written e xs ts i t among same lt is wrote =
     (subst (λ (u : Touch). (u.entity == t.entity && u.wrote) ≡ true) is
     (subst (λ b. (t.entity == t.entity && b) ≡ true) (sym wrote) (ap (λ b. b && true) (eq-eqb t.entity t.entity refl))))))
 
+-- the numbers of lent cells that have kept theirs
+pub same_two : (a b x y : ℕ) → a ≡ x → b ≡ y → (a ∷ b ∷ []) ≡ (x ∷ y ∷ [])
+same_two a b x y p q = ap (λ n. n ∷ b ∷ []) p ∙ ap (λ n. x ∷ n ∷ []) q
+
+pub same_three : (a b c x y z : ℕ) → a ≡ x → b ≡ y → c ≡ z → (a ∷ b ∷ c ∷ []) ≡ (x ∷ y ∷ z ∷ [])
+same_three a b c x y z p q r = ap (λ n. n ∷ b ∷ c ∷ []) p ∙ ap (λ ns. x ∷ ns) (same_two b c y z q r)
+
 -- THE OTHERS
 
 -- a cell that stands there already

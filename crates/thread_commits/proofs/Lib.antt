@@ -1,3 +1,4 @@
+pub mod Adding
 pub mod Along
 pub mod Lent
 pub mod Over

@@ -1,10 +1,12 @@
 -- The Snap of one entity by its wish, over the parts that are known of a kernel, from what its record came to.
-use Rattle.std.proofs.Common.{◌≡◌, ℕ, Bool, true, false, Ok, Err, slice_get, Some, refl, sym, ap, subst, ◌∙◌, arith}
+use Rattle.std.proofs.Common.{◌≡◌, ℕ, Bool, true, false, [], Ok, Err, slice_get, Some, refl, sym, ap, subst, ◌∙◌, arith}
 use Rattle.std.specs.Prelude.{◌↔◌, IfErr, IsErrOf, OnOk, Result, ⊤}
 use Rattle.std.proofs.lemmas.Bool.{false≢true}
 use Rattle.edge_disk.specs.declared.disk.Disk.{Ghosts}
 use Rattle.edge_disk.specs.declared.disk.NoBlocks.{NoBlocks}
 use Rattle.edge_tally.proofs.Counting.{CountsOn-stay}
+use Rattle.base_types.specs.declared.histories.Event.TheVariants.{Snap}
+use Rattle.kernel_commit_facts.specs.kernel_book_laws.Matching.{version_of}
 use Rattle.kernel_commit_facts.specs.model_kernel.Histories.{Policy}
 use Rattle.kernel_commit_facts.specs.cell_states.declared.cells.Cell.{Cell}
 use Rattle.kernel_commit_facts.specs.store_facts.State.{books}
@@ -24,6 +26,7 @@ use Rattle.kernel_commits.specs.Recording.{Fails, GoesOnBy}
 use Rattle.kernel_commits.proofs.Telling.{adds_none, adds_one, fails_noting}
 use Rattle.kernel_commits.proofs.Wishing.{err_over, fault_in, may_record, none_made, one_answer, one_failed, one_lacks, one_made, one_part}
 use Rattle.thread_commits.specs.Snapping.{SnapsWished}
+use Rattle.thread_commits.proofs.Adding.{among_mark, among_still, fails_among}
 
 -- what the record of an entity came to
 pub record Records {D : Type 0} (disks : Ghosts D) (x : ℕ) (r : Result ⊤ Stopped) (old new : Parts D) : Type 0 where
@@ -46,6 +49,7 @@ module _ {D : Type 0} (disks : Ghosts D) (policy : Policy) (x : ℕ) (old : Part
     no_blocks = λ n. ((λ is. absurd (cc is)), (λ both. absurd (false≢true (one_answer policy x old c at false true isnt both.0))));
     fails = record { untouched = λ n is. absurd (cc is); tried = λ is. absurd (cc is); no_read = λ is. cc is };
     notes = adds_none old.noted.entries old.noted.entries refl;
+    adds = among_still [] old.noted.entries old.noted.entries refl;
     run = λ told b free. none_made disks b policy x old told free c at (run told b free) (Ok false) false refl;
     part = λ told b free. tt;
     clean = λ told s clean. clean;
@@ -70,6 +74,7 @@ module _ {D : Type 0} (disks : Ghosts D) (policy : Policy) (x : ℕ) (old : Part
       no_blocks = λ n. ((λ is. absurd (cc is)), (λ both. absurd (let short = (came.no_blocks n).1 both.1 in cc (ok, short))));
       fails = record { untouched = λ n is. absurd (cc is); tried = λ is. absurd (cc is); no_read = λ is. cc is };
       notes = adds_one old.noted.entries new.noted.entries _ recorded.entries (λ is. cc is);
+      adds = among_mark [] old.noted.entries new.noted.entries Snap x (version_of old.cells x) recorded.entries;
       run = λ told b free. one_made disks b policy x old told free c at new (wants told b free) recorded
           (subst (λ (q : Result ⊤ Stopped). OnOk q (StandsAs disks b new)) ok (goes_on told b free).stands) (Ok true) true refl;
       part = λ told b free. tt;
@@ -97,6 +102,7 @@ module _ {D : Type 0} (disks : Ghosts D) (policy : Policy) (x : ℕ) (old : Part
         no_blocks = λ n. ((λ same. (is, (came.no_blocks n).0 (was (reason.NoBlocks n) same))), (λ both. err_over ⊤ Bool why (reason.NoBlocks n) (sym err ∙ (came.no_blocks n).1 both.1)));
         fails = fails_so;
         notes = fails_noting disks x old new {T = Bool} why fails_so;
+        adds = fails_among disks x old new {T = Bool} why fails_so;
         run = λ told b free. one_failed disks b policy x old told free c at new (Err why) why refl
             (subst (λ (q : Result ⊤ Stopped). IfErr q (λ w. LivesAs disks b new (Some w))) err (goes_on told b free).lives);
         part = λ told b free. one_part disks b policy x old told free c at (wants told b free) new r came.fails why err;

@@ -1,5 +1,5 @@
 -- What Snaps by wishes come to over lent cells: all that the calls of a kernel that owns its cells promise, over the parts that are known of it.
-use Rattle.std.specs.Prelude.{◌≡◌, ◌↔◌, ◌*◌, ℕ, Bool, true, false, List, Ok, IfErr, IsErrOf, OnErr, OnOk, Result, ⊤}
+use Rattle.std.specs.Prelude.{◌≡◌, ◌↔◌, ◌*◌, ◌++◌, ℕ, Bool, true, false, List, [], All, Ok, IfErr, IsErrOf, OnErr, OnOk, Result, ⊤}
 use Rattle.edge_disk.specs.declared.disk.Disk.{Ghosts}
 use Rattle.edge_disk.specs.declared.disk.NoBlocks.{NoBlocks}
 use Rattle.base_types.specs.declared.histories.Entry.{Entry}
@@ -29,6 +29,12 @@ use Rattle.kernel_commits.specs.Telling.{CommitsNote}
 abbrev pub WritesAmong : Entry → List ℕ → Type 0
 WritesAmong e xs = (x : ℕ) → writes e x ≡ true → is_among x xs ≡ true
 
+-- WHAT IS NOTED BEHIND the old history writes none but these. A mark, as a Snap's, writes none
+pub record AddsAmong (xs : List ℕ) (old new : List Entry) : Type 0 where
+  pub part : List Entry
+  pub entries : new ≡ old ++ part
+  pub among : All (λ (e : Entry). WritesAmong e xs) part
+
 module _ {D : Type 0} (disks : Ghosts D) (policy : Policy) where
   -- THE SNAP OF ONE ENTITY: exactly where one is wished and the entity isn't full, the record is made
   pub record SnapsWished (x : ℕ) (result : Result Bool Stopped) (old new : Parts D) : Type 0 where
@@ -38,6 +44,7 @@ module _ {D : Type 0} (disks : Ghosts D) (policy : Policy) where
     pub no_blocks : (n : NoBlocks) → IsErrOf result (reason.NoBlocks n) ↔ IsSnapShort disks policy x old n
     pub fails : Fails disks x result old new
     pub notes : CommitsNote result old.noted.entries new.noted.entries
+    pub adds : AddsAmong [] old.noted.entries new.noted.entries
     pub run : disks.tells → (b : Beginning) → RunsFree disks b policy old → SnapsOne disks b policy x result old new
     pub part : disks.tells → (b : Beginning) → RunsFree disks b policy old
         → OnErr result (StopsIn b (wished_snap policy (run_of b old.noted.entries) x) old.noted.entries new.noted.entries)
@@ -58,6 +65,7 @@ module _ {D : Type 0} (disks : Ghosts D) (policy : Policy) where
         → LacksIn disks b n (wished_snaps b.supply policy b.script (run_of b old.noted.entries) xs) old.noted.entries new
     pub stopped : IfErr result (LeavesStopped disks.faults (AreSnapsShort disks policy xs new) old new)
     pub notes : CommitsNote result old.noted.entries new.noted.entries
+    pub adds : AddsAmong [] old.noted.entries new.noted.entries
     pub clean : disks.tells → (s : Supply) → AreClean s (words_on (disks.reading old.store.disk)) old.cells
         → OnOk result (AreClean s (words_on (disks.reading new.store.disk)) new.cells)
     pub counts : CountsWithin disks (64 * 1556) old.store new.store

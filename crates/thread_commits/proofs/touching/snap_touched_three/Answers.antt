@@ -6,7 +6,7 @@ use Rattle.thread_history.specs.Rules.{is_among}
 use Rattle.thread_commits.specs.Lent.{OthersStay}
 use Rattle.thread_commits.specs.Snapping.{SnapsWritten}
 use Rattle.thread_commits.proofs.Along.{GoesAlong, begins, ends, fails_on, passes_on, snaps_on}
-use Rattle.thread_commits.proofs.Lent.{among_written, others_begin, others_then}
+use Rattle.thread_commits.proofs.Lent.{among_written, others_begin, others_then, same_three}
 use Rattle.thread_commits.proofs.Over.{same_parts}
 use Rattle.thread_commits.proofs.touching.snap_touched_three.Goals.{then-touch+in_default, else-touch}
 use Rattle.thread_commits.proofs.touching.snap_touched_three.Goals as goal
@@ -22,7 +22,7 @@ loop-i-init g c = record {
 
 pub snap_of_three-requires-clause-among : goal.snap_of_three-requires-clause-among
 snap_of_three-requires-clause-among g c =
-    let same : (c.loop-i.one.number ∷ c.loop-i.two.number ∷ c.loop-i.three.number ∷ []) ≡ (c.args.one.now.number ∷ c.args.two.now.number ∷ c.args.three.now.number ∷ []) = ap (λ n. n ∷ c.loop-i.two.number ∷ c.loop-i.three.number ∷ []) c.loop-i.invariant.one.0 ∙ (ap (λ n. c.args.one.now.number ∷ n ∷ c.loop-i.three.number ∷ []) c.loop-i.invariant.two.0 ∙ ap (λ n. c.args.one.now.number ∷ c.args.two.now.number ∷ n ∷ []) c.loop-i.invariant.three.0) in
+    let same = same_three c.loop-i.one.number c.loop-i.two.number c.loop-i.three.number c.args.one.now.number c.args.two.now.number c.args.three.now.number c.loop-i.invariant.one.0 c.loop-i.invariant.two.0 c.loop-i.invariant.three.0 in
     subst (λ ns. is_among c.index-touches-i.result.entity ns ≡ true) (sym same)
     (among_written c.args.entry.now (c.args.one.now.number ∷ c.args.two.now.number ∷ c.args.three.now.number ∷ []) c.as_slice-touches.result.now c.loop-i.i c.index-touches-i.result c.requires.among c.as_slice-touches.ensures.touches (omega arith) c.index-touches-i.is c.if-touch.true)
 
@@ -34,7 +34,7 @@ loop-i-preserved g c =
     let t = c.index-touches-i.result in
     let first = parts_of c.args.store.now c.args.all.now c.args.notes.now in
     let now = parts_of c.loop-i.store c.loop-i.all c.loop-i.notes in
-    let same : (c.loop-i.one.number ∷ c.loop-i.two.number ∷ c.loop-i.three.number ∷ []) ≡ (c.args.one.now.number ∷ c.args.two.now.number ∷ c.args.three.now.number ∷ []) = ap (λ n. n ∷ c.loop-i.two.number ∷ c.loop-i.three.number ∷ []) c.loop-i.invariant.one.0 ∙ (ap (λ n. c.args.one.now.number ∷ n ∷ c.loop-i.three.number ∷ []) c.loop-i.invariant.two.0 ∙ ap (λ n. c.args.one.now.number ∷ c.args.two.now.number ∷ n ∷ []) c.loop-i.invariant.three.0) in
+    let same = same_three c.loop-i.one.number c.loop-i.two.number c.loop-i.three.number c.args.one.now.number c.args.two.now.number c.args.three.now.number c.loop-i.invariant.one.0 c.loop-i.invariant.two.0 c.loop-i.invariant.three.0 in
     elim c.if-touch.branch [
       | then-touch+in_default w ↦
           let new = parts_of w.snap_of_three.new.store w.snap_of_three.new.all w.snap_of_three.new.notes in
@@ -83,6 +83,6 @@ returns-in-Err-clause-snaps g c =
 
 pub returns-in-Err-clause-others : goal.returns-in-Err-clause-others
 returns-in-Err-clause-others g c =
-    let same : (c.loop-i.one.number ∷ c.loop-i.two.number ∷ c.loop-i.three.number ∷ []) ≡ (c.args.one.now.number ∷ c.args.two.now.number ∷ c.args.three.now.number ∷ []) = ap (λ n. n ∷ c.loop-i.two.number ∷ c.loop-i.three.number ∷ []) c.loop-i.invariant.one.0 ∙ (ap (λ n. c.args.one.now.number ∷ n ∷ c.loop-i.three.number ∷ []) c.loop-i.invariant.two.0 ∙ ap (λ n. c.args.one.now.number ∷ c.args.two.now.number ∷ n ∷ []) c.loop-i.invariant.three.0) in
+    let same = same_three c.loop-i.one.number c.loop-i.two.number c.loop-i.three.number c.args.one.now.number c.args.two.now.number c.args.three.now.number c.loop-i.invariant.one.0 c.loop-i.invariant.two.0 c.loop-i.invariant.three.0 in
     others_then (c.args.one.now.number ∷ c.args.two.now.number ∷ c.args.three.now.number ∷ []) c.args.all.now c.loop-i.all c.snap_of_three.new.all c.loop-i.invariant.others
     (subst (λ ns. OthersStay ns c.loop-i.all c.snap_of_three.new.all) same c.snap_of_three.ensures.others)
