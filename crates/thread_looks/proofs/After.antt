@@ -1,6 +1,6 @@
 -- A look by what its step came to, and the Snaps behind it.
 use Rattle.std.proofs.Common.{◌≡◌, ◌⊎◌, inl, inr, ℕ, ◌*◌, ◌+◌, Bool, false, List, if◌then◌else◌, Some, None, Ok, Err, refl, sym, ap, subst, ◌∙◌, arith}
-use Rattle.std.specs.Prelude.{IsErrOf, Result, ⊤}
+use Rattle.std.specs.Prelude.{IfOk, IsErrOf, Result, ⊤}
 use Rattle.edge_disk.specs.declared.disk.Disk.{Ghosts}
 use Rattle.edge_disk.specs.declared.disk.NoBlocks.{NoBlocks}
 use Rattle.base_types.specs.declared.histories.Entry.{Entry}
@@ -28,12 +28,10 @@ use Rattle.kernel_core.proofs.LookMade.{rose_at, rose_behind, step_untried}
 use Rattle.thread_commits.specs.Snapping.{SnapsWritten}
 use Rattle.thread_looks.specs.Behind.{KeepsBehind}
 use Rattle.thread_looks.specs.Looking.{LooksAsSerial}
-use Rattle.kernel_core_facts.specs.Looked.{StepsOnce}
+use Rattle.thread_looks.proofs.Ends.{ok_look}
+use Rattle.kernel_core_facts.specs.Looked.{IfMade, StepsOnce}
 use Rattle.kernel_core_facts.specs.declared.looked.Looked.{Looked}
 use Rattle.kernel_core_facts.specs.declared.looked.Looked.TheVariants.{Idle, Made}
-
-abbrev ok_look : Looked → Result Looked Stopped
-ok_look o = Ok o
 
 abbrev err_look : Stopped → Result Looked Stopped
 err_look why = Err why
@@ -189,3 +187,25 @@ module _ {D : Type 0} (disks : Ghosts D) (supply : Supply) (policy : Policy) (me
 
     pub look_stopped : (why : Stopped) → SnapsWritten disks policy (written_in m.entry.touched) (Err why) mid new → LooksAsSerial disks supply policy me old new (Err why)
     look_stopped why snaps = kept_stopped m step false free new why (snaps_behind disks policy m.entry (Err why) mid new snaps)
+
+-- THE SAME, by what the step came to
+module _ {D : Type 0} (disks : Ghosts D) (supply : Supply) (policy : Policy) (me : ℕ) (old mid : Parts D) (came : Result Looked Stopped) (step : StepsOnce disks supply me old mid came) where
+  pub came_idle : (o : Looked) (why : AnIdle) → came ≡ Ok o → o ≡ Idle why → IsSteady disks old → LooksAsSerial disks supply policy me old mid (Ok (Idle why))
+  came_idle o why is idle steady = look_idle disks supply policy me old mid why steady (subst (StepsOnce disks supply me old mid) (is ∙ ap ok_look idle) step)
+
+  pub came_failed : (why : Stopped) → came ≡ Err why → LooksAsSerial disks supply policy me old mid (Err why)
+  came_failed why is = look_failed disks supply policy me old mid why (subst (StepsOnce disks supply me old mid) is step)
+
+  module _ (o : Looked) (m : Step) (is : came ≡ Ok o) (made : o ≡ Made m) (free : IfOk came (λ q. IfMade q (λ n. is_owing n.instr n.entry.answer ≡ false))) (new : Parts D)
+      (r : Result ⊤ Stopped) (snaps : SnapsWritten disks policy (written_in m.entry.touched) r mid new) where
+    as_made : StepsOnce disks supply me old mid (Ok (Made m))
+    as_made = subst (StepsOnce disks supply me old mid) (is ∙ ap ok_look made) step
+
+    is_free : is_owing m.instr m.entry.answer ≡ false
+    is_free = subst (λ (q : Result Looked Stopped). IfOk q (λ p. IfMade p (λ n. is_owing n.instr n.entry.answer ≡ false))) (is ∙ ap ok_look made) free
+
+    pub came_ended : r ≡ Ok tt → LooksAsSerial disks supply policy me old new (Ok (Made m))
+    came_ended ok = look_ended disks supply policy me old mid m as_made is_free new (subst (λ (q : Result ⊤ Stopped). SnapsWritten disks policy (written_in m.entry.touched) q mid new) ok snaps)
+
+    pub came_stopped : (why : Stopped) → r ≡ Err why → LooksAsSerial disks supply policy me old new (Err why)
+    came_stopped why err = look_stopped disks supply policy me old mid m as_made is_free new why (subst (λ (q : Result ⊤ Stopped). SnapsWritten disks policy (written_in m.entry.touched) q mid new) err snaps)

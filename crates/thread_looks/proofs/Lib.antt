@@ -1,3 +1,4 @@
+pub mod Adding
 pub mod Made
 pub mod After
 pub mod Ends

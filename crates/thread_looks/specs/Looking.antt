@@ -1,10 +1,12 @@
 -- What a look by lent cells leaves of a kernel's parts.
-use Rattle.std.specs.Prelude.{◌≡◌, ◌↔◌, ◌⊎◌, ◌+◌, ◌*◌, ℕ, true, List, Some, IfOk, IsErrOf, Ok, OnErr, OnOk, Result}
+use Rattle.std.specs.Prelude.{◌≡◌, ◌↔◌, ◌⊎◌, ◌+◌, ◌*◌, ℕ, true, List, [], ◌∷◌, ◌++◌, Option, None, Some, IfOk, IsErrOf, Ok, Err, OnErr, OnOk, Result}
 use Rattle.std.specs.Result.{result_err}
 use Rattle.edge_disk.specs.Counts.{Rose}
 use Rattle.edge_disk.specs.declared.disk.Disk.{Ghosts}
 use Rattle.edge_disk.specs.declared.disk.NoBlocks.{NoBlocks}
 use Rattle.base_types.specs.declared.histories.Answer.TheVariants.{Reply as Replied}
+use Rattle.base_types.specs.declared.histories.Entry.{Entry}
+use Rattle.base_types.specs.declared.histories.Event.TheVariants.{Step}
 use Rattle.base_types.specs.declared.instructions.Instr.{Instr}
 use Rattle.base_types.specs.declared.instructions.Reply.TheVariants.{Ok as AnsweredOk}
 use Rattle.kernel_core_facts.specs.table_births.model_kernel.Histories.{Policy, stabilises}
@@ -28,8 +30,9 @@ use Rattle.kernel_core_facts.specs.kernel_invariant.declared.stopping.Stopped.Th
 use Rattle.kernel_core_facts.specs.Looking.{LooksInRun, LooksOnce, StopsWhere}
 use Rattle.kernel_core_facts.specs.Stepping.{idle_at}
 use Rattle.kernel_core_facts.specs.declared.looked.Looked.{Looked}
-use Rattle.kernel_core_facts.specs.declared.looked.Looked.TheVariants.{Idle as IdleFor}
+use Rattle.kernel_core_facts.specs.declared.looked.Looked.TheVariants.{Idle as IdleFor, Made}
 use Rattle.kernel_core_facts.specs.Looked.{IfMade}
+use Rattle.thread_commits.specs.Snapping.{AddsAmong, WritesAmong}
 
 -- THE NEXT STEP of the locus is one that owes a Stable where it is answered Ok
 pub record WantsStable (cs : List Cell) (me : ℕ) : Type 0 where
@@ -37,6 +40,22 @@ pub record WantsStable (cs : List Cell) (me : ℕ) : Type 0 where
   pub reach : Reach
   pub planned : IsPlannedAt cs me instr reach
   pub stabilises : stabilises (Replied AnsweredOk) instr ≡ true
+
+-- why the kernel has stopped behind what came of a look; it goes on where none was made
+abbrev pub stop_in : Option (Result Looked Stopped) → Option Stopped
+stop_in None = None
+stop_in (Some came) = result_err came
+
+-- what is noted behind a step that came to this: behind one that was made, what writes nobody; nothing else
+abbrev pub NotesBehind : Result Looked Stopped → List Entry → List Entry → Type 0
+NotesBehind (Ok (Made m)) old new = AddsAmong [] old new
+NotesBehind (Ok (IdleFor why)) old new = new ≡ old
+NotesBehind (Err why) old new = new ≡ old
+
+-- WHAT A LOOK at the locus NOTES, wherever it stops: nothing, or its step, which writes none but these, and behind it what writes nobody
+pub data NotesLook (me : ℕ) (xs : List ℕ) (old new : List Entry) : Type 0 where
+  Nothing : new ≡ old → NotesLook me xs old new
+  StepFirst : (e : Entry) → e.event ≡ Step → e.actor ≡ me → WritesAmong e xs → AddsAmong [] (old ++ e ∷ []) new → NotesLook me xs old new
 
 module _ {D : Type 0} (disks : Ghosts D) where
   -- ONE LOOK at the locus, as the serial kernel makes it: its step, and behind it the Snaps of what it wrote whose wishes are open

@@ -1,6 +1,5 @@
 -- What a step by lent cells leaves of a kernel's parts, and what it comes to in a run.
 use Rattle.std.specs.Prelude.{[], ◌∷◌, ◌++◌, Ok, Err, Result}
-use Rattle.kernel_core_facts.specs.cell_plans.declared.idle.Idle.{Idle}
 use Rattle.kernel_core_facts.specs.table_steps.declared.stepping.Made.{Made as Step}
 use Rattle.kernel_core_facts.specs.table_steps.declared.stepping.StepFault.{StepFault}
 use Rattle.kernel_core_facts.specs.table_steps.declared.stepping.StepFault.TheVariants as fault

@@ -6,7 +6,7 @@ ghost use Rattle.kernel_core_facts.specs.kernel_commit_facts.Steady.{IsSteady};
 ghost use Rattle.kernel_core_facts.specs.Stepping.{is_owing};
 ghost use Rattle.thread_commits.specs.Lent.{OthersStay};
 ghost use Rattle.thread_commits.specs.Snapping.{WritesAmong};
-ghost use Rattle.thread_looks.specs.Looking.{LooksAsSerial};
+ghost use Rattle.thread_looks.specs.Looking.{LooksAsSerial, NotesBehind};
 ghost use Rattle.kernel_core_facts.specs.Looked.{IfMade, StepsOnce};
 ghost use Rattle.kernel_core_facts.specs.declared.looked.Looked.TheVariants as ALooked;
 
@@ -36,6 +36,7 @@ pub(crate) fn snap_behind_one<D: Disk, B: Bond<Cell> + Run<Entry>, S: Supplier, 
     ensures others { OthersStay (locus.old.number ∷ []) all.old all.new }
     ensures locus { (locus.new.number ≡ locus.old.number) × (locus.new.known ≡ locus.old.known) }
     ensures same { IfOk result (λ o. IfMade o (λ m. came ≡ Ok (ALooked.Made m))) }
+    ensures adds { NotesBehind came notes.old.entries notes.new.entries }
     ensures looks { (supply : Supply) (me : ℕ) (old : Parts D) → IsSteady D.Disk old → StepsOnce D.Disk supply me old (parts_of store.old all.old notes.old) came
         → IfOk came (λ o. IfMade o (λ m. is_owing m.instr m.entry.answer ≡ false)) → LooksAsSerial D.Disk supply (P.wish gate.now.policy) me old (parts_of store.new all.new notes.new) result }
 {
@@ -77,6 +78,7 @@ pub(crate) fn snap_behind_two<D: Disk, B: Bond<Cell> + Run<Entry>, S: Supplier, 
     ensures locus { (locus.new.number ≡ locus.old.number) × (locus.new.known ≡ locus.old.known) }
     ensures other { (other.new.number ≡ other.old.number) × (other.new.known ≡ other.old.known) }
     ensures same { IfOk result (λ o. IfMade o (λ m. came ≡ Ok (ALooked.Made m))) }
+    ensures adds { NotesBehind came notes.old.entries notes.new.entries }
     ensures looks { (supply : Supply) (me : ℕ) (old : Parts D) → IsSteady D.Disk old → StepsOnce D.Disk supply me old (parts_of store.old all.old notes.old) came
         → IfOk came (λ o. IfMade o (λ m. is_owing m.instr m.entry.answer ≡ false)) → LooksAsSerial D.Disk supply (P.wish gate.now.policy) me old (parts_of store.new all.new notes.new) result }
 {
@@ -121,6 +123,7 @@ pub(crate) fn snap_behind_three<D: Disk, B: Bond<Cell> + Run<Entry>, S: Supplier
     ensures atlas { (atlas.new.number ≡ atlas.old.number) × (atlas.new.known ≡ atlas.old.known) }
     ensures other { (other.new.number ≡ other.old.number) × (other.new.known ≡ other.old.known) }
     ensures same { IfOk result (λ o. IfMade o (λ m. came ≡ Ok (ALooked.Made m))) }
+    ensures adds { NotesBehind came notes.old.entries notes.new.entries }
     ensures looks { (supply : Supply) (me : ℕ) (old : Parts D) → IsSteady D.Disk old → StepsOnce D.Disk supply me old (parts_of store.old all.old notes.old) came
         → IfOk came (λ o. IfMade o (λ m. is_owing m.instr m.entry.answer ≡ false)) → LooksAsSerial D.Disk supply (P.wish gate.now.policy) me old (parts_of store.new all.new notes.new) result }
 {

@@ -8,5 +8,5 @@ mod making;
 mod noting;
 
 pub use kernel_core_facts::Looked;
-pub use looking::{look_one, look_three, look_two};
+pub use looking::{look_one, look_three, look_two, stop_of};
 pub use making::{make_one, make_three, make_two};

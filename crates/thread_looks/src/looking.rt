@@ -7,7 +7,7 @@ ghost use Rattle.kernel_core_facts.specs.kernel_commit_facts.Parts.{parts_of};
 ghost use Rattle.kernel_core_facts.specs.kernel_commit_facts.Steady.{IsSteady};
 ghost use Rattle.thread_cell_steps.specs.Advancing.{TouchesThese, WantsOthers};
 ghost use Rattle.thread_commits.specs.Lent.{OthersStay};
-ghost use Rattle.thread_looks.specs.Looking.{LooksAsSerial, WantsStable};
+ghost use Rattle.thread_looks.specs.Looking.{LooksAsSerial, NotesLook, WantsStable, stop_in};
 ghost use Rattle.kernel_core_facts.specs.Looked.{IfMade};
 
 use crate::behind::{snap_behind_one, snap_behind_three, snap_behind_two};
@@ -21,6 +21,16 @@ use thread_cell_steps::plan_lent;
 use thread_cells::LockedCell;
 use thread_history::Run;
 use thread_ties::{Authority, Bond};
+
+/// Why the kernel has stopped behind what came of a look, if it has.
+pub fn stop_of(came: &Option<Result<Looked, Stopped>>) -> Option<Stopped>
+    ensures { result ≡ stop_in came.now }
+{
+    match came {
+        Some(Err(why)) => Some(*why),
+        _ => None,
+    }
+}
 
 /// Whether the next step of the locus may owe a Stable, for which all cells are to be lent.
 fn wants_stable<B: Bond<Cell> + Run<Entry>>(
@@ -59,6 +69,7 @@ pub fn look_one<D: Disk, B: Bond<Cell> + Run<Entry>, S: Supplier, P: Policy>(
     ensures undone { result ≡ None → parts_of store.new all.new notes.new ≡ parts_of store.old all.old notes.old }
     ensures looks { IfSome result (LooksAsSerial D.Disk (S.word gate.now.supply) (P.wish gate.now.policy) locus.old.number (parts_of store.old all.old notes.old) (parts_of store.new all.new notes.new)) }
     ensures touches { IfSome result (λ came. IfOk came (λ o. IfMade o (TouchesThese all.old locus.old.number []))) }
+    ensures adds { NotesLook locus.old.number (locus.old.number ∷ []) notes.old.entries notes.new.entries }
 {
     if wants_stable(all, locus) {
         return None;
@@ -93,6 +104,7 @@ pub fn look_two<D: Disk, B: Bond<Cell> + Run<Entry>, S: Supplier, P: Policy>(
     ensures undone { result ≡ None → parts_of store.new all.new notes.new ≡ parts_of store.old all.old notes.old }
     ensures looks { IfSome result (LooksAsSerial D.Disk (S.word gate.now.supply) (P.wish gate.now.policy) locus.old.number (parts_of store.old all.old notes.old) (parts_of store.new all.new notes.new)) }
     ensures touches { IfSome result (λ came. IfOk came (λ o. IfMade o (TouchesThese all.old locus.old.number (other.old.number ∷ [])))) }
+    ensures adds { NotesLook locus.old.number (locus.old.number ∷ other.old.number ∷ []) notes.old.entries notes.new.entries }
 {
     match make_two(all, locus, other, store, notes, gate) {
         None => None,
@@ -126,6 +138,7 @@ pub fn look_three<D: Disk, B: Bond<Cell> + Run<Entry>, S: Supplier, P: Policy>(
     ensures undone { result ≡ None → parts_of store.new all.new notes.new ≡ parts_of store.old all.old notes.old }
     ensures looks { IfSome result (LooksAsSerial D.Disk (S.word gate.now.supply) (P.wish gate.now.policy) locus.old.number (parts_of store.old all.old notes.old) (parts_of store.new all.new notes.new)) }
     ensures touches { IfSome result (λ came. IfOk came (λ o. IfMade o (TouchesThese all.old locus.old.number (atlas.old.number ∷ other.old.number ∷ [])))) }
+    ensures adds { NotesLook locus.old.number (locus.old.number ∷ atlas.old.number ∷ other.old.number ∷ []) notes.old.entries notes.new.entries }
 {
     match make_three(all, locus, atlas, other, store, notes, gate) {
         None => None,

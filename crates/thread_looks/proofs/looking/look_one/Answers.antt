@@ -13,8 +13,10 @@ use Rattle.thread_cell_steps.specs.Advancing.{TouchesThese, WantsOthers}
 use Rattle.thread_commits.specs.Lent.{OthersStay}
 use Rattle.thread_commits.specs.Snapping.{WritesAmong}
 use Rattle.thread_commits.proofs.Lent.{others_begin, others_then}
-use Rattle.thread_looks.specs.Looking.{LooksAsSerial, WantsStable}
+use Rattle.thread_looks.specs.Looking.{LooksAsSerial, NotesLook, WantsStable}
+use Rattle.thread_looks.specs.Looking.NotesLook.{Nothing}
 use Rattle.kernel_core_facts.specs.Looked.{IfMade}
+use Rattle.thread_looks.proofs.Adding.{look_notes, undone_notes}
 use Rattle.thread_looks.proofs.Ends.{either_not, if_made, if_same}
 use Rattle.thread_looks.proofs.Free.{unwanted_free}
 use Rattle.thread_looks.proofs.Others.{stay_one}
@@ -112,3 +114,18 @@ returns-in-Some-clause-touches g c =
     subst (λ n. IfOk c.snap_behind_one.result (λ o. IfMade o (TouchesThese c.args.all.now n []))) (ap (λ (k : Keeping). k.number) c.wants_stable.ensures.same.1)
     (subst (λ (cs : List Cell). IfOk c.snap_behind_one.result (λ o. IfMade o (TouchesThese cs me []))) c.wants_stable.ensures.same.0
     (if_same (TouchesThese all me []) c.in-Some.came c.snap_behind_one.result c.snap_behind_one.ensures.same c.in-Some.ensures.touches))
+
+pub returns-then-wants_stable-clause-adds : goal.returns-then-wants_stable-clause-adds
+returns-then-wants_stable-clause-adds g c = Nothing refl
+
+pub returns-in-None-clause-adds : goal.returns-in-None-clause-adds
+returns-in-None-clause-adds g c =
+    undone_notes c.args.locus.now.number (c.args.locus.now.number ∷ []) (parts_of c.args.store.now c.wants_stable.new.all c.args.notes.now) (parts_of c.make_one.new.store c.make_one.new.all c.make_one.new.notes) (c.in-None.ensures.undone refl)
+
+pub returns-in-Some-clause-adds : goal.returns-in-Some-clause-adds
+returns-in-Some-clause-adds g c =
+    let all = c.wants_stable.new.all in
+    let me = c.wants_stable.new.locus.number in
+    subst (λ n. NotesLook n (n ∷ []) c.args.notes.now.entries c.snap_behind_one.new.notes.entries) (ap (λ (k : Keeping). k.number) c.wants_stable.ensures.same.1)
+    (look_notes g.D.Disk (g.S.Supplier.word c.args.gate.now.supply) me all [] (parts_of c.args.store.now all c.args.notes.now) (parts_of c.make_one.new.store c.make_one.new.all c.make_one.new.notes)
+    c.snap_behind_one.new.notes.entries c.in-Some.came c.in-Some.ensures.makes c.in-Some.ensures.touches c.snap_behind_one.ensures.adds)

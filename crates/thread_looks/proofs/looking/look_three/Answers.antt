@@ -1,4 +1,4 @@
-use Rattle.std.proofs.Common.{◌≡◌, ℕ, List, [], ◌∷◌, false, sym, subst}
+use Rattle.std.proofs.Common.{◌≡◌, ℕ, List, [], ◌∷◌, false, refl, sym, subst}
 use Rattle.kernel_core_facts.specs.kernel_commit_facts.Parts.{parts_of}
 use Rattle.kernel_core_facts.specs.Stepping.{is_owing}
 use Rattle.kernel_core_facts.specs.table_steps.declared.stepping.Made.{Made as Step}
@@ -6,6 +6,7 @@ use Rattle.thread_cell_steps.specs.Advancing.{TouchesThese}
 use Rattle.thread_commits.specs.Lent.{OthersStay}
 use Rattle.thread_commits.specs.Snapping.{WritesAmong}
 use Rattle.thread_commits.proofs.Lent.{others_then}
+use Rattle.thread_looks.proofs.Adding.{look_notes, undone_notes}
 use Rattle.thread_looks.proofs.Ends.{if_made, if_same, some_not}
 use Rattle.thread_looks.proofs.Free.{other_free}
 use Rattle.thread_looks.proofs.Others.{stay_three}
@@ -42,3 +43,12 @@ returns-in-Some-clause-looks g c =
 
 pub returns-in-Some-clause-touches : goal.returns-in-Some-clause-touches
 returns-in-Some-clause-touches g c = if_same (TouchesThese c.args.all.now c.args.locus.now.number (c.args.atlas.now.number ∷ c.args.other.now.number ∷ [])) c.in-Some.came c.snap_behind_three.result c.snap_behind_three.ensures.same c.in-Some.ensures.touches
+
+pub returns-in-None-clause-adds : goal.returns-in-None-clause-adds
+returns-in-None-clause-adds g c =
+    undone_notes c.args.locus.now.number (c.args.locus.now.number ∷ c.args.atlas.now.number ∷ c.args.other.now.number ∷ []) (parts_of c.args.store.now c.args.all.now c.args.notes.now) (parts_of c.make_three.new.store c.make_three.new.all c.make_three.new.notes) (c.in-None.ensures.undone refl)
+
+pub returns-in-Some-clause-adds : goal.returns-in-Some-clause-adds
+returns-in-Some-clause-adds g c =
+    look_notes g.D.Disk (g.S.Supplier.word c.args.gate.now.supply) c.args.locus.now.number c.args.all.now (c.args.atlas.now.number ∷ c.args.other.now.number ∷ []) (parts_of c.args.store.now c.args.all.now c.args.notes.now)
+    (parts_of c.make_three.new.store c.make_three.new.all c.make_three.new.notes) c.snap_behind_three.new.notes.entries c.in-Some.came c.in-Some.ensures.makes c.in-Some.ensures.touches c.snap_behind_three.ensures.adds
