@@ -1,0 +1,15 @@
+use Rattle.std.proofs.Common.{[], ◌∷◌, ◌++◌, ap, ◌∙◌}
+use Rattle.thread_cells.specs.Locked.{Keeping}
+use Rattle.kernel_core_facts.specs.kernel_commit_facts.Parts.{parts_of}
+use Rattle.thread_desk_looks.proofs.Told.{told_among, told_still}
+use Rattle.thread_desk_looks.proofs.looking.told_one.Goals as goal
+
+pub tell_one-requires-clause-among : goal.tell_one-requires-clause-among
+tell_one-requires-clause-among g c =
+    told_among c.args.locus.now.number (c.args.locus.now.number ∷ []) (c.locus.inside.share.number ∷ []) c.args.notes.now.entries c.look_one-came.new.notes.entries (g.B.Run.kept ++ c.args.annals.now) c.look_one-came.ensures.adds c.requires.told
+    (ap (λ n. n ∷ []) (c.locus.invariant.1 ∙ (ap (λ (k : Keeping). k.number) c.locus.view_is ∙ c.look_one-came.ensures.locus.0)))
+
+pub returns-clause-undone : goal.returns-clause-undone
+returns-clause-undone g c none =
+    let still = c.look_one-came.ensures.undone none in
+    (still, told_still g.B.Run.kept c.args.annals.now c.tell_one.new.annals (parts_of c.args.store.now c.args.all.now c.args.notes.now) (parts_of c.look_one-came.new.store c.look_one-came.new.all c.look_one-came.new.notes) c.requires.told c.tell_one.ensures.told still)

@@ -1,0 +1,15 @@
+//! A law. The function does nothing: its contract is the law.
+ghost use Rattle.std.specs.Prelude.{◌++◌, ℕ, List, Result};
+ghost use Rattle.base_types.specs.declared.histories.Entry.{Entry};
+ghost use Rattle.kernel_core_facts.specs.kernel_invariant.Beginnings.{Beginning};
+ghost use Rattle.kernel_core_facts.specs.kernel_invariant.declared.stopping.Stopped.{Stopped};
+ghost use Rattle.kernel_core_facts.specs.declared.looked.Looked.{Looked};
+ghost use Rattle.thread_desk_looks.specs.Items.{IsTrueOf};
+
+use edge_disk::Disk;
+
+/// What was told of a look is true of every history that goes on from there.
+#[tactic(auto, using(crate::proofs::Items::stays_true))]
+pub fn item_law<D: Disk>()
+    ensures { (b : Beginning) (me place : ℕ) (es fs : List Entry) (r : Result Looked Stopped) → IsTrueOf D.tells b me place es r → IsTrueOf D.tells b me place (es ++ fs) r }
+{}
