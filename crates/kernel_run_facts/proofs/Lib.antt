@@ -3,6 +3,7 @@ pub mod Called
 pub mod Alongs
 pub mod Born
 pub mod Caused
+pub mod Serial
 pub mod Watched
 pub use Rattle.kernel_core.proofs.kernel_commit_facts_lemmas
 pub use Rattle.kernel_core.proofs.kernel_commits_lemmas

@@ -1,17 +1,18 @@
 -- A kernel along its course with its watcher: shown behind a piece, halted behind it, or stopped in it.
 use Rattle.std.proofs.Common.{◌≡◌, inl, inr, ◌≤◌, Bool, true, false, ℕ, List, [], ◌∷◌, ◌++◌, Option, None, Some, Ok, Err, refl, sym, ap, subst, ◌∙◌}
 use Rattle.std.proofs.lemmas.List.{append-nil}
+use Rattle.std.proofs.lemmas.Option.{same_Some}
 use Rattle.std.specs.Prelude.{IfErr, MatchBool, Result, ⊤, ◌⊎◌}
 use Rattle.edge_disk.specs.declared.disk.Disk.{Ghosts}
 use Rattle.base_types.specs.declared.histories.Entry.{Entry}
 use Rattle.script_types.specs.model_kernel.Histories.{Policy}
-use Rattle.kernel_core.specs.model_serial_turns.Turns.{ComeFirst, HasLooked, IsCutIn, IsStoppedIn}
-use Rattle.kernel_core.proofs.model_serial_turns_lemmas.Stops.{stopped_of}
+use Rattle.kernel_core.specs.model_serial.Serial.{look, opening}
+use Rattle.kernel_core.specs.model_serial_turns.Turns.{HasLooked, IsCutIn, IsStoppedIn}
 use Rattle.kernel_core.proofs.model_serial_turns_lemmas.Whereabouts.{looked_more}
 use Rattle.kernel_core.specs.kernel_commits.Telling.{Tells}
 use Rattle.kernel_core.specs.kernel_commits.declared.stopping.Stop.{Stop}
 use Rattle.kernel_core.specs.kernel_commits.declared.stopping.Stop.TheVariants as stop
-use Rattle.kernel_core.specs.kernel_invariant.Beginnings.{Beginning}
+use Rattle.kernel_core.specs.kernel_invariant.Beginnings.{Beginning, run_of}
 use Rattle.kernel_core.specs.kernel_invariant.declared.stopping.Stopped.{Stopped}
 use Rattle.kernel_core.specs.kernel_invariant.declared.stopping.Stopped.TheVariants as reason
 use Rattle.kernel_core.specs.kernel_commit_facts.Parts.{Noted, Parts}
@@ -19,17 +20,25 @@ use Rattle.kernel_core.proofs.kernel_commit_facts_lemmas.Counting.{CountsWithin-
 use Rattle.kernel_core.specs.kernel_core_facts.Kernels.{Held, NotesAlong}
 use Rattle.kernel_run_facts.specs.declared.halts.Halt.{Halt}
 use Rattle.kernel_run_facts.specs.declared.halts.Halt.TheVariants as halt
-use Rattle.kernel_run_facts.specs.Running.{EndsRun, HasStopped, IsCauseOf, RunsAlong, TakesOn, opened_in}
-use Rattle.kernel_run_facts.specs.Watching.{IsAsLent, IsKnownBefore, IsNext, LooksLeave, RunLeaves, WasCut, answer_of}
+use Rattle.kernel_run_facts.specs.Alongs.{ComesNext, LooksAt}
+use Rattle.kernel_run_facts.specs.Running.{EndsBehind, EndsRun, HasStoppedBehind, IsCauseOf, IsFrontOf, RunsAlong, TakesOn, picks_in}
+use Rattle.kernel_run_facts.specs.Watching.{IsAsLent, IsKnownBefore, IsNext, LooksLeave, RoundsLeave, RunLeaves, WasCutBehind, answer_of}
+use Rattle.kernel_run_facts.proofs.Serial.{stopped_serial}
 use Rattle.kernel_run_facts.proofs.Caused.{cause_from, has_stopped}
 
 -- A PIECE MORE
 
 -- from behind some looks to behind one more is a piece
-pub next_look : (b : Beginning) (looked : List ℕ) (locus : ℕ) (es new : List Entry) → HasLooked b.supply b.policy b.script b.state looked es
-    → ComeFirst b.script (opened_in b) (looked ++ locus ∷ []) → HasLooked b.supply b.policy b.script b.state (looked ++ locus ∷ []) new → IsNext b es new
-next_look b looked locus es new was first is =
-    IsNext.Look looked locus was first (is.same ∙ sym (looked_more b.supply b.policy b.script b.state looked es locus was).same)
+pub next_look : (b : Beginning) (looked : List ℕ) (locus : ℕ) (es new : List Entry) → LooksAt b looked es → LooksAt b (looked ++ locus ∷ []) new → IsNext b es new
+next_look b looked locus es new was is = record {
+  all = look b.supply b.policy b.script (run_of b es) locus;
+  next = ComesNext.Look looked locus was refl;
+  is = is.same ∙ sym (looked_more b.supply b.policy b.script b.state looked es locus was).same;
+}
+
+-- and so are the births
+pub next_births : (b : Beginning) (new : List Entry) → new ≡ opening b.supply b.script b.state → IsNext b [] new
+next_births b new is = record { all = opening b.supply b.script b.state; next = ComesNext.Births refl refl; is = is }
 
 -- a call that notes along a piece goes on from what was noted
 pub grows : {D : Type 0} (disks : Ghosts D) (b : Beginning) (all : List Entry) (old new : Held D) → NotesAlong disks b all old new
@@ -77,15 +86,22 @@ module _ {D : Type 0} (disks : Ghosts D) where
   }
 
   -- or stopped, by a read that failed, where a piece ends
-  pub lent_stopped : (b : Beginning) (looked : List ℕ) (old new : Held D) → disks.tells → IsAsLent disks old new → ComeFirst b.script (opened_in b) looked → RunsAlong disks b looked old → HasStopped disks b new
-  lent_stopped b looked old new told lent first along =
-      let k = lent_along b looked old new told lent along in
+  pub lent_stopped : (b : Beginning) (first looked : List ℕ) (es : List Entry) (old new : Held D) → disks.tells → IsAsLent disks old new → IsNext b es old.parts.noted.entries → IsFrontOf first looked
+      → RunsAlong disks b looked old → (why : Stopped) → new.stop ≡ Some why → HasStoppedBehind disks b first why new
+  lent_stopped b first looked es old new told lent next begins along why is =
+      let read = (lent.stop why is).0 in
       record {
-        lives = k.lives;
-        part =
-            stopped_of b.supply b.script b.policy b.state looked new.parts.noted.entries k.looks first new.parts.noted.entries
-            (IsStoppedIn.Completed (IsCutIn.At [] (append-nil new.parts.noted.entries)));
-        short = λ n is. absurd (let clash : reason.NoBlocks n ≡ reason.ReadFault = (lent.stop (reason.NoBlocks n) is).0 in cc clash);
+        lives = (lent_along b looked old new told lent along).lives;
+        piece = record {
+          front = es;
+          all = next.all;
+          next = next.next;
+          part = record { part = next.all; entries = same_entries old new lent ∙ next.is; is = IsStoppedIn.Completed (IsCutIn.At [] (append-nil next.all)) };
+          enough = λ n at. absurd (let clash : reason.NoBlocks n ≡ reason.ReadFault = sym at ∙ read in cc clash);
+        };
+        looked = looked;
+        looks = subst (LooksAt b looked) next.is along.looks;
+        begins = begins;
       }
 
 module _ {D : Type 0} (disks : Ghosts D) (watches leaves : Beginning → List Entry → Type 0) where
@@ -94,14 +110,21 @@ module _ {D : Type 0} (disks : Ghosts D) (watches leaves : Beginning → List En
   known_now b es false knows = inr knows
 
   -- STOPPED by the watcher's read
-  pub cut_by_read : (b : Beginning) (looked : List ℕ) (old new : Held D) (goes_on : Bool) → disks.tells → IsAsLent disks old new → ComeFirst b.script (opened_in b) looked → RunsAlong disks b looked old
-      → MatchBool goes_on (watches b new.parts.noted.entries) (leaves b new.parts.noted.entries) → WasCut disks watches leaves b new
-  cut_by_read b looked old new goes_on told lent first along knows =
-      record { stopped = lent_stopped disks b looked old new told lent first along; knows = known_now b new.parts.noted.entries goes_on knows }
+  pub cut_by_read : (b : Beginning) (first looked : List ℕ) (es : List Entry) (old new : Held D) (goes_on : Bool) → disks.tells → IsAsLent disks old new → IsNext b es old.parts.noted.entries
+      → IsFrontOf first looked → RunsAlong disks b looked old → MatchBool goes_on (watches b new.parts.noted.entries) (leaves b new.parts.noted.entries) → (why : Stopped) → new.stop ≡ Some why
+      → WasCutBehind disks watches leaves b first new
+  cut_by_read b first looked es old new goes_on told lent next begins along knows why is = record {
+    why = why;
+    stop = is;
+    stopped = lent_stopped disks b first looked es old new told lent next begins along why is;
+    knows = known_now b new.parts.noted.entries goes_on knows;
+  }
 
   -- STOPPED before the watcher was asked
-  pub cut_before : (b : Beginning) (seen : List Entry) (new : Held D) → HasStopped disks b new → watches b seen → (part : List Entry) × (new.parts.noted.entries ≡ seen ++ part) → WasCut disks watches leaves b new
-  cut_before b seen new stopped knows more = record { stopped = stopped; knows = inl (record { seen = seen; rest = more.0; same = more.1; knows = knows }) }
+  pub cut_before : (b : Beginning) (first : List ℕ) (seen : List Entry) (new : Held D) (why : Stopped) → new.stop ≡ Some why → HasStoppedBehind disks b first why new → watches b seen
+      → (part : List Entry) × (new.parts.noted.entries ≡ seen ++ part) → WasCutBehind disks watches leaves b first new
+  cut_before b first seen new why is stopped knows more =
+      record { why = why; stop = is; stopped = stopped; knows = inl (record { seen = seen; rest = more.0; same = more.1; knows = knows }) }
 
 -- NOBODY WATCHES
 
@@ -115,11 +138,30 @@ module _ {D : Type 0} (disks : Ghosts D) (policy : Policy) (old : Parts D) (b : 
   goes_on_still : (why : Stopped) → k.stop ≡ None → k.stop ≡ Some why → ⊥
   goes_on_still why going is = (let clash : None ≡ Some why = sym going ∙ is in cc clash)
 
-  pub unwatched_looks : (looked : List ℕ) (r : Result ⊤ Halt) → Tells (answer_of r) k.stop → IfErr (answer_of r) (IsCauseOf disks policy old k.parts) → LooksLeave disks Nothing Never b looked r k → TakesOn disks b looked k
+  stopped_for_it : (first : List ℕ) (why : Stopped) → k.stop ≡ Some why → WasCutBehind disks Nothing Never b first k → HasStoppedBehind disks b first why k
+  stopped_for_it first why is cut = subst (λ (w : Stopped). HasStoppedBehind disks b first w k) (same_Some cut.why why (sym cut.stop ∙ is)) cut.stopped
+
+  -- picks
+  pub unwatched_looks : (looked : List ℕ) (r : Result ⊤ Halt) → Tells (answer_of r) k.stop → IfErr (answer_of r) (IsCauseOf disks policy old k.parts) → LooksLeave disks Nothing Never b (picks_in b) looked r k
+      → TakesOn disks b looked k
   unwatched_looks looked (Ok y) tells cause left = record { along = λ _. left.along; stopped = λ why is. absurd (goes_on_still why tells is) }
-  unwatched_looks looked (Err (halt.Kernel s)) tells cause left = record { along = λ going. absurd (has_stopped ⊤ disks policy old k.parts s k.stop tells cause going); stopped = λ why is. left.stopped }
+  unwatched_looks looked (Err (halt.Kernel s)) tells cause left = record {
+    along = λ going. absurd (has_stopped ⊤ disks policy old k.parts s k.stop tells cause going);
+    stopped = λ why is. stopped_serial disks b k left.why left.stop left.stopped;
+  }
   unwatched_looks looked (Err halt.Watcher) tells cause left = absurd left.knows
 
+  -- rounds
+  pub unwatched_rounds : (first : List ℕ) (r : Result ⊤ Halt) → Tells (answer_of r) k.stop → IfErr (answer_of r) (IsCauseOf disks policy old k.parts) → RoundsLeave disks Nothing Never b first r k
+      → EndsBehind disks b first k
+  unwatched_rounds first (Ok y) tells cause left = record { over = λ _. left.over; stopped = λ why is. absurd (goes_on_still why tells is) }
+  unwatched_rounds first (Err (halt.Kernel s)) tells cause left = record {
+    over = λ going. absurd (has_stopped ⊤ disks policy old k.parts s k.stop tells cause going);
+    stopped = λ why is. stopped_for_it first why is left;
+  }
+  unwatched_rounds first (Err halt.Watcher) tells cause left = absurd left.knows
+
+  -- a whole run
   pub unwatched_run : (r : Result ⊤ Halt) → Tells (answer_of r) k.stop → IfErr (answer_of r) (IsCauseOf disks policy old k.parts) → RunLeaves disks Nothing Never b r k → EndsRun disks b k
   unwatched_run (Ok y) tells cause left = record { over = λ _. left.over; stopped = λ why is. absurd (goes_on_still why tells is) }
   unwatched_run (Err (halt.Kernel s)) tells cause left = record { over = λ going. absurd (has_stopped ⊤ disks policy old k.parts s k.stop tells cause going); stopped = λ why is. left.stopped }

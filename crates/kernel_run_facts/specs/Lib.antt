@@ -1,3 +1,4 @@
+pub mod Alongs
 pub mod Running
 pub mod Watching
 pub use Rattle.kernel_core.specs.cell_states

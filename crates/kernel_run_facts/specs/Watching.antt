@@ -1,12 +1,11 @@
 -- A run that is watched: what its watcher is shown, what it leaves of the kernel, and what the run leaves.
-use Rattle.std.specs.Prelude.{◌≡◌, ◌⊎◌, ℕ, List, [], ◌∷◌, ◌++◌, Some, Ok, Err, Result, ⊤}
+use Rattle.std.specs.Prelude.{◌≡◌, ◌⊎◌, ℕ, List, ◌++◌, Some, Ok, Err, Result, ⊤}
 use Rattle.edge_disk.specs.declared.disk.Disk.{Ghosts}
 use Rattle.edge_disk.specs.Counts.{Rose}
 use Rattle.base_types.specs.declared.histories.Entry.{Entry}
 use Rattle.script_types.specs.model_kernel.State.{Supply}
-use Rattle.kernel_core.specs.model_serial.Serial.{look, opening}
-use Rattle.kernel_core.specs.model_serial_turns.Turns.{ComeFirst, HasLooked}
-use Rattle.kernel_core.specs.kernel_invariant.Beginnings.{Beginning, run_of}
+use Rattle.kernel_core.specs.model_serial_turns.Turns.{ComeFirst}
+use Rattle.kernel_core.specs.kernel_invariant.Beginnings.{Beginning}
 use Rattle.kernel_core.specs.kernel_commit_facts.Pieces.{CountsWithin}
 use Rattle.kernel_core.specs.kernel_commits.declared.stopping.Stop.{Stop}
 use Rattle.kernel_core.specs.kernel_invariant.declared.stopping.Stopped.{Stopped}
@@ -14,7 +13,8 @@ use Rattle.kernel_core.specs.kernel_invariant.declared.stopping.Stopped.TheVaria
 use Rattle.kernel_core.specs.kernel_core_facts.Kernels.{Held, Lives, StaysClean}
 use Rattle.kernel_run_facts.specs.declared.halts.Halt.{Halt}
 use Rattle.kernel_run_facts.specs.declared.halts.Halt.TheVariants as halt
-use Rattle.kernel_run_facts.specs.Running.{HasStopped, IsOver, RunsAlong, opened_in}
+use Rattle.kernel_run_facts.specs.Alongs.{ComesNext}
+use Rattle.kernel_run_facts.specs.Running.{HasStopped, HasStoppedBehind, IsFrontOf, IsOver, IsOverBehind, RunsAlong, opened_in}
 
 -- what the calls of the kernel answered: that the watcher halted the run is no fault of theirs
 abbrev pub answer_of : Result ⊤ Halt → Result ⊤ Stop
@@ -22,11 +22,11 @@ answer_of (Ok y) = Ok y
 answer_of (Err (halt.Kernel why)) = Err why
 answer_of (Err halt.Watcher) = Ok tt
 
--- ONE PIECE MORE of the serial history: the births with their Stable, or a look at the locus that is next in the course
-pub data IsNext (b : Beginning) (es new : List Entry) : Type 0 where
-  Births : es ≡ [] → new ≡ opening b.supply b.script b.state → IsNext b es new
-  Look : (looked : List ℕ) → (locus : ℕ) → HasLooked b.supply b.policy b.script b.state looked es → ComeFirst b.script (opened_in b) (looked ++ locus ∷ [])
-      → new ≡ es ++ look b.supply b.policy b.script (run_of b es) locus → IsNext b es new
+-- ONE PIECE MORE of a history: the births with their Stable, or a look at some locus
+pub record IsNext (b : Beginning) (es new : List Entry) : Type 0 where
+  pub all : List Entry
+  pub next : ComesNext b es all
+  pub is : new ≡ es ++ all
 
 -- this was known behind a front of the history
 pub record IsKnownBefore (watches : List Entry → Type 0) (es : List Entry) : Type 0 where
@@ -63,8 +63,45 @@ module _ {D : Type 0} (disks : Ghosts D) (watches : Beginning → List Entry →
     pub over : IsOver disks b k
     pub knows : watches b k.parts.noted.entries
 
+  -- THE RUN IS OVER where these loci are looked at first, and the watcher knows it
+  pub record IsSeenOverBehind (b : Beginning) (first : List ℕ) (k : Held D) : Type 0 where
+    pub over : IsOverBehind disks b first k
+    pub knows : watches b k.parts.noted.entries
+
 -- and this where it has halted the run
 module _ {D : Type 0} (disks : Ghosts D) (watches leaves : Beginning → List Entry → Type 0) where
+  -- WHERE SOME LOCI ARE LOOKED AT FIRST, and then all, round after round
+
+  -- THE WATCHER HALTED IT: the kernel is behind the births and looks that begin the course, and goes on
+  pub record WasLeftBehind (b : Beginning) (first : List ℕ) (k : Held D) : Type 0 where
+    pub looked : List ℕ
+    pub begins : IsFrontOf first looked
+    pub along : RunsAlong disks b looked k
+    pub knows : leaves b k.parts.noted.entries
+
+  -- THE KERNEL WAS STOPPED, in the births or a look, or by its watcher's read; the watcher knows what it knew before, or what it knows where it halted the run
+  pub record WasCutBehind (b : Beginning) (first : List ℕ) (k : Held D) : Type 0 where
+    pub why : Stopped
+    pub stop : k.stop ≡ Some why
+    pub stopped : HasStoppedBehind disks b first why k
+    pub knows : IsKnownBefore (watches b) k.parts.noted.entries ⊎ leaves b k.parts.noted.entries
+
+  abbrev pub WasHaltedBehind : Beginning → List ℕ → Halt → Held D → Type 0
+  WasHaltedBehind b first (halt.Kernel why) k = WasCutBehind b first k
+  WasHaltedBehind b first halt.Watcher k = WasLeftBehind b first k
+
+  -- WHAT WATCHED LOOKS LEAVE: the kernel behind them all, or the run was halted in them
+  abbrev pub LooksLeave : Beginning → List ℕ → List ℕ → Result ⊤ Halt → Held D → Type 0
+  LooksLeave b first looked (Ok y) k = GoesAlong disks watches b looked k
+  LooksLeave b first looked (Err why) k = WasHaltedBehind b first why k
+
+  -- WHAT ROUNDS LEAVE
+  abbrev pub RoundsLeave : Beginning → List ℕ → Result ⊤ Halt → Held D → Type 0
+  RoundsLeave b first (Ok y) k = IsSeenOverBehind disks watches b first k
+  RoundsLeave b first (Err why) k = WasHaltedBehind b first why k
+
+  -- IN THE SERIAL RUN, where the picks of the script's order are looked at first
+
   -- THE WATCHER HALTED IT: the kernel is behind the births and a look at each locus of a front of the course, and goes on
   pub record WasLeft (b : Beginning) (k : Held D) : Type 0 where
     pub looked : List ℕ
@@ -80,11 +117,6 @@ module _ {D : Type 0} (disks : Ghosts D) (watches leaves : Beginning → List En
   abbrev pub WasHalted : Beginning → Halt → Held D → Type 0
   WasHalted b (halt.Kernel why) k = WasCut b k
   WasHalted b halt.Watcher k = WasLeft b k
-
-  -- WHAT WATCHED LOOKS LEAVE: the kernel behind them all, or the run was halted in them
-  abbrev pub LooksLeave : Beginning → List ℕ → Result ⊤ Halt → Held D → Type 0
-  LooksLeave b looked (Ok y) k = GoesAlong disks watches b looked k
-  LooksLeave b looked (Err why) k = WasHalted b why k
 
   -- WHAT THE RUN LEAVES
   abbrev pub RunLeaves : Beginning → Result ⊤ Halt → Held D → Type 0

@@ -8,9 +8,9 @@ ghost use Rattle.kernel_run_facts.specs.kernel_commit_facts.Pieces.{CountsWithin
 ghost use Rattle.kernel_run_facts.specs.kernel_commits.Telling.{Tells, TriesByAnswer, told_again};
 ghost use Rattle.kernel_run_facts.specs.kernel_core_facts.Kernels.{Lives, StaysClean};
 ghost use Rattle.kernel_run_facts.specs.kernel_invariant.Beginnings.{Beginning, run_of};
-ghost use Rattle.kernel_run_facts.specs.Running.{IsCauseOf, IsRunBy, RunsAlong, TakesOn, look_most, opened_in, past_idle};
+ghost use Rattle.kernel_run_facts.specs.Running.{IsCauseOf, IsFrontOf, IsRunBy, RunsAlong, TakesOn, TakesOnBehind, look_most, opened_in, past_idle, picks_in};
 ghost use Rattle.kernel_run_facts.specs.Watching.{GoesAlong, LooksLeave, answer_of};
-ghost use Rattle.kernel_run_facts.specs.model_serial_turns.Turns.{ComeFirst, before_pick};
+ghost use Rattle.kernel_run_facts.specs.model_serial_turns.Turns.{before_pick};
 
 use crate::watching::{Unwatched, Watcher, ask};
 use base_types::{Entity, Kind};
@@ -43,9 +43,9 @@ fn look_at<D: Disk, S: Supplier, P: Policy>(
     ensures tries { TriesByAnswer result kernel.old.parts.noted.entries kernel.new.parts.noted.entries }
     ensures clean { StaysClean D.Disk (S.word gate.now.supply) kernel.new }
     ensures counts { CountsWithin D.Disk (look_most) kernel.old.parts.store kernel.new.parts.store }
-    ensures run { D.tells → (b : Beginning) (looked : List ℕ) → IsRunBy (S.word gate.now.supply) (P.wish gate.now.policy) b
-        → ComeFirst b.script (opened_in b) (looked ++ locus ∷ []) → RunsAlong D.Disk b looked kernel.old
-        → TakesOn D.Disk b (looked ++ locus ∷ []) kernel.new }
+    ensures run { D.tells → (b : Beginning) (first looked : List ℕ) → IsRunBy (S.word gate.now.supply) (P.wish gate.now.policy) b
+        → IsFrontOf first (looked ++ locus ∷ []) → RunsAlong D.Disk b looked kernel.old
+        → TakesOnBehind D.Disk b first (looked ++ locus ∷ []) kernel.new }
     ensures grows { D.tells → (b : Beginning) → IsRunBy (S.word gate.now.supply) (P.wish gate.now.policy) b → Lives D.Disk b kernel.old
         → (part : List AnEntry) × (kernel.new.parts.noted.entries ≡ kernel.old.parts.noted.entries ++ part) }
 {
@@ -71,9 +71,9 @@ pub(crate) fn look_watched<D: Disk, S: Supplier, P: Policy, W: Watcher<D>>(
     ensures tries { TriesByAnswer (answer_of result) kernel.old.parts.noted.entries kernel.new.parts.noted.entries }
     ensures clean { StaysClean D.Disk (S.word gate.now.supply) kernel.new }
     ensures counts { CountsWithin D.Disk (look_most) kernel.old.parts.store kernel.new.parts.store }
-    ensures run { D.tells → (b : Beginning) (looked : List ℕ) → IsRunBy (S.word gate.now.supply) (P.wish gate.now.policy) b
-        → ComeFirst b.script (opened_in b) (looked ++ locus ∷ []) → GoesAlong D.Disk (W.watches watcher.old) b looked kernel.old
-        → LooksLeave D.Disk (W.watches watcher.new) (W.leaves watcher.new) b (looked ++ locus ∷ []) result kernel.new }
+    ensures run { D.tells → (b : Beginning) (first looked : List ℕ) → IsRunBy (S.word gate.now.supply) (P.wish gate.now.policy) b
+        → IsFrontOf first (looked ++ locus ∷ []) → GoesAlong D.Disk (W.watches watcher.old) b looked kernel.old
+        → LooksLeave D.Disk (W.watches watcher.new) (W.leaves watcher.new) b first (looked ++ locus ∷ []) result kernel.new }
 {
     if let Err(stop) = look_at(kernel, locus, gate) {
         return Err(Halt::Kernel(stop));
@@ -112,7 +112,7 @@ fn look_for<D: Disk, S: Supplier, P: Policy, W: Watcher<D>>(
     ensures run { D.tells → (b : Beginning) (i : ℕ) → IsRunBy (S.word gate.now.supply) (P.wish gate.now.policy) b
         → slice_get b.script.order i ≡ Some name.now
         → GoesAlong D.Disk (W.watches watcher.old) b (before_pick b.script (opened_in b) i) kernel.old
-        → LooksLeave D.Disk (W.watches watcher.new) (W.leaves watcher.new) b (before_pick b.script (opened_in b) (i + 1)) result kernel.new }
+        → LooksLeave D.Disk (W.watches watcher.new) (W.leaves watcher.new) b (picks_in b) (before_pick b.script (opened_in b) (i + 1)) result kernel.new }
 {
     match locus_called(kernel, name) {
         Some(locus) => look_watched(kernel, locus, gate, watcher),
@@ -139,7 +139,7 @@ pub(crate) fn look_for_all<D: Disk, S: Supplier, P: Policy, W: Watcher<D>>(
     ensures run { D.tells → (b : Beginning) → IsRunBy (S.word gate.now.supply) (P.wish gate.now.policy) b
         → b.script.order ≡ map string_bytes order.now
         → GoesAlong D.Disk (W.watches watcher.old) b [] kernel.old
-        → LooksLeave D.Disk (W.watches watcher.new) (W.leaves watcher.new) b (looks_of b.script (opened_in b) 0) result kernel.new }
+        → LooksLeave D.Disk (W.watches watcher.new) (W.leaves watcher.new) b (picks_in b) (looks_of b.script (opened_in b) 0) result kernel.new }
 {
     for i in 0..order.len() {
         if let Err(halt) = look_for(kernel, order[i].as_str(), gate, watcher) {

@@ -1,13 +1,13 @@
 // Rounds over all loci, until one makes no entry.
-ghost use Rattle.std.specs.Prelude.{◌≡◌, ◌+◌, ◌*◌, ◌^◌, ◌≤◌, ℕ, None, Some, Err, IfErr, IfSome, length};
-ghost use Rattle.script_types.specs.model_kernel.Serial.{looks_of};
+ghost use Rattle.std.specs.Prelude.{◌≡◌, ◌+◌, ◌*◌, ◌^◌, ◌≤◌, ◌++◌, ℕ, List, None, Some, Err, IfErr, IfSome, length};
+ghost use Rattle.script_types.specs.model_kernel.Serial.{looks_of, rounds};
 ghost use Rattle.script_types.specs.model_kernel.Steps.{atlas_in};
 ghost use Rattle.kernel_run_facts.specs.kernel_commit_facts.Pieces.{CountsWithin};
 ghost use Rattle.kernel_run_facts.specs.kernel_commits.Telling.{Tells, TriesByAnswer, told_again};
 ghost use Rattle.kernel_run_facts.specs.kernel_core_facts.Kernels.{Lives, StaysClean};
 ghost use Rattle.kernel_run_facts.specs.kernel_invariant.Beginnings.{Beginning, run_of};
-ghost use Rattle.kernel_run_facts.specs.Running.{EndsRun, IsCauseOf, IsRunBy, RunsAlong, end_of, look_most, opened_in};
-ghost use Rattle.kernel_run_facts.specs.Watching.{GoesAlong, LooksLeave, RunLeaves, answer_of};
+ghost use Rattle.kernel_run_facts.specs.Running.{EndsBehind, EndsRun, IsCauseOf, IsRunBy, RunsAlong, end_of, look_most, opened_in};
+ghost use Rattle.kernel_run_facts.specs.Watching.{GoesAlong, LooksLeave, RoundsLeave, answer_of};
 
 use crate::looking::look_watched;
 use crate::watching::{Unwatched, Watcher};
@@ -40,9 +40,9 @@ fn round<D: Disk, S: Supplier, P: Policy, W: Watcher<D>>(
     ensures tries { TriesByAnswer (answer_of result) kernel.old.parts.noted.entries kernel.new.parts.noted.entries }
     ensures clean { StaysClean D.Disk (S.word gate.now.supply) kernel.new }
     ensures counts { CountsWithin D.Disk (23 * look_most) kernel.old.parts.store kernel.new.parts.store }
-    ensures run { D.tells → (b : Beginning) (made : ℕ) → IsRunBy (S.word gate.now.supply) (P.wish gate.now.policy) b
-        → GoesAlong D.Disk (W.watches watcher.old) b (looks_of b.script (opened_in b) made) kernel.old
-        → LooksLeave D.Disk (W.watches watcher.new) (W.leaves watcher.new) b (looks_of b.script (opened_in b) (made + 1)) result kernel.new }
+    ensures run { D.tells → (b : Beginning) (first : List ℕ) (made : ℕ) → IsRunBy (S.word gate.now.supply) (P.wish gate.now.policy) b
+        → GoesAlong D.Disk (W.watches watcher.old) b (first ++ rounds made) kernel.old
+        → LooksLeave D.Disk (W.watches watcher.new) (W.leaves watcher.new) b first (first ++ rounds (made + 1)) result kernel.new }
 {
     let mut number = FIRST_LOCUS;
     while number < loci_end(kernel) {
@@ -77,9 +77,9 @@ pub(crate) fn go_round<D: Disk, S: Supplier, P: Policy, W: Watcher<D>>(
     ensures tries { TriesByAnswer (answer_of result) kernel.old.parts.noted.entries kernel.new.parts.noted.entries }
     ensures clean { StaysClean D.Disk (S.word gate.now.supply) kernel.new }
     ensures counts { CountsWithin D.Disk ((2 ^ 22 + 1) * (23 * look_most)) kernel.old.parts.store kernel.new.parts.store }
-    ensures run { D.tells → (b : Beginning) (made : ℕ) → IsRunBy (S.word gate.now.supply) (P.wish gate.now.policy) b
-        → GoesAlong D.Disk (W.watches watcher.old) b (looks_of b.script (opened_in b) made) kernel.old
-        → RunLeaves D.Disk (W.watches watcher.new) (W.leaves watcher.new) b result kernel.new }
+    ensures run { D.tells → (b : Beginning) (first : List ℕ) (made : ℕ) → IsRunBy (S.word gate.now.supply) (P.wish gate.now.policy) b
+        → GoesAlong D.Disk (W.watches watcher.old) b (first ++ rounds made) kernel.old
+        → RoundsLeave D.Disk (W.watches watcher.new) (W.leaves watcher.new) b first result kernel.new }
 {
     loop {
         let noted = entries_noted(kernel);
@@ -92,7 +92,7 @@ pub(crate) fn go_round<D: Disk, S: Supplier, P: Policy, W: Watcher<D>>(
     }
 }
 
-/// Goes on, behind the picks of an order or behind whole rounds, with rounds over the loci until one makes no entry. A kernel that a fault
+/// Goes on, behind the births and looks at any loci in any order, with rounds over the loci until one makes no entry. A kernel that a fault
 /// meets stops, and looks at no more. A kernel that has stopped does nothing, and answers `Shut` behind a fault of the disk, and the same
 /// `NoBlocks` behind want of blocks.
 ///
@@ -111,6 +111,9 @@ pub fn finish<D: Disk, S: Supplier, P: Policy>(
     ensures tries { TriesByAnswer result kernel.old.parts.noted.entries kernel.new.parts.noted.entries }
     ensures clean { StaysClean D.Disk (S.word gate.now.supply) kernel.new }
     ensures counts { CountsWithin D.Disk ((2 ^ 22 + 1) * (23 * look_most)) kernel.old.parts.store kernel.new.parts.store }
+    ensures behind { D.tells → kernel.old.stop ≡ None → (b : Beginning) (first : List ℕ) (made : ℕ) → IsRunBy (S.word gate.now.supply) (P.wish gate.now.policy) b
+        → RunsAlong D.Disk b (first ++ rounds made) kernel.old
+        → EndsBehind D.Disk b first kernel.new }
     ensures run { D.tells → kernel.old.stop ≡ None → (b : Beginning) (made : ℕ) → IsRunBy (S.word gate.now.supply) (P.wish gate.now.policy) b
         → RunsAlong D.Disk b (looks_of b.script (opened_in b) made) kernel.old
         → EndsRun D.Disk b kernel.new }

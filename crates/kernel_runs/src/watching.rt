@@ -4,8 +4,7 @@ ghost use Rattle.base_types.specs.declared.histories.Entry.{Entry as AnEntry};
 ghost use Rattle.script_types.specs.model_kernel.Histories.{Policy as APolicy};
 ghost use Rattle.kernel_run_facts.specs.kernel_commits.Telling.{Tells, TriesByAnswer};
 ghost use Rattle.kernel_run_facts.specs.kernel_invariant.Beginnings.{Beginning};
-ghost use Rattle.kernel_run_facts.specs.model_serial_turns.Turns.{ComeFirst};
-ghost use Rattle.kernel_run_facts.specs.Running.{IsCauseOf, RunsAlong, opened_in};
+ghost use Rattle.kernel_run_facts.specs.Running.{IsCauseOf, IsFrontOf, RunsAlong};
 ghost use Rattle.kernel_run_facts.specs.Watching.{IsAsLent, IsNext, LooksLeave, Shows, answer_of};
 
 use edge_disk::Disk;
@@ -56,9 +55,9 @@ pub(crate) fn ask<D: Disk, W: Watcher<D>>(
     ensures ends { Tells (answer_of result) kernel.new.stop }
     ensures caused { (policy : APolicy) → IfErr (answer_of result) (IsCauseOf D.Disk policy kernel.old.parts kernel.new.parts) }
     ensures tries { TriesByAnswer (answer_of result) kernel.old.parts.noted.entries kernel.new.parts.noted.entries }
-    ensures knows { D.tells → (b : Beginning) (looked : List ℕ) (es : List AnEntry) → W.watches watcher.old b es → IsNext b es kernel.old.parts.noted.entries
-        → ComeFirst b.script (opened_in b) looked → RunsAlong D.Disk b looked kernel.old
-        → LooksLeave D.Disk (W.watches watcher.new) (W.leaves watcher.new) b looked result kernel.new }
+    ensures knows { D.tells → (b : Beginning) (first looked : List ℕ) (es : List AnEntry) → W.watches watcher.old b es → IsNext b es kernel.old.parts.noted.entries
+        → IsFrontOf first looked → RunsAlong D.Disk b looked kernel.old
+        → LooksLeave D.Disk (W.watches watcher.new) (W.leaves watcher.new) b first looked result kernel.new }
 {
     let goes_on = watcher.after(kernel);
     if let Some(why) = kernel.stopped() {

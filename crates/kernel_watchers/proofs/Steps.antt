@@ -22,6 +22,7 @@ use Rattle.model_new_commits.specs.model_run_laws.StepEntries.{is_step as is_ste
 use Rattle.kernel_runs.specs.kernel_core_facts.Kernels.{Held}
 use Rattle.kernel_runs.specs.kernel_run_facts.declared.halts.Halt.{Halt}
 use Rattle.kernel_runs.specs.kernel_run_facts.declared.halts.Halt.TheVariants as halt
+use Rattle.kernel_runs.specs.kernel_run_facts.Alongs.{ComesNext}
 use Rattle.kernel_runs.specs.kernel_run_facts.Watching.{IsNext, RunLeaves}
 use Rattle.kernel_watchers.specs.Steps.{IsWithin, StepsLeave, steps_at}
 
@@ -103,19 +104,23 @@ get_behind [] p = refl
 get_behind (e ∷ es) p = get_behind es p
 
 -- A PIECE
-pub piece_steps : (b : Beginning) (es new : List Entry) → IsNext b es new → count_by is_step new ≡ count_by is_step es + steps_at (slice_get new (length es))
-piece_steps b es new (IsNext.Births none is) =
-    let o = opening b.supply b.script b.state in
-    let zero_now : count_by is_step new ≡ 0 = ap (count_by is_step) is ∙ births_none b.supply b.policy b.script 64 (start_run b.state) in
+made_steps : (b : Beginning) (es all new : List Entry) → ComesNext b es all → new ≡ es ++ all → count_by is_step new ≡ count_by is_step es + steps_at (slice_get new (length es))
+made_steps b es all new (ComesNext.Births none same) is =
+    let whole : new ≡ opening b.supply b.script b.state = is ∙ ap (λ (fs : List Entry). fs ++ all) none ∙ same in
+    let zero_now : count_by is_step new ≡ 0 = ap (count_by is_step) whole ∙ births_none b.supply b.policy b.script 64 (start_run b.state) in
     let zero_old : count_by is_step es ≡ 0 = ap (count_by is_step) none in
     let first : steps_at (slice_get new (length es)) ≡ 0 = ap (λ (n : ℕ). steps_at (slice_get new n)) (ap length none) ∙ none_first new zero_now in
     omega (arith, zero_now, zero_old, first)
-piece_steps b es new (IsNext.Look looked l was front is) =
+made_steps b es all new (ComesNext.Look looked l was same) is =
     let p = look b.supply b.policy b.script (run_of b es) l in
-    let all : count_by is_step new ≡ count_by is_step es + count_by is_step p = ap (count_by is_step) is ∙ count_steps es p in
+    let whole : new ≡ es ++ p = is ∙ ap (λ (fs : List Entry). es ++ fs) same in
+    let total : count_by is_step new ≡ count_by is_step es + count_by is_step p = ap (count_by is_step) whole ∙ count_steps es p in
     let one = look_steps b.supply b.policy b.script (run_of b es) l in
-    let first : steps_at (slice_get new (length es)) ≡ steps_at (slice_get p 0) = ap (λ (fs : List Entry). steps_at (slice_get fs (length es))) is ∙ ap steps_at (get_behind es p) in
-    omega (arith, all, one, first)
+    let first : steps_at (slice_get new (length es)) ≡ steps_at (slice_get p 0) = ap (λ (fs : List Entry). steps_at (slice_get fs (length es))) whole ∙ ap steps_at (get_behind es p) in
+    omega (arith, total, one, first)
+
+piece_steps : (b : Beginning) (es new : List Entry) → IsNext b es new → count_by is_step new ≡ count_by is_step es + steps_at (slice_get new (length es))
+piece_steps b es new next = made_steps b es next.all new next.next next.is
 
 at_most_one : (o : Option Entry) → steps_at o ≤ 1
 at_most_one None = omega arith

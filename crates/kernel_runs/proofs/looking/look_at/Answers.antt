@@ -9,15 +9,15 @@ use Rattle.kernel_run_facts.proofs.Watched.{grows}
 use Rattle.kernel_runs.proofs.looking.look_at.Goals as goal
 
 pub returns-in-Ok-clause-run : goal.returns-in-Ok-clause-run
-returns-in-Ok-clause-run g c = λ told b looked given first along.
+returns-in-Ok-clause-run g c = λ told b first looked given begins along.
     let s = c.step.ensures in
-    takes_look g.D.Disk (g.S.Supplier.word c.args.gate.now.supply) (g.P.Policy.wish c.args.gate.now.policy) b looked c.args.locus c.args.kernel.now c.step.new.self along first
+    takes_look g.D.Disk (g.S.Supplier.word c.args.gate.now.supply) (g.P.Policy.wish c.args.gate.now.policy) b first looked c.args.locus c.args.kernel.now c.step.new.self along begins
     (s.run told b given.same_supply given.same_policy along.lives) (s.notes told b given.same_supply given.same_policy along.lives c.requires.going)
 
 pub returns-in-Err-clause-run : goal.returns-in-Err-clause-run
-returns-in-Err-clause-run g c = λ told b looked given first along.
+returns-in-Err-clause-run g c = λ told b first looked given begins along.
     let s = c.step.ensures in
-    takes_look g.D.Disk (g.S.Supplier.word c.args.gate.now.supply) (g.P.Policy.wish c.args.gate.now.policy) b looked c.args.locus c.args.kernel.now c.step.new.self along first
+    takes_look g.D.Disk (g.S.Supplier.word c.args.gate.now.supply) (g.P.Policy.wish c.args.gate.now.policy) b first looked c.args.locus c.args.kernel.now c.step.new.self along begins
     (s.run told b given.same_supply given.same_policy along.lives) (s.notes told b given.same_supply given.same_policy along.lives c.requires.going)
 
 pub returns-in-Err-clause-ends : goal.returns-in-Err-clause-ends

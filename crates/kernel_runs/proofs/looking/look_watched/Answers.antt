@@ -7,12 +7,12 @@ use Rattle.kernel_run_facts.proofs.Watched.{cause_behind, cut_before, next_look,
 use Rattle.kernel_runs.proofs.looking.look_watched.Goals as goal
 
 pub returns-in-Err-clause-run : goal.returns-in-Err-clause-run
-returns-in-Err-clause-run g c = λ told b looked given first goes.
+returns-in-Err-clause-run g c = λ told b first looked given begins goes.
     let old = c.args.kernel.now in
     let new = c.look_at.new.kernel in
     let stop = stopped_for g.D.Disk (g.P.Policy.wish c.args.gate.now.policy) old.parts new.parts c.in-Err.stop new.stop c.in-Err.ensures.ends c.in-Err.ensures.caused in
-    cut_before g.D.Disk (g.W.Watcher.watches c.args.watcher.now) (g.W.Watcher.leaves c.args.watcher.now) b old.parts.noted.entries new
-    ((c.in-Err.ensures.run told b looked given first goes.along).stopped stop.0 stop.1) goes.knows (c.in-Err.ensures.grows told b given goes.along.lives)
+    cut_before g.D.Disk (g.W.Watcher.watches c.args.watcher.now) (g.W.Watcher.leaves c.args.watcher.now) b first old.parts.noted.entries new stop.0 stop.1
+    ((c.in-Err.ensures.run told b first looked given begins goes.along).stopped stop.0 stop.1) goes.knows (c.in-Err.ensures.grows told b given goes.along.lives)
 
 pub returns-clause-caused : goal.returns-clause-caused
 returns-clause-caused g c =
@@ -31,7 +31,7 @@ returns-clause-counts g c =
     CountsWithin-then g.D.Disk look_most 0 c.args.kernel.now.parts.store c.look_at.new.kernel.parts.store c.ask.new.kernel.parts.store c.look_at.ensures.counts c.ask.ensures.lent.counts
 
 pub returns-clause-run : goal.returns-clause-run
-returns-clause-run g c = λ told b looked given first goes.
+returns-clause-run g c = λ told b first looked given begins goes.
     let es = c.args.kernel.now.parts.noted.entries in
-    let along = (c.in_default.ensures.run told b looked given first goes.along).along c.in_default.ensures.ends in
-    c.ask.ensures.knows told b (looked ++ c.args.locus ∷ []) es goes.knows (next_look b looked c.args.locus es c.look_at.new.kernel.parts.noted.entries goes.along.looks first along.looks) first along
+    let along = (c.in_default.ensures.run told b first looked given begins goes.along).along c.in_default.ensures.ends in
+    c.ask.ensures.knows told b first (looked ++ c.args.locus ∷ []) es goes.knows (next_look b looked c.args.locus es c.look_at.new.kernel.parts.noted.entries goes.along.looks along.looks) begins along

@@ -14,7 +14,7 @@ loop-halt-init g c = record {
   tries = adds_none c.args.kernel.now.parts.noted.entries c.args.kernel.now.parts.noted.entries refl;
   clean = c.requires.clean;
   counts = CountsWithin-stay g.D.Disk (length c.args.kernel.now.parts.noted.entries * (23 * look_most)) c.args.kernel.now.parts.store;
-  run = λ told b made given goes. (made, goes);
+  run = λ told b first made given goes. (made, goes);
 }
 
 pub loop-halt-preserved : goal.loop-halt-preserved
@@ -30,9 +30,9 @@ loop-halt-preserved g c =
       counts =
           CountsWithin-fewer d (n * (23 * look_most) + 23 * look_most) (m * (23 * look_most)) c.args.kernel.now.parts.store c.round.new.kernel.parts.store (omega (arith, more))
           (CountsWithin-then d (n * (23 * look_most)) (23 * look_most) c.args.kernel.now.parts.store c.loop-halt.kernel.parts.store c.round.new.kernel.parts.store c.loop-halt.invariant.counts c.round.ensures.counts);
-      run = λ told b made given goes.
-          let at = c.loop-halt.invariant.run told b made given goes in
-          (at.0 + 1, c.in_default.ensures.run told b at.0 given at.1);
+      run = λ told b first made given goes.
+          let at = c.loop-halt.invariant.run told b first made given goes in
+          (at.0 + 1, c.in_default.ensures.run told b first at.0 given at.1);
     }
 
 pub loop-halt-smaller : goal.loop-halt-smaller
@@ -56,9 +56,9 @@ returns-in-Err-clause-counts g c =
     (CountsWithin-then d (n * (23 * look_most)) (23 * look_most) c.args.kernel.now.parts.store c.loop-halt.kernel.parts.store c.round.new.kernel.parts.store c.loop-halt.invariant.counts c.round.ensures.counts)
 
 pub returns-in-Err-clause-run : goal.returns-in-Err-clause-run
-returns-in-Err-clause-run g c = λ told b made given goes.
-    let at = c.loop-halt.invariant.run told b made given goes in
-    c.in-Err.ensures.run told b at.0 given at.1
+returns-in-Err-clause-run g c = λ told b first made given goes.
+    let at = c.loop-halt.invariant.run told b first made given goes in
+    c.in-Err.ensures.run told b first at.0 given at.1
 
 pub returns-then-entries_noted-noted-clause-counts : goal.returns-then-entries_noted-noted-clause-counts
 returns-then-entries_noted-noted-clause-counts g c =
@@ -69,14 +69,14 @@ returns-then-entries_noted-noted-clause-counts g c =
     (CountsWithin-then d (n * (23 * look_most)) (23 * look_most) c.args.kernel.now.parts.store c.loop-halt.kernel.parts.store c.round.new.kernel.parts.store c.loop-halt.invariant.counts c.round.ensures.counts)
 
 pub returns-then-entries_noted-noted-clause-run : goal.returns-then-entries_noted-noted-clause-run
-returns-then-entries_noted-noted-clause-run g c = λ told b made given goes.
+returns-then-entries_noted-noted-clause-run g c = λ told b first made given goes.
     let d = g.D.Disk in
-    let at = c.loop-halt.invariant.run told b made given goes in
-    let next = c.in_default.ensures.run told b at.0 given at.1 in
+    let at = c.loop-halt.invariant.run told b first made given goes in
+    let next = c.in_default.ensures.run told b first at.0 given at.1 in
     let few : length c.round.new.kernel.parts.noted.entries ≤ length c.loop-halt.kernel.parts.noted.entries =
     (let was = c.entries_noted-noted.ensures.count in let is = c.entries_noted.ensures.count in let le = c.if-entries_noted-noted.true in omega (arith, was, is, le)) in
     record {
-      over = ends d (g.S.Supplier.word c.args.gate.now.supply) (g.P.Policy.wish c.args.gate.now.policy) b at.0 c.loop-halt.kernel c.round.new.kernel given at.1.along next.along few;
+      over = ends d (g.S.Supplier.word c.args.gate.now.supply) (g.P.Policy.wish c.args.gate.now.policy) b first at.0 c.loop-halt.kernel c.round.new.kernel given at.1.along next.along few;
       knows = next.knows;
     }
 

@@ -1,8 +1,7 @@
 use Rattle.std.proofs.Common.{◌≤◌, ◌<◌, ◌+◌, ◌-◌, ◌*◌, ◌++◌, ◌∷◌, [], sym, ap, subst, ◌∙◌, arith, Err, refl}
 use Rattle.std.proofs.lemmas.List.{append-nil}
-use Rattle.script_types.specs.model_kernel.Serial.{looks_of}
-use Rattle.kernel_run_facts.specs.model_serial_turns.Turns.{ComeFirst, before_locus}
-use Rattle.kernel_run_facts.specs.Running.{look_most, opened_in}
+use Rattle.script_types.specs.model_kernel.Serial.{rounds}
+use Rattle.kernel_run_facts.specs.Running.{IsFrontOf, loci_before, look_most}
 use Rattle.kernel_run_facts.specs.Watching.{GoesAlong, answer_of}
 use Rattle.std.specs.Prelude.{⊤}
 use Rattle.kernel_run_facts.proofs.Watched.{cause_behind}
@@ -20,7 +19,7 @@ loop-number-init g c = record {
   tries = adds_none c.args.kernel.now.parts.noted.entries c.args.kernel.now.parts.noted.entries refl;
   clean = c.requires.clean;
   counts = CountsWithin-stay g.D.Disk 0 c.args.kernel.now.parts.store;
-  run = λ told b made given goes. subst (λ ls. GoesAlong g.D.Disk (g.W.Watcher.watches c.args.watcher.now) b ls c.args.kernel.now) (sym (append-nil (looks_of b.script (opened_in b) made))) goes;
+  run = λ told b first made given goes. subst (λ ls. GoesAlong g.D.Disk (g.W.Watcher.watches c.args.watcher.now) b ls c.args.kernel.now) (sym (append-nil (first ++ rounds made))) goes;
 }
 
 pub loop-number-preserved : goal.loop-number-preserved
@@ -38,11 +37,11 @@ loop-number-preserved g c =
       counts =
           CountsWithin-fewer d ((n - 41) * look_most + look_most) ((n + 1 - 41) * look_most) c.args.kernel.now.parts.store c.look_watched.new.kernel.parts.store (omega (arith, low))
           (CountsWithin-then d ((n - 41) * look_most) look_most c.args.kernel.now.parts.store c.loop-number.kernel.parts.store c.look_watched.new.kernel.parts.store c.loop-number.invariant.counts c.look_watched.ensures.counts);
-      run = λ told b made given goes.
-          let first = subst (λ x. ComeFirst b.script (opened_in b) (before_locus b.script (opened_in b) made n ++ x ∷ [])) (sym c.of.ensures) (locus_first b made n low high) in
-          let next = ap (λ x. before_locus b.script (opened_in b) made n ++ x ∷ []) c.of.ensures ∙ sym (locus_next b made n low high) in
+      run = λ told b first made given goes.
+          let begins = subst (λ x. IsFrontOf first (loci_before first made n ++ x ∷ [])) (sym c.of.ensures) (locus_first b first made n low high) in
+          let next = ap (λ x. loci_before first made n ++ x ∷ []) c.of.ensures ∙ sym (locus_next b first made n low high) in
           subst (λ ls. GoesAlong d (g.W.Watcher.watches c.look_watched.new.watcher) b ls c.look_watched.new.kernel) next
-          (c.in_default.ensures.run told b (before_locus b.script (opened_in b) made n) given first (c.loop-number.invariant.run told b made given goes));
+          (c.in_default.ensures.run told b first (loci_before first made n) given begins (c.loop-number.invariant.run told b first made given goes));
     }
 
 pub returns-in-Err-clause-caused : goal.returns-in-Err-clause-caused
@@ -58,11 +57,11 @@ returns-in-Err-clause-counts g c =
     (CountsWithin-then d ((n - 41) * look_most) look_most c.args.kernel.now.parts.store c.loop-number.kernel.parts.store c.look_watched.new.kernel.parts.store c.loop-number.invariant.counts c.look_watched.ensures.counts)
 
 pub returns-in-Err-clause-run : goal.returns-in-Err-clause-run
-returns-in-Err-clause-run g c = λ told b made given goes.
+returns-in-Err-clause-run g c = λ told b first made given goes.
     let n = c.loop-number.number in
     let high : n < 64 = (let few = c.loci_end.ensures.few in let lt = c.loop-number-test.true in omega (arith, few, lt)) in
-    let first = subst (λ x. ComeFirst b.script (opened_in b) (before_locus b.script (opened_in b) made n ++ x ∷ [])) (sym c.of.ensures) (locus_first b made n c.loop-number.invariant.low high) in
-    c.in-Err.ensures.run told b (before_locus b.script (opened_in b) made n) given first (c.loop-number.invariant.run told b made given goes)
+    let begins = subst (λ x. IsFrontOf first (loci_before first made n ++ x ∷ [])) (sym c.of.ensures) (locus_first b first made n c.loop-number.invariant.low high) in
+    c.in-Err.ensures.run told b first (loci_before first made n) given begins (c.loop-number.invariant.run told b first made given goes)
 
 pub returns-clause-counts : goal.returns-clause-counts
 returns-clause-counts g c =
@@ -71,16 +70,16 @@ returns-clause-counts g c =
     CountsWithin-fewer d ((c.loop-number.number - 41) * look_most) (23 * look_most) c.args.kernel.now.parts.store c.loop-number.kernel.parts.store (omega (arith, high)) c.loop-number.invariant.counts
 
 pub returns-clause-run : goal.returns-clause-run
-returns-clause-run g c = λ told b made given goes.
+returns-clause-run g c = λ told b first made given goes.
     let n = c.loop-number.number in
-    let at = c.loop-number.invariant.run told b made given goes in
+    let at = c.loop-number.invariant.run told b first made given goes in
     let r = at.along.lives.live.running in
     let past = c.loci_end.ensures.past told b at.along.lives in
     let behind = c.loop-number-test.false in
     record {
       along = record {
         lives = at.along.lives;
-        looks = round_over b c.loop-number.kernel.parts.noted.entries r.begins r.legal made n c.loop-number.invariant.low c.loop-number.invariant.high (omega (arith, past, behind)) at.along.looks;
+        looks = round_over b c.loop-number.kernel.parts.noted.entries r.begins r.legal first made n c.loop-number.invariant.low c.loop-number.invariant.high (omega (arith, past, behind)) at.along.looks;
       };
       knows = at.knows;
     }

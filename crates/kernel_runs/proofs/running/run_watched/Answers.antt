@@ -2,11 +2,8 @@ use Rattle.std.proofs.Common.{◌≡◌, ◌+◌, ◌*◌, ◌^◌, ◌++◌, []
 use Rattle.std.specs.Prelude.{Err, IfSome, Ok, Result, string_bytes, ⊤}
 use Rattle.base_types.specs.declared.histories.Entry.{Entry}
 use Rattle.script_types.specs.model_kernel.Scripts.{Script}
-use Rattle.script_types.specs.model_kernel.Serial.{looks_of}
 use Rattle.script_types.specs.Scripts.{tables_of}
 use Rattle.kernel_run_facts.specs.model_serial.Serial.{opening}
-use Rattle.kernel_run_facts.specs.model_serial_turns.Turns.{ComeFirst}
-use Rattle.kernel_run_facts.specs.kernel_invariant.Beginnings.{Beginning}
 use Rattle.kernel_run_facts.specs.kernel_invariant.declared.stopping.Stopped.{Stopped}
 use Rattle.kernel_run_facts.specs.kernel_commits.Telling.{told_again}
 use Rattle.kernel_run_facts.specs.kernel_commits.declared.stopping.Stop.{Stop}
@@ -14,11 +11,12 @@ use Rattle.kernel_run_facts.proofs.kernel_commits_lemmas.Telling.{adds_then, ans
 use Rattle.kernel_run_facts.proofs.kernel_commit_facts_lemmas.Counting.{CountsWithin-fewer, CountsWithin-then}
 use Rattle.kernel_run_facts.specs.declared.halts.Halt.{Halt}
 use Rattle.kernel_run_facts.specs.declared.halts.Halt.TheVariants as halt
-use Rattle.kernel_run_facts.specs.Running.{look_most, opened_in}
-use Rattle.kernel_run_facts.specs.Watching.{IsNext, answer_of}
-use Rattle.kernel_run_facts.proofs.Alongs.{opens, run_by, stops_opening}
+use Rattle.kernel_run_facts.specs.Running.{look_most, picks_in}
+use Rattle.kernel_run_facts.specs.Watching.{answer_of}
+use Rattle.kernel_run_facts.proofs.Alongs.{none_first, opens, run_by, stops_opening}
 use Rattle.kernel_run_facts.proofs.Caused.{births_cause}
-use Rattle.kernel_run_facts.proofs.Watched.{cause_behind, cut_before, stopped_for}
+use Rattle.kernel_run_facts.proofs.Serial.{rounds_serial}
+use Rattle.kernel_run_facts.proofs.Watched.{cause_behind, cut_before, next_births, stopped_for}
 use Rattle.kernel_runs.proofs.running.run_watched.Goals as goal
 
 -- a call that answers Ok found the kernel going on
@@ -28,9 +26,6 @@ was_going (Some why) P was = absurd (let clash = was.0 in cc clash)
 
 not_stopped : (o : Option Stopped) (P : Stopped → Type 0) → o ≡ None → IfSome o P
 not_stopped o P none = subst (λ x. IfSome x P) (sym none) tt
-
-first_of : (b : Beginning) → ComeFirst b.script (opened_in b) []
-first_of b = record { rounds_made = 0; rest = looks_of b.script (opened_in b) 0; front = refl }
 
 -- WHAT IS CALLED
 
@@ -69,9 +64,11 @@ returns-in-Err-clause-run g c = λ told going b supply policy script lives knows
     let n = c.births.ensures in
     let stop = stopped_for d (g.P.Policy.wish c.args.gate.now.policy) old.parts new.parts c.in-Err.stop new.stop (c.in-Err.ensures.ends going)
     (births_cause d (g.P.Policy.wish c.args.gate.now.policy) (tables_of c.args.script.now) old.parts new.parts c.in-Err.stop (c.in-Err.ensures.no_blocks going) (c.in-Err.ensures.fails going)) in
-    cut_before d (g.W.Watcher.watches c.args.watcher.now) (g.W.Watcher.leaves c.args.watcher.now) b [] new
-    (stops_opening d (g.S.Supplier.word c.args.gate.now.supply) (g.P.Policy.wish c.args.gate.now.policy) b old new (n.run told b script lives) c.requires.first (n.notes told b script lives going) stop.0 stop.1)
-    knows (new.parts.noted.entries, refl)
+    let cut =
+    cut_before d (g.W.Watcher.watches c.args.watcher.now) (g.W.Watcher.leaves c.args.watcher.now) b (picks_in b) [] new stop.0 stop.1
+    (stops_opening d (g.S.Supplier.word c.args.gate.now.supply) (g.P.Policy.wish c.args.gate.now.policy) b (picks_in b) old new (n.run told b script lives) c.requires.first (n.notes told b script lives going) stop.0 stop.1)
+    knows (new.parts.noted.entries, refl) in
+    rounds_serial d b new (g.W.Watcher.watches c.args.watcher.now) (g.W.Watcher.leaves c.args.watcher.now) (Err (halt.Kernel c.in-Err.stop)) cut
 
 pub returns-in-Err-ask-clause-run : goal.returns-in-Err-ask-clause-run
 returns-in-Err-ask-clause-run g c = λ told going b supply policy script lives knows.
@@ -79,7 +76,8 @@ returns-in-Err-ask-clause-run g c = λ told going b supply policy script lives k
     let new = c.births.new.self in
     let opened = (c.births.ensures.notes told b script lives going).whole (c.in_default.ensures.ends going) ∙ ap (λ (es : List Entry). es ++ opening b.supply b.script b.state) c.requires.first in
     let along = opens d (g.S.Supplier.word c.args.gate.now.supply) (g.P.Policy.wish c.args.gate.now.policy) b new (c.births.ensures.run told b script lives) opened in
-    c.in-Err-ask.ensures.knows told b [] [] knows (IsNext.Births refl opened) (first_of b) along
+    let w = c.ask.new.watcher in
+    rounds_serial d b c.ask.new.kernel (g.W.Watcher.watches w) (g.W.Watcher.leaves w) (Err c.in-Err-ask.halt) (c.in-Err-ask.ensures.knows told b (picks_in b) [] [] knows (next_births b new.parts.noted.entries opened) (none_first (picks_in b)) along)
 
 pub returns-in-Err-look_for_all-clause-run : goal.returns-in-Err-look_for_all-clause-run
 returns-in-Err-look_for_all-clause-run g c = λ told going b supply policy script lives knows.
@@ -89,7 +87,9 @@ returns-in-Err-look_for_all-clause-run g c = λ told going b supply policy scrip
     let opened = (c.births.ensures.notes told b script lives going).whole (c.in_default.ensures.ends going) ∙ ap (λ (es : List Entry). es ++ opening b.supply b.script b.state) c.requires.first in
     let along = opens d (g.S.Supplier.word c.args.gate.now.supply) (g.P.Policy.wish c.args.gate.now.policy) b new (c.births.ensures.run told b script lives) opened in
     let order = ap (λ (t : Script). t.order) script ∙ ap (map string_bytes) (sym c.deref.ensures.value) in
-    c.in-Err-look_for_all.ensures.run told b given order (c.in_default-ask.ensures.knows told b [] [] knows (IsNext.Births refl opened) (first_of b) along)
+    let w = c.look_for_all.new.watcher in
+    rounds_serial d b c.look_for_all.new.kernel (g.W.Watcher.watches w) (g.W.Watcher.leaves w) (Err c.in-Err-look_for_all.halt)
+    (c.in-Err-look_for_all.ensures.run told b given order (c.in_default-ask.ensures.knows told b (picks_in b) [] [] knows (next_births b new.parts.noted.entries opened) (none_first (picks_in b)) along))
 
 pub returns-clause-run : goal.returns-clause-run
 returns-clause-run g c = λ told going b supply policy script lives knows.
@@ -99,7 +99,10 @@ returns-clause-run g c = λ told going b supply policy script lives knows.
     let opened = (c.births.ensures.notes told b script lives going).whole (c.in_default.ensures.ends going) ∙ ap (λ (es : List Entry). es ++ opening b.supply b.script b.state) c.requires.first in
     let along = opens d (g.S.Supplier.word c.args.gate.now.supply) (g.P.Policy.wish c.args.gate.now.policy) b new (c.births.ensures.run told b script lives) opened in
     let order = ap (λ (t : Script). t.order) script ∙ ap (map string_bytes) (sym c.deref.ensures.value) in
-    c.go_round.ensures.run told b 0 given (c.in_default-look_for_all.ensures.run told b given order (c.in_default-ask.ensures.knows told b [] [] knows (IsNext.Births refl opened) (first_of b) along))
+    let w = c.go_round.new.watcher in
+    rounds_serial d b c.go_round.new.kernel (g.W.Watcher.watches w) (g.W.Watcher.leaves w) c.go_round.result
+    (c.go_round.ensures.run told b (picks_in b) 0 given
+    (c.in_default-look_for_all.ensures.run told b given order (c.in_default-ask.ensures.knows told b (picks_in b) [] [] knows (next_births b new.parts.noted.entries opened) (none_first (picks_in b)) along)))
 
 -- WHAT STOPPED IT
 

@@ -29,16 +29,16 @@ returns-in-Some-clause-tries g c =
     (adds_none c.args.kernel.now.parts.noted.entries c.after-goes_on.new.kernel.parts.noted.entries same)
 
 pub returns-in-Some-clause-knows : goal.returns-in-Some-clause-knows
-returns-in-Some-clause-knows g c = λ tells b looked es knows next first along.
-    cut_by_read g.D.Disk (g.W.Watcher.watches c.after-goes_on.new.self) (g.W.Watcher.leaves c.after-goes_on.new.self) b looked c.args.kernel.now c.after-goes_on.new.kernel c.after-goes_on.result tells
-    c.after-goes_on.ensures.lent first along (c.after-goes_on.ensures.knows tells b es knows (record { lives = along.lives; next = next }))
+returns-in-Some-clause-knows g c = λ tells b first looked es knows next begins along.
+    cut_by_read g.D.Disk (g.W.Watcher.watches c.after-goes_on.new.self) (g.W.Watcher.leaves c.after-goes_on.new.self) b first looked es c.args.kernel.now c.after-goes_on.new.kernel c.after-goes_on.result tells
+    c.after-goes_on.ensures.lent next begins along (c.after-goes_on.ensures.knows tells b es knows (record { lives = along.lives; next = next })) c.in-Some.why (sym c.stopped.ensures ∙ c.in-Some.is)
 
 pub returns-then-goes_on-clause-tries : goal.returns-then-goes_on-clause-tries
 returns-then-goes_on-clause-tries g c =
     adds_none c.args.kernel.now.parts.noted.entries c.after-goes_on.new.kernel.parts.noted.entries (ap (λ (n : Noted). n.entries) c.after-goes_on.ensures.lent.notes)
 
 pub returns-then-goes_on-clause-knows : goal.returns-then-goes_on-clause-knows
-returns-then-goes_on-clause-knows g c = λ tells b looked es knows next first along.
+returns-then-goes_on-clause-knows g c = λ tells b first looked es knows next begins along.
     let now = c.after-goes_on.new.kernel.parts.noted.entries in
     let w = c.after-goes_on.new.self in
     record {
@@ -51,12 +51,12 @@ returns-else-goes_on-clause-tries g c =
     adds_none c.args.kernel.now.parts.noted.entries c.after-goes_on.new.kernel.parts.noted.entries (ap (λ (n : Noted). n.entries) c.after-goes_on.ensures.lent.notes)
 
 pub returns-else-goes_on-clause-knows : goal.returns-else-goes_on-clause-knows
-returns-else-goes_on-clause-knows g c = λ tells b looked es knows next first along.
+returns-else-goes_on-clause-knows g c = λ tells b first looked es knows next begins along.
     let now = c.after-goes_on.new.kernel.parts.noted.entries in
     let w = c.after-goes_on.new.self in
     record {
       looked = looked;
-      first = first;
+      begins = begins;
       along = lent_along g.D.Disk b looked c.args.kernel.now c.after-goes_on.new.kernel tells c.after-goes_on.ensures.lent along;
       knows = subst (λ goes_on. MatchBool goes_on (g.W.Watcher.watches w b now) (g.W.Watcher.leaves w b now)) c.if-goes_on.false (c.after-goes_on.ensures.knows tells b es knows (record { lives = along.lives; next = next }));
     }
