@@ -1,5 +1,5 @@
 //! A runtime that keeps its objects in an image, by the kernel's own calls: it opens the image, gives births by a script, lets loci run in the
-//! order that it chooses, and finds its objects again behind a stop at any moment.
+//! order that it chooses, or all to their end, and finds its objects again behind a stop at any moment.
 #![tactic(auto)]
 
 mod serving;
@@ -8,5 +8,5 @@ mod stopping;
 mod tests;
 
 pub use command_open::{Kernel, Unopened};
-pub use serving::{let_run, open_objects};
+pub use serving::{let_run, open_objects, run_to_end};
 pub use stopping::{Found, Lost, keep_and_stop, stop_and_find};

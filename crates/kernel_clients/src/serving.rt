@@ -5,7 +5,8 @@ ghost use Rattle.command_open.specs.command_promises.Openings.{HasOpened, Manage
 ghost use Rattle.command_open.specs.command_promises.Ready.{StopsOpening};
 ghost use Rattle.kernel_core.specs.kernel_core_facts.Kernels.{StaysClean};
 ghost use Rattle.kernel_core.specs.kernel_invariant.Beginnings.{Beginning};
-ghost use Rattle.kernel_clients.specs.Serving.{Serves};
+ghost use Rattle.kernel_runs.specs.kernel_run_facts.Running.{IsRunBy};
+ghost use Rattle.kernel_clients.specs.Serving.{Serves, ServesToEnd};
 ghost use Rattle.script_types.specs.Rules.{IsScript};
 ghost use Rattle.script_types.specs.Scripts.{tables_of};
 ghost use Rattle.script_types.specs.model_kernel.State.{Supply};
@@ -14,6 +15,7 @@ use base_types::Entity;
 use command_open::{Kernel, Unopened, open_for};
 use edge_disk::Disk;
 use edge_managers::{Gate, Policy, Supplier};
+use kernel_runs::finish;
 use script_types::Script;
 use std::alloc::Global;
 
@@ -63,4 +65,26 @@ pub fn let_run<D: Disk, S: Supplier, P: Policy>(
     for i in 0..turns.len() {
         let _ = kernel.step(turns[i], gate);
     }
+}
+
+/// One look at each of these loci, as in `let_run`, and then one at each that is born, by number, round after round until none can step.
+///
+/// Where the kernel goes on, its history has these looks and rounds more, and no locus can step: it was stopped, has halted or is out of steps. Each round but the
+/// last makes a step, so there are at most as many as the loci have steps, and one beside. It takes no memory; a look begins 99,585 writes and
+/// syncs at most.
+pub fn run_to_end<D: Disk, S: Supplier, P: Policy>(
+    kernel: &mut Kernel<D>,
+    turns: &[Entity],
+    gate: &Gate<S, P>,
+)
+    requires keeps { S.keeps gate.now.supply }
+    requires wishes { P.keeps gate.now.policy }
+    requires clean { StaysClean D.Disk (S.word gate.now.supply) kernel.old }
+    ensures ends { D.tells → (b : Beginning) (looked : List ℕ) → IsRunBy (S.word gate.now.supply) (P.wish gate.now.policy) b
+        → Serves D.Disk b looked kernel.old → ServesToEnd D.Disk b (looked ++ turns.now) kernel.new }
+    ensures clean { StaysClean D.Disk (S.word gate.now.supply) kernel.new }
+{
+    let_run(kernel, turns, gate);
+    // why it stops, if it does, stands in the kernel
+    let _ = finish(kernel, gate);
 }
