@@ -12,7 +12,7 @@ use Rattle.kernel_core_facts.specs.table_births.model_kernel.Histories.{never}
 use Rattle.kernel_core_facts.specs.table_births.model_kernel.State.{empty_state}
 use Rattle.kernel_core_facts.specs.Kernels.{Held, IsKept, Lives}
 use Rattle.kernel_core.specs.Parts.{held_of}
-use Rattle.thread_desk.specs.Alongs.{IsAlong}
+use Rattle.kernel_run_facts.specs.Alongs.{IsAlong}
 
 -- the store that it knows, the only one of its list; the cells that it knows; the history with its marks; the entries after the kept ones that the
 -- shares are told of; and why the kernel has stopped, if it has

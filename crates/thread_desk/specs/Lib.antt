@@ -1,4 +1,4 @@
-pub mod Alongs
+pub use Rattle.kernel_run_facts.specs.Alongs
 pub mod Desks
 pub mod Sights
 pub use Rattle.kernel_core.specs as kernel_core
