@@ -1,0 +1,22 @@
+-- What came of a look, and how many places its item covers.
+use Rattle.std.specs.Prelude.{ℕ, Ok, Err, Result, Option, None, Some}
+use Rattle.base_types.specs.declared.histories.Entry.{Entry}
+use Rattle.kernel_core_facts.specs.kernel_invariant.declared.stopping.Stopped.{Stopped}
+use Rattle.kernel_core_facts.specs.declared.looked.Looked.{Looked}
+use Rattle.kernel_core_facts.specs.declared.looked.Looked.TheVariants as looked
+use Rattle.thread_items.specs.declared.items.Came.{Came}
+use Rattle.thread_items.specs.declared.items.Came.TheVariants.{Made, Idle, Stopped as StoppedFor, StoppedBehind}
+
+-- its step, if it made one
+abbrev pub steps_in : Came → ℕ
+steps_in (Made e) = 1
+steps_in (Idle why) = 0
+steps_in (StoppedFor why) = 0
+steps_in (StoppedBehind e why) = 1
+
+-- by what the look answered, and the entry at its place, if there is one
+abbrev pub came_by : Result Looked Stopped → Option Entry → Came
+came_by (Ok (looked.Made m)) o = Made m.entry
+came_by (Ok (looked.Idle why)) o = Idle why
+came_by (Err why) (Some e) = StoppedBehind e why
+came_by (Err why) None = StoppedFor why

@@ -1,0 +1,75 @@
+// The desk with the items of all passes.
+ghost use Rattle.std.specs.Prelude.{◌≡◌, ◌+◌, ◌∷◌, []};
+ghost use Rattle.thread_board.specs.Items.{AllOf, IsRising, IsWithin};
+ghost use Rattle.thread_history.specs.Rules.{AllDiffer};
+ghost use Rattle.thread_items.specs.Items.{AreTrueItems};
+ghost use Rattle.thread_items.specs.Places.{steps_in};
+
+use crate::items::LookItem;
+use edge_disk::Disk;
+use std::marker::Model;
+use thread_board::{Bench, Fresh, Line, Pass, PassItem, Slate, Slip};
+use thread_desk::{Board, Desk};
+
+/// What lies under the history's lock of a board: the desk, with the side that writes the items of all passes. Each item is true of the desk's
+/// history and of its stop.
+#[derive(Drop)]
+pub struct ItemDesk<D: Disk, C: Line, B: Board<D> + Bench> {
+    pub desk: Desk<D, B>,
+    pub slip: Slip<C, LookItem, B>,
+}
+
+impl<D: Disk, C: Line, B: Board<D> + Bench> Model for ItemDesk<D, C, B> {
+    ghost use Rattle.thread_items.specs.Items.{AreTrueItems, Itemized};
+
+    ghost Value = { Itemized D C };
+
+    ghost view = { λ d. record { desk = d.desk; noting = d.slip } };
+
+    ghost invariant = { λ d. AreTrueItems D.tells B.begin d.desk.noted.entries d.desk.stop d.slip.items };
+}
+
+impl<D: Disk, C: Line, B: Board<D> + Bench> ItemDesk<D, C, B> {
+    /// A desk in which no item is noted.
+    pub fn open(desk: Desk<D, B>, slip: Slip<C, LookItem, B>) -> ItemDesk<D, C, B>
+        requires { slip.items ≡ [] }
+        ensures { result ≡ record { desk = desk; noting = slip } }
+    {
+        ItemDesk { desk, slip }
+    }
+
+    /// Something that may draw a pass. One step at the table.
+    pub fn fresh(&mut self, slate: &Slate<C, LookItem, B>) -> Fresh<C, LookItem, B>
+        ensures { self.new ≡ self.old }
+    {
+        self.slip.fresh(slate)
+    }
+
+    /// A pass comes back. Each of its items is true of the desk's history and of its stop; they are of its number, and stand among all items, in
+    /// which each ends before each later one starts. No pass of its number came back before.
+    pub fn take_back(
+        &mut self,
+        slate: &Slate<C, LookItem, B>,
+        pass: Pass<C, LookItem, B>,
+    ) -> Vec<PassItem<LookItem>>
+        ensures items { result.items ≡ pass.items }
+        ensures are_true { AreTrueItems D.tells B.begin self.old.desk.noted.entries self.old.desk.stop pass.items }
+        ensures number { AllOf pass.number pass.items }
+        ensures within { IsWithin pass.items self.old.noting.items }
+        ensures rising { IsRising (λ i. i.place) (λ i. i.place + steps_in i.came) self.old.noting.items }
+        ensures back { self.new.noting.back ≡ pass.number ∷ self.old.noting.back }
+        ensures once { AllDiffer self.new.noting.back }
+        ensures others { (self.new.desk ≡ self.old.desk) × (self.new.noting.items ≡ self.old.noting.items) × (self.new.noting.commits ≡ self.old.noting.commits) }
+    {
+        self.slip.take_back(slate, pass)
+    }
+
+    /// The desk, and the side that wrote the items.
+    pub fn close(self) -> (Desk<D, B>, Slip<C, LookItem, B>)
+        ensures parts { (result.0 ≡ self.desk) × (result.1 ≡ self.noting) }
+        ensures are_true { AreTrueItems D.tells B.begin self.desk.noted.entries self.desk.stop self.noting.items }
+    {
+        let ItemDesk { desk, slip } = self;
+        (desk, slip)
+    }
+}

@@ -1,0 +1,52 @@
+// What a look came to, as an item of a pass.
+ghost use Rattle.std.specs.Prelude.{◌≡◌, slice_get};
+ghost use Rattle.thread_items.specs.Places.{came_by};
+
+use base_types::{Entity, Entry};
+use kernel_core_facts::{Idle, Looked, Stopped};
+use thread_board::Placed;
+
+/// What came of one look at a locus.
+#[derive(Clone, Copy, PartialEq, Eq, Debug)]
+pub enum Came {
+    /// A step was made, with this entry.
+    Made(Entry),
+    /// None was: the locus couldn't step.
+    Idle(Idle),
+    /// The kernel had stopped before, or was stopped at the step, which wasn't made.
+    Stopped(Stopped),
+    /// The kernel was stopped behind the step with this entry.
+    StoppedBehind(Entry, Stopped),
+}
+
+/// An item of a pass: one look at a locus, and what came of it.
+#[derive(Clone, Copy, PartialEq, Eq, Debug)]
+pub struct LookItem {
+    pub locus: Entity,
+    /// How many entries the history had before the look. Its step, if it made one, stands behind them.
+    pub place: u64,
+    pub came: Came,
+}
+
+impl Placed for LookItem {
+    ghost use Rattle.std.specs.Prelude.{◌+◌};
+    ghost use Rattle.thread_items.specs.Places.{steps_in};
+
+    ghost starts = { λ i. i.place };
+
+    ghost ends = { λ i. i.place + steps_in i.came };
+}
+
+/// What came of a look, by what it answered and what the history has at its place.
+pub(crate) fn came_of(answer: &Result<Looked, Stopped>, entries: &[Entry], place: usize) -> Came
+    ensures { result ≡ came_by answer.now (slice_get entries.now place) }
+{
+    match answer {
+        Ok(Looked::Made(made)) => Came::Made(made.entry),
+        Ok(Looked::Idle(why)) => Came::Idle(*why),
+        Err(why) => match entries.get(place) {
+            Some(entry) => Came::StoppedBehind(*entry, *why),
+            None => Came::Stopped(*why),
+        },
+    }
+}
