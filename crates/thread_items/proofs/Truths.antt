@@ -1,7 +1,6 @@
 -- Items that are true.
-use Rattle.std.proofs.Common.{◌≡◌, ◌⊎◌, ⊎_elim, inl, inr, ℕ, ◌+◌, ◌≤◌, ◌<◌, List, [], ◌∷◌, ◌++◌, length, Option, Some, None, Ok, Err, slice_get, refl, sym, ap, subst, ◌∙◌, arith}
+use Rattle.std.proofs.Common.{◌≡◌, ◌⊎◌, ⊎_elim, inl, inr, ℕ, ◌+◌, ◌≤◌, List, [], ◌∷◌, ◌++◌, length, Option, Some, None, Ok, Err, slice_get, refl, sym, ap, subst, ◌∙◌, arith}
 use Rattle.std.specs.Prelude.{IfSome, Result}
-use Rattle.std.specs.Result.{result_err}
 use Rattle.std.proofs.lemmas.List.{append-nil, append_assoc, length-append}
 use Rattle.std.proofs.lemmas.Option.{slice_get_past, slice_get_within}
 use Rattle.base_types.specs.declared.histories.Entry.{Entry}
@@ -15,7 +14,7 @@ use Rattle.thread_board.proofs.Within.{each_map, each_push}
 use Rattle.thread_looks.specs.Looking.{NotesLook, stop_in}
 use Rattle.thread_looks.specs.Looking.NotesLook.{Nothing, StepFirst}
 use Rattle.thread_desk_looks.specs.Items.{IsTrueOf}
-use Rattle.thread_desk_looks.proofs.Items.{at_front, at_seam, idle_stays, step_stays}
+use Rattle.thread_desk_looks.proofs.Items.{at_seam, idle_stays, step_stays}
 use Rattle.thread_items.specs.declared.items.Came.{Came}
 use Rattle.thread_items.specs.declared.items.Came.TheVariants.{Made, Idle, Stopped as StoppedFor, StoppedBehind}
 use Rattle.thread_items.specs.declared.items.LookItem.{LookItem}
