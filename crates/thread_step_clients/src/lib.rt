@@ -4,6 +4,8 @@
 mod advancing;
 mod images;
 mod lending;
+#[cfg(test)]
+mod tests;
 
 pub use advancing::advance_lent;
 pub use images::advance_over_image;
