@@ -6,4 +6,4 @@ mod limiting;
 
 pub use finding::shown_commits_law;
 pub use kernel_runs::{Halt, finish, play};
-pub use limiting::run_steps;
+pub use limiting::{run_steps, step_count_at};

@@ -50,8 +50,8 @@ fn step_count(entry: &Entry) -> u64
     }
 }
 
-// One where a step stands at this place of a history, and none else.
-fn step_count_at(history: &[Entry], at: usize) -> u64
+/// One where a step stands at this place of a history, and none else.
+pub fn step_count_at(history: &[Entry], at: usize) -> u64
     ensures { result ≡ steps_at (slice_get history.now at) }
 {
     match history.get(at) {

@@ -1,0 +1,3 @@
+mod Offers
+mod Known
+mod Lent

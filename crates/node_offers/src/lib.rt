@@ -1,0 +1,6 @@
+//! The new commits of a running kernel, offered to a sender as shipments, in their order.
+#![tactic(auto)]
+
+mod offering;
+
+pub use offering::offer_new;

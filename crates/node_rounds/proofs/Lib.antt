@@ -1,0 +1,3 @@
+pub mod Heard
+mod Coming
+pub mod Going
