@@ -1,5 +1,5 @@
 -- Which words are a command. A word is the list of its bytes.
-use Rattle.std.specs.Prelude.{◌≡◌, ℕ, ◌≤◌, Bool, true, false, List, [], ◌∷◌, length, codes}
+use Rattle.std.specs.Prelude.{◌≡◌, ℕ, ◌<◌, ◌≤◌, Bool, true, false, List, [], ◌∷◌, length, codes}
 use Rattle.std.specs.Str.Parse.{IsNumeral, digits_value}
 use Rattle.command_words.specs.Forms.{is_name, is_refused}
 use Rattle.command_words.specs.declared.Command.{Command}
@@ -39,3 +39,13 @@ IsCommand words Report = words ≡ codes "report" ∷ []
 IsCommand words (Drill seed) = (digits : List ℕ) × (words ≡ codes "drill" ∷ digits ∷ []) × IsNumber digits seed × IsSeed seed
 IsCommand words CheckTrace = words ≡ codes "check-trace" ∷ []
 IsCommand words Copy = (name fresh : List ℕ) × IsCopyOf words name fresh
+
+-- THE WORDS BEHIND `mirror`: the path of the standby's file, which isn't empty; a seed; and how many of a hundred are lost
+pub record AreMirrorWords (words : List (List ℕ)) (seed loss : ℕ) : Type 0 where
+  pub standby : List ℕ
+  pub digits : List ℕ
+  pub lost : List ℕ
+  pub are : words ≡ standby ∷ digits ∷ lost ∷ []
+  pub path : 0 < length standby
+  pub seed_is : IsNumber digits seed × IsSeed seed
+  pub loss_is : IsNumber lost loss × (loss ≤ 90)

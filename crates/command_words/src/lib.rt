@@ -6,8 +6,10 @@ ghost use Rattle.command_words.specs.Commands.{IsCommand, IsCopyOf};
 ghost use Rattle.command_words.specs.declared.Command.TheVariants.{Copy as CopyCommand};
 
 mod forms;
+mod mirrors;
 mod numbers;
 
+pub use mirrors::mirror_words;
 use std::alloc::{AllocError, Global};
 
 /// What a command asks for.

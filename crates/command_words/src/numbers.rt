@@ -1,5 +1,5 @@
 //! The numbers that commands take.
-ghost use Rattle.std.specs.Prelude.{ℕ, IfNone, IfSome};
+ghost use Rattle.std.specs.Prelude.{ℕ, ◌≤◌, IfNone, IfSome};
 ghost use Rattle.command_words.specs.Commands.{IsNumber, IsSeed, IsSize};
 
 /// Blocks of the smallest image.
@@ -7,6 +7,9 @@ const LEAST: u32 = 2600;
 
 /// Blocks of the largest image.
 const LARGEST_IMAGE: u32 = 65_536;
+
+/// Of a hundred so many may be lost at most.
+const MOST_LOST: u8 = 90;
 
 /// Digits of a number at most, with those zeros that lead.
 const LONGEST: usize = 20;
@@ -30,4 +33,13 @@ pub(crate) fn read_size(text: &str) -> Option<u32>
 {
     let blocks = u32::try_from(read_number(text)?).ok()?;
     (LEAST..=LARGEST_IMAGE).contains(&blocks).then_some(blocks)
+}
+
+/// How many of a hundred are to be lost, as the text spells it.
+pub(crate) fn read_loss(text: &str) -> Option<u8>
+    ensures some { IfSome result (λ n. IsNumber text.now n × (n ≤ 90)) }
+    ensures none { IfNone result ((n : ℕ) → IsNumber text.now n → n ≤ 90 → ⊥) }
+{
+    let loss = u8::try_from(read_number(text)?).ok()?;
+    (loss <= MOST_LOST).then_some(loss)
 }
