@@ -119,7 +119,7 @@ made_steps b es all new (ComesNext.Look looked l was same) is =
     let first : steps_at (slice_get new (length es)) ≡ steps_at (slice_get p 0) = ap (λ (fs : List Entry). steps_at (slice_get fs (length es))) whole ∙ ap steps_at (get_behind es p) in
     omega (arith, total, one, first)
 
-piece_steps : (b : Beginning) (es new : List Entry) → IsNext b es new → count_by is_step new ≡ count_by is_step es + steps_at (slice_get new (length es))
+pub piece_steps : (b : Beginning) (es new : List Entry) → IsNext b es new → count_by is_step new ≡ count_by is_step es + steps_at (slice_get new (length es))
 piece_steps b es new next = made_steps b es next.all new next.next next.is
 
 at_most_one : (o : Option Entry) → steps_at o ≤ 1

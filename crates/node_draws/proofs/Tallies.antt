@@ -5,6 +5,7 @@ use Rattle.std.proofs.lemmas.Bool.{eqb-true, eqb-false, lt-ltb, ltb-false}
 use Rattle.std.proofs.lemmas.List.{length-append}
 use Rattle.node_world.specs.Rounds.{Draws, count_comes, drawn_round, packet_comes}
 use Rattle.node_world.specs.Worlds.{Packet, Sending, World, after_events, after_heard, is_next, offered, packet_in, received, sending, Send, Tell}
+use Rattle.node_world.proofs.Rounds.{first_packet, first_waiting}
 use Rattle.node_draws.specs.Courses.{tally_behind, tally_of, with_next}
 
 -- a count is heard that is no less than what was acknowledged
@@ -24,22 +25,12 @@ next_test acked kept = go (kept == acked) refl
     go false e = (let other = eqb-false kept acked e in ne_eqb (acked + 1) (kept + 1) (λ same. other (omega (arith, same))))
 
 module _ {A : Type 0} (w : World A) (order : w.sender.acked ≤ length w.kept) (some : w.sender.acked < offered w.sender) where
-  first : (x : A) × (slice_get w.sender.waiting 0 ≡ Some x)
-  first = go w.sender.waiting some
-    where
-      go : (xs : List A) → w.sender.acked < w.sender.acked + length xs → (x : A) × (slice_get xs 0 ≡ Some x)
-      go [] lt = absurd (omega (arith, lt))
-      go (x ∷ xs) lt = (x, refl)
-
   x : A
-  x = first.0
+  x = first_waiting w.sender some
 
   packet : packet_in w.sender (w.sender.acked + 1) ≡ Some x
   unfolding x
-  packet =
-      let t : nat_lt w.sender.acked (w.sender.acked + 1) ≡ true = lt-ltb w.sender.acked (w.sender.acked + 1) (omega arith) in
-      let place : w.sender.acked + 1 - w.sender.acked - 1 ≡ 0 = omega arith in
-      ap (λ b. if b then slice_get w.sender.waiting (w.sender.acked + 1 - w.sender.acked - 1) else None) t ∙ (ap (slice_get w.sender.waiting) place ∙ first.1)
+  packet = first_packet w.sender some
 
   abbrev p : Packet A
   p = record { number = w.sender.acked + 1; shipment = x }

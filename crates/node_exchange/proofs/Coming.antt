@@ -12,10 +12,10 @@ use Rattle.node_exchange.proofs.Playing.{come_none, come_one}
 use Rattle.node_exchange.proofs.Taking.{takes_none}
 use Rattle.node_exchange.specs.Playing.{CannotTake, HasCome, IsStuck}
 use Rattle.node_exchange.specs.Wires.{Wires}
-use Rattle.node_shipments.specs.Parts.{Shipment, length_in}
-use Rattle.node_shipments.specs.Runs.{IsShipmentAt}
-use Rattle.node_shipments.specs.kernel_invariant.Beginnings.{Beginning}
-use Rattle.node_shipments.specs.node_store.Shipping.{IsShort}
+use Rattle.node_standby.specs.node_shipments.Parts.{Shipment, length_in}
+use Rattle.node_standby.specs.node_shipments.Runs.{IsShipmentAt}
+use Rattle.node_standby.specs.node_shipments.kernel_invariant.Beginnings.{Beginning}
+use Rattle.node_standby.specs.node_shipments.node_store.Shipping.{IsShort}
 use Rattle.node_standby.proofs.Taking.{low_most}
 use Rattle.node_standby.specs.Following.{Follows, IsImageBetween, MayTake, most_in}
 use Rattle.node_standby.specs.Standing.{Standing}

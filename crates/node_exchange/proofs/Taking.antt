@@ -14,8 +14,8 @@ use Rattle.node_exchange.specs.Playing.{AreThose, HasCome, HasPlayed, IsStuck, P
 use Rattle.node_exchange.specs.Wires.{AreInStep, Wires, hearing_in, sent_in, world_of}
 use Rattle.node_exchange.specs.declared.exchanging.Happening.{Happening}
 use Rattle.node_exchange.specs.declared.exchanging.Happening.TheVariants as happening
-use Rattle.node_shipments.specs.Parts.{Shipment}
-use Rattle.node_shipments.specs.kernel_invariant.Beginnings.{Beginning}
+use Rattle.node_standby.specs.node_shipments.Parts.{Shipment}
+use Rattle.node_standby.specs.node_shipments.kernel_invariant.Beginnings.{Beginning}
 use Rattle.node_standby.proofs.Taking.{stays}
 use Rattle.node_standby.specs.Following.{IsImageBetween, most_in}
 use Rattle.node_standby.specs.Standing.{Standing}

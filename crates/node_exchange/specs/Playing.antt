@@ -6,8 +6,8 @@ use Rattle.base_types.specs.declared.histories.Entry.{Entry}
 use Rattle.node_exchange.specs.Wires.{Wires, world_of}
 use Rattle.node_exchange.specs.declared.exchanging.Happening.{Happening}
 use Rattle.node_exchange.specs.declared.exchanging.Happening.TheVariants as happening
-use Rattle.node_shipments.specs.Runs.{AreShipments}
-use Rattle.node_shipments.specs.Parts.{Shipment, length_in}
+use Rattle.node_standby.specs.node_shipments.Runs.{AreShipments}
+use Rattle.node_standby.specs.node_shipments.Parts.{Shipment, length_in}
 use Rattle.node_standby.specs.Following.{Follows, IsImageBetween, MayTake, most_in}
 use Rattle.node_standby.specs.Standing.{Standing}
 use Rattle.node_standby.specs.node_shipments.kernel_invariant.Beginnings.{Beginning}

@@ -5,7 +5,7 @@ ghost use Rattle.edge_disk.specs.Moments.{LeavesOnly};
 ghost use Rattle.base_types.specs.declared.histories.Entry.{Entry as AnEntry};
 ghost use Rattle.base_types.specs.declared.histories.Event.TheVariants.{Stable};
 ghost use Rattle.node_exchange.specs.Wires.{AreInStep};
-ghost use Rattle.node_shipments.specs.Runs.{AreShipments};
+ghost use Rattle.node_standby.specs.node_shipments.Runs.{AreShipments};
 ghost use Rattle.node_standby.specs.Following.{Follows};
 ghost use Rattle.node_standby.specs.Outliving.{Outlives};
 ghost use Rattle.node_standby.specs.node_shipments.kernel_invariant.Beginnings.{Beginning as ABeginning, completed};

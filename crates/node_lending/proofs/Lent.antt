@@ -6,24 +6,24 @@ use Rattle.edge_disk.specs.Counts.{Rose}
 use Rattle.edge_disk.specs.declared.disk.Disk.{Ghosts}
 use Rattle.base_types.specs.declared.histories.Entry.{Entry}
 use Rattle.data_stamps.specs.Stamps.{component}
-use Rattle.kernel_commit_facts.specs.Parts.{LivesAs, Noted, Parts, parts_of}
-use Rattle.kernel_commit_facts.specs.Steady.{IsSteady, entries_taken, entries_to_come}
+use Rattle.kernel_core.specs.kernel_commit_facts.Parts.{LivesAs, Noted, Parts, parts_of}
+use Rattle.kernel_core.specs.kernel_commit_facts.Steady.{IsSteady, entries_taken, entries_to_come}
 use Rattle.kernel_core.specs.Parts.{held_of}
-use Rattle.kernel_core_facts.specs.Kernels.{Held, IsKept, Lives}
-use Rattle.kernel_book_laws.specs.Matching.{MatchesBooks}
+use Rattle.kernel_core.specs.kernel_core_facts.Kernels.{Held, IsKept, Lives}
+use Rattle.kernel_core.specs.kernel_book_laws.Matching.{MatchesBooks}
 use Rattle.kernel_invariant.specs.Beginnings.{Beginning}
 use Rattle.kernel_invariant.specs.Live.{IsLive, IsRunning, KernelView}
 use Rattle.kernel_invariant.specs.declared.stopping.Stopped.{Stopped}
 use Rattle.kernel_invariant.specs.declared.stopping.Stopped.TheVariants as reason
 use Rattle.kernel_laws.specs.Going.{OnlyReads, StoppedBetween}
-use Rattle.kernel_records.proofs.Staying.{clean_stays}
-use Rattle.kernel_records.specs.cell_states.declared.cells.Cell.{Cell}
-use Rattle.kernel_records.specs.cell_states.declared.cells.Part.{Part}
-use Rattle.kernel_records.specs.cell_states.declared.cells.Part.TheVariants as part
-use Rattle.kernel_records.specs.model_kernel.State.{Cell as CellState, Supply}
-use Rattle.kernel_records.specs.page_memory.Words.{AreCleanTrue}
-use Rattle.kernel_records.specs.page_memory.declared.paged.PagedMemory.{PagedMemory}
-use Rattle.kernel_record_facts.specs.Cells.{IsSoundIn, words_on}
+use Rattle.kernel_views.proofs.kernel_records_lemmas.Staying.{clean_stays}
+use Rattle.kernel_views.specs.kernel_records.cell_states.declared.cells.Cell.{Cell}
+use Rattle.kernel_views.specs.kernel_records.cell_states.declared.cells.Part.{Part}
+use Rattle.kernel_views.specs.kernel_records.cell_states.declared.cells.Part.TheVariants as part
+use Rattle.kernel_views.specs.kernel_records.model_kernel.State.{Cell as CellState, Supply}
+use Rattle.kernel_views.specs.kernel_records.page_memory.Words.{AreCleanTrue}
+use Rattle.kernel_views.specs.kernel_records.page_memory.declared.paged.PagedMemory.{PagedMemory}
+use Rattle.node_pages.specs.kernel_record_facts.Cells.{IsSoundIn, words_on}
 use Rattle.kernel_run_facts.specs.Watching.{IsAsLent}
 use Rattle.kernel_views.proofs.Following.{cells_follow, follows}
 use Rattle.kernel_views.proofs.Stopping.{stops}
@@ -32,11 +32,11 @@ use Rattle.kernel_views.specs.cell_blob_laws.Memories.{HasOwnMemory}
 use Rattle.open_facts.proofs.Starting.{sound_own, state_stays}
 use Rattle.node_lending.specs.Lending.{StopsForReads}
 use Rattle.node_pages.specs.Reading.{GoesByReads}
-use Rattle.store_snapshots.specs.store_books.Books.{Books}
-use Rattle.store_snapshots.specs.store_books.Owning.{AreOwned}
-use Rattle.store_snapshots.specs.store_facts.State.{State, books}
-use Rattle.table_laws.specs.Tables.{AreClean, IsOrderly, entity_in, memory_at, state_in, tables_in}
-use Rattle.table_laws.specs.cell_calls.Besides.{memory_of}
+use Rattle.node_pages.specs.store_snapshots.store_books.Books.{Books}
+use Rattle.node_pages.specs.store_snapshots.store_books.Owning.{AreOwned}
+use Rattle.node_pages.specs.store_snapshots.store_facts.State.{State, books}
+use Rattle.kernel_views.specs.table_laws.Tables.{AreClean, IsOrderly, entity_in, memory_at, state_in, tables_in}
+use Rattle.kernel_views.specs.table_laws.cell_calls.Besides.{memory_of}
 
 -- CELLS, where the blocks that are held have the same words
 

@@ -2,16 +2,16 @@
 use Rattle.std.specs.Prelude.{◌≡◌, false, List, Option, None, Some}
 use Rattle.edge_disk.specs.Counts.{Rose}
 use Rattle.edge_disk.specs.declared.disk.Disk.{Ghosts}
-use Rattle.kernel_commit_facts.specs.Parts.{Noted, parts_of}
-use Rattle.kernel_commit_facts.specs.Steady.{IsSteady}
+use Rattle.kernel_core.specs.kernel_commit_facts.Parts.{Noted, parts_of}
+use Rattle.kernel_core.specs.kernel_commit_facts.Steady.{IsSteady}
 use Rattle.kernel_core.specs.Parts.{held_of}
-use Rattle.kernel_core_facts.specs.Kernels.{IsKept}
+use Rattle.kernel_core.specs.kernel_core_facts.Kernels.{IsKept}
 use Rattle.kernel_invariant.specs.declared.stopping.Stopped.{Stopped}
 use Rattle.kernel_invariant.specs.declared.stopping.Stopped.TheVariants as reason
-use Rattle.kernel_records.specs.cell_states.declared.cells.Cell.{Cell}
+use Rattle.kernel_views.specs.kernel_records.cell_states.declared.cells.Cell.{Cell}
 use Rattle.kernel_run_facts.specs.Watching.{IsAsLent}
 use Rattle.node_pages.specs.Reading.{GoesByReads}
-use Rattle.store_snapshots.specs.store_facts.State.{State, books}
+use Rattle.node_pages.specs.store_snapshots.store_facts.State.{State, books}
 
 module _ {D : Type 0} (disks : Ghosts D) where
   -- why it has stopped behind the reads: for one that failed, if its store doesn't work

@@ -14,3 +14,6 @@ pub fn lending_law<D: Disk>()
 {
     going_law::<D>();
 }
+
+pub use kernel_core::{Apart, Cell, Kernel, Stopped};
+pub use node_pages::{ShipFault, last_rec, read_blocks};

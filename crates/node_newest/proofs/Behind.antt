@@ -6,13 +6,13 @@ use Rattle.edge_disk.specs.Image.{Image}
 use Rattle.edge_disk.specs.declared.disk.Disk.{Ghosts}
 use Rattle.base_types.specs.declared.histories.Entry.{Entry}
 use Rattle.base_types.specs.declared.records.Rec.{Rec}
-use Rattle.kernel_commit_facts.specs.Parts.{Noted}
-use Rattle.kernel_core.specs.Parts.{held_of}
-use Rattle.kernel_core_facts.specs.Kernels.{Held, IsKept, Lives}
+use Rattle.node_lending.specs.kernel_commit_facts.Parts.{Noted}
+use Rattle.node_lending.specs.kernel_core.Parts.{held_of}
+use Rattle.node_lending.specs.kernel_core_facts.Kernels.{Held, IsKept, Lives}
 use Rattle.kernel_invariant.specs.Beginnings.{Beginning, IsLegal, with_tried}
 use Rattle.kernel_invariant.specs.declared.stopping.Stopped.{Stopped}
 use Rattle.kernel_records.specs.cell_states.declared.cells.Cell.{Cell}
-use Rattle.kernel_run_facts.specs.Watching.{IsAsLent}
+use Rattle.node_lending.specs.kernel_run_facts.Watching.{IsAsLent}
 use Rattle.model_run_rules.specs.Records.{AreRecordsOf}
 use Rattle.node_lending.specs.Lending.{LentLaw}
 use Rattle.node_newest.proofs.Answering.{reads_none}

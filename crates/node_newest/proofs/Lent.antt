@@ -2,9 +2,9 @@
 use Rattle.std.proofs.Common.{◌≡◌, Bool, true, false, List, Option, None, Result, Ok, Err, refl, sym, subst}
 use Rattle.std.specs.Prelude.{IsErrOf}
 use Rattle.edge_disk.specs.declared.disk.Disk.{Ghosts}
-use Rattle.kernel_commit_facts.specs.Parts.{Noted}
-use Rattle.kernel_core.specs.Parts.{held_of}
-use Rattle.kernel_core_facts.specs.Kernels.{IsKept}
+use Rattle.node_lending.specs.kernel_commit_facts.Parts.{Noted}
+use Rattle.node_lending.specs.kernel_core.Parts.{held_of}
+use Rattle.node_lending.specs.kernel_core_facts.Kernels.{IsKept}
 use Rattle.kernel_invariant.specs.declared.stopping.Stopped.{Stopped}
 use Rattle.kernel_records.specs.cell_states.declared.cells.Cell.{Cell}
 use Rattle.node_lending.specs.Lending.{KeptLaw, StopsForReads}

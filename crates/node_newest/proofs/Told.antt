@@ -25,12 +25,12 @@ use Rattle.node_newest.proofs.Words.{block_words, found_all, word_found}
 use Rattle.node_newest.specs.Newest.{IsNewest}
 use Rattle.node_newest.specs.Reading.{IsReadOf}
 use Rattle.node_pages.specs.Reading.{last_rec, pages_to}
-use Rattle.node_records.proofs.Records.{kind_over}
-use Rattle.node_records.specs.Shipments.{IsShippedOf, over, page_words, shipped_cell}
+use Rattle.node_shipments.proofs.node_records_lemmas.Records.{kind_over}
+use Rattle.node_shipments.specs.node_records.Shipments.{IsShippedOf, over, page_words, shipped_cell}
 use Rattle.node_shipments.proofs.Spelling.{size_few}
 use Rattle.node_shipments.specs.Parts.{IsSoundShipment, Shipment, part_in}
 use Rattle.node_shipments.specs.Runs.{commit_in}
-use Rattle.node_store.specs.page_placing.declared.writing.PageWords.{PageWords}
+use Rattle.node_shipments.specs.node_store.page_placing.declared.writing.PageWords.{PageWords}
 use Rattle.store_snapshots.specs.store_facts.image_facts.Bodies.{blob_in}
 use Rattle.store_snapshots.specs.store_books.Books.{Books, Logged, kept_for, kept_of, recs_in}
 

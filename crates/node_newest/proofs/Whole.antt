@@ -3,11 +3,11 @@ use Rattle.std.proofs.Common.{◌≡◌, ℕ, ◌<◌, List, Option, Some, None,
 use Rattle.std.specs.Prelude.{IfOk, IfSome}
 use Rattle.edge_disk.specs.declared.disk.Disk.{Ghosts}
 use Rattle.base_types.specs.declared.records.Rec.{Rec}
-use Rattle.kernel_book_laws.specs.Matching.{newest_of}
-use Rattle.kernel_commit_facts.specs.Parts.{Noted, parts_of}
-use Rattle.kernel_commit_facts.specs.Steady.{IsSteady}
-use Rattle.kernel_core.specs.Parts.{held_of}
-use Rattle.kernel_core_facts.specs.Kernels.{Lives}
+use Rattle.node_lending.specs.kernel_book_laws.Matching.{newest_of}
+use Rattle.node_lending.specs.kernel_commit_facts.Parts.{Noted, parts_of}
+use Rattle.node_lending.specs.kernel_commit_facts.Steady.{IsSteady}
+use Rattle.node_lending.specs.kernel_core.Parts.{held_of}
+use Rattle.node_lending.specs.kernel_core_facts.Kernels.{Lives}
 use Rattle.kernel_invariant.specs.Beginnings.{Beginning, completed, with_tried}
 use Rattle.kernel_records.specs.cell_states.declared.cells.Cell.{Cell}
 use Rattle.model_run_rules.proofs.Wishes.{newest_told as version_told}

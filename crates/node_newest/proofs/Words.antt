@@ -10,8 +10,8 @@ use Rattle.kernel_record_facts.specs.image_meaning.Parts.{word_in}
 use Rattle.kernel_record_facts.specs.kernel_invariant.image_facts.Bodies.{number_at}
 use Rattle.kernel_record_facts.specs.kernel_invariant.model_kernel.State.{Supply}
 use Rattle.node_pages.specs.Reading.{page_in, pages_to}
-use Rattle.node_records.specs.Shipments.{page_words, word_or}
-use Rattle.node_store.specs.page_placing.declared.writing.PageWords.{PageWords}
+use Rattle.node_shipments.specs.node_records.Shipments.{page_words, word_or}
+use Rattle.node_shipments.specs.node_store.page_placing.declared.writing.PageWords.{PageWords}
 
 -- the words of a block, none where there is none
 abbrev pub block_words : (ℕ → List ℕ) → ℕ → Option (List ℕ)

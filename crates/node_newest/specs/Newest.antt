@@ -2,8 +2,8 @@
 use Rattle.std.specs.Prelude.{◌≡◌, ℕ, List, Option, Some, None, Result, Ok, Err}
 use Rattle.base_types.specs.declared.histories.Entry.{Entry}
 use Rattle.base_types.specs.declared.records.Rec.{Rec}
-use Rattle.kernel_core.specs.kernel_invariant.declared.stopping.Stopped.{Stopped}
-use Rattle.kernel_core.specs.kernel_invariant.declared.stopping.Stopped.TheVariants as reason
+use Rattle.node_lending.specs.kernel_core.kernel_invariant.declared.stopping.Stopped.{Stopped}
+use Rattle.node_lending.specs.kernel_core.kernel_invariant.declared.stopping.Stopped.TheVariants as reason
 use Rattle.model_new_commits.specs.Found.{newest_commit}
 use Rattle.node_pages.specs.declared.faults.ShipFault.{ShipFault}
 use Rattle.node_pages.specs.declared.faults.ShipFault.TheVariants as ship

@@ -1,8 +1,8 @@
 // The newest record of an entity of a running kernel.
 ghost use Rattle.std.specs.Prelude.{◌≡◌, ◌↔◌, IfOk, IsErrOf, None, Ok, false, true};
 ghost use Rattle.edge_disk.specs.Counts.{Rose};
-ghost use Rattle.kernel_core.specs.kernel_core_facts.Kernels.{Lives};
-ghost use Rattle.kernel_run_facts.specs.Watching.{IsAsLent};
+ghost use Rattle.node_lending.specs.kernel_core_facts.Kernels.{Lives};
+ghost use Rattle.node_lending.specs.kernel_run_facts.Watching.{IsAsLent};
 ghost use Rattle.node_newest.specs.Newest.{IsOfRecord, ShipsNewest, stop_behind};
 ghost use Rattle.node_pages.specs.Reading.{GoesByReads, last_rec};
 ghost use Rattle.node_shipments.specs.kernel_invariant.Beginnings.{Beginning as ABeginning};
@@ -13,9 +13,8 @@ use crate::recording::read_last;
 use base_types::Entity;
 use core::mem::replace_with;
 use edge_disk::Disk;
-use kernel_core::{Apart, Kernel, Stopped};
 use model_run_rules::commit_record_law;
-use node_lending::lending_law;
+use node_lending::{Apart, Kernel, Stopped, lending_law};
 use node_pages::ShipFault;
 use node_shipments::Shipped;
 use std::alloc::Global;

@@ -5,4 +5,6 @@ mod asking;
 mod recording;
 
 pub use asking::newest;
+pub use node_lending::{Cell, Kernel};
 pub use node_pages::ShipFault;
+pub use node_shipments::Shipped;

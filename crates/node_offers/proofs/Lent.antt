@@ -2,9 +2,9 @@
 use Rattle.std.proofs.Common.{◌∙◌}
 use Rattle.edge_disk.proofs.Ticks.{Rose-before}
 use Rattle.edge_disk.specs.declared.disk.Disk.{Ghosts}
-use Rattle.kernel_core.specs.kernel_core_facts.Kernels.{Held}
-use Rattle.kernel_run_facts.proofs.kernel_commit_facts_lemmas.Counting.{CountsWithin-then}
-use Rattle.kernel_run_facts.specs.Watching.{IsAsLent}
+use Rattle.node_newest.specs.kernel_core.kernel_core_facts.Kernels.{Held}
+use Rattle.node_newest.proofs.kernel_run_facts_lemmas.kernel_commit_facts_lemmas.Counting.{CountsWithin-then}
+use Rattle.node_newest.specs.kernel_run_facts.Watching.{IsAsLent}
 
 pub lent_then : {D : Type 0} (disks : Ghosts D) (old mid new : Held D) → IsAsLent disks old mid → IsAsLent disks mid new → IsAsLent disks old new
 lent_then disks old mid new p q = record {

@@ -8,13 +8,13 @@ use Rattle.base_types.specs.declared.histories.Entry.{Entry}
 use Rattle.model_new_commits.specs.Found.{AreFound, last_from, newer_than, newest_commit}
 use Rattle.model_new_commits.specs.model_run_rules.Newest.{newest_from, newest_in}
 use Rattle.model_new_commits.specs.model_run_rules.model_kernel.Choices.{Commit}
-use Rattle.kernel_run_facts.specs.model_serial_turns.Rising.{entities_of}
+use Rattle.node_newest.specs.kernel_run_facts.model_serial_turns.Rising.{entities_of}
 use Rattle.node_newest.specs.Newest.{IsNewest, ShipsNewest}
 use Rattle.node_offers.specs.Offering.{AreShipmentsFrom, KnowsNewest, OffersMore, OffersNew, OffersNewest, ShipNewest, if_newer, with_offers}
-use Rattle.node_records.specs.Shipments.{IsShippedOf}
-use Rattle.node_shipments.specs.Parts.{Shipment, part_in}
-use Rattle.node_shipments.specs.Runs.{commit_in}
-use Rattle.node_shipments.specs.kernel_invariant.Beginnings.{Beginning, completed}
+use Rattle.node_newest.specs.node_records.Shipments.{IsShippedOf}
+use Rattle.node_newest.specs.node_shipments.Parts.{Shipment, part_in}
+use Rattle.node_newest.specs.node_shipments.Runs.{commit_in}
+use Rattle.node_newest.specs.node_shipments.kernel_invariant.Beginnings.{Beginning, completed}
 use Rattle.node_world.specs.Worlds.{Sending, with_offer}
 
 -- THE NEWEST COMMIT of an entity has the newest version

@@ -3,9 +3,9 @@ use Rattle.std.specs.Prelude.{◌≡◌, ℕ, ◌+◌, ◌<◌, nat_lt, if◌the
 use Rattle.base_types.specs.declared.histories.Entry.{Entry}
 use Rattle.model_new_commits.specs.model_run_rules.Newest.{newest_in}
 use Rattle.node_newest.specs.Newest.{IsNewest}
-use Rattle.node_shipments.specs.Parts.{Shipment}
-use Rattle.node_shipments.specs.Runs.{IsShipmentAt}
-use Rattle.node_shipments.specs.kernel_invariant.Beginnings.{Beginning, completed}
+use Rattle.node_newest.specs.node_shipments.Parts.{Shipment}
+use Rattle.node_newest.specs.node_shipments.Runs.{IsShipmentAt}
+use Rattle.node_newest.specs.node_shipments.kernel_invariant.Beginnings.{Beginning, completed}
 use Rattle.node_world.specs.Worlds.{Sending}
 
 -- behind these, offered one after another

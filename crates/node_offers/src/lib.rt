@@ -3,4 +3,5 @@
 
 mod offering;
 
+pub use node_newest::ShipFault;
 pub use offering::offer_new;

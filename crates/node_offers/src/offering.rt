@@ -1,22 +1,20 @@
 // New commits, offered.
 ghost use Rattle.std.specs.Prelude.{◌≡◌, ◌^◌, ◌<◌, ◌≤◌, ℕ, List, IfOk, IfSome, IsErrOf, OnErr, OnOk, None, length, option_to_list, slice_index};
 ghost use Rattle.edge_disk.specs.Counts.{Rose};
-ghost use Rattle.kernel_core.specs.kernel_book_laws.Matching.{newest_of};
-ghost use Rattle.kernel_core.specs.kernel_core_facts.Kernels.{Lives};
-ghost use Rattle.kernel_run_facts.specs.Watching.{IsAsLent};
+ghost use Rattle.node_newest.specs.kernel_core.kernel_book_laws.Matching.{newest_of};
+ghost use Rattle.node_newest.specs.kernel_core.kernel_core_facts.Kernels.{Lives};
+ghost use Rattle.node_newest.specs.kernel_run_facts.Watching.{IsAsLent};
 ghost use Rattle.model_new_commits.specs.Found.{AreFound};
 ghost use Rattle.model_new_commits.specs.model_run_rules.model_kernel.Choices.{Commit as ACommit};
 ghost use Rattle.node_newest.specs.Newest.{stop_behind as stop_by};
 ghost use Rattle.node_offers.specs.Offering.{OffersMore, OffersNew, OffersNewest, if_newer, with_offers};
 ghost use Rattle.node_world.specs.Worlds.{offered};
-ghost use Rattle.node_shipments.specs.kernel_invariant.Beginnings.{Beginning as ABeginning, completed};
+ghost use Rattle.node_newest.specs.node_shipments.kernel_invariant.Beginnings.{Beginning as ABeginning, completed};
 
 use base_types::Entity;
 use edge_disk::Disk;
-use kernel_core::{Cell, Kernel};
 use kernel_watchers::shown_commits_law;
-use node_newest::{ShipFault, newest};
-use node_shipments::Shipped;
+use node_newest::{Cell, Kernel, ShipFault, Shipped, newest};
 use node_world::Sender;
 use std::alloc::{AllocError, Global};
 

@@ -21,7 +21,7 @@ use Rattle.node_world.specs.Worlds.{Sending, is_next, packet_in}
 
 -- why it was not taken, by the clauses of a delivery
 pub store_stops : {D : Type 0} (disks : Ghosts D) (x : Shipment) (st st' : Standing D) (f : StoreFault)
-    → ((n : NoBlocks) → IsErrOf {T = ℕ} (Err f) (store.NoBlocks n) → IsShort (books st.store) (length x.pages + blocks_for (length_in x.part)) n)
+    → ((n : NoBlocks) → IsErrOf {T = ℕ} (Err f) (store.NoBlocks n) → (st' ≡ st) × IsShort (books st.store) (length x.pages + blocks_for (length_in x.part)) n)
     → (IsErrOf {T = ℕ} (Err f) store.WriteFault → Rose (disks.faults st.store.disk) (disks.faults st'.store.disk)) → (IsErrOf {T = ℕ} (Err f) store.Shut → (books st.store).shut ≡ true) → (IsErrOf {T = ℕ} (Err f) store.ReadFault → ⊥)
     → StoreStops disks x st st' f
 store_stops disks x st st' (store.NoBlocks n) short rose shut read = short n refl

@@ -8,7 +8,7 @@ use Rattle.node_draws.specs.Courses.{Course, IsInOrder, Tally, rounds_of}
 use Rattle.node_rounds.specs.declared.rounds.RoundStop.{RoundStop}
 use Rattle.node_rounds.specs.declared.rounds.RoundStop.TheVariants as stop
 use Rattle.node_standby.specs.Following.{MayTake}
-use Rattle.node_standby.specs.Standing.{Standing}
+use Rattle.node_standby.specs.Standing.{KeepsCount, Standing}
 use Rattle.node_standby.specs.node_shipments.Parts.{Shipment, length_in}
 use Rattle.node_standby.specs.node_shipments.Runs.{IsShipmentAt}
 use Rattle.node_standby.specs.node_shipments.kernel_invariant.Beginnings.{Beginning}
@@ -45,7 +45,7 @@ AllShip b es s = (place : ℕ) (x : Shipment) → packet_in s (place + 1) ≡ So
 module _ {D : Type 0} (disks : Ghosts D) (x : Shipment) (st st' : Standing D) where
   -- WHY THIS SHIPMENT WAS NOT TAKEN, by what the store told
   abbrev pub StoreStops : StoreFault → Type 0
-  StoreStops (store.NoBlocks n) = IsShort (books st.store) (length x.pages + blocks_for (length_in x.part)) n
+  StoreStops (store.NoBlocks n) = (st' ≡ st) × IsShort (books st.store) (length x.pages + blocks_for (length_in x.part)) n
   StoreStops store.WriteFault = Rose (disks.faults st.store.disk) (disks.faults st'.store.disk)
   StoreStops store.Shut = (books st.store).shut ≡ true
   StoreStops store.ReadFault = ⊥
@@ -61,9 +61,11 @@ pub record StopsRound {D : Type 0} (disks : Ghosts D) (s : Sending Shipment) (st
   pub stops : ShipmentStops disks shipment st st' why
 
 -- one of several rounds was, behind which the two were so far
-pub record StopsRounds {D : Type 0} (disks : Ghosts D) (old : Sending Shipment) (st' : Standing D) (why : RoundStop) : Type 0 where
+pub record StopsRounds {D : Type 0} (disks : Ghosts D) (old : Sending Shipment) (st st' : Standing D) (why : RoundStop) : Type 0 where
   pub sender : Sending Shipment
   pub was : sender ≡ after_heard old sender.acked
   pub standing : Standing D
+  pub counts : KeepsCount disks st standing
+  pub left : KeepsCount disks standing st'
   pub same : st'.count ≡ standing.count
   pub stops : StopsRound disks sender standing st' why

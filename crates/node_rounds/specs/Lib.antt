@@ -1,1 +1,2 @@
 pub mod Going
+pub use Rattle.node_standby.specs as node_standby

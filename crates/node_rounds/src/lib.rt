@@ -4,4 +4,5 @@
 mod rounds;
 
 pub use node_draws::{RoundDraws, draw_round, round_words};
+pub use node_standby::{Shipped, Standby};
 pub use rounds::{RoundStop, last_rounds, round};

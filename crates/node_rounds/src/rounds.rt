@@ -6,6 +6,7 @@ ghost use Rattle.node_draws.specs.Courses.{kept_behind};
 ghost use Rattle.node_draws.specs.Drawing.{draws_in};
 ghost use Rattle.node_rounds.specs.Going.{AllShip, AreInStep, GoesBy, ShipmentStops, StopsRound, StopsRounds};
 ghost use Rattle.node_standby.specs.Following.{Follows};
+ghost use Rattle.node_standby.specs.Standing.{KeepsCount};
 ghost use Rattle.node_standby.specs.node_shipments.Runs.{IsShipmentAt};
 ghost use Rattle.node_standby.specs.node_shipments.kernel_invariant.Beginnings.{Beginning as ABeginning};
 ghost use Rattle.node_world.specs.Worlds.{after_heard, is_next, offered, packet_in};
@@ -31,6 +32,7 @@ fn come<D: Disk>(standby: &mut Standby<D>, number: u64, shipped: &Shipped) -> Re
     ensures taken { is_next standby.old.count number ≡ true → OnOk result (standby.new.count ≡ number) }
     ensures err { OnErr result (standby.new.count ≡ standby.old.count) }
     ensures stops { IfErr result (λ why. (is_next standby.old.count number ≡ true) × ShipmentStops D.Disk shipped.now standby.old standby.new why) }
+    ensures counts { KeepsCount D.Disk standby.old standby.new }
     ensures follows { (b : ABeginning) (es : List AnEntry) → Follows b es D.Disk standby.old
         → (is_next standby.old.count number ≡ true → IsShipmentAt b es standby.old.count shipped.now) → Follows b es D.Disk standby.new }
 {
@@ -58,6 +60,7 @@ fn come_as_drawn<D: Disk>(
     ensures kept { OnOk result (standby.new.count ≡ kept_behind (draws_in draws) (record { acked = number - 1; kept = standby.old.count })) }
     ensures err { OnErr result (standby.new.count ≡ standby.old.count) }
     ensures stops { IfErr result (λ why. (is_next standby.old.count number ≡ true) × ShipmentStops D.Disk shipped.now standby.old standby.new why) }
+    ensures counts { KeepsCount D.Disk standby.old standby.new }
     ensures follows { (b : ABeginning) (es : List AnEntry) → Follows b es D.Disk standby.old
         → (is_next standby.old.count number ≡ true → IsShipmentAt b es standby.old.count shipped.now) → Follows b es D.Disk standby.new }
 {
@@ -107,6 +110,7 @@ pub fn round<D: Disk>(
     ensures round { OnOk result (GoesBy loss (offered sender.old ∷ []) (words_of words.old) (words_of words.new) sender.old sender.new standby.old standby.new) }
     ensures err { OnErr result ((sender.new ≡ sender.old) × (standby.new.count ≡ standby.old.count)) }
     ensures stops { IfErr result (StopsRound D.Disk sender.old standby.old standby.new) }
+    ensures counts { KeepsCount D.Disk standby.old standby.new }
     ensures follows { (b : ABeginning) (es : List AnEntry) → Follows b es D.Disk standby.old → AllShip b es sender.old → Follows b es D.Disk standby.new }
 {
     let Some(shipped) = first_waiting(sender) else {
@@ -134,7 +138,8 @@ pub fn last_rounds<D: Disk>(
     requires step { AreInStep sender.old standby.old }
     ensures step { AreInStep sender.new standby.new }
     ensures rounds { OnOk result (GoesBy loss (replicate most (offered sender.old)) (words_of words.old) (words_of words.new) sender.old sender.new standby.old standby.new) }
-    ensures stops { IfErr result (StopsRounds D.Disk sender.old standby.new) }
+    ensures stops { IfErr result (StopsRounds D.Disk sender.old standby.old standby.new) }
+    ensures counts { KeepsCount D.Disk standby.old standby.new }
     ensures follows { (b : ABeginning) (es : List AnEntry) → Follows b es D.Disk standby.old → AllShip b es sender.old → Follows b es D.Disk standby.new }
 {
     for _ in 0..most {

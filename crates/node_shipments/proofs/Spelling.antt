@@ -4,10 +4,10 @@ use Rattle.std.specs.Prelude.{slice_get}
 use Rattle.std.proofs.lemmas.List.{length-replicate, length-take-le}
 use Rattle.std.proofs.lemmas.Option.{slice_get_within}
 use Rattle.std.proofs.lemmas.List.Elements.{All-replicate, All-take}
-use Rattle.kernel_record_facts.specs.blob_grammar.Forms.{SpellsContainer}
-use Rattle.kernel_record_facts.specs.blob_grammar.Spelling.{container_blob}
+use Rattle.kernel_records.specs.kernel_record_facts.blob_grammar.Forms.{SpellsContainer}
+use Rattle.kernel_records.specs.kernel_record_facts.blob_grammar.Spelling.{container_blob}
 use Rattle.act_alone.specs.declared.loci.Head.{Head}
-use Rattle.kernel_record_facts.specs.cell_blobs.act_alone.Loci.{container_with}
+use Rattle.kernel_records.specs.kernel_record_facts.cell_blobs.act_alone.Loci.{container_with}
 use Rattle.kernel_records.proofs.Spelling.{bytes_some, container_same}
 use Rattle.node_records.specs.Shipments.{SpellsOver, size_of}
 use Rattle.node_records.specs.node_store.page_placing.Writing.{AreAscending}

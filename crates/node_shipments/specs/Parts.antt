@@ -1,9 +1,9 @@
 -- What is shipped of an entity, and which shipments are sound.
 use Rattle.std.specs.Prelude.{◌≡◌, ℕ, ◌<◌, ◌≤◌, List, length, replicate, Some, slice_get, slice_index}
-use Rattle.kernel_record_facts.specs.cell_blobs.Blobs.{bytes_of}
-use Rattle.kernel_record_facts.specs.cell_blobs.act_alone.Loci.{container_with, locus_of}
-use Rattle.kernel_record_facts.specs.cell_states.act_calls.Calls.{atlas_state}
-use Rattle.kernel_record_facts.specs.image_meaning.Parts.{AtlasPart, ContainerPart, IsOf, LocusPart, Part, Spells}
+use Rattle.kernel_records.specs.kernel_record_facts.cell_blobs.Blobs.{bytes_of}
+use Rattle.kernel_records.specs.kernel_record_facts.cell_blobs.act_alone.Loci.{container_with, locus_of}
+use Rattle.kernel_records.specs.kernel_record_facts.cell_states.act_calls.Calls.{atlas_state}
+use Rattle.kernel_records.specs.kernel_record_facts.image_meaning.Parts.{AtlasPart, ContainerPart, IsOf, LocusPart, Part, Spells}
 use Rattle.node_records.specs.Shipments.{over, size_of}
 use Rattle.node_records.specs.node_store.page_placing.Writing.{AreAscending}
 use Rattle.node_records.specs.node_store.page_placing.declared.writing.PageWords.{PageWords}

@@ -5,6 +5,8 @@ mod parts;
 mod reading;
 mod shipments;
 
+pub use kernel_records::Store;
+pub use node_store::deliver_record;
 pub use page_placing::PageWords;
 pub use parts::ShipPart;
 pub use reading::read_shipment;

@@ -12,8 +12,8 @@ use Rattle.node_shipments.specs.kernel_invariant.model_kernel.Choices.{Commit}
 use Rattle.node_standby.proofs.Taking.{first_is}
 use Rattle.node_standby.specs.Following.{Follows}
 use Rattle.node_standby.specs.Standing.{Standing}
-use Rattle.store_snapshots.specs.store_books.Books.{kept_of, recs_in}
-use Rattle.store_snapshots.specs.store_facts.State.{books}
+use Rattle.kernel_views.specs.store_snapshots.store_books.Books.{kept_of, recs_in}
+use Rattle.kernel_views.specs.store_snapshots.store_facts.State.{books}
 
 module _ {D : Type 0} (disks : Ghosts D) (b : Beginning) (es fs : List Entry) (st : Standing D) (legal : IsLegal b (es ++ fs)) (f : Follows b es disks st) where
   first_same : (k : ℕ) → k ≤ length (completed b es) → first_commits b (es ++ fs) k ≡ first_commits b es k

@@ -5,7 +5,7 @@ use Rattle.std.proofs.lemmas.List.{length-map}
 use Rattle.std.proofs.lemmas.List.Sums.{length-filter}
 use Rattle.node_shipments.specs.kernel_invariant.model_cut_laws.Records.{is_rec_from}
 use Rattle.store_facts.proofs.Choices.{recs_from_is}
-use Rattle.store_snapshots.specs.store_books.Books.{Books, Logged, cut_in, kept_in, recs_in}
+use Rattle.kernel_views.specs.store_snapshots.store_books.Books.{Books, Logged, cut_in, kept_in, recs_in}
 
 pub kept_many : (bk : Books) (cut : List ℕ) → ((x : ℕ) → slice_index cut x ≡ cut_in bk x) → count_by (is_rec_from (slice_index cut)) (recs_in bk) ≡ length (kept_in bk)
 kept_many bk cut same =

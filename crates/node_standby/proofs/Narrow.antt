@@ -3,7 +3,7 @@ use Rattle.std.proofs.Common.{◌≡◌, ◌⊎◌, inl, inr, Bool, true, false,
 use Rattle.std.proofs.lemmas.List.{get_or_past}
 use Rattle.node_shipments.specs.kernel_invariant.model_cut_laws.Records.{commits_of}
 use Rattle.node_shipments.specs.kernel_invariant.model_kernel.Choices.{IsNarrow}
-use Rattle.store_snapshots.specs.store_books.Books.{Books, Logged, cut_in, kept_in, logged_recs, recs_in}
+use Rattle.kernel_views.specs.store_snapshots.store_books.Books.{Books, Logged, cut_in, kept_in, logged_recs, recs_in}
 
 narrow_more : (ls : List Logged) (l : Logged) → length l.rec.stamp ≡ 64 → IsNarrow (commits_of (logged_recs ls)) → IsNarrow (commits_of (logged_recs (ls ++ l ∷ [])))
 narrow_more [] l len narrow = ((λ y far. get_or_past l.rec.stamp y 0 (omega (arith, len, far))), tt)

@@ -13,14 +13,14 @@ use Rattle.node_shipments.specs.kernel_invariant.model_cut_laws.Agreeing.{AgreeF
 use Rattle.node_shipments.specs.kernel_invariant.model_cut_laws.Records.{commits_of}
 use Rattle.node_shipments.specs.kernel_invariant.model_kernel.Choices.{IsNarrow, greatest}
 use Rattle.node_shipments.specs.node_store.node_commits.Deliveries.{KeepsCommits}
-use Rattle.node_store.proofs.node_commits_lemmas.Delivering.{kept_stored}
-use Rattle.node_store.proofs.node_commits_lemmas.Standing.{same_kept_in}
+use Rattle.node_shipments.proofs.node_store_lemmas.node_commits_lemmas.Delivering.{kept_stored}
+use Rattle.node_shipments.proofs.node_store_lemmas.node_commits_lemmas.Standing.{same_kept_in}
 use Rattle.node_standby.proofs.Taking.{low_most}
 use Rattle.node_standby.specs.Following.{Follows}
-use Rattle.store_snapshots.specs.store_books.Between.{stores_left}
-use Rattle.store_snapshots.specs.store_books.Books.{AreSmall, AreTrue, Logged, kept_for, kept_in, logged_recs, recs_in}
-use Rattle.store_snapshots.specs.store_facts.Opening.{IsFresh}
-use Rattle.store_snapshots.specs.store_facts.State.{State, books}
+use Rattle.kernel_views.specs.store_snapshots.store_books.Between.{stores_left}
+use Rattle.kernel_views.specs.store_snapshots.store_books.Books.{AreSmall, AreTrue, Logged, kept_for, kept_in, logged_recs, recs_in}
+use Rattle.kernel_views.specs.store_snapshots.store_facts.Opening.{IsFresh}
+use Rattle.kernel_views.specs.store_snapshots.store_facts.State.{State, books}
 
 none_logged : (ls : List Logged) → logged_recs ls ≡ [] → ls ≡ []
 none_logged [] e = refl

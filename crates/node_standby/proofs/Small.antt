@@ -1,8 +1,8 @@
 -- No number of a run's shipment is too large for an image.
 use Rattle.std.proofs.Common.{◌≡◌, ℕ, ◌≤◌, ◌==◌, if◌then◌else◌, true, false, List, [], ◌∷◌, ◌++◌, Option, refl, ap, subst, arith}
 use Rattle.base_types.specs.declared.histories.Entry.{Entry}
-use Rattle.node_store.specs.page_placing.declared.writing.PageWords.{PageWords}
-use Rattle.node_records.specs.Shipments.{IsShippedOf}
+use Rattle.node_shipments.specs.node_store.page_placing.declared.writing.PageWords.{PageWords}
+use Rattle.node_shipments.specs.node_records.Shipments.{IsShippedOf}
 use Rattle.node_shipments.specs.kernel_invariant.Beginnings.{Beginning, BeginsRight, IsLegal, entity_at}
 use Rattle.node_shipments.specs.kernel_invariant.image_facts.Layout.{last_number}
 use Rattle.node_shipments.specs.kernel_invariant.image_meaning.Parts.{Part}
@@ -12,7 +12,7 @@ use Rattle.node_shipments.specs.kernel_invariant.model_kernel.State.{EntityState
 use Rattle.kernel_views.proofs.Leaving.{small_both}
 use Rattle.kernel_views.proofs.kernel_laws_lemmas.Numbers.{stamp_small, version_small}
 use Rattle.kernel_views.proofs.kernel_laws_lemmas.kernel_invariant_lemmas.model_kernel_lemmas.StableCuts.{legal_front}
-use Rattle.store_snapshots.specs.store_facts.Putting.{are_small}
+use Rattle.kernel_views.specs.store_snapshots.store_facts.Putting.{are_small}
 
 -- what an entity is at a version it is behind some front of the history
 thing_holds : (act : Entry → KernelState → Option (Entry × KernelState)) (P : EntityState → Type 0) (es : List Entry) (w : KernelState) (x n : ℕ)

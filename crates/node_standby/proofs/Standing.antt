@@ -2,16 +2,18 @@
 use Rattle.std.proofs.Common.{◌≡◌, ◌⊎◌, inl, inr, ℕ, ◌≤◌, true, false, arith, [], sym, ap, subst, ◌∙◌}
 use Rattle.std.specs.Prelude.{IsErrOf, Result}
 use Rattle.std.proofs.lemmas.Bool.{false≢true}
+use Rattle.edge_disk.proofs.Ticks.{Rose-before}
+use Rattle.edge_disk.specs.Counts.{Rose}
 use Rattle.edge_disk.specs.declared.disk.Disk.{Ghosts}
 use Rattle.edge_disk.specs.declared.disk.NoBlocks.{NoBlocks}
-use Rattle.node_standby.specs.Standing.{IsStandby, Standing}
-use Rattle.store_snapshots.specs.declared.faults.StoreFault.{StoreFault}
-use Rattle.store_snapshots.specs.declared.faults.StoreFault.TheVariants as fault
-use Rattle.store_snapshots.specs.store_books.Books.{AreTrue, recs_in}
-use Rattle.store_snapshots.specs.store_facts.Opening.{IsFresh, IsOver, is_some_rec}
-use Rattle.store_snapshots.specs.store_facts.State.{State, books}
-use Rattle.store_snapshots.specs.store_facts.image_facts.Layout.{last_number}
-use Rattle.store_snapshots.specs.store_facts.log_reading.declared.log.ImageLog.{ImageLog}
+use Rattle.node_standby.specs.Standing.{IsStandby, KeepsCount, Standing}
+use Rattle.kernel_views.specs.store_snapshots.declared.faults.StoreFault.{StoreFault}
+use Rattle.kernel_views.specs.store_snapshots.declared.faults.StoreFault.TheVariants as fault
+use Rattle.kernel_views.specs.store_snapshots.store_books.Books.{AreTrue, recs_in}
+use Rattle.kernel_views.specs.store_snapshots.store_facts.Opening.{IsFresh, IsOver, is_some_rec}
+use Rattle.kernel_views.specs.store_snapshots.store_facts.State.{State, books}
+use Rattle.kernel_views.specs.store_snapshots.store_facts.image_facts.Layout.{last_number}
+use Rattle.kernel_views.specs.store_snapshots.store_facts.log_reading.declared.log.ImageLog.{ImageLog}
 
 module _ {D : Type 0} (disks : Ghosts D) where
   -- of a store that is shut nothing is said
@@ -31,7 +33,7 @@ module _ {D : Type 0} (disks : Ghosts D) where
   standby_fresh st log is fresh none low right = record {
     read = λ _. fresh.found ∙ ap is_some_rec (is.recs ∙ none);
     none_held = λ _. fresh.none_held;
-    epoch = λ _. (let same = ap (λ (p : Rattle.store_snapshots.specs.store_facts.image_blocks.Logs.Place). p.epoch) is.place in omega (arith, same, low));
+    epoch = λ _. (let same = ap (λ (p : Rattle.kernel_views.specs.store_snapshots.store_facts.image_blocks.Logs.Place). p.epoch) is.place in omega (arith, same, low));
     true_books = λ t. right t (is.recs ∙ none);
   }
 
@@ -48,3 +50,23 @@ standby_failed {D = D} disks old new s ends = elim ends as (λ _. IsStandby disk
   | inl same ↦ subst (λ (d : State D). IsStandby disks (record { store = d; count = old.count })) (sym same) s
   | inr shut ↦ standby_shut disks new old.count shut
 ]
+
+-- THE COUNT OF FAULTS
+pub rose_after : (before mid now : ℕ) → mid ≤ now → Rose before mid → Rose before now
+rose_after before mid now le rose = λ short. (let less = rose short in omega (arith, less, le))
+
+module _ {D : Type 0} (disks : Ghosts D) where
+  pub counts_stay : (st : Standing D) → KeepsCount disks st st
+  counts_stay st = record { later = omega arith; shut = λ shut. inl shut }
+
+  pub counts_then : (a b c : Standing D) → KeepsCount disks a b → KeepsCount disks b c → KeepsCount disks a c
+  counts_then a b c p q = record {
+    later = (let one = p.later in let two = q.later in omega (arith, one, two));
+    shut = λ shut. elim (q.shut shut) as (λ _. ((books a.store).shut ≡ true) ⊎ Rose (disks.faults a.store.disk) (disks.faults c.store.disk)) [
+      | inl before ↦ elim (p.shut before) as (λ _. ((books a.store).shut ≡ true) ⊎ Rose (disks.faults a.store.disk) (disks.faults c.store.disk)) [
+        | inl was ↦ inl was
+        | inr rose ↦ inr (rose_after (disks.faults a.store.disk) (disks.faults b.store.disk) (disks.faults c.store.disk) q.later rose)
+      ]
+      | inr rose ↦ inr (Rose-before (disks.faults a.store.disk) (disks.faults b.store.disk) (disks.faults c.store.disk) p.later q.later rose)
+    ];
+  }

@@ -18,18 +18,18 @@ use Rattle.node_shipments.specs.kernel_invariant.model_cut_laws.Records.{commit_
 use Rattle.node_shipments.specs.kernel_invariant.model_kernel.Choices.{Commit, IsNarrow}
 use Rattle.node_shipments.specs.node_store.Shipping.{MayDeliver, TakesRecord}
 use Rattle.node_shipments.specs.node_store.node_commits.Deliveries.{KeepsCommits, StoresOneMore}
-use Rattle.node_records.proofs.Records.{shipped}
-use Rattle.node_store.proofs.node_commits_lemmas.Delivering.{kept_stored}
-use Rattle.node_store.proofs.node_commits_lemmas.Standing.{standby_image}
-use Rattle.node_store.proofs.node_commits_lemmas.kernel_block_laws_lemmas.Next.{all_newer, grown, kept_room}
+use Rattle.node_shipments.proofs.node_records_lemmas.Records.{shipped}
+use Rattle.node_shipments.proofs.node_store_lemmas.node_commits_lemmas.Delivering.{kept_stored}
+use Rattle.node_shipments.proofs.node_store_lemmas.node_commits_lemmas.Standing.{standby_image}
+use Rattle.node_shipments.proofs.node_store_lemmas.node_commits_lemmas.kernel_block_laws_lemmas.Next.{all_newer, grown, kept_room}
 use Rattle.kernel_views.proofs.kernel_laws_lemmas.Numbers.{epoch_small}
 use Rattle.node_standby.proofs.Small.{shipped_small}
 use Rattle.node_standby.specs.Following.{Follows, HasFirst, IsImageBetween, MayTake, StoresBetween, most_in}
 use Rattle.node_standby.specs.Standing.{Standing}
-use Rattle.store_snapshots.specs.store_books.Between.{stores_left}
-use Rattle.store_snapshots.specs.store_books.Books.{AreSmall, AreTrue, recs_in}
-use Rattle.store_snapshots.specs.store_facts.Putting.{are_small}
-use Rattle.store_snapshots.specs.store_facts.State.{State, books}
+use Rattle.kernel_views.specs.store_snapshots.store_books.Between.{stores_left}
+use Rattle.kernel_views.specs.store_snapshots.store_books.Books.{AreSmall, AreTrue, recs_in}
+use Rattle.kernel_views.specs.store_snapshots.store_facts.Putting.{are_small}
+use Rattle.kernel_views.specs.store_snapshots.store_facts.State.{State, books}
 use Rattle.node_standby.proofs.Narrow.{narrow_log}
 
 take_suc : (cs : List Commit) (k : ℕ) (c : Commit) → slice_get cs k ≡ Some c → take (suc k) cs ≡ take k cs ++ c ∷ []

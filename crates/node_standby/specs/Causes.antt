@@ -4,10 +4,10 @@ use Rattle.edge_disk.specs.Counts.{Rose}
 use Rattle.edge_disk.specs.declared.disk.Disk.{Ghosts}
 use Rattle.edge_disk.specs.Image.{Image}
 use Rattle.base_types.specs.declared.records.Rec.{Rec}
-use Rattle.store_snapshots.specs.declared.opening.OpenWhy.{OpenWhy}
-use Rattle.store_snapshots.specs.declared.opening.OpenWhy.TheVariants as opening
-use Rattle.store_snapshots.specs.store_facts.image_blocks.Checks.{records_fault}
-use Rattle.store_snapshots.specs.store_facts.image_blocks.Logs.{HasRecords}
+use Rattle.kernel_views.specs.store_snapshots.declared.opening.OpenWhy.{OpenWhy}
+use Rattle.kernel_views.specs.store_snapshots.declared.opening.OpenWhy.TheVariants as opening
+use Rattle.kernel_views.specs.store_snapshots.store_facts.image_blocks.Checks.{records_fault}
+use Rattle.kernel_views.specs.store_snapshots.store_facts.image_blocks.Logs.{HasRecords}
 use Rattle.node_standby.specs.declared.faults.StandbyWhy.{StandbyWhy}
 use Rattle.node_standby.specs.declared.faults.StandbyWhy.TheVariants.{Foreign, Memory, NotEmpty, ReadFault, WriteFault}
 

@@ -11,9 +11,9 @@ use Rattle.node_shipments.specs.kernel_invariant.model_cut_laws.Records.{commits
 use Rattle.node_shipments.specs.kernel_invariant.model_kernel.Choices.{IsNarrow}
 use Rattle.node_shipments.specs.node_store.node_commits.Deliveries.{IsStandbyImage, KeepsCommits}
 use Rattle.node_standby.specs.Standing.{Standing}
-use Rattle.store_snapshots.specs.store_books.Books.{Books, kept_in, recs_in}
-use Rattle.store_snapshots.specs.store_facts.State.{books}
-use Rattle.store_snapshots.specs.store_facts.image_facts.Layout.{slot_count}
+use Rattle.kernel_views.specs.store_snapshots.store_books.Books.{Books, kept_in, recs_in}
+use Rattle.kernel_views.specs.store_snapshots.store_facts.State.{books}
+use Rattle.kernel_views.specs.store_snapshots.store_facts.image_facts.Layout.{slot_count}
 
 -- WHAT A DELIVERY ASKS beside what is true of each shipment: fewer than 640 records are kept, and those of its entity have lower versions
 pub record MayTake {D : Type 0} (st : Standing D) (s : Shipment) : Type 0 where

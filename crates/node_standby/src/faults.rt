@@ -2,8 +2,8 @@
 ghost use Rattle.std.specs.Prelude.{◌≡◌};
 
 use edge_disk::Disk;
+use kernel_views::OpenWhy;
 use store_facts::Bad;
-use store_snapshots::OpenWhy;
 
 /// Why an image was not opened for a standby.
 #[derive(Clone, Copy, Debug, PartialEq, Eq, Drop)]

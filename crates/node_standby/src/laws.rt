@@ -10,7 +10,7 @@ ghost use Rattle.node_shipments.specs.node_store.node_commits.Deliveries.{IsStan
 ghost use Rattle.node_standby.specs.Following.{Follows, IsImageBetween, MayTake, most_in};
 ghost use Rattle.node_standby.specs.Outliving.{Outlives};
 ghost use Rattle.node_standby.specs.Standing.{Standing};
-ghost use Rattle.store_snapshots.specs.store_facts.State.{books};
+ghost use Rattle.kernel_views.specs.store_snapshots.store_facts.State.{books};
 
 use edge_disk::Disk;
 use model_sound_cuts::stable_stays_law;

@@ -6,7 +6,7 @@ mod laws;
 mod standby;
 
 pub use faults::{StandbyFault, StandbyWhy};
+pub use kernel_views::StoreFault;
 pub use laws::{following_law, image_law, takeover_law};
 pub use node_shipments::{PageWords, ShipPart, Shipped};
 pub use standby::Standby;
-pub use store_snapshots::StoreFault;

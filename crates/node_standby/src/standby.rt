@@ -1,6 +1,5 @@
 // A standby.
 ghost use Rattle.std.specs.Prelude.{◌≡◌, ◌↔◌, ◌⊎◌, ◌+◌, ◌^◌, ◌<◌, ◌≤◌, ℕ, All, List, [], true, false, count_by, length, slice_index, Ok, IfErr, IfOk, IsErrOf, IsTrue, MatchResult, OnOk};
-ghost use Rattle.edge_disk.specs.Counts.{Rose};
 ghost use Rattle.edge_disk.specs.Moments.{LeavesOnly};
 ghost use Rattle.base_types.specs.declared.histories.Entry.{Entry as AnEntry};
 ghost use Rattle.node_shipments.specs.Parts.{length_in};
@@ -10,23 +9,23 @@ ghost use Rattle.node_shipments.specs.kernel_invariant.model_cut_laws.Records.{i
 ghost use Rattle.node_shipments.specs.node_store.Shipping.{IsShort, TakesRecord};
 ghost use Rattle.node_standby.specs.Causes.{HasStandbyCauseIn, IsEmptyImage};
 ghost use Rattle.node_standby.specs.Following.{Follows, IsImageBetween, MayTake, most_in};
+ghost use Rattle.node_standby.specs.Standing.{HasDiskCause, IsPlaceOf};
 ghost use Rattle.node_world.specs.Worlds.{is_next};
-ghost use Rattle.store_snapshots.specs.store_facts.Opening.{IsSynced, SyncsOnly};
-ghost use Rattle.store_snapshots.specs.store_facts.State.{books};
-ghost use Rattle.store_snapshots.specs.store_facts.image_facts.Bodies.{blocks_for};
-ghost use Rattle.store_snapshots.specs.store_facts.image_facts.Layout.{slot_count};
-ghost use Rattle.store_snapshots.specs.store_books.Books.{is_used, kept_in, kept_names, recs_in};
+ghost use Rattle.kernel_views.specs.store_snapshots.store_facts.Opening.{IsSynced, SyncsOnly};
+ghost use Rattle.kernel_views.specs.store_snapshots.store_facts.State.{books};
+ghost use Rattle.kernel_views.specs.store_snapshots.store_facts.image_facts.Bodies.{blocks_for};
+ghost use Rattle.kernel_views.specs.store_snapshots.store_facts.image_facts.Layout.{slot_count};
+ghost use Rattle.kernel_views.specs.store_snapshots.store_books.Books.{is_used, kept_in, kept_names, recs_in};
 
 use crate::faults::{StandbyFault, StandbyWhy};
 use base_bytes::Blob;
 use base_types::{Cut, Entity, Rec};
 use data_cuts::MOST_RECORDS;
 use edge_disk::{Disk, NoBlocks};
-use node_shipments::Shipped;
-use node_store::deliver_record;
+use kernel_views::{Store, StoreFault, SyncedLog};
+use node_shipments::{Shipped, deliver_record};
 use std::alloc::Global;
 use std::marker::Model;
-use store_snapshots::{Store, StoreFault, SyncedLog};
 
 /// A store that takes the shipments of another kernel's run in their order. Between its calls it holds no block beside those that its kept
 /// records name.
@@ -98,6 +97,8 @@ fn over<D: Disk>(alloc: Global, synced: SyncedLog<D>) -> Result<Standby<D>, Stan
     requires empty { synced.log.recs.items ≡ [] }
     ensures count { IfOk result (λ s. s.count ≡ 0) }
     ensures empty { IfOk result (λ s. recs_in (books s.store) ≡ []) }
+    ensures working { IfOk result (λ s. (books s.store).shut ≡ false) }
+    ensures place { IfOk result (λ s. (books s.store).place ≡ record { active = synced.log.area; epoch = synced.log.epoch }) }
     ensures follows { (b : ABeginning) (es : List AnEntry) → BeginsRight b → IsLegal b es
         → IfOk result (λ s. (books s.store).place.epoch ≤ 2 ^ 61 → Follows b es D.Disk s) }
     ensures memory { IfErr result (λ fault. fault.why ≡ StandbyWhy.Memory) }
@@ -134,7 +135,9 @@ impl<D: Disk> Standby<D> {
     pub fn open(alloc: Global, disk: D) -> Result<Standby<D>, StandbyFault<D>>
         ensures count { IfOk result (λ s. s.count ≡ 0) }
         ensures empty { IfOk result (λ s. recs_in (books s.store) ≡ []) }
+        ensures working { IfOk result (λ s. (books s.store).shut ≡ false) }
         ensures image { D.tells → IfOk result (λ _. IsEmptyImage (D.reading disk)) }
+        ensures place { D.tells → IfOk result (λ s. IsPlaceOf (D.reading disk) (books s.store).place) }
         ensures follows { (b : ABeginning) (es : List AnEntry) → BeginsRight b → IsLegal b es
             → IfOk result (λ s. (books s.store).place.epoch ≤ 2 ^ 61 → Follows b es D.Disk s) }
         ensures cause { IfErr result (λ fault. HasStandbyCauseIn D.Disk disk fault.disk fault.why) }
@@ -220,9 +223,7 @@ impl<D: Disk> Standby<D> {
         ensures no_blocks { (n : NoBlocks) → is_next self.old.count number ≡ true → IsErrOf result (StoreFault.NoBlocks n)
             ↔ IsShort (books self.old.store) (length shipped.now.pages + blocks_for (length_in shipped.now.part)) n }
         ensures untouched { IsErrOf result StoreFault.Shut ⊎ ((n : NoBlocks) × IsErrOf result (StoreFault.NoBlocks n)) → self.new ≡ self.old }
-        ensures write_fault { IsErrOf result StoreFault.WriteFault
-            → Rose (D.faults self.old.store.disk) (D.faults self.new.store.disk) × ((books self.new.store).shut ≡ true) }
-        ensures no_read { IsErrOf result StoreFault.ReadFault → ⊥ }
+        ensures cause { HasDiskCause D.Disk result self.old self.new }
     {
         if !is_next(self.count, number) {
             return Ok(self.count);

@@ -65,6 +65,7 @@ fn put_shipped<D: Disk, S: Spelt>(
         → OnOk result (KeepsCommits b es (cs ++ c ∷ []) (D.reading store.new.disk) (books store.new) (λ x. [])) }
     ensures any_moment { D.tells → (b : ABeginning) (es : List AnEntry) (cs : List ACommit) (c : ACommit) → MayDeliver b es cs c (D.reading store.old.disk) (books store.old) entity version stamp.now (S.bytes part.now) pages.now
         → LeavesOnly D.Disk store.old.disk store.new.disk (StoresOneMore b es (books store.old).count cs c) }
+    ensures later { D.faults store.old.disk ≤ D.faults store.new.disk }
     ensures failed { (e : StoreFault) → IsErrOf result e → (e ≡ StoreFault.WriteFault) × Rose (D.faults store.old.disk) (D.faults store.new.disk) × ((books store.new).shut ≡ true) }
 {
     let mut table = ShadowTable::new();
@@ -112,6 +113,7 @@ pub fn deliver_record<D: Disk, S: Spelt>(
     ensures shut { (books store.old).shut ≡ true ↔ IsErrOf result StoreFault.Shut }
     ensures no_blocks { (n : NoBlocks) → IsErrOf result (StoreFault.NoBlocks n) ↔ IsShort (books store.old) (length pages.now + blocks_for (S.length_of part.now)) n }
     ensures untouched { IsErrOf result StoreFault.Shut ⊎ ((n : NoBlocks) × IsErrOf result (StoreFault.NoBlocks n)) → store.new ≡ store.old }
+    ensures later { D.faults store.old.disk ≤ D.faults store.new.disk }
     ensures write_fault { IsErrOf result StoreFault.WriteFault → Rose (D.faults store.old.disk) (D.faults store.new.disk) × ((books store.new).shut ≡ true) }
     ensures no_read { IsErrOf result StoreFault.ReadFault → ⊥ }
 {

@@ -31,6 +31,25 @@ OffersNothing (Comes which taken) = Unit {0}
 OffersNothing Tell = Unit {0}
 OffersNothing (Heard which) = Unit {0}
 
+-- THE FIRST SHIPMENT THAT WAITS, where not all that was offered is acknowledged, and its packet
+module _ {A : Type 0} (s : Sending A) (some : s.acked < offered s) where
+  first : (x : A) × (slice_get s.waiting 0 ≡ Some x)
+  first = go s.waiting some
+    where
+      go : (xs : List A) → s.acked < s.acked + length xs → (x : A) × (slice_get xs 0 ≡ Some x)
+      go [] lt = absurd (omega (arith, lt))
+      go (x ∷ xs) lt = (x, refl)
+
+  pub first_waiting : A
+  first_waiting = first.0
+
+  pub first_packet : packet_in s (s.acked + 1) ≡ Some first_waiting
+  unfolding first_waiting
+  first_packet =
+      let t : nat_lt s.acked (s.acked + 1) ≡ true = lt-ltb s.acked (s.acked + 1) (omega arith) in
+      let place : s.acked + 1 - s.acked - 1 ≡ 0 = omega arith in
+      ap (λ b. if b then slice_get s.waiting (s.acked + 1 - s.acked - 1) else None) t ∙ (ap (slice_get s.waiting) place ∙ first.1)
+
 module _ {A : Type 0} (made : List A) where
   abbrev Stays : World A → World A → Type 0
   Stays w v = (offered v.sender ≡ offered w.sender) × (w.sender.acked ≤ v.sender.acked)
@@ -83,22 +102,12 @@ module _ {A : Type 0} (made : List A) where
   -- A ROUND IN WHICH NOTHING IS LOST
 
   module _ (w : World A) (kept : w.sender.acked ≤ length w.kept) (some : w.sender.acked < offered w.sender) where
-    first : (x : A) × (slice_get w.sender.waiting 0 ≡ Some x)
-    first = go w.sender.waiting some
-      where
-        go : (xs : List A) → w.sender.acked < w.sender.acked + length xs → (x : A) × (slice_get xs 0 ≡ Some x)
-        go [] lt = absurd (omega (arith, lt))
-        go (x ∷ xs) lt = (x, refl)
-
     x : A
-    x = first.0
+    x = first_waiting w.sender some
 
     packet : packet_in w.sender (w.sender.acked + 1) ≡ Some x
     unfolding x
-    packet =
-        let t : nat_lt w.sender.acked (w.sender.acked + 1) ≡ true = lt-ltb w.sender.acked (w.sender.acked + 1) (omega arith) in
-        let place : w.sender.acked + 1 - w.sender.acked - 1 ≡ 0 = omega arith in
-        ap (λ b. if b then slice_get w.sender.waiting (w.sender.acked + 1 - w.sender.acked - 1) else None) t ∙ (ap (slice_get w.sender.waiting) place ∙ first.1)
+    packet = first_packet w.sender some
 
     abbrev p : Packet A
     p = record { number = w.sender.acked + 1; shipment = x }

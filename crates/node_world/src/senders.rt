@@ -51,7 +51,7 @@ impl<T: Drop> Sender<T> {
         ensures offered { OnOk result (self.new ≡ with_offer self.old shipment) }
         ensures err { OnErr result (self.new ≡ self.old) }
     {
-        let number = self.acked + self.waiting.len() as u64;
+        let number = self.offered();
         if number == u64::MAX {
             return Err(AllocError);
         }
@@ -88,5 +88,13 @@ impl<T: Drop> Sender<T> {
         ensures { result ≡ self.now.acked }
     {
         self.acked
+    }
+
+    /// How many were offered: below 2^64.
+    pub fn offered(&self) -> u64
+        ensures value { result ≡ offered self.now }
+        ensures few { offered self.now < 2 ^ 64 }
+    {
+        self.acked + self.waiting.len() as u64
     }
 }

@@ -2,4 +2,16 @@
 #![tactic(auto)]
 
 #[cfg(test)]
+mod exchange_tests;
+#[cfg(test)]
+mod images;
+#[cfg(test)]
+mod made;
+#[cfg(test)]
+mod newest_tests;
+#[cfg(test)]
 mod sender_tests;
+#[cfg(test)]
+mod standby_tests;
+#[cfg(test)]
+mod turned_disk;

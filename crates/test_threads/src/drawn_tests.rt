@@ -7,7 +7,6 @@ ghost use Rattle.script_types.specs.Scripts.{tables_of};
 use crate::kinds::Kinds;
 use crate::runs::{born, formatted, runs_the_same, two};
 use edge_disk::MemoryDisk;
-use kernel_core::{Ended, Stopped};
 use script_reading::read_script;
 use script_types::Script;
 use std::alloc::Global;
@@ -15,6 +14,7 @@ use std::process::Abort;
 use std::sync::Wait;
 use std::test::Fail;
 use test_draws::drawn;
+use thread_looks::{Ended, Stopped};
 
 // The script of a number, with one page of each container in memory at most.
 fn script_of(alloc: Global, number: u64) -> Result<Script, Fail>

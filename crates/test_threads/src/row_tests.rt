@@ -4,9 +4,9 @@ ghost use Rattle.std.specs.Prelude.{◌≡◌, ◌<◌};
 use crate::kinds::Kinds;
 use crate::runs::{born, formatted, lent, lent_in_turn, owned, runs_the_same};
 use base_types::{Answer, Entity, Entry, Event, Reply, Touch, Touched};
-use kernel_core::Stopped;
 use script_reading::read_script;
 use std::test::Fail;
+use thread_looks::Stopped;
 
 // A step of each kind of plan but a birth for which no number is free: by the locus alone, a store into its container, a Snap of it that is asked
 // for, a stabilise that is refused and one that isn't, a container that is made, a page of it that is mapped, and a locus that is spawned. The

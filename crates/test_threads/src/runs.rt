@@ -3,8 +3,8 @@ ghost use Rattle.std.specs.Prelude.{◌≡◌, ◌≤◌, [], true, IfSome};
 ghost use Rattle.edge_disk.specs.MemoryDisk.{memory_disks};
 ghost use Rattle.edge_managers.specs.Managers.{counted_word};
 ghost use Rattle.image_blocks.specs.image_facts.Layout.{least_blocks, most_blocks};
-ghost use Rattle.kernel_core.specs.kernel_core_facts.Kernels.{StaysClean};
-ghost use Rattle.kernel_core.specs.table_births.Births.{atlas_state_in};
+ghost use Rattle.thread_looks.specs.kernel_core.kernel_core_facts.Kernels.{StaysClean};
+ghost use Rattle.thread_looks.specs.kernel_core.table_births.Births.{atlas_state_in};
 ghost use Rattle.script_fits.specs.model_births.Fitting.{Fits};
 ghost use Rattle.script_types.specs.Rules.{IsScript};
 ghost use Rattle.script_types.specs.Scripts.{tables_of};
@@ -14,7 +14,6 @@ use base_types::{Entity, Entry};
 use edge_disk::{Disk, DiskFault, MemoryDisk};
 use edge_managers::{CountedWords, EveryVersions, Gate};
 use image_format::format;
-use kernel_core::{Cell, Ended, Kernel, Stop};
 use open_kernel::open_image;
 use script_fits::against;
 use script_types::Script;
@@ -25,7 +24,7 @@ use std::sync::Wait;
 use std::test::Fail;
 use thread_clients::LentKernel;
 use thread_history::{OpenedHistory, Run};
-use thread_looks::Looked;
+use thread_looks::{Cell, Ended, Kernel, Looked, Stop};
 use thread_ties::{Bond, Opened};
 
 /// A disk with an empty image of so many blocks, made by its first ten calls, where these calls fail.

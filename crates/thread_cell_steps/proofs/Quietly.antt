@@ -7,12 +7,12 @@ use Rattle.page_store.specs.model_kernel.State.{NotBorn, Supply}
 use Rattle.table_laws.specs.data_atlas_facts.Directory.{Directory}
 use Rattle.table_laws.specs.act_alone.Loci.{locus_of}
 use Rattle.table_laws.specs.act_calls.Calls.{atlas_state, is_make, is_map, is_spawn, is_unmap}
-use Rattle.cell_steps.specs.model_acts.Views.{may_name_itself}
+use Rattle.table_laws.specs.cell_steps.model_acts.Views.{may_name_itself}
 use Rattle.table_laws.specs.cell_states.declared.cells.Cell.{Cell}
 use Rattle.table_laws.specs.cell_states.declared.cells.Part.{Part}
 use Rattle.table_laws.specs.cell_states.declared.cells.Part.TheVariants as part
 use Rattle.table_laws.specs.cell_calls.Besides.{KeepsMemory, calls_container}
-use Rattle.cell_steps.specs.cell_newborns.Bearing.{IsNewContainer, IsUnbornContainer}
+use Rattle.table_laws.specs.cell_steps.cell_newborns.Bearing.{IsNewContainer, IsUnbornContainer}
 use Rattle.table_laws.specs.cell_plans.Plans.{IsPlanned}
 use Rattle.table_laws.specs.cell_plans.declared.plans.Reach.{Reach}
 use Rattle.table_laws.specs.cell_plans.declared.plans.Reach.TheVariants as reach

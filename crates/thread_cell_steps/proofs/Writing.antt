@@ -6,7 +6,7 @@ use Rattle.base_types.specs.declared.instructions.Instr.{Instr}
 use Rattle.page_store.specs.model_kernel.Histories.{writes}
 use Rattle.page_store.specs.model_kernel.State.{AtlasState, EntityState, KernelState, Supply}
 use Rattle.page_store.specs.model_kernel.Steps.{atlas_in, step}
-use Rattle.cell_steps.specs.data_stamps.Stamps.{component}
+use Rattle.table_laws.specs.cell_steps.data_stamps.Stamps.{component}
 use Rattle.table_laws.specs.data_atlas_facts.Directory.{Directory}
 use Rattle.table_laws.specs.act_alone.Loci.{locus_of}
 use Rattle.table_laws.specs.act_calls.Calls.{atlas_state}

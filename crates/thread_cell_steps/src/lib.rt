@@ -7,5 +7,6 @@ mod fitting;
 mod steps;
 
 pub use steps::{plan_lent, step_one, step_three, step_two};
-pub use table_laws::{Idle, Plan};
+pub use table_laws::{Cell, Idle, Plan, Reach, next_plan};
 pub use table_steps::{Made, StepFault};
+pub use thread_steps::step_cells;

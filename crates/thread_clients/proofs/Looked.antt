@@ -4,23 +4,23 @@ use Rattle.std.specs.Prelude.{IfSome, Result, is_some}
 use Rattle.std.specs.Result.{result_err}
 use Rattle.edge_disk.specs.declared.disk.Disk.{Ghosts}
 use Rattle.base_types.specs.declared.histories.Entry.{Entry}
-use Rattle.kernel_core.specs.kernel_commit_facts.Parts.{Parts}
-use Rattle.kernel_core.specs.kernel_commit_facts.Steady.{IsSteady}
-use Rattle.kernel_core.specs.kernel_core_facts.Kernels.{Held, IsKept, Lives, NotesAlong, StaysClean}
-use Rattle.kernel_core.specs.kernel_invariant.Beginnings.{Beginning, run_of}
-use Rattle.kernel_core.specs.kernel_invariant.declared.stopping.Stopped.{Stopped}
-use Rattle.kernel_core.specs.kernel_invariant.declared.stopping.Stopped.TheVariants as reason
-use Rattle.kernel_core.specs.model_kernel.Histories.{Policy}
-use Rattle.kernel_core.specs.model_kernel.State.{Supply}
-use Rattle.kernel_core.specs.model_serial.Serial.{look}
-use Rattle.kernel_core.specs.model_serial_turns.Turns.{HasLooked}
-use Rattle.kernel_core.proofs.LookKept.{look_entries, look_kept, look_lives}
-use Rattle.kernel_core.proofs.kernel_commits_lemmas.Telling.{err_of_kept, when_stopped}
-use Rattle.kernel_core.proofs.model_serial_turns_lemmas.Whereabouts.{looked_more}
-use Rattle.kernel_core_facts.proofs.Kept.{runs_free, while_going}
-use Rattle.kernel_core_facts.specs.declared.looked.Looked.{Looked}
+use Rattle.thread_desk.specs.kernel_core.kernel_commit_facts.Parts.{Parts}
+use Rattle.thread_desk.specs.kernel_core.kernel_commit_facts.Steady.{IsSteady}
+use Rattle.thread_stables.specs.kernel_core_facts.Kernels.{Held, IsKept, Lives, NotesAlong, StaysClean}
+use Rattle.thread_desk.specs.kernel_core.kernel_invariant.Beginnings.{Beginning, run_of}
+use Rattle.thread_desk.specs.kernel_core.kernel_invariant.declared.stopping.Stopped.{Stopped}
+use Rattle.thread_desk.specs.kernel_core.kernel_invariant.declared.stopping.Stopped.TheVariants as reason
+use Rattle.thread_desk.specs.kernel_core.model_kernel.Histories.{Policy}
+use Rattle.thread_desk.specs.kernel_core.model_kernel.State.{Supply}
+use Rattle.thread_desk.specs.kernel_core.model_serial.Serial.{look}
+use Rattle.thread_desk.specs.kernel_core.model_serial_turns.Turns.{HasLooked}
+use Rattle.thread_desk.proofs.kernel_core_lemmas.LookKept.{look_entries, look_kept, look_lives}
+use Rattle.thread_desk.proofs.kernel_core_lemmas.kernel_commits_lemmas.Telling.{err_of_kept, when_stopped}
+use Rattle.thread_desk.proofs.kernel_core_lemmas.model_serial_turns_lemmas.Whereabouts.{looked_more}
+use Rattle.thread_stables.proofs.kernel_core_facts_lemmas.Kept.{runs_free, while_going}
+use Rattle.thread_stables.specs.kernel_core_facts.declared.looked.Looked.{Looked}
 use Rattle.thread_desk.specs.Alongs.{ComesNext}
-use Rattle.thread_looks.specs.Looking.{LooksAsSerial}
+use Rattle.thread_stables.specs.thread_looks.Looking.{LooksAsSerial}
 use Rattle.thread_clients.specs.Running.{IsBehindLooks, IsOneOf, stop_in}
 
 abbrev pub held : {D : Type 0} → Parts D → Option Stopped → Held D

@@ -3,10 +3,10 @@ use Rattle.std.specs.Prelude.{◌≡◌, ◌∷◌, ◌++◌, ℕ, List, Option,
 use Rattle.std.specs.Result.{result_err}
 use Rattle.edge_disk.specs.declared.disk.Disk.{Ghosts}
 use Rattle.base_types.specs.declared.histories.Entry.{Entry}
-use Rattle.kernel_core.specs.kernel_core_facts.Kernels.{Held, Lives}
-use Rattle.kernel_core.specs.kernel_invariant.Beginnings.{Beginning}
-use Rattle.kernel_core.specs.kernel_invariant.declared.stopping.Stopped.{Stopped}
-use Rattle.kernel_core_facts.specs.declared.looked.Looked.{Looked}
+use Rattle.thread_stables.specs.kernel_core_facts.Kernels.{Held, Lives}
+use Rattle.thread_desk.specs.kernel_core.kernel_invariant.Beginnings.{Beginning}
+use Rattle.thread_desk.specs.kernel_core.kernel_invariant.declared.stopping.Stopped.{Stopped}
+use Rattle.thread_stables.specs.kernel_core_facts.declared.looked.Looked.{Looked}
 use Rattle.thread_desk.specs.Alongs.{ComesNext, LooksAt, WasStoppedIn}
 
 -- why the kernel has stopped behind what came of a look; it goes on where none was made

@@ -1,25 +1,24 @@
 //! A kernel whose cells lie under locks.
 ghost use Rattle.std.specs.Prelude.{◌≡◌, ◌≤◌, ◌++◌, ℕ, List, None, Some, Err, IfOk, IfSome, length, take};
 ghost use Rattle.std.specs.Result.{result_err};
-ghost use Rattle.kernel_core_facts.specs.Kernels.{Lives, NotesAlong, StaysClean};
-ghost use Rattle.kernel_core_facts.specs.kernel_invariant.Beginnings.{Beginning, run_of};
-ghost use Rattle.kernel_core_facts.specs.model_serial.Serial.{look};
+ghost use Rattle.thread_stables.specs.kernel_core_facts.Kernels.{Lives, NotesAlong, StaysClean};
+ghost use Rattle.thread_stables.specs.kernel_core_facts.kernel_invariant.Beginnings.{Beginning, run_of};
+ghost use Rattle.thread_stables.specs.kernel_core_facts.model_serial.Serial.{look};
 ghost use Rattle.thread_clients.specs.Running.{IsBehindLooks, stop_in};
-ghost use Rattle.thread_looks.specs.Looking.{LooksAsSerial};
+ghost use Rattle.thread_stables.specs.thread_looks.Looking.{LooksAsSerial};
 
 use crate::looking::look_under_locks;
 use crate::parts::{LentCore, unlock_all};
 use base_types::{Entity, Entry};
 use edge_disk::Disk;
 use edge_managers::{Gate, Policy, Supplier};
-use kernel_core::{Apart, Cell, Kernel, Stopped};
 use std::alloc::{AllocError, Global};
 use std::marker::Model;
 use std::sync::{Mutex, Wait};
 use thread_cells::LockedCell;
+use thread_desk::{Apart, Cell, Kernel, Stopped};
 use thread_history::{OpenedHistory, Run};
-use thread_looks::Looked;
-use thread_settling::lock_all;
+use thread_stables::{Looked, lock_all};
 use thread_ties::{Bond, Opened};
 
 /// Why the kernel has stopped behind what came of a look.
@@ -42,8 +41,8 @@ pub struct LentKernel<D: Disk, B: Bond<Cell> + Run<Entry>> {
 
 impl<D: Disk, B: Bond<Cell> + Run<Entry>> Model for LentKernel<D, B> {
     ghost use Rattle.std.specs.Prelude.{◌≡◌, vec_len};
-    ghost use Rattle.kernel_core.specs.Parts.{held_of};
-    ghost use Rattle.kernel_core_facts.specs.Kernels.{Held, IsKept};
+    ghost use Rattle.thread_desk.specs.kernel_core.Parts.{held_of};
+    ghost use Rattle.thread_stables.specs.kernel_core_facts.Kernels.{Held, IsKept};
 
     ghost Value = { Held D };
 

@@ -1,14 +1,13 @@
 // Which cells a step wants.
 ghost use Rattle.std.specs.Prelude.{◌≡◌, length};
-ghost use Rattle.kernel_core_facts.specs.table_laws.Steps.{IsInOrder};
+ghost use Rattle.thread_stables.specs.kernel_core_facts.table_laws.Steps.{IsInOrder};
 
 use base_types::{Entity, Entry, FIRST_LOCUS, Instr, Kind, MOST_CONTAINERS, MOST_LOCI};
-use kernel_core_facts::{Cell, Part};
 use std::sync::{Mutex, Wait};
 use table_laws::{Plan, Reach};
-use thread_cell_steps::plan_lent;
 use thread_cells::LockedCell;
 use thread_history::Run;
+use thread_stables::{Cell, Part, plan_lent};
 use thread_ties::{Authority, Bond};
 
 /// Which cells are to be lent for a step, besides the locus's own.

@@ -1,25 +1,23 @@
 // Looks at a locus that take the locks of the cells which its step wants.
 ghost use Rattle.std.specs.Prelude.{◌≡◌, None, IfSome, length};
 ghost use Rattle.std.specs.Sync.Mutex.{mutex_guard_value};
-ghost use Rattle.kernel_core_facts.specs.table_laws.Tables.{AreClean};
-ghost use Rattle.kernel_core_facts.specs.kernel_record_facts.Cells.{words_on};
-ghost use Rattle.kernel_core_facts.specs.kernel_commit_facts.Parts.{parts_of};
-ghost use Rattle.kernel_core_facts.specs.kernel_commit_facts.Steady.{IsSteady};
-ghost use Rattle.thread_looks.specs.Looking.{LooksAsSerial};
+ghost use Rattle.thread_stables.specs.kernel_core_facts.table_laws.Tables.{AreClean};
+ghost use Rattle.thread_stables.specs.kernel_core_facts.kernel_record_facts.Cells.{words_on};
+ghost use Rattle.thread_stables.specs.kernel_core_facts.kernel_commit_facts.Parts.{parts_of};
+ghost use Rattle.thread_stables.specs.kernel_core_facts.kernel_commit_facts.Steady.{IsSteady};
+ghost use Rattle.thread_stables.specs.thread_looks.Looking.{LooksAsSerial};
 
 use crate::lending::{Lending, lending_at};
 use crate::parts::LentCore;
 use base_types::{Entity, Entry};
 use edge_disk::Disk;
 use edge_managers::{Gate, Policy, Supplier};
-use kernel_core::{Cell, Stopped};
 use std::alloc::Global;
 use std::sync::{Mutex, MutexGuard, Wait};
 use thread_cells::LockedCell;
+use thread_desk::{Cell, Stopped};
 use thread_history::Run;
-use thread_looks::{Looked, look_one, look_three, look_two};
-use thread_settling::{lend_all, number_of};
-use thread_stables::look_all;
+use thread_stables::{Looked, lend_all, look_all, look_one, look_three, look_two, number_of};
 use thread_ties::Bond;
 
 /// The cell of an entity, under its lock; none where another's lies there.

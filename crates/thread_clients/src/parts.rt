@@ -4,12 +4,12 @@ ghost use Rattle.std.specs.Prelude.{◌≡◌, IfSome, length, vec_len};
 use base_bytes::Blob;
 use base_types::Entry;
 use edge_disk::Disk;
-use kernel_core::{Cell, Notes, Store};
 use std::alloc::Global;
 use std::sync::Mutex;
 use thread_cells::LockedCell;
+use thread_desk::{Cell, Notes, Store};
 use thread_history::Run;
-use thread_settling::number_of;
+use thread_stables::number_of;
 use thread_ties::{Authority, Bond};
 
 /// What a look is lent beside cells: the side that knows all of them, the store, what is noted, and room for a blob.

@@ -4,17 +4,17 @@ use Rattle.std.proofs.lemmas.Option.{same_Some, slice_get_within}
 use mathlib.Core.List.{IsPrefix}
 use Rattle.edge_disk.specs.declared.disk.Disk.{Ghosts}
 use Rattle.base_types.specs.declared.histories.Entry.{Entry}
-use Rattle.kernel_core_facts.specs.cell_states.declared.cells.Cell.{Cell}
-use Rattle.kernel_core_facts.specs.kernel_commit_facts.Parts.{Noted}
-use Rattle.kernel_core_facts.specs.kernel_invariant.Beginnings.{Beginning, IsLegal, state_after}
-use Rattle.kernel_core_facts.specs.kernel_invariant.declared.stopping.Stopped.{Stopped}
-use Rattle.kernel_core_facts.specs.kernel_record_facts.Cells.{words_on}
-use Rattle.kernel_core_facts.specs.store_facts.State.{State, books}
-use Rattle.kernel_core_facts.specs.table_births.model_kernel.Histories.{IsLegalRun, Policy, event_of, writes}
-use Rattle.kernel_core_facts.specs.table_births.model_kernel.Parts.{after}
-use Rattle.kernel_core_facts.specs.table_births.model_kernel.Scripts.{Script}
-use Rattle.kernel_core_facts.specs.table_births.model_kernel.State.{KernelState, Supply}
-use Rattle.kernel_core_facts.specs.table_laws.Tables.{entity_by, entity_in}
+use Rattle.kernel_core.specs.kernel_core_facts.cell_states.declared.cells.Cell.{Cell}
+use Rattle.kernel_core.specs.kernel_core_facts.kernel_commit_facts.Parts.{Noted}
+use Rattle.kernel_core.specs.kernel_core_facts.kernel_invariant.Beginnings.{Beginning, IsLegal, state_after}
+use Rattle.kernel_core.specs.kernel_core_facts.kernel_invariant.declared.stopping.Stopped.{Stopped}
+use Rattle.kernel_core.specs.kernel_core_facts.kernel_record_facts.Cells.{words_on}
+use Rattle.kernel_core.specs.kernel_core_facts.store_facts.State.{State, books}
+use Rattle.kernel_core.specs.kernel_core_facts.table_births.model_kernel.Histories.{IsLegalRun, Policy, event_of, writes}
+use Rattle.kernel_core.specs.kernel_core_facts.table_births.model_kernel.Parts.{after}
+use Rattle.kernel_core.specs.kernel_core_facts.table_births.model_kernel.Scripts.{Script}
+use Rattle.kernel_core.specs.kernel_core_facts.table_births.model_kernel.State.{KernelState, Supply}
+use Rattle.kernel_core.specs.kernel_core_facts.table_laws.Tables.{entity_by, entity_in}
 use Rattle.table_laws.proofs.Facing.{ready_at}
 use Rattle.table_laws.proofs.plain_states_lemmas.CellLemmas.{slice_get-set_same}
 use Rattle.thread_history.specs.Rules.{concerning}

@@ -2,15 +2,15 @@
 use Rattle.std.specs.Prelude.{◌≡◌, ◌++◌, List, Option, Some, slice_get}
 use Rattle.edge_disk.specs.declared.disk.Disk.{Ghosts}
 use Rattle.base_types.specs.declared.histories.Entry.{Entry}
-use Rattle.kernel_core_facts.specs.cell_states.declared.cells.Cell.{Cell}
-use Rattle.kernel_core_facts.specs.kernel_commit_facts.Parts.{Noted}
-use Rattle.kernel_core_facts.specs.kernel_invariant.Beginnings.{Beginning}
-use Rattle.kernel_core_facts.specs.kernel_invariant.declared.stopping.Stopped.{Stopped}
-use Rattle.kernel_core_facts.specs.kernel_laws.Opening.{empty_script}
-use Rattle.kernel_core_facts.specs.store_facts.State.{State}
-use Rattle.kernel_core_facts.specs.table_births.model_kernel.Histories.{never}
-use Rattle.kernel_core_facts.specs.table_births.model_kernel.State.{empty_state}
-use Rattle.kernel_core_facts.specs.Kernels.{Held, IsKept, Lives}
+use Rattle.kernel_core.specs.kernel_core_facts.cell_states.declared.cells.Cell.{Cell}
+use Rattle.kernel_core.specs.kernel_core_facts.kernel_commit_facts.Parts.{Noted}
+use Rattle.kernel_core.specs.kernel_core_facts.kernel_invariant.Beginnings.{Beginning}
+use Rattle.kernel_core.specs.kernel_core_facts.kernel_invariant.declared.stopping.Stopped.{Stopped}
+use Rattle.kernel_core.specs.kernel_core_facts.kernel_laws.Opening.{empty_script}
+use Rattle.kernel_core.specs.kernel_core_facts.store_facts.State.{State}
+use Rattle.kernel_core.specs.kernel_core_facts.table_births.model_kernel.Histories.{never}
+use Rattle.kernel_core.specs.kernel_core_facts.table_births.model_kernel.State.{empty_state}
+use Rattle.kernel_core.specs.kernel_core_facts.Kernels.{Held, IsKept, Lives}
 use Rattle.kernel_core.specs.Parts.{held_of}
 use Rattle.kernel_run_facts.specs.Alongs.{IsAlong}
 

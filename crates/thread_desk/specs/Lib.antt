@@ -4,3 +4,4 @@ pub mod Sights
 pub use Rattle.kernel_core.specs as kernel_core
 pub use Rattle.kernel_core.specs.kernel_core_facts
 pub use Rattle.thread_cells.specs as thread_cells
+pub use Rattle.table_laws.specs as table_laws

@@ -5,13 +5,13 @@ use Rattle.base_types.specs.declared.histories.Entry.{Entry}
 use Rattle.act_look.specs.act_alone.Loci.{locus_of}
 use Rattle.act_look.specs.act_alone.declared.loci.Locus.{Locus}
 use Rattle.act_look.specs.model_acts.Views.{IsReadyLocus}
-use Rattle.kernel_core_facts.specs.cell_states.declared.cells.Cell.{Cell}
-use Rattle.kernel_core_facts.specs.cell_states.declared.cells.Part.TheVariants as part
-use Rattle.kernel_core_facts.specs.kernel_invariant.Beginnings.{Beginning, state_after}
-use Rattle.kernel_core_facts.specs.kernel_record_facts.Cells.{words_on}
-use Rattle.kernel_core_facts.specs.store_facts.State.{State}
-use Rattle.kernel_core_facts.specs.table_laws.Steps.{IsInOrder}
-use Rattle.kernel_core_facts.specs.table_laws.Tables.{entity_by, state_in}
+use Rattle.kernel_core.specs.kernel_core_facts.cell_states.declared.cells.Cell.{Cell}
+use Rattle.kernel_core.specs.kernel_core_facts.cell_states.declared.cells.Part.TheVariants as part
+use Rattle.kernel_core.specs.kernel_core_facts.kernel_invariant.Beginnings.{Beginning, state_after}
+use Rattle.kernel_core.specs.kernel_core_facts.kernel_record_facts.Cells.{words_on}
+use Rattle.kernel_core.specs.kernel_core_facts.store_facts.State.{State}
+use Rattle.kernel_core.specs.kernel_core_facts.table_laws.Steps.{IsInOrder}
+use Rattle.kernel_core.specs.kernel_core_facts.table_laws.Tables.{entity_by, state_in}
 use Rattle.thread_cells.specs.Locked.{Keeping}
 
 -- a cell with its number, the entries after the kept ones that its share knows, and the store as it was when the cell was let go

@@ -1,10 +1,10 @@
 // The side beside the history.
 ghost use Rattle.std.specs.Prelude.{◌≡◌, ◌++◌, [], length};
 ghost use mathlib.Core.List.{IsPrefix};
-ghost use Rattle.kernel_core_facts.specs.kernel_invariant.Beginnings.{state_after};
-ghost use Rattle.kernel_core_facts.specs.kernel_record_facts.Cells.{words_on};
-ghost use Rattle.kernel_core_facts.specs.table_births.model_kernel.Histories.{writes};
-ghost use Rattle.kernel_core_facts.specs.table_laws.Tables.{entity_by};
+ghost use Rattle.kernel_core.specs.kernel_core_facts.kernel_invariant.Beginnings.{state_after};
+ghost use Rattle.kernel_core.specs.kernel_core_facts.kernel_record_facts.Cells.{words_on};
+ghost use Rattle.kernel_core.specs.kernel_core_facts.table_births.model_kernel.Histories.{writes};
+ghost use Rattle.kernel_core.specs.kernel_core_facts.table_laws.Tables.{entity_by};
 ghost use Rattle.thread_history.specs.Rules.{concerning};
 ghost use Rattle.thread_desk.specs.Desks.{IsDesk, IsKernel, knowing};
 
@@ -14,7 +14,7 @@ use crate::tills::Till;
 use base_bytes::Blob;
 use base_types::Entry;
 use edge_disk::Disk;
-use kernel_core_facts::{Cell, Notes, Stopped, Store};
+use kernel_core::{Cell, Notes, Stopped, Store};
 use std::marker::Model;
 use thread_cells::LockedCell;
 use thread_history::{ClosingAuthority, HistoryAuthority, known_state_law};

@@ -8,6 +8,8 @@ mod sights;
 mod tills;
 
 pub use desks::{Closed, Desk};
+pub use kernel_core::{Apart, Cell, Kernel, Notes, Stopped, Store};
 pub use names::{Board, OfStore};
 pub use sights::{SightedCell, hear_lent};
+pub use table_laws::{Plan, Reach};
 pub use tills::{Till, tell_store};

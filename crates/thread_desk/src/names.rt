@@ -1,7 +1,7 @@
 // The names of a board.
 use base_types::Entry;
 use edge_disk::Disk;
-use kernel_core_facts::{Cell, Store};
+use kernel_core::{Cell, Store};
 use std::marker::{Brand, PhantomData};
 use thread_history::Run;
 use thread_ties::Bond;
@@ -10,8 +10,8 @@ use thread_ties::Bond;
 pub trait Board<D: Disk>: Bond<Cell> + Run<Entry> {
     ghost use Rattle.std.specs.Prelude.{List};
     ghost use Rattle.atomic_table.specs.Seated.{TableId};
-    ghost use Rattle.kernel_core_facts.specs.kernel_invariant.Beginnings.{Beginning};
-    ghost use Rattle.kernel_core_facts.specs.store_facts.State.{State};
+    ghost use Rattle.kernel_core.specs.kernel_core_facts.kernel_invariant.Beginnings.{Beginning};
+    ghost use Rattle.kernel_core.specs.kernel_core_facts.store_facts.State.{State};
 
     ghost begin: { Beginning };
 

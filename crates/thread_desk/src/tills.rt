@@ -3,7 +3,7 @@ ghost use Rattle.std.specs.Prelude.{◌≡◌, Some, slice_set};
 
 use crate::names::{Board, OfStore};
 use edge_disk::Disk;
-use kernel_core_facts::Store;
+use kernel_core::Store;
 use std::marker::{Brand, Model};
 use thread_ties::{Authority, Fragment};
 
@@ -16,7 +16,7 @@ pub struct Till<D: Disk, B: Board<D>> {
 
 impl<D: Disk, B: Board<D>> Model for Till<D, B> {
     ghost use Rattle.std.specs.Prelude.{◌≡◌, Some};
-    ghost use Rattle.kernel_core_facts.specs.store_facts.State.{State};
+    ghost use Rattle.kernel_core.specs.kernel_core_facts.store_facts.State.{State};
 
     ghost Value = { State D };
 

@@ -4,12 +4,12 @@ use Rattle.std.specs.Prelude.{Result}
 use Rattle.std.proofs.lemmas.List.{length-append, take-append-le}
 use Rattle.std.proofs.lemmas.Option.{same_Some}
 use Rattle.base_types.specs.declared.histories.Entry.{Entry}
-use Rattle.kernel_core_facts.specs.cell_plans.Plans.{idle_of}
-use Rattle.kernel_core_facts.specs.cell_plans.declared.idle.Idle.{Idle as AnIdle}
-use Rattle.kernel_core_facts.specs.kernel_invariant.Beginnings.{Beginning, run_of, state_after}
-use Rattle.kernel_core_facts.specs.kernel_invariant.declared.stopping.Stopped.{Stopped}
-use Rattle.kernel_core_facts.specs.declared.looked.Looked.{Looked}
-use Rattle.kernel_core_facts.specs.declared.looked.Looked.TheVariants.{Idle, Made}
+use Rattle.thread_looks.specs.kernel_core_facts.cell_plans.Plans.{idle_of}
+use Rattle.thread_looks.specs.kernel_core_facts.cell_plans.declared.idle.Idle.{Idle as AnIdle}
+use Rattle.thread_looks.specs.kernel_core_facts.kernel_invariant.Beginnings.{Beginning, run_of, state_after}
+use Rattle.thread_looks.specs.kernel_core_facts.kernel_invariant.declared.stopping.Stopped.{Stopped}
+use Rattle.thread_looks.specs.kernel_core_facts.declared.looked.Looked.{Looked}
+use Rattle.thread_looks.specs.kernel_core_facts.declared.looked.Looked.TheVariants.{Idle, Made}
 use Rattle.thread_desk_looks.specs.Items.{IsTrueOf, StandsAt, WasIdle}
 
 pub at_front : {A : Type 0} (xs ys : List A) (i : ℕ) (a : A) → slice_get xs i ≡ Some a → slice_get (xs ++ ys) i ≡ Some a

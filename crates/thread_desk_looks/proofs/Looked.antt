@@ -6,28 +6,28 @@ use Rattle.std.proofs.lemmas.List.{append-nil, append_assoc}
 use Rattle.std.proofs.Math.Seq.{take-append_seam}
 use Rattle.edge_disk.specs.declared.disk.Disk.{Ghosts}
 use Rattle.base_types.specs.declared.histories.Entry.{Entry}
-use Rattle.kernel_core_facts.specs.cell_plans.Plans.{idle_of}
-use Rattle.kernel_core_facts.specs.cell_plans.declared.idle.Idle.{Idle as AnIdle}
-use Rattle.kernel_core_facts.specs.cell_states.declared.cells.Cell.{Cell}
-use Rattle.kernel_core_facts.specs.kernel_commit_facts.Parts.{Noted, Parts, StandsAs, parts_of}
-use Rattle.kernel_core_facts.specs.kernel_commit_facts.Steady.{IsSteady}
-use Rattle.kernel_core_facts.specs.kernel_invariant.Beginnings.{Beginning, run_of, state_after}
-use Rattle.kernel_core_facts.specs.kernel_invariant.Live.{IsCalm}
-use Rattle.kernel_core_facts.specs.kernel_invariant.declared.stopping.Stopped.{Stopped}
-use Rattle.kernel_core_facts.specs.kernel_record_facts.Cells.{words_on}
-use Rattle.kernel_core_facts.specs.kernel_views.Views.{left_at}
-use Rattle.kernel_core_facts.specs.model_serial.Serial.{look}
-use Rattle.kernel_core_facts.specs.store_facts.State.{State}
-use Rattle.kernel_core_facts.specs.table_births.model_kernel.Histories.{Policy}
-use Rattle.kernel_core_facts.specs.table_births.model_kernel.State.{KernelState, Supply}
-use Rattle.kernel_core_facts.specs.table_laws.Tables.{AreClean, left_of}
-use Rattle.kernel_core_facts.specs.declared.looked.Looked.{Looked}
-use Rattle.kernel_core_facts.specs.declared.looked.Looked.TheVariants.{Idle, Made}
-use Rattle.kernel_core_facts.specs.Kernels.{IsKept, Lives}
-use Rattle.kernel_core_facts.proofs.Kept.{runs_free}
-use Rattle.kernel_core_facts.proofs.model_serial_turns_lemmas.Whereabouts.{looked_more}
-use Rattle.kernel_core.specs.Parts.{held_of}
-use Rattle.kernel_core.proofs.LookKept.{look_entries, look_kept, look_lives}
+use Rattle.thread_looks.specs.kernel_core_facts.cell_plans.Plans.{idle_of}
+use Rattle.thread_looks.specs.kernel_core_facts.cell_plans.declared.idle.Idle.{Idle as AnIdle}
+use Rattle.thread_looks.specs.kernel_core_facts.cell_states.declared.cells.Cell.{Cell}
+use Rattle.thread_looks.specs.kernel_core_facts.kernel_commit_facts.Parts.{Noted, Parts, StandsAs, parts_of}
+use Rattle.thread_looks.specs.kernel_core_facts.kernel_commit_facts.Steady.{IsSteady}
+use Rattle.thread_looks.specs.kernel_core_facts.kernel_invariant.Beginnings.{Beginning, run_of, state_after}
+use Rattle.thread_looks.specs.kernel_core_facts.kernel_invariant.Live.{IsCalm}
+use Rattle.thread_looks.specs.kernel_core_facts.kernel_invariant.declared.stopping.Stopped.{Stopped}
+use Rattle.thread_looks.specs.kernel_core_facts.kernel_record_facts.Cells.{words_on}
+use Rattle.thread_looks.specs.kernel_core_facts.kernel_views.Views.{left_at}
+use Rattle.thread_looks.specs.kernel_core_facts.model_serial.Serial.{look}
+use Rattle.thread_looks.specs.kernel_core_facts.store_facts.State.{State}
+use Rattle.thread_looks.specs.kernel_core_facts.table_births.model_kernel.Histories.{Policy}
+use Rattle.thread_looks.specs.kernel_core_facts.table_births.model_kernel.State.{KernelState, Supply}
+use Rattle.thread_looks.specs.kernel_core_facts.table_laws.Tables.{AreClean, left_of}
+use Rattle.thread_looks.specs.kernel_core_facts.declared.looked.Looked.{Looked}
+use Rattle.thread_looks.specs.kernel_core_facts.declared.looked.Looked.TheVariants.{Idle, Made}
+use Rattle.thread_looks.specs.kernel_core_facts.Kernels.{IsKept, Lives}
+use Rattle.thread_looks.proofs.kernel_core_facts_lemmas.Kept.{runs_free}
+use Rattle.thread_looks.proofs.kernel_core_facts_lemmas.model_serial_turns_lemmas.Whereabouts.{looked_more}
+use Rattle.thread_desk.specs.kernel_core.Parts.{held_of}
+use Rattle.thread_desk.proofs.kernel_core_lemmas.LookKept.{look_entries, look_kept, look_lives}
 use Rattle.thread_looks.specs.Looking.{LooksAsSerial, stop_in}
 use Rattle.thread_desk.specs.Alongs.{IsAlong, LooksAt}
 use Rattle.thread_desk.specs.Alongs.ComesNext.{Look}

@@ -4,9 +4,9 @@ use Rattle.std.proofs.lemmas.List.{append_cancel_left, get_or-append_right, leng
 use Rattle.std.proofs.lemmas.List.Elements.{All-get_or}
 use Rattle.std.proofs.Math.Seq.{take-append_seam}
 use Rattle.base_types.specs.declared.histories.Entry.{Entry}
-use Rattle.kernel_core_facts.specs.kernel_commit_facts.Parts.{Parts}
-use Rattle.kernel_core_facts.specs.table_births.model_kernel.Histories.{writes}
-use Rattle.thread_commits.specs.Snapping.{AddsAmong, WritesAmong}
+use Rattle.thread_looks.specs.kernel_core_facts.kernel_commit_facts.Parts.{Parts}
+use Rattle.thread_looks.specs.kernel_core_facts.table_births.model_kernel.Histories.{writes}
+use Rattle.thread_looks.specs.thread_commits.Snapping.{AddsAmong, WritesAmong}
 use Rattle.thread_looks.specs.Looking.{NotesLook}
 use Rattle.thread_looks.proofs.Adding.{look_among}
 use Rattle.thread_history.specs.Given.{AreAmong, numbers}

@@ -2,12 +2,12 @@
 use Rattle.std.specs.Prelude.{◌≡◌, ◌-◌, ◌≤◌, ℕ, List, length, Ok, Err, Result, Some, slice_get, take}
 use Rattle.base_types.specs.declared.histories.Entry.{Entry}
 use Rattle.base_types.specs.declared.histories.Event.TheVariants.{Step}
-use Rattle.kernel_core_facts.specs.cell_plans.Plans.{idle_of}
-use Rattle.kernel_core_facts.specs.cell_plans.declared.idle.Idle.{Idle as AnIdle}
-use Rattle.kernel_core_facts.specs.kernel_invariant.Beginnings.{Beginning, run_of, state_after}
-use Rattle.kernel_core_facts.specs.kernel_invariant.declared.stopping.Stopped.{Stopped}
-use Rattle.kernel_core_facts.specs.declared.looked.Looked.{Looked}
-use Rattle.kernel_core_facts.specs.declared.looked.Looked.TheVariants.{Idle, Made}
+use Rattle.thread_looks.specs.kernel_core_facts.cell_plans.Plans.{idle_of}
+use Rattle.thread_looks.specs.kernel_core_facts.cell_plans.declared.idle.Idle.{Idle as AnIdle}
+use Rattle.thread_looks.specs.kernel_core_facts.kernel_invariant.Beginnings.{Beginning, run_of, state_after}
+use Rattle.thread_looks.specs.kernel_core_facts.kernel_invariant.declared.stopping.Stopped.{Stopped}
+use Rattle.thread_looks.specs.kernel_core_facts.declared.looked.Looked.{Looked}
+use Rattle.thread_looks.specs.kernel_core_facts.declared.looked.Looked.TheVariants.{Idle, Made}
 
 -- the step of the locus stands at its place
 pub record StandsAt (me place : ℕ) (e : Entry) (es : List Entry) : Type 0 where

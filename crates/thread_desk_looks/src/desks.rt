@@ -1,8 +1,8 @@
 // Looks in the desk, with both locks in hand.
 ghost use Rattle.std.specs.Prelude.{◌≡◌, ◌↔◌, ◌⊎◌, ◌∷◌, [], None, Some, Err, IfSome, length};
-ghost use Rattle.kernel_core_facts.specs.kernel_commit_facts.Parts.{parts_of};
-ghost use Rattle.thread_cell_steps.specs.Advancing.{WantsOthers};
-ghost use Rattle.thread_commits.specs.Lent.{OthersStay};
+ghost use Rattle.thread_looks.specs.kernel_core_facts.kernel_commit_facts.Parts.{parts_of};
+ghost use Rattle.thread_looks.specs.thread_cell_steps.Advancing.{WantsOthers};
+ghost use Rattle.thread_looks.specs.thread_commits.Lent.{OthersStay};
 ghost use Rattle.thread_history.specs.Rules.{AllDiffer};
 ghost use Rattle.thread_looks.specs.Looking.{LooksAsSerial, NotesLook, WantsStable, stop_in};
 ghost use Rattle.thread_desk_looks.specs.Items.{IsTrueOf};
@@ -10,9 +10,8 @@ ghost use Rattle.thread_desk_looks.specs.Items.{IsTrueOf};
 use crate::looking::{told_one, told_three, told_two};
 use edge_disk::Disk;
 use edge_managers::{Gate, Policy, Supplier};
-use kernel_core_facts::{Looked, Stopped};
 use thread_desk::{Board, Desk, SightedCell, Till, hear_lent, tell_store};
-use thread_looks::stop_of;
+use thread_looks::{Looked, Stopped, stop_of};
 
 /// One look at a locus whose step touches it alone and owes no Stable, with the store's lock and the history's in hand: its step, and behind it
 /// the Snap that is wished. `None`, and nothing done, exactly where other cells are wanted. A kernel that has stopped does nothing, and tells why.

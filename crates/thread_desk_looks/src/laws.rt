@@ -1,9 +1,9 @@
 //! A law. The function does nothing: its contract is the law.
 ghost use Rattle.std.specs.Prelude.{◌++◌, ℕ, List, Result};
 ghost use Rattle.base_types.specs.declared.histories.Entry.{Entry};
-ghost use Rattle.kernel_core_facts.specs.kernel_invariant.Beginnings.{Beginning};
-ghost use Rattle.kernel_core_facts.specs.kernel_invariant.declared.stopping.Stopped.{Stopped};
-ghost use Rattle.kernel_core_facts.specs.declared.looked.Looked.{Looked};
+ghost use Rattle.thread_looks.specs.kernel_core_facts.kernel_invariant.Beginnings.{Beginning};
+ghost use Rattle.thread_looks.specs.kernel_core_facts.kernel_invariant.declared.stopping.Stopped.{Stopped};
+ghost use Rattle.thread_looks.specs.kernel_core_facts.declared.looked.Looked.{Looked};
 ghost use Rattle.thread_desk_looks.specs.Items.{IsTrueOf};
 
 use edge_disk::Disk;

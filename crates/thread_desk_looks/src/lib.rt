@@ -9,3 +9,7 @@ mod telling;
 
 pub use desks::{look_one, look_three, look_two};
 pub use laws::item_law;
+pub use thread_desk::{
+    Apart, Board, Cell, Closed, Desk, Kernel, OfStore, SightedCell, Store, Till, hear_lent,
+    tell_store,
+};

@@ -1,11 +1,11 @@
 // One look at a locus by lent cells over a kernel's parts, told by their shares.
 ghost use Rattle.std.specs.Prelude.{◌≡◌, ◌↔◌, ◌⊎◌, ◌++◌, ◌∷◌, [], None, IfSome};
-ghost use Rattle.kernel_core_facts.specs.table_laws.Tables.{AreClean};
-ghost use Rattle.kernel_core_facts.specs.kernel_record_facts.Cells.{words_on};
-ghost use Rattle.kernel_core_facts.specs.kernel_commit_facts.Parts.{parts_of};
-ghost use Rattle.kernel_core_facts.specs.kernel_commit_facts.Steady.{IsSteady};
-ghost use Rattle.thread_cell_steps.specs.Advancing.{WantsOthers};
-ghost use Rattle.thread_commits.specs.Lent.{OthersStay};
+ghost use Rattle.thread_looks.specs.kernel_core_facts.table_laws.Tables.{AreClean};
+ghost use Rattle.thread_looks.specs.kernel_core_facts.kernel_record_facts.Cells.{words_on};
+ghost use Rattle.thread_looks.specs.kernel_core_facts.kernel_commit_facts.Parts.{parts_of};
+ghost use Rattle.thread_looks.specs.kernel_core_facts.kernel_commit_facts.Steady.{IsSteady};
+ghost use Rattle.thread_looks.specs.thread_cell_steps.Advancing.{WantsOthers};
+ghost use Rattle.thread_looks.specs.thread_commits.Lent.{OthersStay};
 ghost use Rattle.thread_history.specs.Rules.{AllDiffer};
 ghost use Rattle.thread_looks.specs.Looking.{LooksAsSerial, NotesLook, WantsStable};
 
@@ -14,10 +14,9 @@ use base_bytes::Blob;
 use base_types::Entry;
 use edge_disk::Disk;
 use edge_managers::{Gate, Policy, Supplier};
-use kernel_core_facts::{Cell, Looked, Notes, Stopped, Store};
 use thread_cells::LockedCell;
 use thread_history::{HistoryAuthority, Run};
-use thread_looks::{look_one, look_three, look_two};
+use thread_looks::{Cell, Looked, Notes, Stopped, Store, look_one, look_three, look_two};
 use thread_ties::{Authority, Bond};
 
 /// The look of `look_one` by one lent cell (`thread_looks`), with all that it notes told by the cell's share.

@@ -1,11 +1,11 @@
 // What is noted behind a history, told to it by the shares of those that it may write.
 ghost use Rattle.std.specs.Prelude.{◌≡◌, ◌++◌, ◌∷◌, [], length};
-ghost use Rattle.thread_commits.specs.Snapping.{AddsAmong};
+ghost use Rattle.thread_looks.specs.thread_commits.Snapping.{AddsAmong};
 ghost use Rattle.thread_history.specs.Rules.{AllDiffer};
 
 use base_types::Entry;
-use kernel_core_facts::Notes;
 use thread_history::{HistoryAuthority, Run, Share};
+use thread_looks::Notes;
 
 /// Tells the history all that is noted from the place on, which writes one entity at most, by its share.
 pub(crate) fn tell_one<B: Run<Entry>>(

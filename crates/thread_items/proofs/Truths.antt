@@ -4,17 +4,17 @@ use Rattle.std.specs.Prelude.{IfSome, Result}
 use Rattle.std.proofs.lemmas.List.{append-nil, append_assoc, length-append}
 use Rattle.std.proofs.lemmas.Option.{slice_get_past, slice_get_within}
 use Rattle.base_types.specs.declared.histories.Entry.{Entry}
-use Rattle.kernel_core_facts.specs.kernel_invariant.Beginnings.{Beginning}
-use Rattle.kernel_core_facts.specs.kernel_invariant.declared.stopping.Stopped.{Stopped}
-use Rattle.kernel_core_facts.specs.declared.looked.Looked.{Looked}
-use Rattle.kernel_core_facts.specs.declared.looked.Looked.TheVariants as looked
+use Rattle.thread_desk_stables.specs.kernel_core_facts.kernel_invariant.Beginnings.{Beginning}
+use Rattle.thread_desk_stables.specs.kernel_core_facts.kernel_invariant.declared.stopping.Stopped.{Stopped}
+use Rattle.thread_desk_stables.specs.kernel_core_facts.declared.looked.Looked.{Looked}
+use Rattle.thread_desk_stables.specs.kernel_core_facts.declared.looked.Looked.TheVariants as looked
 use Rattle.thread_board.specs.declared.views.PassItem.{PassItem}
 use Rattle.thread_board.specs.Items.{Each, IsWithin}
 use Rattle.thread_board.proofs.Within.{each_map, each_push}
-use Rattle.thread_looks.specs.Looking.{NotesLook, stop_in}
-use Rattle.thread_looks.specs.Looking.NotesLook.{Nothing, StepFirst}
-use Rattle.thread_desk_looks.specs.Items.{IsTrueOf}
-use Rattle.thread_desk_looks.proofs.Items.{at_seam, idle_stays, step_stays}
+use Rattle.thread_desk_stables.specs.thread_looks.Looking.{NotesLook, stop_in}
+use Rattle.thread_desk_stables.specs.thread_looks.Looking.NotesLook.{Nothing, StepFirst}
+use Rattle.thread_desk_stables.specs.thread_desk_looks.Items.{IsTrueOf}
+use Rattle.thread_desk_stables.proofs.thread_desk_looks_lemmas.Items.{at_seam, idle_stays, step_stays}
 use Rattle.thread_items.specs.declared.items.Came.{Came}
 use Rattle.thread_items.specs.declared.items.Came.TheVariants.{Made, Idle, Stopped as StoppedFor, StoppedBehind}
 use Rattle.thread_items.specs.declared.items.LookItem.{LookItem}

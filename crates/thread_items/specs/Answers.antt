@@ -1,7 +1,7 @@
 -- What a look in the desk answers.
 use Rattle.std.specs.Prelude.{Result}
-use Rattle.kernel_core_facts.specs.kernel_invariant.declared.stopping.Stopped.{Stopped}
-use Rattle.kernel_core_facts.specs.declared.looked.Looked.{Looked}
+use Rattle.thread_desk_stables.specs.kernel_core_facts.kernel_invariant.declared.stopping.Stopped.{Stopped}
+use Rattle.thread_desk_stables.specs.kernel_core_facts.declared.looked.Looked.{Looked}
 use Rattle.thread_items.specs.declared.answers.Answer.{Answer}
 use Rattle.thread_items.specs.declared.answers.Answer.TheVariants.{Came, Unfit, Full}
 

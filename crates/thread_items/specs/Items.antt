@@ -1,14 +1,14 @@
 -- What is true of the items of all passes.
 use Rattle.std.specs.Prelude.{◌≡◌, ◌≤◌, ℕ, List, length, Option, Some, Result, slice_get}
 use Rattle.base_types.specs.declared.histories.Entry.{Entry}
-use Rattle.kernel_core_facts.specs.kernel_invariant.Beginnings.{Beginning}
-use Rattle.kernel_core_facts.specs.kernel_invariant.declared.stopping.Stopped.{Stopped}
-use Rattle.kernel_core_facts.specs.declared.looked.Looked.{Looked}
+use Rattle.thread_desk_stables.specs.kernel_core_facts.kernel_invariant.Beginnings.{Beginning}
+use Rattle.thread_desk_stables.specs.kernel_core_facts.kernel_invariant.declared.stopping.Stopped.{Stopped}
+use Rattle.thread_desk_stables.specs.kernel_core_facts.declared.looked.Looked.{Looked}
 use Rattle.thread_board.specs.declared.views.PassItem.{PassItem}
 use Rattle.thread_board.specs.Items.{Each}
 use Rattle.thread_board.specs.Sides.{Noting}
-use Rattle.thread_desk.specs.Desks.{Knowing}
-use Rattle.thread_desk_looks.specs.Items.{StandsAt, WasIdle}
+use Rattle.thread_desk_stables.specs.thread_desk.Desks.{Knowing}
+use Rattle.thread_desk_stables.specs.thread_desk_looks.Items.{StandsAt, WasIdle}
 use Rattle.thread_items.specs.declared.items.Came.{Came}
 use Rattle.thread_items.specs.declared.items.Came.TheVariants.{Made, Idle, Stopped as StoppedFor, StoppedBehind}
 use Rattle.thread_items.specs.declared.items.LookItem.{LookItem}

@@ -1,9 +1,9 @@
 -- What came of a look, and how many places its item covers.
 use Rattle.std.specs.Prelude.{ℕ, Ok, Err, Result, Option, None, Some}
 use Rattle.base_types.specs.declared.histories.Entry.{Entry}
-use Rattle.kernel_core_facts.specs.kernel_invariant.declared.stopping.Stopped.{Stopped}
-use Rattle.kernel_core_facts.specs.declared.looked.Looked.{Looked}
-use Rattle.kernel_core_facts.specs.declared.looked.Looked.TheVariants as looked
+use Rattle.thread_desk_stables.specs.kernel_core_facts.kernel_invariant.declared.stopping.Stopped.{Stopped}
+use Rattle.thread_desk_stables.specs.kernel_core_facts.declared.looked.Looked.{Looked}
+use Rattle.thread_desk_stables.specs.kernel_core_facts.declared.looked.Looked.TheVariants as looked
 use Rattle.thread_items.specs.declared.items.Came.{Came}
 use Rattle.thread_items.specs.declared.items.Came.TheVariants.{Made, Idle, Stopped as StoppedFor, StoppedBehind}
 

@@ -1,5 +1,5 @@
 // What a look in the desk answers.
-use kernel_core_facts::{Looked, Stopped};
+use thread_desk_stables::{Looked, Stopped};
 
 /// What a look answers whose item is to be noted in a pass.
 #[derive(Clone, Copy, PartialEq, Eq, Debug)]

@@ -9,7 +9,7 @@ use crate::items::LookItem;
 use edge_disk::Disk;
 use std::marker::Model;
 use thread_board::{Bench, Fresh, Line, Pass, PassItem, Slate, Slip};
-use thread_desk::{Board, Desk};
+use thread_desk_stables::{Board, Desk};
 
 /// What lies under the history's lock of a board: the desk, with the side that writes the items of all passes. Each item is true of the desk's
 /// history and of its stop.

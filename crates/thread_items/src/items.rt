@@ -3,8 +3,8 @@ ghost use Rattle.std.specs.Prelude.{◌≡◌, slice_get};
 ghost use Rattle.thread_items.specs.Places.{came_by};
 
 use base_types::{Entity, Entry};
-use kernel_core_facts::{Idle, Looked, Stopped};
 use thread_board::Placed;
+use thread_desk_stables::{Idle, Looked, Stopped};
 
 /// What came of one look at a locus.
 #[derive(Clone, Copy, PartialEq, Eq, Debug)]

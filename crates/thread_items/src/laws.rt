@@ -1,8 +1,8 @@
 //! A law. The function does nothing: its contract is the law.
 ghost use Rattle.std.specs.Prelude.{◌≡◌, ◌++◌, List, Option, None};
 ghost use Rattle.base_types.specs.declared.histories.Entry.{Entry};
-ghost use Rattle.kernel_core_facts.specs.kernel_invariant.Beginnings.{Beginning};
-ghost use Rattle.kernel_core_facts.specs.kernel_invariant.declared.stopping.Stopped.{Stopped};
+ghost use Rattle.thread_desk_stables.specs.kernel_core_facts.kernel_invariant.Beginnings.{Beginning};
+ghost use Rattle.thread_desk_stables.specs.kernel_core_facts.kernel_invariant.declared.stopping.Stopped.{Stopped};
 ghost use Rattle.thread_items.specs.declared.items.LookItem.{LookItem};
 ghost use Rattle.thread_items.specs.Items.{IsTrueItem};
 

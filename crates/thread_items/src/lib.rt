@@ -11,4 +11,7 @@ pub use answers::Answer;
 pub use desks::ItemDesk;
 pub use items::{Came, LookItem};
 pub use laws::item_law;
-pub use looking::{look_one, look_three, look_two};
+pub use looking::{look_all, look_one, look_three, look_two};
+pub use thread_desk_stables::{
+    Apart, Board, Cell, Closed, Desk, Kernel, OfStore, SightedCell, Store, Till,
+};

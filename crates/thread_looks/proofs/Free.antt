@@ -7,27 +7,27 @@ use Rattle.base_types.specs.declared.instructions.Reply.TheVariants.{Ok as Answe
 use Rattle.page_store.specs.model_kernel.Acts.{wanted}
 use Rattle.page_store.specs.model_kernel.Histories.{stabilises}
 use Rattle.page_store.specs.model_kernel.State.{AtlasState, Supply, no_atlas}
-use Rattle.cell_steps.specs.model_acts.Views.{may_name_itself}
-use Rattle.table_laws.specs.act_alone.Loci.{locus_of}
-use Rattle.table_laws.specs.act_calls.Calls.{atlas_state, is_make, is_map, is_spawn, is_unmap}
-use Rattle.table_laws.specs.cell_calls.Besides.{calls_container}
-use Rattle.table_laws.specs.cell_looks.act_look.Looks.{is_look}
-use Rattle.table_laws.specs.cell_states.declared.cells.Cell.{Cell}
+use Rattle.thread_cell_steps.specs.cell_steps.model_acts.Views.{may_name_itself}
+use Rattle.thread_cell_steps.specs.table_laws.act_alone.Loci.{locus_of}
+use Rattle.thread_cell_steps.specs.table_laws.act_calls.Calls.{atlas_state, is_make, is_map, is_spawn, is_unmap}
+use Rattle.thread_cell_steps.specs.table_laws.cell_calls.Besides.{calls_container}
+use Rattle.thread_cell_steps.specs.table_laws.cell_looks.act_look.Looks.{is_look}
+use Rattle.thread_cell_steps.specs.table_laws.cell_states.declared.cells.Cell.{Cell}
 use Rattle.std.proofs.lemmas.Option.{same_Some}
-use Rattle.table_laws.specs.cell_plans.Plans.{IsPlanned, idle_of}
-use Rattle.table_laws.specs.cell_plans.declared.idle.Idle.{Idle}
-use Rattle.table_laws.specs.cell_plans.declared.plans.Reach.{Reach}
-use Rattle.table_laws.specs.cell_plans.declared.plans.Reach.TheVariants as reach
-use Rattle.table_laws.specs.Steps.{IsPlannedAt}
-use Rattle.table_laws.specs.Tables.{entity_in, left_of, state_in}
-use Rattle.table_laws.proofs.Facing.{no_supply, no_words}
-use Rattle.table_laws.proofs.cell_plans_lemmas.Once.{planned_goes}
-use Rattle.table_laws.proofs.plain_states_lemmas.model_act_facts_lemmas.Alone.{wanted_says}
+use Rattle.thread_cell_steps.specs.table_laws.cell_plans.Plans.{IsPlanned, idle_of}
+use Rattle.thread_cell_steps.specs.table_laws.cell_plans.declared.idle.Idle.{Idle}
+use Rattle.thread_cell_steps.specs.table_laws.cell_plans.declared.plans.Reach.{Reach}
+use Rattle.thread_cell_steps.specs.table_laws.cell_plans.declared.plans.Reach.TheVariants as reach
+use Rattle.thread_cell_steps.specs.table_laws.Steps.{IsPlannedAt}
+use Rattle.thread_cell_steps.specs.table_laws.Tables.{entity_in, left_of, state_in}
+use Rattle.thread_cell_steps.proofs.table_laws_lemmas.Facing.{no_supply, no_words}
+use Rattle.thread_cell_steps.proofs.table_laws_lemmas.cell_plans_lemmas.Once.{planned_goes}
+use Rattle.thread_cell_steps.proofs.table_laws_lemmas.plain_states_lemmas.model_act_facts_lemmas.Alone.{wanted_says}
 use Rattle.kernel_core_facts.specs.Stepping.{is_ok, is_owing}
 use Rattle.kernel_core_facts.specs.table_steps.declared.stepping.Made.{Made as Step}
-use Rattle.thread_steps.specs.Lending.{touched_by}
-use Rattle.thread_steps.proofs.Numbers.{none_is}
-use Rattle.thread_steps.proofs.OnePlan.{one_plan}
+use Rattle.thread_cell_steps.specs.thread_steps.Lending.{touched_by}
+use Rattle.thread_cell_steps.proofs.thread_steps_lemmas.Numbers.{none_is}
+use Rattle.thread_cell_steps.proofs.thread_steps_lemmas.OnePlan.{one_plan}
 use Rattle.thread_cell_steps.specs.Advancing.{TouchesThese}
 use Rattle.thread_looks.specs.Looking.{WantsStable}
 

@@ -7,6 +7,8 @@ mod looking;
 mod making;
 mod noting;
 
-pub use kernel_core_facts::Looked;
+pub use kernel_core::{Ended, Kernel, Stop};
+pub use kernel_core_facts::{Cell, Looked, Notes, Stopped, Store};
 pub use looking::{look_one, look_three, look_two, stop_of};
 pub use making::{make_one, make_three, make_two};
+pub use thread_cell_steps::plan_lent;

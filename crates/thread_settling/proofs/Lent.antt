@@ -1,14 +1,15 @@
 -- A cell of a row is lent, and comes back to its place.
 use Rattle.std.proofs.Common.{◌≡◌, ◌≢◌, ℕ, zero, suc, ◌+◌, ◌==◌, ◌<◌, ◌≤◌, Bool, true, false, List, [], ◌∷◌, ◌++◌, length, map, take, sum_by, get_or, slice_get, slice_set, Some, refl, sym, ap, subst, ◌∙◌, arith}
 use Rattle.std.proofs.lemmas.Option.{same_Some, slice_get-get_or, slice_get_within}
-use Rattle.std.proofs.lemmas.List.{length-set, map-set, set-get_or}
+use Rattle.std.proofs.lemmas.List.{length-map, length-set, map-set, set-get_or}
+use Rattle.base_types.specs.declared.histories.Entry.{Entry}
 use Rattle.thread_cells.specs.Locked.{Keeping}
-use Rattle.kernel_commit_facts.specs.cell_blobs.Blobs.{need_in}
-use Rattle.kernel_commit_facts.specs.cell_states.declared.cells.Cell.{Cell}
-use Rattle.kernel_commit_facts.specs.kernel_book_laws.Matching.{newest_of, version_of}
-use Rattle.kernel_commit_facts.specs.table_laws.Tables.{IsOrderly}
-use Rattle.kernel_commit_facts.proofs.Through.{is_newest, not_newest}
-use Rattle.kernel_commit_facts.proofs.table_laws_lemmas.Needs.{next_need}
+use Rattle.thread_commits.specs.kernel_commit_facts.cell_blobs.Blobs.{need_in}
+use Rattle.thread_commits.specs.kernel_commit_facts.cell_states.declared.cells.Cell.{Cell}
+use Rattle.thread_commits.specs.kernel_commit_facts.kernel_book_laws.Matching.{newest_of, version_of}
+use Rattle.thread_commits.specs.kernel_commit_facts.table_laws.Tables.{IsOrderly}
+use Rattle.thread_commits.proofs.kernel_commit_facts_lemmas.Through.{is_newest, not_newest}
+use Rattle.thread_commits.proofs.kernel_commit_facts_lemmas.table_laws_lemmas.Needs.{next_need}
 use Rattle.thread_settling.specs.Rows.{AreSameSeats, IsRow}
 
 -- the cell at a place has the place's number
@@ -66,6 +67,33 @@ seats_back f olds gs i g m k is at number known s = subst (AreSameSeats (map f o
 
 pub same_back : {A : Type 0} (f : A → Keeping) (gs : List A) (i : ℕ) (g : A) (m k : Keeping) → f g ≡ m → k ≡ get_or (map f gs) i k → m ≡ k → map f (slice_set gs i g) ≡ map f gs
 same_back f gs i g m k is at same = back_is f gs i g m is ∙ set_same (map f gs) i m k at same
+
+-- what is true of each by a part of it is true of that part of one
+pub get_map : {A B : Type 0} (f : A → B) (xs : List A) (i : ℕ) (x : A) → slice_get xs i ≡ Some x → slice_get (map f xs) i ≡ Some (f x)
+get_map f [] i x is = absurd (cc is)
+get_map f (y ∷ ys) zero x is = ap (λ z. Some (f z)) (same_Some y x is)
+get_map f (y ∷ ys) (suc i) x is = get_map f ys i x is
+
+pub by_map : {A B : Type 0} (f : A → B) (P : ℕ → B → Type 0) (xs : List A) (i : ℕ) (b : B) → slice_get (map f xs) i ≡ Some b → ((j : ℕ) (x : A) → slice_get xs j ≡ Some x → P j (f x)) → P i b
+by_map f P [] i b is all = absurd (cc is)
+by_map f P (x ∷ xs) zero b is all = subst (P zero) (same_Some (f x) b is) (all zero x refl)
+by_map f P (x ∷ xs) (suc i) b is all = by_map f (λ j. P (suc j)) xs i b is (λ j y at. all (suc j) y at)
+
+-- so by its share, of the one that is lent
+pub fits_here : (P : List Entry → Type 0) (olds ks : List Keeping) (i : ℕ) (k : Keeping) → AreSameSeats olds ks → IsRow ks → i < 64 → k ≡ get_or ks i k
+    → ((j : ℕ) (z : Keeping) → slice_get olds j ≡ Some z → P z.known) → P k.known
+fits_here P olds ks i k seats row lt is all =
+    let here = slice_get-get_or ks i k (let len = row.len in omega (arith, lt, len)) ∙ ap Some (sym is) in
+    by_map (λ (z : Keeping). z.known) (λ j. P) olds i k.known (ap (λ es. slice_get es i) (sym seats.known) ∙ get_map (λ (z : Keeping). z.known) ks i k here) all
+
+-- the same seats are a row
+pub row_stays : (ks ls : List Keeping) → IsRow ks → AreSameSeats ks ls → IsRow ls
+row_stays ks ls row seats = record {
+  len = sym (length-map ls (λ (z : Keeping). z.number)) ∙ (ap length seats.numbers ∙ (length-map ks (λ (z : Keeping). z.number) ∙ row.len));
+  each = λ i k is.
+      by_map (λ (z : Keeping). z.number) (λ j n. n ≡ j) ks i k.number
+      (ap (λ ns. slice_get ns i) (sym seats.numbers) ∙ get_map (λ (z : Keeping). z.number) ls i k is) row.each;
+}
 
 -- one more is lent, with the next number
 module _ {A : Type 0} (f : A → Keeping) (g : A) where

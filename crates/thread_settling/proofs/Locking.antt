@@ -4,8 +4,8 @@ use Rattle.std.proofs.lemmas.Bool.{cases_lt}
 use Rattle.std.proofs.lemmas.List.{length-map}
 use Rattle.std.proofs.lemmas.Option.{same_Some, slice_get_within}
 use Rattle.base_types.specs.declared.histories.Entry.{Entry}
-use Rattle.kernel_commit_facts.specs.cell_states.declared.cells.Cell.{Cell}
-use Rattle.kernel_commit_facts.specs.table_laws.Tables.{AreNumbered}
+use Rattle.thread_commits.specs.kernel_commit_facts.cell_states.declared.cells.Cell.{Cell}
+use Rattle.thread_commits.specs.kernel_commit_facts.table_laws.Tables.{AreNumbered}
 use Rattle.thread_history.specs.Sides.{Side, sides_upto}
 use Rattle.thread_ties.specs.Rules.{Shown, numbered, shown}
 use Rattle.thread_ties.specs.Sides.{fragments_of}

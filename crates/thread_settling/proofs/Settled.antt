@@ -2,19 +2,20 @@
 use Rattle.std.proofs.Common.{◌≡◌, ℕ, ◌+◌, ◌<◌, List, [], ◌∷◌, ◌++◌, length, take, Ok, Err, refl, ap}
 use Rattle.edge_disk.specs.declared.disk.Disk.{Ghosts}
 use Rattle.base_types.specs.declared.histories.Event.TheVariants.{Stable}
-use Rattle.kernel_commit_facts.specs.cell_states.declared.cells.Cell.{Cell}
-use Rattle.kernel_commit_facts.specs.kernel_invariant.declared.stopping.Stopped.{Stopped}
-use Rattle.kernel_commit_facts.specs.model_kernel.Histories.{mark}
-use Rattle.kernel_commit_facts.specs.store_facts.State.{State, books}
-use Rattle.kernel_commit_facts.specs.Parts.{Noted, Parts, parts_of}
-use Rattle.kernel_commit_facts.specs.Stabilising.{HasStabilised}
-use Rattle.kernel_commit_facts.specs.Steady.{IsSteady, entries_taken, steps_to_come}
-use Rattle.kernel_commit_facts.proofs.Dues.{lacks_first}
-use Rattle.kernel_commit_facts.proofs.Enough.{lacks_blocks}
-use Rattle.kernel_commit_facts.proofs.Settled.{entries_are, has_stabilised, marks_are, stable_steady}
-use Rattle.kernel_commit_facts.proofs.Settling.{stable_calm, stable_stands}
-use Rattle.kernel_commit_facts.proofs.Within.{all_within}
-use Rattle.kernel_commits.proofs.Telling.{adds_one, stops_noting}
+use Rattle.thread_commits.specs.kernel_commit_facts.cell_states.declared.cells.Cell.{Cell}
+use Rattle.thread_commits.specs.kernel_commit_facts.kernel_invariant.declared.stopping.Stopped.{Stopped}
+use Rattle.thread_commits.specs.kernel_commit_facts.model_kernel.Histories.{mark}
+use Rattle.thread_commits.specs.kernel_commit_facts.store_facts.State.{State, books}
+use Rattle.thread_commits.specs.kernel_commit_facts.Parts.{Noted, Parts, parts_of}
+use Rattle.thread_commits.specs.kernel_commit_facts.Stabilising.{HasStabilised}
+use Rattle.thread_commits.specs.kernel_commit_facts.Steady.{IsSteady, entries_taken, steps_to_come}
+use Rattle.thread_commits.proofs.kernel_commit_facts_lemmas.Dues.{lacks_first}
+use Rattle.thread_commits.proofs.kernel_commit_facts_lemmas.Enough.{lacks_blocks}
+use Rattle.thread_commits.proofs.kernel_commit_facts_lemmas.Settled.{entries_are, has_stabilised, marks_are, stable_steady}
+use Rattle.thread_commits.proofs.kernel_commit_facts_lemmas.Settling.{stable_calm, stable_stands}
+use Rattle.thread_commits.proofs.kernel_commit_facts_lemmas.Within.{all_within}
+use Rattle.thread_commits.proofs.kernel_commits_lemmas.Telling.{adds_one, stops_noting}
+use Rattle.thread_commits.proofs.Adding.{among_mark}
 use Rattle.thread_settling.specs.Settling.{RecordsChanged, Settles}
 
 module _ {D : Type 0} (disks : Ghosts D) (actor : ℕ) (old : Parts D) (steady : IsSteady disks old) where
@@ -33,6 +34,7 @@ module _ {D : Type 0} (disks : Ghosts D) (actor : ℕ) (old : Parts D) (steady :
         (lacks_blocks disks b old told owes.stands owes.whole short.fewer) short (all_within disks b old told owes.stands steady.sound.matches.few n short);
     stopped = r.stopped;
     notes = stops_noting why old.noted.entries new.noted.entries (λ n is. ap (λ (p : Parts D). p.noted.entries) (r.untouched n is)) r.no_read;
+    adds = r.adds;
     clean = λ told s clean. tt;
     counts = r.counts;
   }
@@ -64,6 +66,7 @@ module _ {D : Type 0} (disks : Ghosts D) (actor : ℕ) (old : Parts D) (steady :
           enough = λ told b owes n is. absurd (cc is);
           stopped = tt;
           notes = adds_one old.noted.entries n2.entries _ stabilised.entries (λ is. cc is);
+          adds = among_mark [] old.noted.entries n2.entries Stable actor 0 stabilised.entries;
           clean = λ told s clean. r.through.clean told s clean;
           counts = r.counts;
         }

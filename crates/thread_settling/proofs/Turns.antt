@@ -4,27 +4,29 @@ use Rattle.std.specs.Prelude.{IfErr, OnOk, Result, ⊤}
 use Rattle.edge_disk.specs.Image.{Image}
 use Rattle.edge_disk.specs.declared.disk.Disk.{Ghosts}
 use Rattle.edge_disk.specs.declared.disk.NoBlocks.{NoBlocks}
-use Rattle.base_types.specs.declared.histories.Event.TheVariants.{Stable}
-use Rattle.kernel_commit_facts.specs.kernel_book_laws.Matching.{newest_of, version_of}
-use Rattle.kernel_commit_facts.specs.kernel_invariant.Beginnings.{Beginning}
-use Rattle.kernel_commit_facts.specs.kernel_invariant.declared.stopping.Stopped.{Stopped}
-use Rattle.kernel_commit_facts.specs.kernel_invariant.declared.stopping.Stopped.TheVariants as reason
-use Rattle.kernel_commit_facts.specs.model_kernel.Histories.{mark}
-use Rattle.kernel_commit_facts.specs.store_facts.State.{books}
-use Rattle.kernel_commit_facts.specs.Parts.{LivesAs, Parts, StandsAs}
-use Rattle.kernel_commit_facts.specs.Recording.{CanRecord, HasRecorded}
-use Rattle.kernel_commit_facts.specs.Stabilising.{AreShort, NeedsFit, OwesStable}
-use Rattle.kernel_commit_facts.specs.Steady.{IsSteady}
-use Rattle.kernel_commit_facts.specs.Through.{GoesThrough, RunsThrough}
-use Rattle.kernel_commit_facts.proofs.Counting.{CountsWithin-fewer, CountsWithin-stay, one_within}
-use Rattle.kernel_commit_facts.proofs.Fitting.{not_short, still_fits}
-use Rattle.kernel_commit_facts.proofs.Running.{still_lives}
-use Rattle.kernel_commit_facts.proofs.Through.{begins_through, marks_within, may_go_on, newest_low, passes, records_next}
-use Rattle.kernel_commit_facts.proofs.RunsThrough.{next_is, runs_begin, runs_may, runs_next, runs_pass, version_in_run}
-use Rattle.kernel_commits.specs.Recording.{GoesOnBy}
-use Rattle.kernel_commits.proofs.Fitting.{only_writes, short_stop}
-use Rattle.kernel_commits.proofs.Parting.{none_came, stable_part}
-use Rattle.kernel_commits.proofs.Stops.{stop_left}
+use Rattle.base_types.specs.declared.histories.Event.TheVariants.{Snap, Stable}
+use Rattle.thread_commits.specs.kernel_commit_facts.kernel_book_laws.Matching.{newest_of, version_of}
+use Rattle.thread_commits.specs.kernel_commit_facts.kernel_invariant.Beginnings.{Beginning}
+use Rattle.thread_commits.specs.kernel_commit_facts.kernel_invariant.declared.stopping.Stopped.{Stopped}
+use Rattle.thread_commits.specs.kernel_commit_facts.kernel_invariant.declared.stopping.Stopped.TheVariants as reason
+use Rattle.thread_commits.specs.kernel_commit_facts.model_kernel.Histories.{mark}
+use Rattle.thread_commits.specs.kernel_commit_facts.store_facts.State.{books}
+use Rattle.thread_commits.specs.kernel_commit_facts.Parts.{LivesAs, Parts, StandsAs}
+use Rattle.thread_commits.specs.kernel_commit_facts.Recording.{CanRecord, HasRecorded}
+use Rattle.thread_commits.specs.kernel_commit_facts.Stabilising.{AreShort, NeedsFit, OwesStable}
+use Rattle.thread_commits.specs.kernel_commit_facts.Steady.{IsSteady}
+use Rattle.thread_commits.specs.kernel_commit_facts.Through.{GoesThrough, RunsThrough}
+use Rattle.thread_commits.proofs.kernel_commit_facts_lemmas.Counting.{CountsWithin-fewer, CountsWithin-stay, one_within}
+use Rattle.thread_commits.proofs.kernel_commit_facts_lemmas.Fitting.{not_short, still_fits}
+use Rattle.thread_commits.proofs.kernel_commit_facts_lemmas.Running.{still_lives}
+use Rattle.thread_commits.proofs.kernel_commit_facts_lemmas.Through.{begins_through, marks_within, may_go_on, newest_low, passes, records_next}
+use Rattle.thread_commits.proofs.kernel_commit_facts_lemmas.RunsThrough.{next_is, runs_begin, runs_may, runs_next, runs_pass, version_in_run}
+use Rattle.thread_commits.specs.kernel_commits.Recording.{Fails, GoesOnBy}
+use Rattle.thread_commits.proofs.kernel_commits_lemmas.Fitting.{only_writes, short_stop}
+use Rattle.thread_commits.proofs.kernel_commits_lemmas.Parting.{none_came, stable_part}
+use Rattle.thread_commits.proofs.kernel_commits_lemmas.Stops.{stop_left}
+use Rattle.thread_commits.specs.Snapping.{AddsAmong}
+use Rattle.thread_commits.proofs.Adding.{among_mark, among_still, among_then, fails_among}
 use Rattle.thread_commits.proofs.Wished.{Records}
 use Rattle.thread_settling.specs.Settling.{RecordsChanged}
 
@@ -37,13 +39,14 @@ module _ {D : Type 0} (disks : Ghosts D) (old : Parts D) where
     pub through : GoesThrough disks i old now
     pub run : disks.tells → (b : Beginning) (actor : ℕ) → OwesStable disks b actor old → RunsThrough disks b actor i old now
     pub fits : NeedsFit now
+    pub adds : AddsAmong [] old.noted.entries now.noted.entries
 
   module _ (steady : IsSteady disks old) (enough : NeedsFit old) where
     too_many : (n : NoBlocks) → AreShort old n → ⊥
     too_many n short = let fewer = short.fewer in omega (arith, fewer, enough)
 
     pub begins : IsBehind 0 old
-    begins = record { through = begins_through disks old steady; run = λ told b actor owes. runs_begin disks b actor old owes; fits = enough }
+    begins = record { through = begins_through disks old steady; run = λ told b actor owes. runs_begin disks b actor old owes; fits = enough; adds = among_still [] old.noted.entries old.noted.entries refl }
 
     -- all of them
     pub ends : (now : Parts D) → IsBehind 64 now → RecordsChanged disks (Ok tt) old now
@@ -56,6 +59,7 @@ module _ {D : Type 0} (disks : Ghosts D) (old : Parts D) where
       untouched = λ n is. absurd (cc is);
       no_read = λ is. cc is;
       stopped = tt;
+      adds = g.adds;
       counts = g.through.counts;
     }
 
@@ -69,6 +73,7 @@ module _ {D : Type 0} (disks : Ghosts D) (old : Parts D) where
         through = passes disks i old now g.through is;
         run = λ told b actor owes. runs_pass disks b actor i old now owes.stands g.through (g.run told b actor owes) is;
         fits = g.fits;
+        adds = g.adds;
       })
 
       -- one that has changed
@@ -88,6 +93,7 @@ module _ {D : Type 0} (disks : Ghosts D) (old : Parts D) where
                 run = λ told b actor owes. runs_next disks b actor i old now owes.stands g.through (g.run told b actor owes) new lt may_turn.0.changed made
                     (subst (λ (q : Result ⊤ Stopped). OnOk q (StandsAs disks b new)) ok (goes_on told b actor owes).stands);
                 fits = still_fits disks i now new g.through.sound.matches.orderly made apart g.fits;
+                adds = among_then [] old.noted.entries now.noted.entries new.noted.entries g.adds (among_mark [] now.noted.entries new.noted.entries Snap i (version_of now.cells i) made.entries);
               })
 
           -- a record that fails: nothing is read, and enough blocks are free, so that it is a write
@@ -107,6 +113,8 @@ module _ {D : Type 0} (disks : Ghosts D) (old : Parts D) where
                 no_read = λ is. let same : stop_of why ≡ stop_of reason.ReadFault = is in cc only;
                 stopped = stop_left disks i now new g.through.sound.matches.orderly old (marks_within disks i old now g.through steady.few.marks) g.through.counts.later came.counts.later
                     r came.fails (λ n is. (came.no_blocks n).0 is) (AreShort new) (λ n is. absurd (not_short disks i now n g.fits ((came.no_blocks n).0 is))) why err;
+                adds = among_then [] old.noted.entries now.noted.entries new.noted.entries g.adds
+                    (fails_among disks i now new {T = ⊤} why (subst (λ (q : Result ⊤ Stopped). Fails disks i q now new) err came.fails));
                 counts = CountsWithin-fewer disks (suc i * 1556) (64 * 1556) old.store new.store (omega (arith, lt)) (one_within disks i old.store now.store new.store g.through.counts came.counts);
               }
 
@@ -126,5 +134,6 @@ module _ {D : Type 0} (disks : Ghosts D) (counts_later : (disk : D) (s t : ℕ) 
     untouched = λ m is. refl;
     no_read = λ is. let q : stop_of (reason.NoBlocks n) ≡ stop_of reason.ReadFault = is in cc q;
     stopped = short_stop disks old old n steady refl short;
+    adds = among_still [] old.noted.entries old.noted.entries refl;
     counts = CountsWithin-stay disks (64 * 1556) old.store;
   }

@@ -1,7 +1,8 @@
 -- All cells of a kernel, each under a lock of its own, and all of them lent.
 use Rattle.std.specs.Prelude.{◌≡◌, ℕ, List, length, map, Some, slice_get}
 use Rattle.base_types.specs.declared.histories.Entry.{Entry}
-use Rattle.kernel_commit_facts.specs.cell_states.declared.cells.Cell.{Cell}
+use Rattle.thread_commits.specs.kernel_commit_facts.cell_states.declared.cells.Cell.{Cell}
+use Rattle.thread_commits.specs.kernel_commit_facts.Parts.{Parts}
 use Rattle.thread_cells.specs.Locked.{Keeping}
 use Rattle.thread_history.specs.Sides.{Side}
 use Rattle.thread_ties.specs.Rules.{Shown}
@@ -22,6 +23,10 @@ known_of ks = map (λ k. k.known) ks
 pub record AreSameSeats (olds news : List Keeping) : Type 0 where
   pub numbers : numbers_of news ≡ numbers_of olds
   pub known : known_of news ≡ known_of olds
+
+-- each may be let go beside these parts, by the entries that its share knows
+abbrev pub AllFit : {D : Type 0} → (List Entry → Parts D → Type 0) → List Keeping → Parts D → Type 0
+AllFit fits ks p = (i : ℕ) (k : Keeping) → slice_get ks i ≡ Some k → fits k.known p
 
 -- a cell with its own share and its own fragment
 pub record IsBeside (c : Cell) (s : Side Entry) (f : Shown Cell) : Type 0 where

@@ -4,22 +4,23 @@ use Rattle.std.specs.Prelude.{◌≡◌, ◌↔◌, ◌*◌, ℕ, [], ◌∷◌,
 use Rattle.edge_disk.specs.declared.disk.Disk.{Ghosts}
 use Rattle.edge_disk.specs.declared.disk.NoBlocks.{NoBlocks}
 use Rattle.base_types.specs.declared.histories.Event.TheVariants.{Stable}
-use Rattle.kernel_commit_facts.specs.kernel_invariant.Beginnings.{Beginning}
-use Rattle.kernel_commit_facts.specs.kernel_invariant.declared.stopping.Stopped.{Stopped}
-use Rattle.kernel_commit_facts.specs.kernel_invariant.declared.stopping.Stopped.TheVariants as reason
-use Rattle.kernel_commit_facts.specs.kernel_record_facts.Cells.{words_on}
-use Rattle.kernel_commit_facts.specs.model_kernel.Histories.{mark}
-use Rattle.kernel_commit_facts.specs.model_kernel.State.{Supply}
-use Rattle.kernel_commit_facts.specs.table_laws.Tables.{AreClean}
-use Rattle.kernel_commit_facts.specs.Lacking.{LacksIn}
-use Rattle.kernel_commit_facts.specs.Parts.{LivesAs, Parts}
-use Rattle.kernel_commit_facts.specs.Pieces.{CountsWithin, StopsIn}
-use Rattle.kernel_commit_facts.specs.Stabilising.{AreShort, HasStabilised, OwesStable}
-use Rattle.kernel_commit_facts.specs.Steady.{IsSteady}
-use Rattle.kernel_commit_facts.specs.Through.{GoesThrough, RunsThrough}
-use Rattle.kernel_commits.specs.Stabilising.{Stabilises}
-use Rattle.kernel_commits.specs.Stops.{LeavesStopped}
-use Rattle.kernel_commits.specs.Telling.{CommitsNote}
+use Rattle.thread_commits.specs.kernel_commit_facts.kernel_invariant.Beginnings.{Beginning}
+use Rattle.thread_commits.specs.kernel_commit_facts.kernel_invariant.declared.stopping.Stopped.{Stopped}
+use Rattle.thread_commits.specs.kernel_commit_facts.kernel_invariant.declared.stopping.Stopped.TheVariants as reason
+use Rattle.thread_commits.specs.kernel_commit_facts.kernel_record_facts.Cells.{words_on}
+use Rattle.thread_commits.specs.kernel_commit_facts.model_kernel.Histories.{mark}
+use Rattle.thread_commits.specs.kernel_commit_facts.model_kernel.State.{Supply}
+use Rattle.thread_commits.specs.kernel_commit_facts.table_laws.Tables.{AreClean}
+use Rattle.thread_commits.specs.kernel_commit_facts.Lacking.{LacksIn}
+use Rattle.thread_commits.specs.kernel_commit_facts.Parts.{LivesAs, Parts}
+use Rattle.thread_commits.specs.kernel_commit_facts.Pieces.{CountsWithin, StopsIn}
+use Rattle.thread_commits.specs.kernel_commit_facts.Stabilising.{AreShort, HasStabilised, OwesStable}
+use Rattle.thread_commits.specs.kernel_commit_facts.Steady.{IsSteady}
+use Rattle.thread_commits.specs.kernel_commit_facts.Through.{GoesThrough, RunsThrough}
+use Rattle.thread_commits.specs.kernel_commits.Stabilising.{Stabilises}
+use Rattle.thread_commits.specs.kernel_commits.Stops.{LeavesStopped}
+use Rattle.thread_commits.specs.kernel_commits.Telling.{CommitsNote}
+use Rattle.thread_commits.specs.Snapping.{AddsAmong}
 
 module _ {D : Type 0} (disks : Ghosts D) where
   -- A RECORD OF EACH CHANGED CELL, in ascending number, each with its Snap
@@ -32,6 +33,8 @@ module _ {D : Type 0} (disks : Ghosts D) where
     pub untouched : (n : NoBlocks) → IsErrOf result (reason.NoBlocks n) → new ≡ old
     pub no_read : IsErrOf result reason.ReadFault → ⊥
     pub stopped : IfErr result (LeavesStopped disks.faults (AreShort new) old new)
+    -- marks alone, wherever it stops
+    pub adds : AddsAmong [] old.noted.entries new.noted.entries
     pub counts : CountsWithin disks (64 * 1556) old.store new.store
 
   -- THE STABLE OF THE ACTOR: exactly where enough blocks are free for all of them, each changed entity's record is made, and one entry with its
@@ -47,6 +50,7 @@ module _ {D : Type 0} (disks : Ghosts D) where
         → (n : NoBlocks) → IsErrOf result (reason.NoBlocks n) → LacksIn disks b n (mark Stable actor 0 ∷ []) old.noted.entries new
     pub stopped : IfErr result (LeavesStopped disks.faults (AreShort new) old new)
     pub notes : CommitsNote result old.noted.entries new.noted.entries
+    pub adds : AddsAmong [] old.noted.entries new.noted.entries
     pub clean : disks.tells → (s : Supply) → AreClean s (words_on (disks.reading old.store.disk)) old.cells
         → OnOk result (AreClean s (words_on (disks.reading new.store.disk)) new.cells)
     pub counts : CountsWithin disks (64 * 1556) old.store new.store

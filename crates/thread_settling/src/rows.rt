@@ -1,16 +1,17 @@
 // All cells under their locks, and all of them lent.
 ghost use Rattle.std.specs.Prelude.{◌≡◌, ◌+◌, ◌<◌, IfOk, length, map, vec_len};
 ghost use Rattle.std.specs.Sync.Mutex.{mutex_guard_value};
-ghost use Rattle.kernel_commit_facts.specs.table_laws.Tables.{AreNumbered};
+ghost use Rattle.thread_commits.specs.kernel_commit_facts.table_laws.Tables.{AreNumbered};
 ghost use Rattle.thread_history.specs.Sides.{sides_upto};
 ghost use Rattle.thread_settling.specs.Rows.{AreBeside, IsRow};
 ghost use Rattle.thread_ties.specs.Sides.{fragments_of};
 
+use crate::lending::{Bare, CellInLock};
 use base_types::Entry;
-use kernel_commit_facts::Cell;
 use std::alloc::{AllocError, Global};
 use std::sync::{Mutex, MutexGuard, Wait};
 use thread_cells::LockedCell;
+use thread_commits::Cell;
 use thread_history::{Run, Share};
 use thread_ties::{Bond, Fragment, fragments_law};
 
@@ -83,6 +84,28 @@ pub fn number_of<B: Bond<Cell> + Run<Entry>>(cell: &LockedCell<B>) -> u8
 
 /// Takes the locks of all cells, in ascending number, and waits for each. The cell under each lock is of the lock's number, or it is told
 /// which isn't. It takes memory for 64 guards.
+pub fn lend_row<'b, R: Wait, K, C: CellInLock<K>>(
+    rt: &R,
+    alloc: Global,
+    locks: &'b [Mutex<C>],
+) -> Result<Vec<MutexGuard<'b, C>>, RowFault>
+    requires all { length locks.now ≡ 64 }
+    ensures row { IfOk result (λ guards. IsRow (map (λ g. C.keeping (mutex_guard_value g)) guards.items)) }
+{
+    let Ok(mut guards) = Vec::with_capacity(alloc, 64) else {
+        return Err(RowFault::Memory);
+    };
+    for number in 0..64_u8 {
+        let guard = locks[usize::from(number)].lock(rt);
+        if guard.number() != number {
+            return Err(RowFault::Misplaced(number));
+        }
+        guards.push_reserved(guard);
+    }
+    Ok(guards)
+}
+
+/// `lend_row` of cells of which a free lock promises nothing.
 pub fn lend_all<'b, R: Wait, B: Bond<Cell> + Run<Entry>>(
     rt: &R,
     alloc: Global,
@@ -91,15 +114,5 @@ pub fn lend_all<'b, R: Wait, B: Bond<Cell> + Run<Entry>>(
     requires all { length locks.now ≡ 64 }
     ensures row { IfOk result (λ guards. IsRow (map mutex_guard_value guards.items)) }
 {
-    let Ok(mut guards) = Vec::with_capacity(alloc, 64) else {
-        return Err(RowFault::Memory);
-    };
-    for number in 0..64_u8 {
-        let guard = locks[usize::from(number)].lock(rt);
-        if number_of(&guard) != number {
-            return Err(RowFault::Misplaced(number));
-        }
-        guards.push_reserved(guard);
-    }
-    Ok(guards)
+    lend_row::<R, Bare, LockedCell<B>>(rt, alloc, locks)
 }

@@ -8,7 +8,7 @@ ghost use Rattle.kernel_core_facts.specs.model_serial.Serial.{written_in};
 ghost use Rattle.kernel_core_facts.specs.Looked.{IfMade, StepsOnce};
 ghost use Rattle.kernel_core_facts.specs.Stepping.{is_owing};
 ghost use Rattle.kernel_core_facts.specs.declared.looked.Looked.TheVariants as ALooked;
-ghost use Rattle.thread_commits.specs.Snapping.{SnapsWritten, WritesAmong};
+ghost use Rattle.thread_settling.specs.thread_commits.Snapping.{SnapsWritten, WritesAmong};
 ghost use Rattle.thread_looks.specs.Behind.{KeepsBehind};
 ghost use Rattle.thread_looks.specs.Looking.{LooksAsSerial};
 ghost use Rattle.thread_settling.specs.Rows.{AreSameSeats, IsRow};
@@ -20,9 +20,8 @@ use edge_managers::{Gate, Policy, Supplier};
 use kernel_core_facts::{Cell, Looked, Made, Notes, Stopped, Store, owes_stable};
 use std::sync::MutexGuard;
 use thread_cells::LockedCell;
-use thread_commits::snap_touched_one;
 use thread_history::Run;
-use thread_settling::settle_lent;
+use thread_settling::{Bare, settle_lent, snap_touched_one};
 use thread_ties::{Authority, Bond};
 
 /// The Snap of the locus behind a step that wrote no other, where its wish is open.
@@ -68,7 +67,8 @@ fn keep_behind<D: Disk, B: Bond<Cell> + Run<Entry>, S: Supplier, P: Policy>(
     ensures keeps { KeepsBehind D.Disk (P.wish gate.now.policy) (is_owing made.now.instr made.now.entry.answer) made.now.entry result (parts_of store.old all.old notes.old) (parts_of store.new all.new notes.new) }
 {
     if owes_stable(made) {
-        return settle_lent(all, cells, store, notes, blob, made.entry.actor);
+        let actor = made.entry.actor;
+        return settle_lent::<D, B, Bare, LockedCell<B>>(all, cells, store, notes, blob, actor);
     }
     snap_at(all, cells, me, store, notes, blob, &made.entry, gate)
 }

@@ -5,4 +5,10 @@
 mod behind;
 mod looking;
 
+pub use kernel_core_facts::{Cell, Idle, Made, Notes, Part, Stopped, Store, owes_stable};
 pub use looking::look_all;
+pub use thread_looks::{Looked, look_one, look_three, look_two, make_one, plan_lent, stop_of};
+pub use thread_settling::{
+    CellInLock, LentCell, RowFault, lend_all, lend_row, lock_all, number_of, record_lent,
+    settle_lent, snap_touched_one,
+};

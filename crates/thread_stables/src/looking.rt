@@ -6,7 +6,7 @@ ghost use Rattle.kernel_core_facts.specs.kernel_record_facts.Cells.{words_on};
 ghost use Rattle.kernel_core_facts.specs.kernel_commit_facts.Parts.{parts_of};
 ghost use Rattle.kernel_core_facts.specs.kernel_commit_facts.Steady.{IsSteady};
 ghost use Rattle.kernel_core_facts.specs.Looked.{IfMade, StepsOnce};
-ghost use Rattle.thread_cell_steps.specs.Advancing.{TouchesThese, WantsOthers};
+ghost use Rattle.thread_looks.specs.thread_cell_steps.Advancing.{TouchesThese, WantsOthers};
 ghost use Rattle.thread_looks.specs.Looking.{LooksAsSerial};
 ghost use Rattle.thread_settling.specs.Rows.{AreSameSeats, IsRow};
 

@@ -1,8 +1,8 @@
 -- Cells of a table that was split for lending come back to their places.
 use Rattle.std.proofs.Common.{◌≡◌, ℕ, ◌<◌, ◌≤◌, List, [], ◌∷◌, ◌++◌, length, slice_set, sym, ap, ◌∙◌, arith}
 use Rattle.std.proofs.lemmas.List.{set_comm}
-use Rattle.table_laws.specs.cell_states.declared.cells.Cell.{Cell}
-use Rattle.table_laws.proofs.Places.{write_three, write_two}
+use Rattle.thread_cell_steps.specs.table_laws.cell_states.declared.cells.Cell.{Cell}
+use Rattle.thread_cell_steps.proofs.table_laws_lemmas.Places.{write_three, write_two}
 use Rattle.thread_cell_steps.specs.Advancing.{with_cells}
 
 -- of two numbers that differ, where the second isn't lower it is higher

@@ -5,23 +5,23 @@ use Rattle.std.proofs.lemmas.Option.{same_Some, slice_get-get_or}
 use Rattle.base_types.specs.declared.instructions.Instr.{Instr}
 use Rattle.page_store.specs.declared.store.PageStore.{Ghosts}
 use Rattle.page_store.specs.model_kernel.State.{Supply}
-use Rattle.table_laws.specs.act_calls.Calls.{atlas_state}
-use Rattle.table_laws.specs.cell_states.Cells.{part_of}
-use Rattle.table_laws.specs.cell_states.declared.cells.Cell.{Cell}
-use Rattle.table_laws.specs.cell_plans.Plans.{IsPlanned, idle_of}
-use Rattle.table_laws.specs.cell_plans.declared.plans.Reach.{Reach}
-use Rattle.table_laws.specs.cell_plans.declared.plans.Reach.TheVariants as reach
-use Rattle.table_laws.specs.Steps.{IsPlannedAt}
-use Rattle.table_laws.specs.Tables.{AreFewWrites, IsOrderly, state_in}
-use Rattle.table_laws.proofs.cell_plans_lemmas.Once.{planned_goes}
-use Rattle.table_laws.proofs.Facing.{are_sound, atlas, cells, high_at, no_supply, no_words, other_apart, plan_of}
-use Rattle.table_laws.proofs.Having.{state_has_all}
-use Rattle.table_steps.proofs.FacingLook.{look_below}
-use Rattle.table_steps.specs.declared.stepping.Made.{Made}
-use Rattle.table_steps.specs.declared.stepping.StepFault.{StepFault}
-use Rattle.thread_steps.specs.Lending.{AreLent, MayStep, numbers_of, touched_by}
-use Rattle.thread_steps.proofs.Arms.{no_look_planned}
-use Rattle.thread_steps.proofs.Numbers.{none_is}
+use Rattle.thread_cell_steps.specs.table_laws.act_calls.Calls.{atlas_state}
+use Rattle.thread_cell_steps.specs.table_laws.cell_states.Cells.{part_of}
+use Rattle.thread_cell_steps.specs.table_laws.cell_states.declared.cells.Cell.{Cell}
+use Rattle.thread_cell_steps.specs.table_laws.cell_plans.Plans.{IsPlanned, idle_of}
+use Rattle.thread_cell_steps.specs.table_laws.cell_plans.declared.plans.Reach.{Reach}
+use Rattle.thread_cell_steps.specs.table_laws.cell_plans.declared.plans.Reach.TheVariants as reach
+use Rattle.thread_cell_steps.specs.table_laws.Steps.{IsPlannedAt}
+use Rattle.thread_cell_steps.specs.table_laws.Tables.{AreFewWrites, IsOrderly, state_in}
+use Rattle.thread_cell_steps.proofs.table_laws_lemmas.cell_plans_lemmas.Once.{planned_goes}
+use Rattle.thread_cell_steps.proofs.table_laws_lemmas.Facing.{are_sound, atlas, cells, high_at, no_supply, no_words, other_apart, plan_of}
+use Rattle.thread_cell_steps.proofs.table_laws_lemmas.Having.{state_has_all}
+use Rattle.thread_cell_steps.proofs.table_steps_lemmas.FacingLook.{look_below}
+use Rattle.thread_cell_steps.specs.table_steps.declared.stepping.Made.{Made}
+use Rattle.thread_cell_steps.specs.table_steps.declared.stepping.StepFault.{StepFault}
+use Rattle.thread_cell_steps.specs.thread_steps.Lending.{AreLent, MayStep, numbers_of, touched_by}
+use Rattle.thread_cell_steps.proofs.thread_steps_lemmas.Arms.{no_look_planned}
+use Rattle.thread_cell_steps.proofs.thread_steps_lemmas.Numbers.{none_is}
 use Rattle.thread_cell_steps.specs.Advancing.{HasAdvanced, MayAdvance, with_cells}
 use Rattle.thread_cell_steps.proofs.Shapes.{may_alone, may_atlas, may_both, may_other}
 use Rattle.thread_cell_steps.proofs.Touching.{directory_in, no_look_first, two_apart, two_no_look}

@@ -7,24 +7,24 @@ use Rattle.page_store.specs.declared.faults.PageFault.{PageFault}
 use Rattle.page_store.specs.declared.faults.PageFault.TheVariants as page
 use Rattle.page_store.specs.declared.store.PageStore.{Ghosts}
 use Rattle.page_store.specs.model_kernel.State.{Supply}
-use Rattle.table_laws.specs.edge_disk.declared.disk.NoBlocks.{NoBlocks}
-use Rattle.table_laws.specs.data_atlas_facts.Directory.{Directory}
-use Rattle.table_laws.specs.act_calls.Calls.{atlas_state}
-use Rattle.table_laws.specs.cell_states.Cells.{part_of}
-use Rattle.table_laws.specs.cell_states.declared.cells.Cell.{Cell}
-use Rattle.table_laws.specs.cell_plans.Plans.{IsPlanned, idle_of}
-use Rattle.table_laws.specs.cell_plans.declared.idle.Idle.{Idle}
-use Rattle.table_laws.specs.cell_plans.declared.plans.Reach.{Reach}
-use Rattle.table_laws.specs.cell_plans.declared.plans.Reach.TheVariants as reach
-use Rattle.table_laws.proofs.cell_plans_lemmas.Once.{planned_goes}
-use Rattle.table_laws.proofs.Facing.{no_supply, no_words}
-use Rattle.table_laws.specs.Steps.{HasDirectory}
-use Rattle.table_steps.specs.declared.stepping.Made.{Made}
-use Rattle.table_steps.specs.declared.stepping.StepFault.{StepFault}
-use Rattle.table_steps.specs.declared.stepping.StepFault.TheVariants.{Idle as IdleFor, Paging}
-use Rattle.thread_steps.specs.Lending.{Lent, cells_of, numbers_of, touched_by}
-use Rattle.thread_steps.specs.Stepping.{FaultsAt, FaultsLent, FaultsLooking, IsLentShort, LooksAt, StepsApart, StepsLent}
-use Rattle.thread_steps.proofs.Arms.{no_look_planned}
+use Rattle.thread_cell_steps.specs.table_laws.edge_disk.declared.disk.NoBlocks.{NoBlocks}
+use Rattle.thread_cell_steps.specs.table_laws.data_atlas_facts.Directory.{Directory}
+use Rattle.thread_cell_steps.specs.table_laws.act_calls.Calls.{atlas_state}
+use Rattle.thread_cell_steps.specs.table_laws.cell_states.Cells.{part_of}
+use Rattle.thread_cell_steps.specs.table_laws.cell_states.declared.cells.Cell.{Cell}
+use Rattle.thread_cell_steps.specs.table_laws.cell_plans.Plans.{IsPlanned, idle_of}
+use Rattle.thread_cell_steps.specs.table_laws.cell_plans.declared.idle.Idle.{Idle}
+use Rattle.thread_cell_steps.specs.table_laws.cell_plans.declared.plans.Reach.{Reach}
+use Rattle.thread_cell_steps.specs.table_laws.cell_plans.declared.plans.Reach.TheVariants as reach
+use Rattle.thread_cell_steps.proofs.table_laws_lemmas.cell_plans_lemmas.Once.{planned_goes}
+use Rattle.thread_cell_steps.proofs.table_laws_lemmas.Facing.{no_supply, no_words}
+use Rattle.thread_cell_steps.specs.table_laws.Steps.{HasDirectory}
+use Rattle.thread_cell_steps.specs.table_steps.declared.stepping.Made.{Made}
+use Rattle.thread_cell_steps.specs.table_steps.declared.stepping.StepFault.{StepFault}
+use Rattle.thread_cell_steps.specs.table_steps.declared.stepping.StepFault.TheVariants.{Idle as IdleFor, Paging}
+use Rattle.thread_cell_steps.specs.thread_steps.Lending.{Lent, cells_of, numbers_of, touched_by}
+use Rattle.thread_cell_steps.specs.thread_steps.Stepping.{FaultsAt, FaultsLent, FaultsLooking, IsLentShort, LooksAt, StepsApart, StepsLent}
+use Rattle.thread_cell_steps.proofs.thread_steps_lemmas.Arms.{no_look_planned}
 use Rattle.thread_cell_steps.specs.Advancing.{HasAdvanced, MayAdvance, with_cells}
 use Rattle.thread_cell_steps.proofs.Advanced.{idle_by}
 use Rattle.thread_cell_steps.proofs.Shapes.{by_alone, by_atlas, by_beside, by_both, by_look}

@@ -2,14 +2,14 @@
 use Rattle.std.specs.Prelude.{◌≡◌, ◌⊎◌, ℕ, List, [], slice_get, Some}
 use Rattle.base_types.specs.declared.instructions.Instr.{Instr}
 use Rattle.page_store.specs.model_kernel.State.{Supply}
-use Rattle.table_laws.specs.act_calls.Calls.{atlas_state}
-use Rattle.table_laws.specs.data_atlas_facts.Directory.{Directory}
-use Rattle.table_laws.specs.cell_plans.Plans.{idle_of}
-use Rattle.table_laws.specs.cell_plans.declared.idle.Idle.{Idle}
-use Rattle.table_laws.specs.cell_plans.declared.plans.Reach.{Reach}
-use Rattle.table_laws.specs.cell_states.Cells.{part_of}
-use Rattle.table_laws.specs.cell_states.declared.cells.Cell.{Cell}
-use Rattle.table_laws.specs.Steps.{HasDirectory, IsPlannedAt}
+use Rattle.thread_cell_steps.specs.table_laws.act_calls.Calls.{atlas_state}
+use Rattle.thread_cell_steps.specs.table_laws.data_atlas_facts.Directory.{Directory}
+use Rattle.thread_cell_steps.specs.table_laws.cell_plans.Plans.{idle_of}
+use Rattle.thread_cell_steps.specs.table_laws.cell_plans.declared.idle.Idle.{Idle}
+use Rattle.thread_cell_steps.specs.table_laws.cell_plans.declared.plans.Reach.{Reach}
+use Rattle.thread_cell_steps.specs.table_laws.cell_states.Cells.{part_of}
+use Rattle.thread_cell_steps.specs.table_laws.cell_states.declared.cells.Cell.{Cell}
+use Rattle.thread_cell_steps.specs.table_laws.Steps.{HasDirectory, IsPlannedAt}
 use Rattle.thread_cell_steps.specs.thread_steps.Lending.{touched_by}
 
 -- the locus has a step, whose act touches exactly these besides it, the atlas first

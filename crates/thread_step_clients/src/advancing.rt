@@ -1,7 +1,7 @@
 // The step of a locus over a table, by the cells that its plan names.
 ghost use Rattle.base_types.specs.declared.instructions.Instr.{Instr as AnInstr};
-ghost use Rattle.table_laws.specs.cell_plans.declared.plans.Reach.TheVariants as reach;
-ghost use Rattle.table_laws.specs.Steps.{IsPlannedAt};
+ghost use Rattle.thread_cell_steps.specs.table_laws.cell_plans.declared.plans.Reach.TheVariants as reach;
+ghost use Rattle.thread_cell_steps.specs.table_laws.Steps.{IsPlannedAt};
 ghost use Rattle.thread_cell_steps.specs.Advancing.{HasAdvanced, MayAdvance};
 
 use crate::lending::{lend_atlas, lend_both, lend_container, lend_locus, lend_other};
@@ -9,8 +9,7 @@ use base_types::{Entity, FIRST_CONTAINER, FIRST_LOCUS, Kind, MOST_CONTAINERS, MO
 use edge_managers::{Gate, Policy, Supplier};
 use page_store::PageStore;
 use table_births::atlas_of;
-use table_laws::{Cell, Plan, Reach, next_plan};
-use thread_steps::{Made, StepFault};
+use thread_cell_steps::{Cell, Made, Plan, Reach, StepFault, next_plan};
 
 /// The step that makes a container: with its cell where a number is free, else with the atlas alone.
 fn lend_made<'a, B: PageStore + 'a, S: Supplier, P: Policy>(

@@ -2,24 +2,23 @@
 ghost use Rattle.std.specs.Prelude.{◌≡◌, ◌↔◌, ℕ, List, Some, IfOk, IsErrOf, slice_get};
 ghost use Rattle.page_store.specs.declared.faults.PageFault.{PageFault as AFault};
 ghost use Rattle.page_store.specs.model_kernel.State.{Supply};
-ghost use Rattle.table_laws.specs.edge_disk.declared.disk.NoBlocks.{NoBlocks};
-ghost use Rattle.table_laws.specs.cell_plans.Plans.{idle_of};
-ghost use Rattle.table_laws.specs.cell_plans.declared.idle.Idle.{Idle as AnIdle};
-ghost use Rattle.table_laws.specs.Steps.{GoesOn, StaysAtFault};
-ghost use Rattle.table_laws.specs.Tables.{left_of, state_in, AreClean, AreFewWrites, IsOrderly};
-ghost use Rattle.kernel_core_facts.specs.table_steps.Wanting.{HasNext, IsStepShort};
-ghost use Rattle.kernel_core_facts.specs.kernel_record_facts.Cells.{words_on};
-ghost use Rattle.kernel_core_facts.specs.store_books.Books.{free_in, kept_names};
-ghost use Rattle.kernel_core_facts.specs.store_facts.State.{books};
+ghost use Rattle.thread_cell_steps.specs.table_laws.edge_disk.declared.disk.NoBlocks.{NoBlocks};
+ghost use Rattle.thread_cell_steps.specs.table_laws.cell_plans.Plans.{idle_of};
+ghost use Rattle.thread_cell_steps.specs.table_laws.cell_plans.declared.idle.Idle.{Idle as AnIdle};
+ghost use Rattle.thread_cell_steps.specs.table_laws.Steps.{GoesOn, StaysAtFault};
+ghost use Rattle.thread_cell_steps.specs.table_laws.Tables.{left_of, state_in, AreClean, AreFewWrites, IsOrderly};
+ghost use Rattle.thread_cell_steps.specs.table_steps.Wanting.{HasNext, IsStepShort};
+ghost use Rattle.kernel_core.specs.kernel_core_facts.kernel_record_facts.Cells.{words_on};
+ghost use Rattle.kernel_core.specs.kernel_core_facts.store_books.Books.{free_in, kept_names};
+ghost use Rattle.kernel_core.specs.kernel_core_facts.store_facts.State.{books};
 
 use crate::advancing::advance_lent;
 use base_types::Entity;
 use edge_disk::Disk;
 use edge_managers::{Gate, Policy, Supplier};
-use kernel_core_facts::Store;
+use kernel_core::Store;
 use page_store::PageFault;
-use table_laws::Cell;
-use thread_steps::{Made, StepFault};
+use thread_cell_steps::{Cell, Made, StepFault};
 
 /// One step of the locus with this number over the table and the store of an image. `Idle` and want of blocks come exactly where `advance`
 /// of `table_steps` tells them, and the step is the model's where the disk tells its content.

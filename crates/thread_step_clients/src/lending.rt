@@ -1,16 +1,15 @@
 // Cells of a table that are lent to a step, by whom it touches.
 ghost use Rattle.std.specs.Prelude.{◌≢◌, ◌∷◌, []};
 ghost use Rattle.base_types.specs.declared.instructions.Instr.{Instr as AnInstr};
-ghost use Rattle.table_laws.specs.cell_plans.declared.plans.Reach.TheVariants as reach;
-ghost use Rattle.table_laws.specs.Steps.{IsPlannedAt};
+ghost use Rattle.thread_cell_steps.specs.table_laws.cell_plans.declared.plans.Reach.TheVariants as reach;
+ghost use Rattle.thread_cell_steps.specs.table_laws.Steps.{IsPlannedAt};
 ghost use Rattle.thread_cell_steps.specs.Advancing.{HasAdvanced, MayAdvance};
 ghost use Rattle.thread_step_clients.specs.Naming.{TouchesNext, TouchesNone};
 
 use base_types::Entity;
 use edge_managers::{Gate, Policy, Supplier};
 use page_store::PageStore;
-use table_laws::Cell;
-use thread_steps::{Made, StepFault, step_cells};
+use thread_cell_steps::{Cell, Made, StepFault, step_cells};
 
 /// The step where the locus alone is touched, or where it can't step.
 pub(crate) fn lend_locus<'a, B: PageStore + 'a, S: Supplier, P: Policy>(

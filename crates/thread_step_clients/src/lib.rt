@@ -9,4 +9,4 @@ mod tests;
 
 pub use advancing::advance_lent;
 pub use images::advance_over_image;
-pub use thread_steps::{Made, StepFault};
+pub use thread_cell_steps::{Made, StepFault};

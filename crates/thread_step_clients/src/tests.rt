@@ -2,13 +2,13 @@
 ghost use Rattle.std.specs.Prelude.{◌≡◌, true, IfOk};
 ghost use Rattle.edge_managers.specs.Managers.{counted_word};
 ghost use Rattle.kernel_core.specs.Parts.{held_of};
-ghost use Rattle.kernel_core_facts.specs.Kernels.{IsKept, StaysClean};
-ghost use Rattle.kernel_core_facts.specs.model_births.Fitting.{Fits};
-ghost use Rattle.kernel_core_facts.specs.table_births.Births.{atlas_state_in};
+ghost use Rattle.kernel_core.specs.kernel_core_facts.Kernels.{IsKept, StaysClean};
+ghost use Rattle.kernel_core.specs.kernel_core_facts.model_births.Fitting.{Fits};
+ghost use Rattle.kernel_core.specs.kernel_core_facts.table_births.Births.{atlas_state_in};
 ghost use Rattle.script_types.specs.Scripts.{tables_of};
-ghost use Rattle.kernel_core_facts.specs.kernel_record_facts.Cells.{words_on};
-ghost use Rattle.kernel_core_facts.specs.store_facts.State.{books};
-ghost use Rattle.kernel_core_facts.specs.table_laws.Tables.{AreClean, AreFewWrites, IsOrderly};
+ghost use Rattle.kernel_core.specs.kernel_core_facts.kernel_record_facts.Cells.{words_on};
+ghost use Rattle.kernel_core.specs.kernel_core_facts.store_facts.State.{books};
+ghost use Rattle.thread_cell_steps.specs.table_laws.Tables.{AreClean, AreFewWrites, IsOrderly};
 
 use crate::images::advance_over_image;
 use base_types::{Answer, Entity, Reply};
@@ -22,8 +22,7 @@ use script_reading::read_script;
 use script_types::Script;
 use std::alloc::Global;
 use std::test::Fail;
-use table_laws::{Cell, Idle};
-use thread_steps::StepFault;
+use thread_cell_steps::{Cell, Idle, StepFault};
 
 /// Whether a script fits the names that are born.
 fn is_fit<D: Disk>(alloc: Global, kernel: &Kernel<D>, script: &Script) -> bool

@@ -43,4 +43,4 @@ returns-else-is_next g c =
     ]) in
     subst (λ t. HasCome g.D.Disk made c.args.lines.now c.args.which t st c.deliver.new.self) (sym c.is_ok.ensures.value)
     (came st c.deliver.new.self number c.deliver.result e.other e.counted made s (λ next. sym (ap (slice_get made) (place.1 next)) ∙ c.shipped-shipped.ensures) e.shut e.no_blocks e.untouched
-    g.D.Disk c.args.lines.now c.args.which c.in-Some.sent.place at place.1 ready (λ h. (e.write_fault h).1) e.no_read e.follows e.any_moment)
+    g.D.Disk c.args.lines.now c.args.which c.in-Some.sent.place at place.1 ready (λ h. (e.cause.write_fault h).1) e.cause.no_read e.follows e.any_moment)

@@ -1,6 +1,6 @@
 use Rattle.std.proofs.Common.{◌<◌, sym, ap, subst, ◌∙◌}
-use Rattle.kernel_core.specs.Parts.{held_of}
-use Rattle.kernel_core_facts.specs.Kernels.{IsKept}
+use Rattle.node_lending.specs.kernel_core.Parts.{held_of}
+use Rattle.node_lending.specs.kernel_core_facts.Kernels.{IsKept}
 use Rattle.node_newest.proofs.Behind.{HasReadNewest, has_read}
 use Rattle.node_newest.proofs.Lent.{kept_all}
 use Rattle.node_newest.proofs.asking.read_newest.Goals as goal

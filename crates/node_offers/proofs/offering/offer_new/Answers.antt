@@ -1,8 +1,8 @@
 use Rattle.std.proofs.Common.{◌≡◌, ◌<◌, ℕ, List, length-set, ap, sym, subst, ◌∙◌, arith}
 use Rattle.std.specs.Prelude.{slice_index}
-use Rattle.kernel_core.specs.kernel_book_laws.Matching.{newest_of}
-use Rattle.kernel_core.specs.kernel_commit_facts.Parts.{Noted}
-use Rattle.kernel_core.specs.kernel_core_facts.cell_states.declared.cells.Cell.{Cell}
+use Rattle.node_newest.specs.kernel_core.kernel_book_laws.Matching.{newest_of}
+use Rattle.node_newest.specs.kernel_core.kernel_commit_facts.Parts.{Noted}
+use Rattle.node_newest.specs.kernel_core.kernel_core_facts.cell_states.declared.cells.Cell.{Cell}
 use Rattle.node_offers.proofs.Known.{known_below, unknown_past}
 use Rattle.node_offers.proofs.Lent.{lent_then}
 use Rattle.node_offers.proofs.Offers.{more_then, new_all, new_front, newer_below, next_one}

@@ -1,12 +1,12 @@
 use Rattle.std.proofs.Common.{◌≡◌, ◌^◌, ◌<◌, ◌≤◌, ℕ, None, length, slice_index}
-use Rattle.kernel_core.specs.kernel_book_laws.Matching.{newest_of}
-use Rattle.kernel_core.specs.kernel_core_facts.Kernels.{Lives}
-use Rattle.kernel_run_facts.specs.Watching.{IsAsLent}
+use Rattle.node_newest.specs.kernel_core.kernel_book_laws.Matching.{newest_of}
+use Rattle.node_newest.specs.kernel_core.kernel_core_facts.Kernels.{Lives}
+use Rattle.node_newest.specs.kernel_run_facts.Watching.{IsAsLent}
 use Rattle.node_offers.proofs.Offers.{newer_below}
 use Rattle.node_offers.proofs.offering.offer_new.Given as goal
 use Rattle.node_offers.specs.Offering.{OffersMore, OffersNewest}
 use Rattle.node_world.specs.Worlds.{offered}
-use Rattle.node_shipments.specs.kernel_invariant.Beginnings.{Beginning}
+use Rattle.node_newest.specs.node_shipments.kernel_invariant.Beginnings.{Beginning}
 
 abbrev pub invariant-loop-number : goal.invariant-loop-number
 invariant-loop-number g l = record {

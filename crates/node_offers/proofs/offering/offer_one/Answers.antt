@@ -1,11 +1,11 @@
 use Rattle.std.proofs.Common.{◌≡◌, ℕ, List, refl, ap, subst, ◌∙◌, arith}
-use Rattle.kernel_core.specs.kernel_book_laws.Matching.{newest_of}
-use Rattle.kernel_core.specs.kernel_core_facts.cell_states.declared.cells.Cell.{Cell}
+use Rattle.node_newest.specs.kernel_core.kernel_book_laws.Matching.{newest_of}
+use Rattle.node_newest.specs.kernel_core.kernel_core_facts.cell_states.declared.cells.Cell.{Cell}
 use Rattle.model_new_commits.specs.model_run_rules.Newest.{newest_in}
 use Rattle.node_offers.proofs.Offers.{known_none, newer_same}
 use Rattle.node_offers.proofs.offering.offer_one.Goals as goal
 use Rattle.node_offers.specs.Offering.{OffersNewest, if_newer}
-use Rattle.node_shipments.specs.kernel_invariant.Beginnings.{completed}
+use Rattle.node_newest.specs.node_shipments.kernel_invariant.Beginnings.{completed}
 
 pub returns-in_ok-offer_newest-clause-told : goal.returns-in_ok-offer_newest-clause-told
 returns-in_ok-offer_newest-clause-told g c = λ told b lives.

@@ -3,7 +3,7 @@ use Rattle.std.specs.Prelude.{count_by, slice_index}
 use Rattle.std.proofs.lemmas.Bool.{lt-ltb, ltb-true}
 use Rattle.node_shipments.specs.kernel_invariant.model_cut_laws.Records.{is_rec_from}
 use Rattle.node_standby.proofs.Kept.{kept_many}
-use Rattle.store_snapshots.specs.store_facts.State.{books}
+use Rattle.kernel_views.specs.store_snapshots.store_facts.State.{books}
 use Rattle.node_standby.proofs.standby.has_room.Goals as goal
 
 pub returns : goal.returns

@@ -1,7 +1,7 @@
 use Rattle.std.proofs.Common.{sym, subst}
 use Rattle.edge_disk.specs.MemoryDisk.{memory_disks}
 use Rattle.edge_managers.specs.Managers.{counted_word}
-use Rattle.kernel_core.specs.kernel_core_facts.Kernels.{StaysClean}
+use Rattle.thread_looks.specs.kernel_core.kernel_core_facts.Kernels.{StaysClean}
 use Rattle.test_threads.proofs.runs.rounds_under_locks.Goals as goal
 
 pub looked_at_under_locks-requires : goal.looked_at_under_locks-requires

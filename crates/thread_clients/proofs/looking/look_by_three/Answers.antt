@@ -1,8 +1,8 @@
 use Rattle.std.proofs.Common.{ap, subst, ◌∙◌}
 use Rattle.std.specs.Prelude.{IfSome}
-use Rattle.kernel_core_facts.specs.kernel_commit_facts.Parts.{parts_of}
+use Rattle.thread_stables.specs.kernel_core_facts.kernel_commit_facts.Parts.{parts_of}
 use Rattle.thread_cells.specs.Locked.{Keeping}
-use Rattle.thread_looks.specs.Looking.{LooksAsSerial}
+use Rattle.thread_stables.specs.thread_looks.Looking.{LooksAsSerial}
 use Rattle.thread_clients.proofs.looking.look_by_three.Goals as goal
 
 pub returns-clause-looks : goal.returns-clause-looks

@@ -1,7 +1,7 @@
 use Rattle.std.proofs.Common.{◌≡◌, ◌++◌, ◌∷◌, ◌+◌, ℕ, List, [], Some, take, slice_get, sym, ap, ap₂, ◌∙◌, arith}
 use Rattle.std.proofs.lemmas.List.{take_more}
 use Rattle.std.proofs.lemmas.Option.{get_or_from_slice_get, slice_get_within}
-use Rattle.kernel_core.specs.declared.Cell.{Cell}
+use Rattle.thread_desk.specs.kernel_core.declared.Cell.{Cell}
 use Rattle.thread_cells.specs.Locked.{Keeping}
 use Rattle.thread_clients.proofs.parts.unlock_all.Goals as goal
 

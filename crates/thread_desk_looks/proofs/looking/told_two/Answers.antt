@@ -1,7 +1,7 @@
 use Rattle.std.proofs.Common.{[], ◌∷◌, ◌++◌, ap, ◌∙◌}
 use Rattle.thread_cells.specs.Locked.{Keeping}
-use Rattle.thread_commits.proofs.Lent.{same_two}
-use Rattle.kernel_core_facts.specs.kernel_commit_facts.Parts.{parts_of}
+use Rattle.thread_looks.proofs.thread_commits_lemmas.Lent.{same_two}
+use Rattle.thread_looks.specs.kernel_core_facts.kernel_commit_facts.Parts.{parts_of}
 use Rattle.thread_desk_looks.proofs.Told.{told_among, told_still}
 use Rattle.thread_desk_looks.proofs.looking.told_two.Goals as goal
 

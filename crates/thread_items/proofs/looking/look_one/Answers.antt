@@ -1,8 +1,8 @@
 use Rattle.std.proofs.Common.{◌≡◌, ◌++◌, ◌∷◌, [], Some, length, ap, ◌∙◌}
-use Rattle.kernel_core_facts.specs.kernel_invariant.declared.stopping.Stopped.{Stopped}
+use Rattle.thread_desk_stables.specs.kernel_core_facts.kernel_invariant.declared.stopping.Stopped.{Stopped}
 use Rattle.thread_board.specs.Sides.{Noting}
 use Rattle.thread_board.specs.declared.views.PassItem.{PassItem}
-use Rattle.thread_desk.specs.Desks.{Knowing}
+use Rattle.thread_desk_stables.specs.thread_desk.Desks.{Knowing}
 use Rattle.thread_items.specs.declared.items.LookItem.{LookItem}
 use Rattle.thread_items.proofs.Truths.{err_look, if_some, item_same, items_after, items_later}
 use Rattle.thread_items.proofs.looking.look_one.Goals as goal

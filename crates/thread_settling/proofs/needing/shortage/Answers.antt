@@ -1,5 +1,5 @@
-use Rattle.kernel_commit_facts.specs.Parts.{parts_of}
-use Rattle.kernel_commit_facts.proofs.Fitting.{none_fits}
+use Rattle.thread_commits.specs.kernel_commit_facts.Parts.{parts_of}
+use Rattle.thread_commits.proofs.kernel_commit_facts_lemmas.Fitting.{none_fits}
 use Rattle.thread_settling.proofs.needing.shortage.Goals as goal
 
 pub returns-clause-some : goal.returns-clause-some

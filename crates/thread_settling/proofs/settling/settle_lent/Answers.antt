@@ -1,4 +1,4 @@
-use Rattle.kernel_commit_facts.specs.Parts.{parts_of}
+use Rattle.thread_commits.specs.kernel_commit_facts.Parts.{parts_of}
 use Rattle.thread_settling.proofs.Settled.{fails_settled, settled}
 use Rattle.thread_settling.proofs.settling.settle_lent.Goals as goal
 

@@ -5,6 +5,9 @@ use Rattle.thread_looks.proofs.After.{snaps_behind}
 use Rattle.thread_stables.proofs.Settled.{stable_behind}
 use Rattle.thread_stables.proofs.behind.keep_behind.Goals as goal
 
+pub settle_lent-requires-clause-lawful : goal.settle_lent-requires-clause-lawful
+settle_lent-requires-clause-lawful g c = λ i k is. tt
+
 pub returns-then-owes_stable-clause-keeps : goal.returns-then-owes_stable-clause-keeps
 returns-then-owes_stable-clause-keeps g c =
     let d = g.D.Disk in

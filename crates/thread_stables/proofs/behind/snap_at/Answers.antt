@@ -1,6 +1,6 @@
 use Rattle.std.proofs.Common.{[], ◌∷◌, map, refl, sym, subst}
 use Rattle.std.specs.Sync.Mutex.{mutex_guard_value}
-use Rattle.thread_commits.specs.Snapping.{WritesAmong}
+use Rattle.thread_settling.specs.thread_commits.Snapping.{WritesAmong}
 use Rattle.thread_settling.proofs.Lent.{seats_back}
 use Rattle.thread_stables.proofs.Seats.{lent_at, same_seats}
 use Rattle.thread_stables.proofs.behind.snap_at.Goals as goal

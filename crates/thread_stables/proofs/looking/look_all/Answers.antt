@@ -4,8 +4,8 @@ use Rattle.kernel_core_facts.specs.kernel_commit_facts.Parts.{parts_of}
 use Rattle.kernel_core_facts.specs.kernel_commit_facts.Steady.{entries_taken, steps_to_come}
 use Rattle.kernel_core_facts.specs.Stepping.{HasStepped}
 use Rattle.kernel_core_facts.specs.table_steps.declared.stepping.Made.{Made as Step}
-use Rattle.thread_cell_steps.specs.Advancing.{TouchesThese}
-use Rattle.thread_commits.specs.Snapping.{WritesAmong}
+use Rattle.thread_looks.specs.thread_cell_steps.Advancing.{TouchesThese}
+use Rattle.thread_settling.specs.thread_commits.Snapping.{WritesAmong}
 use Rattle.thread_looks.proofs.Ends.{if_made, if_same, some_not}
 use Rattle.thread_stables.proofs.Seats.{seats_then}
 use Rattle.thread_stables.proofs.looking.look_all.Goals as goal

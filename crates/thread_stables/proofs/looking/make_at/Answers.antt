@@ -3,7 +3,7 @@ use Rattle.std.specs.Prelude.{◌↔◌, IfOk, IfSome}
 use Rattle.std.specs.Sync.Mutex.{mutex_guard_value}
 use Rattle.kernel_core_facts.specs.Looked.{IfMade, StepsOnce}
 use Rattle.kernel_core_facts.specs.kernel_commit_facts.Parts.{parts_of}
-use Rattle.thread_cell_steps.specs.Advancing.{TouchesThese, WantsOthers}
+use Rattle.thread_looks.specs.thread_cell_steps.Advancing.{TouchesThese, WantsOthers}
 use Rattle.thread_settling.proofs.Lent.{row_back, seats_back}
 use Rattle.thread_stables.proofs.Seats.{lent_at, same_seats}
 use Rattle.thread_stables.proofs.looking.make_at.Goals as goal

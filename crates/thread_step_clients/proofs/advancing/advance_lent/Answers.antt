@@ -1,8 +1,8 @@
 use Rattle.std.proofs.Common.{◌≡◌, get_or, slice_get, Some, refl, sym, ap, subst, ◌∙◌, inl, inr, arith}
 use Rattle.std.proofs.lemmas.Option.{slice_get-get_or}
-use Rattle.table_laws.specs.cell_plans.Plans.{IsPlanned}
-use Rattle.table_laws.specs.cell_plans.declared.plans.Reach.TheVariants as reach
-use Rattle.table_laws.proofs.Facing.{ready_at}
+use Rattle.thread_cell_steps.specs.table_laws.cell_plans.Plans.{IsPlanned}
+use Rattle.thread_cell_steps.specs.table_laws.cell_plans.declared.plans.Reach.TheVariants as reach
+use Rattle.thread_cell_steps.proofs.table_laws_lemmas.Facing.{ready_at}
 use Rattle.thread_cell_steps.proofs.Touching.{directory_in}
 use Rattle.thread_step_clients.proofs.advancing.advance_lent.Goals as goal
 

@@ -1,5 +1,5 @@
 use Rattle.std.proofs.Common.{[], ◌∷◌, sym, ap, ◌∙◌}
-use Rattle.table_laws.specs.cell_plans.declared.plans.Reach.TheVariants as reach
+use Rattle.thread_cell_steps.specs.table_laws.cell_plans.declared.plans.Reach.TheVariants as reach
 use Rattle.thread_cell_steps.proofs.Touching.{directory_in}
 use Rattle.thread_step_clients.proofs.advancing.lend_beside.Goals as goal
 

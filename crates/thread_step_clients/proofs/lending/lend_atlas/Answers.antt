@@ -1,5 +1,5 @@
 use Rattle.std.proofs.Common.{◌≡◌, ◌++◌, get_or, slice_get, slice_set, Some, sym, ap, ◌∙◌, arith}
-use Rattle.table_laws.proofs.Places.{read_back, read_front}
+use Rattle.thread_cell_steps.proofs.table_laws_lemmas.Places.{read_back, read_front}
 use Rattle.thread_step_clients.proofs.Back.{back_high}
 use Rattle.thread_step_clients.proofs.Named.{atlas_done, atlas_may, locus_some}
 use Rattle.thread_step_clients.proofs.lending.lend_atlas.Goals as goal

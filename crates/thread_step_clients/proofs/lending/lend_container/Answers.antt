@@ -1,6 +1,6 @@
 use Rattle.std.proofs.Common.{◌≡◌, ◌<◌, ◌++◌, get_or, slice_get, slice_set, Some, sym, ap, ◌∙◌, arith}
-use Rattle.table_laws.proofs.Places.{read_back, read_front}
-use Rattle.table_steps.proofs.FacingLook.{look_below}
+use Rattle.thread_cell_steps.proofs.table_laws_lemmas.Places.{read_back, read_front}
+use Rattle.thread_cell_steps.proofs.table_steps_lemmas.FacingLook.{look_below}
 use Rattle.thread_step_clients.proofs.Back.{back_high}
 use Rattle.thread_step_clients.proofs.Named.{look_done, look_may}
 use Rattle.thread_step_clients.proofs.lending.lend_container.Goals as goal

@@ -1,5 +1,5 @@
 use Rattle.std.proofs.Common.{◌≡◌, ◌<◌, ◌++◌, get_or, slice_get, slice_set, Some, sym, ap, ◌∙◌, arith}
-use Rattle.table_laws.proofs.Places.{read_back, read_front}
+use Rattle.thread_cell_steps.proofs.table_laws_lemmas.Places.{read_back, read_front}
 use Rattle.thread_step_clients.proofs.Back.{above, back_high, back_low}
 use Rattle.thread_step_clients.proofs.Named.{beside_apart, other_done, other_may}
 use Rattle.thread_step_clients.proofs.lending.lend_other.Goals as goal

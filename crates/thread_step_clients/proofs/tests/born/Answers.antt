@@ -1,6 +1,6 @@
 use Rattle.std.proofs.Common.{sym, subst}
 use Rattle.edge_managers.specs.Managers.{counted_word}
-use Rattle.kernel_core_facts.specs.Kernels.{StaysClean}
+use Rattle.kernel_core.specs.kernel_core_facts.Kernels.{StaysClean}
 use Rattle.thread_step_clients.proofs.tests.born.Goals as goal
 
 pub returns-clause-clean : goal.returns-clause-clean

@@ -1,7 +1,7 @@
 use Rattle.edge_managers.specs.Managers.{counted_word}
-use Rattle.kernel_core_facts.specs.kernel_record_facts.Cells.{words_on}
-use Rattle.kernel_core_facts.specs.store_facts.State.{books}
-use Rattle.kernel_core_facts.specs.table_laws.Tables.{AreClean, IsOrderly}
+use Rattle.kernel_core.specs.kernel_core_facts.kernel_record_facts.Cells.{words_on}
+use Rattle.kernel_core.specs.kernel_core_facts.store_facts.State.{books}
+use Rattle.thread_cell_steps.specs.table_laws.Tables.{AreClean, IsOrderly}
 use Rattle.thread_step_clients.proofs.tests.steps.Given as goal
 
 abbrev pub invariant-loop : goal.invariant-loop

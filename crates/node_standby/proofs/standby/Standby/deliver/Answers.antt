@@ -14,14 +14,14 @@ use Rattle.node_standby.proofs.Taking.{failed_follows, failed_moments, stays, ta
 use Rattle.node_standby.specs.Following.{Follows, IsImageBetween, most_in}
 use Rattle.node_standby.specs.Standing.{Standing}
 use Rattle.node_world.specs.Worlds.{is_next}
-use Rattle.store_snapshots.specs.declared.faults.StoreFault.{StoreFault}
-use Rattle.store_snapshots.specs.declared.faults.StoreFault.TheVariants as fault
-use Rattle.store_snapshots.specs.store_facts.State.{books}
-use Rattle.store_snapshots.specs.store_facts.image_facts.Bodies.{blocks_for}
+use Rattle.kernel_views.specs.store_snapshots.declared.faults.StoreFault.{StoreFault}
+use Rattle.kernel_views.specs.store_snapshots.declared.faults.StoreFault.TheVariants as fault
+use Rattle.kernel_views.specs.store_snapshots.store_facts.State.{books}
+use Rattle.kernel_views.specs.store_snapshots.store_facts.image_facts.Bodies.{blocks_for}
 use Rattle.node_standby.proofs.standby.Standby.deliver.Goals as goal
 
 -- the shipment, from its parts
-same_parts : (s : Shipment) (entity version : ℕ) (stamp : List ℕ) (part : Rattle.node_shipments.specs.declared.parts.ShipPart.ShipPart) (pages : List Rattle.node_store.specs.page_placing.declared.writing.PageWords.PageWords)
+same_parts : (s : Shipment) (entity version : ℕ) (stamp : List ℕ) (part : Rattle.node_shipments.specs.declared.parts.ShipPart.ShipPart) (pages : List Rattle.node_shipments.specs.node_store.page_placing.declared.writing.PageWords.PageWords)
     → entity ≡ s.entity → version ≡ s.version → stamp ≡ s.stamp → part ≡ s.part → pages ≡ s.pages → shipment_of entity version stamp part pages ≡ s
 same_parts s entity version stamp part pages e v st p ps = λ i. record { entity = e i; version = v i; stamp = st i; part = p i; pages = ps i }
 

@@ -1,7 +1,7 @@
 use Rattle.std.proofs.Common.{◌≡◌, ◌≤◌, List, [], ◌∷◌, length, Result, Ok, Err, IfOk, refl, subst, arith, rules}
 use Rattle.base_types.specs.declared.records.Rec.{Rec}
 use Rattle.edge_disk.specs.Image.{Image}
-use Rattle.store_snapshots.specs.store_facts.image_blocks.Logs.{HasRecords}
+use Rattle.kernel_views.specs.store_snapshots.store_facts.image_blocks.Logs.{HasRecords}
 use Rattle.node_standby.proofs.standby.Standby.open.Goals as goal
 
 any_ok : {T E : Type 0} {P : Type 0} (r : Result T E) → P → IfOk r (λ _. P)

@@ -1,10 +1,10 @@
 use Rattle.std.proofs.Common.{◌≡◌, Option, None, sym, ap, subst, ◌∙◌}
 use Rattle.std.specs.Prelude.{IfSome}
-use Rattle.kernel_core_facts.specs.Kernels.{Held, IsKept, Lives, NotesAlong, StaysClean}
-use Rattle.kernel_core_facts.specs.kernel_commit_facts.Parts.{Parts, parts_of}
-use Rattle.kernel_core_facts.specs.kernel_invariant.Beginnings.{run_of}
-use Rattle.kernel_core_facts.specs.kernel_invariant.declared.stopping.Stopped.{Stopped}
-use Rattle.kernel_core_facts.specs.model_serial.Serial.{look}
+use Rattle.thread_stables.specs.kernel_core_facts.Kernels.{Held, IsKept, Lives, NotesAlong, StaysClean}
+use Rattle.thread_stables.specs.kernel_core_facts.kernel_commit_facts.Parts.{Parts, parts_of}
+use Rattle.thread_stables.specs.kernel_core_facts.kernel_invariant.Beginnings.{run_of}
+use Rattle.thread_stables.specs.kernel_core_facts.kernel_invariant.declared.stopping.Stopped.{Stopped}
+use Rattle.thread_stables.specs.kernel_core_facts.model_serial.Serial.{look}
 use Rattle.thread_clients.proofs.Looked.{clean_after, held, kept_after, lives_after, notes_after}
 use Rattle.thread_clients.proofs.kernels.LentKernel.look.Goals as goal
 

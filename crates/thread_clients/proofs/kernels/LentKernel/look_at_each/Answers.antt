@@ -1,8 +1,8 @@
 use Rattle.std.proofs.Common.{◌≡◌, ◌++◌, ◌∷◌, ◌+◌, ℕ, List, [], Err, Some, length, take, append_assoc, refl, sym, ap, subst, ◌∙◌, arith}
 use Rattle.std.proofs.lemmas.List.{append-nil, take_all, take_more}
-use Rattle.kernel_core_facts.specs.Kernels.{NotesAlong}
-use Rattle.kernel_core_facts.specs.kernel_invariant.Beginnings.{run_of}
-use Rattle.kernel_core_facts.specs.model_serial.Serial.{look}
+use Rattle.thread_stables.specs.kernel_core_facts.Kernels.{NotesAlong}
+use Rattle.thread_stables.specs.kernel_core_facts.kernel_invariant.Beginnings.{run_of}
+use Rattle.thread_stables.specs.kernel_core_facts.model_serial.Serial.{look}
 use Rattle.thread_clients.specs.Running.{IsBehindLooks}
 use Rattle.thread_clients.proofs.Looked.{behind_next, if_made, not_made}
 use Rattle.thread_clients.proofs.kernels.LentKernel.look_at_each.Goals as goal

@@ -1,6 +1,6 @@
 use Rattle.std.proofs.Common.{◌≡◌, ◌++◌, ℕ, List, take}
-use Rattle.kernel_core_facts.specs.Kernels.{StaysClean}
-use Rattle.kernel_core_facts.specs.kernel_invariant.Beginnings.{Beginning}
+use Rattle.thread_stables.specs.kernel_core_facts.Kernels.{StaysClean}
+use Rattle.thread_stables.specs.kernel_core_facts.kernel_invariant.Beginnings.{Beginning}
 use Rattle.thread_clients.specs.Running.{IsBehindLooks}
 use Rattle.thread_clients.proofs.kernels.LentKernel.look_at_each.Given as goal
 

@@ -1,7 +1,7 @@
 use Rattle.std.proofs.Common.{◌≡◌, List, sym, ap, subst, ◌∙◌}
-use Rattle.kernel_core.specs.Parts.{held_of}
-use Rattle.kernel_core_facts.specs.Kernels.{Held, IsKept}
-use Rattle.kernel_core_facts.specs.cell_states.declared.cells.Cell.{Cell}
+use Rattle.thread_desk.specs.kernel_core.Parts.{held_of}
+use Rattle.thread_stables.specs.kernel_core_facts.Kernels.{Held, IsKept}
+use Rattle.thread_stables.specs.kernel_core_facts.cell_states.declared.cells.Cell.{Cell}
 use Rattle.thread_clients.proofs.kernels.LentKernel.of.Goals as goal
 
 pub invariant_of-result : goal.invariant_of-result

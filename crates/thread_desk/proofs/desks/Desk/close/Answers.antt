@@ -1,7 +1,7 @@
 use Rattle.std.proofs.Common.{List, sym, ap, subst}
 use Rattle.base_types.specs.declared.histories.Entry.{Entry}
-use Rattle.kernel_core_facts.specs.cell_states.declared.cells.Cell.{Cell}
-use Rattle.kernel_core_facts.specs.store_facts.State.{State}
+use Rattle.kernel_core.specs.kernel_core_facts.cell_states.declared.cells.Cell.{Cell}
+use Rattle.kernel_core.specs.kernel_core_facts.store_facts.State.{State}
 use Rattle.thread_desk.specs.Desks.{IsKernel, Knowing, knowing}
 use Rattle.thread_desk.proofs.Hearing.{with_store}
 use Rattle.thread_desk.proofs.desks.Desk.close.Goals as goal

@@ -1,8 +1,8 @@
 use Rattle.std.proofs.Common.{◌≡◌, ◌++◌, sym, subst}
-use Rattle.kernel_core_facts.specs.kernel_invariant.Beginnings.{state_after}
-use Rattle.kernel_core_facts.specs.kernel_record_facts.Cells.{words_on}
-use Rattle.kernel_core_facts.specs.store_facts.State.{State}
-use Rattle.kernel_core_facts.specs.table_laws.Tables.{entity_by}
+use Rattle.kernel_core.specs.kernel_core_facts.kernel_invariant.Beginnings.{state_after}
+use Rattle.kernel_core.specs.kernel_core_facts.kernel_record_facts.Cells.{words_on}
+use Rattle.kernel_core.specs.kernel_core_facts.store_facts.State.{State}
+use Rattle.kernel_core.specs.kernel_core_facts.table_laws.Tables.{entity_by}
 use Rattle.thread_desk.specs.Sights.{IsSighted, Sighted, sighted}
 use Rattle.thread_desk.proofs.Hearing.{heard, known_cells, same_desk, with_store}
 use Rattle.thread_desk.proofs.desks.Desk.hear.Goals as goal

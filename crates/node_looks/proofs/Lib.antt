@@ -1,0 +1,3 @@
+mod Flags
+pub mod Looks
+mod Opened
