@@ -18,7 +18,7 @@ use Rattle.kernel_core.specs.kernel_core_facts.table_laws.Tables.{entity_by, ent
 use Rattle.table_laws.proofs.Facing.{ready_at}
 use Rattle.table_laws.proofs.plain_states_lemmas.CellLemmas.{slice_get-set_same}
 use Rattle.thread_history.specs.Rules.{concerning}
-use Rattle.thread_desk.specs.Desks.{IsDesk, IsKernel, knowing}
+use Rattle.thread_desk.specs.Desks.{Terms, IsDesk, IsKernel, knowing}
 use Rattle.thread_desk.specs.Sights.{AreKnown, IsSighted}
 
 -- WHAT THE LAW OF KNOWN STATES SAYS
@@ -26,30 +26,30 @@ abbrev pub KnownLaw : Type 0
 KnownLaw = (s : Supply) (policy : Policy) (script : Script) (w : KernelState) (kept es hs : List Entry) (x : ℕ) → IsPrefix es hs → concerning writes x es ≡ concerning writes x hs
     → IsLegalRun s policy w script (kept ++ hs) → after (event_of s script) w (kept ++ hs) x ≡ after (event_of s script) w (kept ++ es) x
 
-module _ {D : Type 0} (disks : Ghosts D) (b : Beginning) (kept : List Entry) where
+module _ {D : Type 0} (disks : Ghosts D) (b : Beginning) (terms : Terms) (kept : List Entry) where
   -- the same lists are the same desk
   pub same_desk : (ss xs : List (State D)) (cs ys : List Cell) (n : Noted) (es fs : List Entry) (stop : Option Stopped) → xs ≡ ss → ys ≡ cs → fs ≡ es
-      → IsDesk disks b kept (knowing ss cs n es stop) → IsDesk disks b kept (knowing xs ys n fs stop)
+      → IsDesk disks b terms kept (knowing ss cs n es stop) → IsDesk disks b terms kept (knowing xs ys n fs stop)
   same_desk ss xs cs ys n es fs stop stores cells told k =
-      subst (λ l. IsDesk disks b kept (knowing l ys n fs stop)) (sym stores)
-      (subst (λ l. IsDesk disks b kept (knowing ss l n fs stop)) (sym cells)
-      (subst (λ l. IsDesk disks b kept (knowing ss cs n l stop)) (sym told) k))
+      subst (λ l. IsDesk disks b terms kept (knowing l ys n fs stop)) (sym stores)
+      (subst (λ l. IsDesk disks b terms kept (knowing ss l n fs stop)) (sym cells)
+      (subst (λ l. IsDesk disks b terms kept (knowing ss cs n l stop)) (sym told) k))
 
   -- the desk's kernel over the store that a till has
   pub with_store : (ss : List (State D)) (cs : List Cell) (n : Noted) (es : List Entry) (stop : Option Stopped) (number : ℕ) (value : Option (State D)) (st : State D)
-      → number ≡ 0 → value ≡ Some st → slice_get ss number ≡ value → IsDesk disks b kept (knowing ss cs n es stop) → IsKernel disks b kept (knowing ss cs n es stop) st
+      → number ≡ 0 → value ≡ Some st → slice_get ss number ≡ value → IsDesk disks b terms kept (knowing ss cs n es stop) → IsKernel disks b terms kept (knowing ss cs n es stop) st
   with_store ss cs n es stop number value st zero is agreed k = k st (ap (slice_get ss) (sym zero) ∙ (agreed ∙ is))
 
-  module _ (ss : List (State D)) (cs : List Cell) (n : Noted) (es : List Entry) (stop : Option Stopped) (st : State D) (k : IsKernel disks b kept (knowing ss cs n es stop) st) where
+  module _ (ss : List (State D)) (cs : List Cell) (n : Noted) (es : List Entry) (stop : Option Stopped) (st : State D) (k : IsKernel disks b terms kept (knowing ss cs n es stop) st) where
     -- the cells are what the whole history makes
-    pub known_cells : AreKnown disks b kept st cs es
+    pub known_cells : AreKnown disks terms.told b kept st cs es
     known_cells = record {
       order = record { held = (books st).held; orderly = k.is_kept.orderly };
       state = λ told x. ap (λ (w : KernelState). w x) (k.lives told).live.running.follows.state ∙ ap (λ fs. state_after b fs x) k.entries;
     }
 
     -- a cell is what the history that its share knows makes of its entity
-    pub heard : (known : List Entry) (x : ℕ) (a : Cell) → disks.tells → slice_get cs x ≡ Some a → IsPrefix known es → concerning writes x known ≡ concerning writes x es → KnownLaw
+    pub heard : (known : List Entry) (x : ℕ) (a : Cell) → terms.told → slice_get cs x ≡ Some a → IsPrefix known es → concerning writes x known ≡ concerning writes x es → KnownLaw
         → entity_by b.supply (words_on (disks.reading st.disk)) a ≡ state_after b (kept ++ known) x
     heard known x a told at begins quiet law =
         let legal = subst (IsLegal b) k.entries (k.lives told).live.running.legal in
@@ -57,13 +57,13 @@ module _ {D : Type 0} (disks : Ghosts D) (b : Beginning) (kept : List Entry) whe
         ∙ (known_cells.state told x
         ∙ law b.supply b.policy b.script b.state kept known es x begins quiet legal)
 
-  -- a cell that is known may be let go
-  pub sight : (st : State D) (cs : List Cell) (es : List Entry) (x : ℕ) (a : Cell) → AreKnown disks b kept st cs es → slice_get cs x ≡ Some a
-      → IsSighted disks b kept (record { number = x; cell = a; known = es; store = st })
-  sight st cs es x a known at = record {
-    state = λ told. sym (ap (entity_in b.supply (words_on (disks.reading st.disk)) x) at) ∙ known.state told x;
-    ready = λ l is. ready_at known.order.held cs known.order.orderly x a l at is;
-  }
+-- a cell that is known may be let go
+pub sight : {D : Type 0} (disks : Ghosts D) (spoken : Type 0) (b : Beginning) (kept : List Entry) (st : State D) (cs : List Cell) (es : List Entry) (x : ℕ) (a : Cell) → AreKnown disks spoken b kept st cs es → slice_get cs x ≡ Some a
+    → IsSighted disks spoken b kept (record { number = x; cell = a; known = es; store = st })
+sight disks spoken b kept st cs es x a known at = record {
+  state = λ told. sym (ap (entity_in b.supply (words_on (disks.reading st.disk)) x) at) ∙ known.state told x;
+  ready = λ l is. ready_at known.order.held cs known.order.orderly x a l at is;
+}
 
 -- the store that was put back is the one that is known
 pub put_store : {A : Type 0} (ss ts xs : List A) (number : ℕ) (was now z : A) → xs ≡ slice_set ts number now → ts ≡ ss → number ≡ 0 → slice_get ss 0 ≡ Some was → slice_get xs 0 ≡ Some z → z ≡ now

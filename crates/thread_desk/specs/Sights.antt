@@ -25,12 +25,12 @@ abbrev pub sighted : {D : Type 0} → Keeping → State D → Sighted D
 sighted k st = record { number = k.number; cell = k.cell; known = k.known; store = st }
 
 -- THE ENTITY IS EXACTLY WHAT THE KNOWN FRONT OF THE HISTORY MAKES IT: its state, version and clock, with the words in the blocks of that store,
--- where the disk tells its content. A locus can be asked for its next act
-pub record IsSighted {D : Type 0} (disks : Ghosts D) (b : Beginning) (kept : List Entry) (s : Sighted D) : Type 0 where
-  pub state : disks.tells → entity_by b.supply (words_on (disks.reading s.store.disk)) s.cell ≡ state_after b (kept ++ s.known) s.number
+-- where the run is spoken of. A locus can be asked for its next act
+pub record IsSighted {D : Type 0} (disks : Ghosts D) (spoken : Type 0) (b : Beginning) (kept : List Entry) (s : Sighted D) : Type 0 where
+  pub state : spoken → entity_by b.supply (words_on (disks.reading s.store.disk)) s.cell ≡ state_after b (kept ++ s.known) s.number
   pub ready : (l : Locus) → s.cell.part ≡ part.Locus (Some l) → IsReadyLocus (locus_of l)
 
--- the cells are in order, and where the disk tells its content they are what the whole history makes of all entities
-pub record AreKnown {D : Type 0} (disks : Ghosts D) (b : Beginning) (kept : List Entry) (st : State D) (cs : List Cell) (told : List Entry) : Type 0 where
+-- the cells are in order, and where the run is spoken of they are what the whole history makes of all entities
+pub record AreKnown {D : Type 0} (disks : Ghosts D) (spoken : Type 0) (b : Beginning) (kept : List Entry) (st : State D) (cs : List Cell) (told : List Entry) : Type 0 where
   pub order : IsInOrder cs
-  pub state : disks.tells → (x : ℕ) → state_in b.supply (words_on (disks.reading st.disk)) cs x ≡ state_after b (kept ++ told) x
+  pub state : spoken → (x : ℕ) → state_in b.supply (words_on (disks.reading st.disk)) cs x ≡ state_after b (kept ++ told) x

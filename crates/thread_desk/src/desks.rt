@@ -39,7 +39,7 @@ impl<D: Disk, B: Board<D>> Model for Desk<D, B> {
 
     ghost view = { λ d. knowing d.stores d.cells d.notes d.annals d.stopped };
 
-    ghost invariant = { λ d. IsDesk D.Disk B.begin B.kept (knowing d.stores d.cells d.notes d.annals d.stopped) };
+    ghost invariant = { λ d. IsDesk D.Disk B.begin B.terms B.kept (knowing d.stores d.cells d.notes d.annals d.stopped) };
 }
 
 /// What is left of a desk: its sides, to which shares and fragments come back, and the parts of a kernel that are not cells.
@@ -63,7 +63,7 @@ impl<D: Disk, B: Board<D>> Desk<D, B> {
         blob: Blob,
         stopped: Option<Stopped>,
     ) -> Desk<D, B>
-        requires kernel { IsDesk D.Disk B.begin B.kept (knowing stores cells notes annals stopped) }
+        requires kernel { IsDesk D.Disk B.begin B.terms B.kept (knowing stores cells notes annals stopped) }
         ensures { result ≡ knowing stores cells notes annals stopped }
     {
         Desk {
@@ -98,7 +98,7 @@ impl<D: Disk, B: Board<D>> Desk<D, B> {
         ensures cell { cell.new ≡ record { number = cell.old.number; cell = cell.old.cell; known = self.old.told; store = till.old } }
         ensures begins { IsPrefix cell.old.known self.old.told }
         ensures unwritten { concerning writes cell.old.number cell.old.known ≡ concerning writes cell.old.number self.old.told }
-        ensures state { D.tells → entity_by B.begin.supply (words_on (D.reading till.old.disk)) cell.old.cell ≡ state_after B.begin (B.kept ++ cell.old.known) cell.old.number }
+        ensures state { B.terms.told → entity_by B.begin.supply (words_on (D.reading till.old.disk)) cell.old.cell ≡ state_after B.begin (B.kept ++ cell.old.known) cell.old.number }
     {
         known_state_law();
         self.stores.agree(&mut till.fragment);
@@ -124,7 +124,7 @@ impl<D: Disk, B: Board<D>> Desk<D, B> {
 
     /// The desk's sides, and with the store from its lock the parts of a kernel that are not cells: with the cells that were known they are one.
     pub fn close(self, till: Till<D, B>) -> Closed<D, B>
-        ensures kernel { IsKernel D.Disk B.begin B.kept (knowing self.stores result.cells.values result.notes result.annals.since result.stopped) result.store }
+        ensures kernel { IsKernel D.Disk B.begin B.terms B.kept (knowing self.stores result.cells.values result.notes result.annals.since result.stopped) result.store }
         ensures cells { (result.cells.values ≡ self.cells) × (result.cells.back ≡ []) }
         ensures history { (result.annals.since ≡ self.told) × (result.annals.back ≡ []) }
         ensures parts { (result.store ≡ till) × (result.notes ≡ self.noted) × (result.stopped ≡ self.stop) }

@@ -6,14 +6,18 @@ use std::marker::{Brand, PhantomData};
 use thread_history::Run;
 use thread_ties::Bond;
 
-/// Names a board: its history and the tie of its cells, the run, and the tie of its store. Each call of a program picks it.
+/// Names a board: its history and the tie of its cells, the run with what was counted as it began, and the tie of its store. Each call of a program
+/// picks it.
 pub trait Board<D: Disk>: Bond<Cell> + Run<Entry> {
     ghost use Rattle.std.specs.Prelude.{List};
     ghost use Rattle.atomic_table.specs.Seated.{TableId};
     ghost use Rattle.kernel_core.specs.kernel_core_facts.kernel_invariant.Beginnings.{Beginning};
     ghost use Rattle.kernel_core.specs.kernel_core_facts.store_facts.State.{State};
+    ghost use Rattle.thread_desk.specs.Desks.{Terms};
 
     ghost begin: { Beginning };
+
+    ghost terms: { Terms };
 
     ghost store_table: { TableId };
 
@@ -23,9 +27,11 @@ pub trait Board<D: Disk>: Bond<Cell> + Run<Entry> {
 impl<D: Disk> Board<D> for Brand {
     ghost use Rattle.std.specs.Prelude.{[]};
     ghost use Rattle.thread_history.specs.Sides.{no_table};
-    ghost use Rattle.thread_desk.specs.Desks.{no_beginning};
+    ghost use Rattle.thread_desk.specs.Desks.{no_beginning, no_terms};
 
     ghost begin = { no_beginning };
+
+    ghost terms = { no_terms };
 
     ghost store_table = { no_table };
 

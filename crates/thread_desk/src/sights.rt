@@ -50,7 +50,7 @@ impl<D: Disk, B: Board<D>> Model for SightedCell<D, B> {
 
     ghost view = { λ s. sighted s.locked s.seen.value };
 
-    ghost invariant = { λ s. IsSighted D.Disk B.begin B.kept (sighted s.locked s.seen.value) };
+    ghost invariant = { λ s. IsSighted D.Disk B.terms.told B.begin B.kept (sighted s.locked s.seen.value) };
 }
 
 impl<D: Disk, B: Board<D>> SightedCell<D, B> {
@@ -79,14 +79,14 @@ pub fn hear_lent<D: Disk, B: Board<D>>(
     store: &Store<D>,
     cell: &mut LockedCell<B>,
 ) -> Snapshot<Store<D>>
-    requires known { AreKnown D.Disk B.begin B.kept store.now all.old annals.old }
+    requires known { AreKnown D.Disk B.terms.told B.begin B.kept store.now all.old annals.old }
     ensures same { (all.new ≡ all.old) × (annals.new ≡ annals.old) }
     ensures cell { cell.new ≡ record { number = cell.old.number; cell = cell.old.cell; known = annals.old } }
     ensures stands { slice_get all.old cell.old.number ≡ Some cell.old.cell }
     ensures begins { IsPrefix cell.old.known annals.old }
     ensures unwritten { concerning writes cell.old.number cell.old.known ≡ concerning writes cell.old.number annals.old }
     ensures seen { result.value ≡ store.now }
-    ensures sighted { IsSighted D.Disk B.begin B.kept (sighted cell.new store.now) }
+    ensures sighted { IsSighted D.Disk B.terms.told B.begin B.kept (sighted cell.new store.now) }
 {
     cell.meet(all);
     annals.note(&mut cell.share);

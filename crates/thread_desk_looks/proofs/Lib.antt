@@ -1,3 +1,4 @@
+pub mod Counted
 pub mod Items
 pub mod Looked
 pub mod Told

@@ -33,7 +33,7 @@ pub fn look_one<D: Disk, B: Board<D>, S: Supplier, P: Policy>(
     ensures undone { result ≡ None → (desk.new ≡ desk.old) × (till.new ≡ till.old) }
     ensures looks { desk.old.stop ≡ None → IfSome result (LooksAsSerial D.Disk (S.word gate.now.supply) (P.wish gate.now.policy) locus.old.number (parts_of till.old desk.old.cells desk.old.noted) (parts_of till.new desk.new.cells desk.new.noted)) }
     ensures stop { desk.old.stop ≡ None → desk.new.stop ≡ stop_in result }
-    ensures item { IfSome result (IsTrueOf D.tells B.begin locus.old.number (length desk.old.noted.entries) desk.new.noted.entries) }
+    ensures item { IfSome result (IsTrueOf B.terms.told B.begin locus.old.number (length desk.old.noted.entries) desk.new.noted.entries) }
     ensures notes { NotesLook locus.old.number (locus.old.number ∷ []) desk.old.noted.entries desk.new.noted.entries }
     ensures others { OthersStay (locus.old.number ∷ []) desk.old.cells desk.new.cells }
     ensures numbers { locus.new.number ≡ locus.old.number }
@@ -80,7 +80,7 @@ pub fn look_two<D: Disk, B: Board<D>, S: Supplier, P: Policy>(
     ensures undone { result ≡ None → (desk.new ≡ desk.old) × (till.new ≡ till.old) }
     ensures looks { desk.old.stop ≡ None → IfSome result (LooksAsSerial D.Disk (S.word gate.now.supply) (P.wish gate.now.policy) locus.old.number (parts_of till.old desk.old.cells desk.old.noted) (parts_of till.new desk.new.cells desk.new.noted)) }
     ensures stop { desk.old.stop ≡ None → desk.new.stop ≡ stop_in result }
-    ensures item { IfSome result (IsTrueOf D.tells B.begin locus.old.number (length desk.old.noted.entries) desk.new.noted.entries) }
+    ensures item { IfSome result (IsTrueOf B.terms.told B.begin locus.old.number (length desk.old.noted.entries) desk.new.noted.entries) }
     ensures notes { NotesLook locus.old.number (locus.old.number ∷ other.old.number ∷ []) desk.old.noted.entries desk.new.noted.entries }
     ensures others { OthersStay (locus.old.number ∷ other.old.number ∷ []) desk.old.cells desk.new.cells }
     ensures numbers { (locus.new.number ≡ locus.old.number) × (other.new.number ≡ other.old.number) }
@@ -135,7 +135,7 @@ pub fn look_three<D: Disk, B: Board<D>, S: Supplier, P: Policy>(
     ensures undone { result ≡ None → (desk.new ≡ desk.old) × (till.new ≡ till.old) }
     ensures looks { desk.old.stop ≡ None → IfSome result (LooksAsSerial D.Disk (S.word gate.now.supply) (P.wish gate.now.policy) locus.old.number (parts_of till.old desk.old.cells desk.old.noted) (parts_of till.new desk.new.cells desk.new.noted)) }
     ensures stop { desk.old.stop ≡ None → desk.new.stop ≡ stop_in result }
-    ensures item { IfSome result (IsTrueOf D.tells B.begin locus.old.number (length desk.old.noted.entries) desk.new.noted.entries) }
+    ensures item { IfSome result (IsTrueOf B.terms.told B.begin locus.old.number (length desk.old.noted.entries) desk.new.noted.entries) }
     ensures notes { NotesLook locus.old.number (locus.old.number ∷ atlas.old.number ∷ other.old.number ∷ []) desk.old.noted.entries desk.new.noted.entries }
     ensures others { OthersStay (locus.old.number ∷ atlas.old.number ∷ other.old.number ∷ []) desk.old.cells desk.new.cells }
     ensures numbers { (locus.new.number ≡ locus.old.number) × (atlas.new.number ≡ atlas.old.number) × (other.new.number ≡ other.old.number) }

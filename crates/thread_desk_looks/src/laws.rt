@@ -7,9 +7,10 @@ ghost use Rattle.thread_looks.specs.kernel_core_facts.declared.looked.Looked.{Lo
 ghost use Rattle.thread_desk_looks.specs.Items.{IsTrueOf};
 
 use edge_disk::Disk;
+use thread_desk::Board;
 
 /// What was told of a look is true of every history that goes on from there.
 #[tactic(auto, using(crate::proofs::Items::stays_true))]
-pub fn item_law<D: Disk>()
-    ensures { (b : Beginning) (me place : ℕ) (es fs : List Entry) (r : Result Looked Stopped) → IsTrueOf D.tells b me place es r → IsTrueOf D.tells b me place (es ++ fs) r }
+pub fn item_law<D: Disk, B: Board<D>>()
+    ensures { (b : Beginning) (me place : ℕ) (es fs : List Entry) (r : Result Looked Stopped) → IsTrueOf B.terms.told b me place es r → IsTrueOf B.terms.told b me place (es ++ fs) r }
 {}

@@ -22,7 +22,7 @@ use Rattle.thread_stables.specs.kernel_core_facts.declared.looked.Looked.TheVari
 use Rattle.thread_stables.proofs.kernel_core_facts_lemmas.Kept.{runs_free}
 use Rattle.thread_stables.specs.thread_commits.Snapping.{AddsAmong}
 use Rattle.thread_stables.proofs.thread_commits_lemmas.Adding.{among_then}
-use Rattle.thread_desk_looks.specs.thread_desk.Desks.{IsKernel, knowing}
+use Rattle.thread_desk_looks.specs.thread_desk.Desks.{Terms, IsKernel, knowing}
 use Rattle.thread_desk_looks.specs.thread_desk.Sights.{AreKnown}
 use Rattle.thread_desk_looks.proofs.Looked.{goes_steady, known_after}
 use Rattle.thread_desk_stables.specs.Looks.{LooksOrOwes, owes_by, owing_by}
@@ -89,50 +89,51 @@ module _ {D : Type 0} (disks : Ghosts D) (supply : Supply) (policy : Policy) (me
       StepFirst e event actor among (among_then [] (old.noted.entries ++ e ∷ []) mid.noted.entries new.noted.entries behind settles.adds)
 
 -- THE KERNEL BEHIND THE STEP
-module _ {D : Type 0} (disks : Ghosts D) (b : Beginning) (kept : List Entry) (supply : Supply) (policy : Policy) (same_supply : b.supply ≡ supply) (same_policy : b.policy ≡ policy)
-    (me : ℕ) (cs : List Cell) (n : Noted) (es : List Entry) (st : State D) (k : IsKernel disks b kept (knowing [] cs n es None) st) where
+module _ {D : Type 0} (disks : Ghosts D) (b : Beginning) (terms : Terms) (kept : List Entry) (supply : Supply) (policy : Policy) (same_supply : b.supply ≡ supply) (same_policy : b.policy ≡ policy)
+    (me : ℕ) (cs : List Cell) (n : Noted) (es : List Entry) (st : State D) (k : IsKernel disks b terms kept (knowing [] cs n es None) st) where
   abbrev old : Parts D
   old = parts_of st cs n
 
-  stands : disks.tells → StandsAs disks b old
+  stands : terms.told → StandsAs disks b old
   stands told = (runs_free disks me old old (k.is_kept.steady refl) b policy same_policy (k.lives told)).stands
 
-  calm : disks.tells → IsCalm b n.entries
+  calm : terms.told → IsCalm b n.entries
   calm told = (k.lives told).live.calm refl
 
   module _ (st' : State D) (cs' : List Cell) (n' : Noted) (es' : List Entry) (entries : n'.entries ≡ kept ++ es') where
     abbrev new : Parts D
     new = parts_of st' cs' n'
 
-    pub owing_lets : (m : Step) → StepsOnce disks supply me old new (look_made m) → LetsGo disks b kept es' new
+    pub owing_lets : (m : Step) → StepsOnce disks supply me old new (look_made m) → LetsGo disks terms.told b kept es' new
     owing_lets m s = record {
       known = record {
         order = record { held = (books st').held; orderly = s.steady.sound.matches.orderly };
-        state = λ told x. ap (λ (w : KernelState). w x) (s.run told b same_supply (stands told) (calm told)).stands.runs.follows.state ∙ ap (λ fs. state_after b fs x) entries;
+        state = λ told x. ap (λ (w : KernelState). w x) (s.run (k.tells told) b same_supply (stands told) (calm told)).stands.runs.follows.state ∙ ap (λ fs. state_after b fs x) entries;
       };
+      tells = k.tells;
       clean = λ told. subst (λ z. AreClean z (words_on (disks.reading st'.disk)) cs') (sym same_supply) (s.clean told);
     }
 
     abbrev Came : Result Looked Stopped → Type 0
     Came r = LooksOrOwes disks supply policy me old new r
 
-    whole : (r : Result Looked Stopped) → LooksAsSerial disks supply policy me old new r → AreKnown disks b kept st' cs' es'
-    whole r s = known_after disks b kept supply policy same_supply same_policy me [] cs n es st k st' cs' n' [] es' entries (Some r) s (λ is. absurd (cc is))
+    whole : (r : Result Looked Stopped) → LooksAsSerial disks supply policy me old new r → AreKnown disks terms.told b kept st' cs' es'
+    whole r s = known_after disks b terms kept supply policy same_supply same_policy me [] cs n es st k st' cs' n' [] es' entries (Some r) s (λ is. absurd (cc is))
 
-    made_known : (m : Step) (t : Bool) → is_owing m.instr m.entry.answer ≡ t → Came (look_made m) → AreKnown disks b kept st' cs' es'
+    made_known : (m : Step) (t : Bool) → is_owing m.instr m.entry.answer ≡ t → Came (look_made m) → AreKnown disks terms.told b kept st' cs' es'
     made_known m true is h = (owing_lets m (h.owing is)).known
     made_known m false is h = whole (look_made m) (h.looks is)
 
-    pub first_known : (came : Option (Result Looked Stopped)) → IfSome came Came → (came ≡ None → (new ≡ old) × (es' ≡ es)) → AreKnown disks b kept st' cs' es'
+    pub first_known : (came : Option (Result Looked Stopped)) → IfSome came Came → (came ≡ None → (new ≡ old) × (es' ≡ es)) → AreKnown disks terms.told b kept st' cs' es'
     first_known (Some (Ok (Made m))) h undone = made_known m (is_owing m.instr m.entry.answer) refl h
     first_known (Some (Ok (Idle why))) h undone = whole (Ok (Idle why)) (h.looks refl)
     first_known (Some (Err why)) h undone = whole (Err why) (h.looks refl)
-    first_known None h undone = known_after disks b kept supply policy same_supply same_policy me [] cs n es st k st' cs' n' [] es' entries None tt undone
+    first_known None h undone = known_after disks b terms kept supply policy same_supply same_policy me [] cs n es st k st' cs' n' [] es' entries None tt undone
 
 -- the desk's kernel without the list of its stores
-pub without_stores : {D : Type 0} (disks : Ghosts D) (b : Beginning) (kept : List Entry) (ss : List (State D)) (cs : List Cell) (n : Noted) (es : List Entry) (st : State D)
-    → IsKernel disks b kept (knowing ss cs n es None) st → IsKernel disks b kept (knowing [] cs n es None) st
-without_stores disks b kept ss cs n es st k = record { is_kept = k.is_kept; lives = k.lives; along = k.along; entries = k.entries }
+pub without_stores : {D : Type 0} (disks : Ghosts D) (b : Beginning) (terms : Terms) (kept : List Entry) (ss : List (State D)) (cs : List Cell) (n : Noted) (es : List Entry) (st : State D)
+    → IsKernel disks b terms kept (knowing ss cs n es None) st → IsKernel disks b terms kept (knowing [] cs n es None) st
+without_stores disks b terms kept ss cs n es st k = record { is_kept = k.is_kept; counted = k.counted; clean = k.clean; tells = k.tells; lives = k.lives; along = k.along; entries = k.entries }
 
 -- some cell stands at each place
 pub some_at : {A : Type 0} (xs : List A) (i : ℕ) → i < length xs → (x : A) × (slice_get xs i ≡ Some x)

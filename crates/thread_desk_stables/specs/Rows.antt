@@ -18,7 +18,8 @@ abbrev pub AllHeard : List Entry → List Keeping → Type 0
 AllHeard told ks = (i : ℕ) (k : Keeping) → slice_get ks i ≡ Some k → k.known ≡ told
 
 -- A CELL WHOSE SHARE KNOWS THESE ENTRIES MAY BE LET GO beside the parts: with them the cells are what the history makes, and where the disk tells its
--- content their pages are clean
-pub record LetsGo {D : Type 0} (disks : Ghosts D) (b : Beginning) (kept es : List Entry) (p : Parts D) : Type 0 where
-  pub known : AreKnown disks b kept p.store p.cells es
+-- content, as it does where the run is spoken of, their pages are clean
+pub record LetsGo {D : Type 0} (disks : Ghosts D) (spoken : Type 0) (b : Beginning) (kept es : List Entry) (p : Parts D) : Type 0 where
+  pub known : AreKnown disks spoken b kept p.store p.cells es
+  pub tells : spoken → disks.tells
   pub clean : disks.tells → AreClean b.supply (words_on (disks.reading p.store.disk)) p.cells

@@ -40,7 +40,7 @@ pub fn look_all<D: Disk, B: Board<D>, S: Supplier, P: Policy>(
     ensures undone { result ≡ None → (desk.new ≡ desk.old) × (till.new ≡ till.old) }
     ensures looks { desk.old.stop ≡ None → IfSome result (LooksAsSerial D.Disk (S.word gate.now.supply) (P.wish gate.now.policy) me (parts_of till.old desk.old.cells desk.old.noted) (parts_of till.new desk.new.cells desk.new.noted)) }
     ensures stop { desk.old.stop ≡ None → desk.new.stop ≡ stop_in result }
-    ensures item { IfSome result (IsTrueOf D.tells B.begin me (length desk.old.noted.entries) desk.new.noted.entries) }
+    ensures item { IfSome result (IsTrueOf B.terms.told B.begin me (length desk.old.noted.entries) desk.new.noted.entries) }
     ensures notes { NotesLook me (me ∷ []) desk.old.noted.entries desk.new.noted.entries }
     ensures row { IsRow (map (λ g. keeping_of (mutex_guard_value g)) cells.new) }
     ensures heard { desk.old.stop ≡ None → AllHeard desk.new.told (map (λ g. keeping_of (mutex_guard_value g)) cells.new) }

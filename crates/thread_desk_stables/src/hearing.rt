@@ -20,7 +20,7 @@ fn hear_one<D: Disk, B: Board<D>>(
     store: &Store<D>,
     cell: &mut SightedCell<D, B>,
 )
-    requires known { AreKnown D.Disk B.begin B.kept store.now all.old annals.old }
+    requires known { AreKnown D.Disk B.terms.told B.begin B.kept store.now all.old annals.old }
     ensures same { (all.new ≡ all.old) × (annals.new ≡ annals.old) }
     ensures cell { (cell.new.number ≡ cell.old.number) × (cell.new.known ≡ annals.old) }
 {
@@ -35,7 +35,7 @@ pub(crate) fn hear_all<D: Disk, B: Board<D>>(
     cells: &mut [MutexGuard<'_, SightedCell<D, B>>],
 )
     requires row { IsRow (map (λ g. keeping_of (mutex_guard_value g)) cells.old) }
-    requires known { AreKnown D.Disk B.begin B.kept store.now all.old annals.old }
+    requires known { AreKnown D.Disk B.terms.told B.begin B.kept store.now all.old annals.old }
     ensures same { (all.new ≡ all.old) × (annals.new ≡ annals.old) }
     ensures row { IsRow (map (λ g. keeping_of (mutex_guard_value g)) cells.new) }
     ensures heard { AllHeard annals.old (map (λ g. keeping_of (mutex_guard_value g)) cells.new) }

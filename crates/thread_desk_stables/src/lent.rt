@@ -37,7 +37,7 @@ impl<D: Disk, B: Board<D>> CellInLock<InDesk> for SightedCell<D, B> {
 impl<D: Disk, B: Board<D>> LentCell<InDesk, D, B> for SightedCell<D, B> {
     ghost use Rattle.thread_desk_stables.specs.Rows.{LetsGo};
 
-    ghost fits = { LetsGo D.Disk B.begin B.kept };
+    ghost fits = { LetsGo D.Disk B.terms.told B.begin B.kept };
 
     fn meet(&mut self, all: &mut Authority<Cell, B>) {
         self.locked.meet(all);

@@ -53,7 +53,7 @@ fn stable_told<D: Disk, B: Board<D>>(
     requires row { IsRow (map (λ g. keeping_of (mutex_guard_value g)) cells.old) }
     requires steady { IsSteady D.Disk (parts_of store.old all.old notes.old) }
     requires spare { steps_to_come all.old + entries_taken notes.old.entries < notes.old.room }
-    requires lawful { LetsGo D.Disk B.begin B.kept annals.old (parts_of store.old all.old notes.old) }
+    requires lawful { LetsGo D.Disk B.terms.told B.begin B.kept annals.old (parts_of store.old all.old notes.old) }
     requires told { notes.old.entries ≡ B.kept ++ annals.old }
     ensures row { IsRow (map (λ g. keeping_of (mutex_guard_value g)) cells.new) }
     ensures settles { Settles D.Disk actor result (parts_of store.old all.old notes.old) (parts_of store.new all.new notes.new) }
@@ -83,7 +83,7 @@ pub(crate) fn told_all<D: Disk, B: Board<D>, S: Supplier, P: Policy>(
     requires wishes { P.keeps gate.now.policy }
     requires managers { (B.begin.supply ≡ S.word gate.now.supply) × (B.begin.policy ≡ P.wish gate.now.policy) }
     requires row { IsRow (map (λ g. keeping_of (mutex_guard_value g)) cells.old) }
-    requires kernel { IsKernel D.Disk B.begin B.kept (knowing [] all.old notes.old annals.old None) store.old }
+    requires kernel { IsKernel D.Disk B.begin B.terms B.kept (knowing [] all.old notes.old annals.old None) store.old }
     ensures small { me < 64 }
     ensures row { IsRow (map (λ g. keeping_of (mutex_guard_value g)) cells.new) }
     ensures unfit { (result ≡ None) ↔ WantsOthers all.old me [] }

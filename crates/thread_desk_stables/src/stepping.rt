@@ -150,7 +150,7 @@ fn step_one<D: Disk, B: Board<D>, S: Supplier, P: Policy>(
     requires keeps { S.keeps gate.now.supply }
     requires wishes { P.keeps gate.now.policy }
     requires managers { (B.begin.supply ≡ S.word gate.now.supply) × (B.begin.policy ≡ P.wish gate.now.policy) }
-    requires kernel { IsKernel D.Disk B.begin B.kept (knowing [] all.old notes.old annals.old None) store.old }
+    requires kernel { IsKernel D.Disk B.begin B.terms B.kept (knowing [] all.old notes.old annals.old None) store.old }
     ensures number { locus.new.number ≡ locus.old.number }
     ensures unfit { (result ≡ None) ↔ WantsOthers all.old locus.old.number [] }
     ensures undone { result ≡ None → (parts_of store.new all.new notes.new ≡ parts_of store.old all.old notes.old) × (annals.new ≡ annals.old) }
@@ -178,7 +178,7 @@ pub(crate) fn step_at<D: Disk, B: Board<D>, S: Supplier, P: Policy>(
     requires wishes { P.keeps gate.now.policy }
     requires managers { (B.begin.supply ≡ S.word gate.now.supply) × (B.begin.policy ≡ P.wish gate.now.policy) }
     requires row { IsRow (map (λ g. keeping_of (mutex_guard_value g)) cells.old) }
-    requires kernel { IsKernel D.Disk B.begin B.kept (knowing [] all.old notes.old annals.old None) store.old }
+    requires kernel { IsKernel D.Disk B.begin B.terms B.kept (knowing [] all.old notes.old annals.old None) store.old }
     ensures small { me < 64 }
     ensures row { IsRow (map (λ g. keeping_of (mutex_guard_value g)) cells.new) }
     ensures unfit { (result ≡ None) ↔ WantsOthers all.old me [] }

@@ -26,7 +26,7 @@ impl<D: Disk, C: Line, B: Board<D> + Bench> Model for ItemDesk<D, C, B> {
 
     ghost view = { λ d. record { desk = d.desk; noting = d.slip } };
 
-    ghost invariant = { λ d. AreTrueItems D.tells B.begin d.desk.noted.entries d.desk.stop d.slip.items };
+    ghost invariant = { λ d. AreTrueItems B.terms.told B.begin d.desk.noted.entries d.desk.stop d.slip.items };
 }
 
 impl<D: Disk, C: Line, B: Board<D> + Bench> ItemDesk<D, C, B> {
@@ -53,7 +53,7 @@ impl<D: Disk, C: Line, B: Board<D> + Bench> ItemDesk<D, C, B> {
         pass: Pass<C, LookItem, B>,
     ) -> Vec<PassItem<LookItem>>
         ensures items { result.items ≡ pass.items }
-        ensures are_true { AreTrueItems D.tells B.begin self.old.desk.noted.entries self.old.desk.stop pass.items }
+        ensures are_true { AreTrueItems B.terms.told B.begin self.old.desk.noted.entries self.old.desk.stop pass.items }
         ensures number { AllOf pass.number pass.items }
         ensures within { IsWithin pass.items self.old.noting.items }
         ensures rising { IsRising (λ i. i.place) (λ i. i.place + steps_in i.came) self.old.noting.items }
@@ -67,7 +67,7 @@ impl<D: Disk, C: Line, B: Board<D> + Bench> ItemDesk<D, C, B> {
     /// The desk, and the side that wrote the items.
     pub fn close(self) -> (Desk<D, B>, Slip<C, LookItem, B>)
         ensures parts { (result.0 ≡ self.desk) × (result.1 ≡ self.noting) }
-        ensures are_true { AreTrueItems D.tells B.begin self.desk.noted.entries self.desk.stop self.noting.items }
+        ensures are_true { AreTrueItems B.terms.told B.begin self.desk.noted.entries self.desk.stop self.noting.items }
     {
         let ItemDesk { desk, slip } = self;
         (desk, slip)

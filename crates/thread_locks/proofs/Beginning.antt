@@ -7,7 +7,7 @@ use Rattle.base_types.specs.declared.histories.Entry.{Entry}
 use Rattle.thread_items.specs.kernel_core.Parts.{held_of}
 use Rattle.thread_items.specs.kernel_core.model_serial.Serial.{opening}
 use Rattle.thread_items.proofs.kernel_core_lemmas.model_serial_turns_lemmas.Whereabouts.{looked_opening}
-use Rattle.kernel_run_facts.specs.kernel_core_facts.Kernels.{Held, IsKept, Lives, NotesAlong}
+use Rattle.kernel_run_facts.specs.kernel_core_facts.Kernels.{Held, IsKept, Lives, NotesAlong, StaysClean}
 use Rattle.kernel_run_facts.specs.kernel_core_facts.cell_states.declared.cells.Cell.{Cell}
 use Rattle.kernel_run_facts.specs.kernel_core_facts.kernel_commit_facts.Lacking.{LacksIn}
 use Rattle.kernel_run_facts.specs.kernel_core_facts.kernel_commit_facts.Parts.{Noted}
@@ -16,7 +16,7 @@ use Rattle.kernel_run_facts.specs.kernel_core_facts.kernel_invariant.Beginnings.
 use Rattle.kernel_run_facts.specs.kernel_core_facts.kernel_invariant.declared.stopping.Stopped.{Stopped}
 use Rattle.kernel_run_facts.specs.kernel_core_facts.store_facts.State.{State}
 use Rattle.kernel_run_facts.specs.Alongs.{ComesNext, IsAlong, LooksAt}
-use Rattle.thread_items.specs.thread_desk.Desks.{IsDesk, IsKernel, knowing}
+use Rattle.thread_items.specs.thread_desk.Desks.{Terms, IsCountedFrom, IsDesk, IsKernel, knowing}
 
 -- the only item of a list
 pub only_one : {A : Type 0} (xs : List A) (x y : A) → y ∷ [] ≡ xs ++ x ∷ [] → Some x ≡ Some y
@@ -25,13 +25,16 @@ only_one (z ∷ []) x y is = absurd (let clash : None ≡ Some x = ap (λ l. sli
 only_one (z ∷ w ∷ zs) x y is = absurd (let clash : None ≡ Some w = ap (λ l. slice_get l 1) is in cc clash)
 
 -- the sides that know these cells, this store and nothing of the history beyond the kept entries know the kernel of these parts
-pub opened : {D : Type 0} (disks : Ghosts D) (b : Beginning) (kept : List Entry) (ss : List (State D)) (cs : List Cell) (n : Noted) (told : List Entry) (stop : Option Stopped) (st : State D) (k : Held D)
-    → held_of st cs n stop ≡ k → ss ≡ st ∷ [] → kept ≡ n.entries → told ≡ [] → IsKept disks k → (disks.tells → Lives disks b k) → (disks.tells → IsAlong disks b k)
-    → IsDesk disks b kept (knowing ss cs n told stop)
-opened {D} disks b kept ss cs n told stop st k same stores first none is_kept lives along = λ (z : State D) at.
+pub opened : {D : Type 0} (disks : Ghosts D) (b : Beginning) (terms : Terms) (kept : List Entry) (ss : List (State D)) (cs : List Cell) (n : Noted) (told : List Entry) (stop : Option Stopped) (st : State D) (k : Held D)
+    → held_of st cs n stop ≡ k → ss ≡ st ∷ [] → kept ≡ n.entries → told ≡ [] → IsKept disks k → IsCountedFrom disks terms.counts k → StaysClean disks b.supply k → (terms.told → disks.tells) → (terms.told → Lives disks b k) → (terms.told → IsAlong disks b k)
+    → IsDesk disks b terms kept (knowing ss cs n told stop)
+opened {D} disks b terms kept ss cs n told stop st k same stores first none is_kept counted clean tells lives along = λ (z : State D) at.
     let here : z ≡ st = same_Some z st (sym at ∙ ap (λ (l : List (State D)). slice_get l 0) stores) in
-    subst (λ (w : State D). IsKernel disks b kept (knowing ss cs n told stop) w) (sym here) (record {
+    subst (λ (w : State D). IsKernel disks b terms kept (knowing ss cs n told stop) w) (sym here) (record {
       is_kept = subst (IsKept disks) (sym same) is_kept;
+      counted = subst (IsCountedFrom disks terms.counts) (sym same) counted;
+      clean = subst (StaysClean disks b.supply) (sym same) clean;
+      tells = tells;
       lives = λ t. subst (Lives disks b) (sym same) (lives t);
       along = λ t. subst (IsAlong disks b) (sym same) (along t);
       entries = sym first ∙ sym (ap (λ (es : List Entry). kept ++ es) none ∙ append-nil kept);

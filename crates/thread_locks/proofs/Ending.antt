@@ -4,7 +4,7 @@ use mathlib.Core.List.{IsPrefix}
 use Rattle.edge_disk.specs.declared.disk.Disk.{Ghosts}
 use Rattle.base_types.specs.declared.histories.Entry.{Entry}
 use Rattle.thread_items.specs.kernel_core.Parts.{held_of}
-use Rattle.kernel_run_facts.specs.kernel_core_facts.Kernels.{Held, IsKept, Lives}
+use Rattle.kernel_run_facts.specs.kernel_core_facts.Kernels.{Held, IsKept, Lives, StaysClean}
 use Rattle.kernel_run_facts.specs.kernel_core_facts.cell_states.declared.cells.Cell.{Cell}
 use Rattle.kernel_run_facts.specs.kernel_core_facts.kernel_commit_facts.Parts.{Noted}
 use Rattle.kernel_run_facts.specs.kernel_core_facts.kernel_invariant.Beginnings.{Beginning}
@@ -15,14 +15,14 @@ use Rattle.thread_board.specs.declared.views.PassItem.{PassItem}
 use Rattle.thread_board.specs.Items.{Each, IsWithin}
 use Rattle.thread_board.specs.Sides.{PassSeen}
 use Rattle.thread_board.proofs.Within.{each_map}
-use Rattle.thread_items.specs.thread_desk.Desks.{IsKernel, knowing}
+use Rattle.thread_items.specs.thread_desk.Desks.{Terms, IsCountedFrom, IsKernel, knowing}
 use Rattle.thread_items.specs.declared.items.LookItem.{LookItem}
 use Rattle.thread_items.specs.Items.{AreTrueItems}
 use Rattle.thread_items.proofs.Truths.{items_within}
 
 -- THE PARTS that the desk knew, with the cells that came back
-module _ {D : Type 0} (disks : Ghosts D) (b : Beginning) (kept : List Entry) (ss : List (State D)) (cs ds : List Cell) (n : Noted) (told : List Entry) (stop : Option Stopped) (st : State D)
-    (is : IsKernel disks b kept (knowing ss cs n told stop) st) (same : ds ≡ cs) where
+module _ {D : Type 0} (disks : Ghosts D) (b : Beginning) (terms : Terms) (kept : List Entry) (ss : List (State D)) (cs ds : List Cell) (n : Noted) (told : List Entry) (stop : Option Stopped) (st : State D)
+    (is : IsKernel disks b terms kept (knowing ss cs n told stop) st) (same : ds ≡ cs) where
   pub kept_again : IsKept disks (held_of st ds n stop)
   kept_again = subst (λ (l : List Cell). IsKept disks (held_of st l n stop)) (sym same) is.is_kept
 
@@ -30,10 +30,16 @@ module _ {D : Type 0} (disks : Ghosts D) (b : Beginning) (kept : List Entry) (ss
     known_again : k ≡ held_of st cs n stop
     known_again = made ∙ ap (λ (l : List Cell). held_of st l n stop) same
 
-    pub lives_again : disks.tells → Lives disks b k
+    pub counted_again : IsCountedFrom disks terms.counts k
+    counted_again = subst (IsCountedFrom disks terms.counts) (sym known_again) is.counted
+
+    pub clean_again : StaysClean disks b.supply k
+    clean_again = subst (StaysClean disks b.supply) (sym known_again) is.clean
+
+    pub lives_again : terms.told → Lives disks b k
     lives_again t = subst (Lives disks b) (sym known_again) (is.lives t)
 
-    pub along_again : disks.tells → IsAlong disks b k
+    pub along_again : terms.told → IsAlong disks b k
     along_again t = subst (IsAlong disks b) (sym known_again) (is.along t)
 
     pub begun_again : IsPrefix kept k.parts.noted.entries

@@ -1,11 +1,12 @@
 // How a board gives its kernel back.
 ghost use Rattle.std.specs.Prelude.{◌≡◌, ◌+◌, [], Some, length, vec_len};
 ghost use mathlib.Core.List.{IsPrefix};
-ghost use Rattle.kernel_run_facts.specs.kernel_core_facts.Kernels.{Lives};
+ghost use Rattle.kernel_run_facts.specs.kernel_core_facts.Kernels.{Lives, StaysClean};
 ghost use Rattle.kernel_run_facts.specs.Alongs.{IsAlong};
 ghost use Rattle.thread_board.specs.Items.{Each, IsRising};
 ghost use Rattle.thread_items.specs.Items.{AreTrueItems};
 ghost use Rattle.thread_items.specs.Places.{steps_in};
+ghost use Rattle.thread_items.specs.thread_desk.Desks.{IsCountedFrom};
 ghost use Rattle.thread_returns.specs.Passes.{AreAllApart};
 
 use crate::lines::Unwritten;
@@ -82,7 +83,7 @@ fn desk_of<D: Disk, B: Board<D> + Bench>(
     passes: Vec<Pass<Unwritten, LookItem, B>>,
 ) -> Desk<D, B>
     ensures desk { result ≡ desk.desk }
-    ensures items { Each (λ p. AreTrueItems D.tells B.begin desk.desk.noted.entries desk.desk.stop p.items) passes.items }
+    ensures items { Each (λ p. AreTrueItems B.terms.told B.begin desk.desk.noted.entries desk.desk.stop p.items) passes.items }
     ensures rising { Each (λ p. IsRising (λ i. i.place) (λ i. i.place + steps_in i.came) p.items) passes.items }
     ensures apart { AreAllApart (λ i. i.place) (λ i. i.place + steps_in i.came) passes.items }
 {
@@ -99,8 +100,10 @@ fn kernel_of<D: Disk, B: Board<D>>(
     room: Room,
 ) -> Kernel<D>
     requires all { vec_len locks ≡ 64 }
-    ensures run { D.tells → Lives D.Disk B.begin result }
-    ensures along { D.tells → IsAlong D.Disk B.begin result }
+    ensures counted { IsCountedFrom D.Disk B.terms.counts result }
+    ensures clean { StaysClean D.Disk B.begin.supply result }
+    ensures run { B.terms.told → Lives D.Disk B.begin result }
+    ensures along { B.terms.told → IsAlong D.Disk B.begin result }
     ensures whole { IsPrefix B.kept result.parts.noted.entries }
     ensures same { (result.parts.noted ≡ desk.noted) × (result.stop ≡ desk.stop) }
 {
@@ -125,18 +128,24 @@ fn kernel_of<D: Disk, B: Board<D>>(
 impl<D: Disk, S: Supplier, P: Policy, B: Board<D> + Bench> Locks<D, S, P, B> {
     /// The kernel again, and its managers. All passes that are given are this board's. It takes no memory.
     ///
-    /// In the board's run the kernel is live: its history is a legal run, its marks and what a stop at each moment leaves are as ever (`run`), and it
-    /// is that of looks at some loci, one behind the other, or was stopped in the piece behind such, for want of blocks only where the image lacks
-    /// them (`along`). Its history is the whole one, that of before the board included (`whole`).
+    /// Where the board's run is spoken of (`told`) the kernel is live in it: its history is a legal run, its marks and what a stop at each moment leaves
+    /// are as ever (`run`), and it is that of looks at some loci, one behind the other, or was stopped in the piece behind such, for want of blocks only
+    /// where the image lacks them (`along`). Its history is the whole one, that of before the board included (`whole`).
+    ///
+    /// Whatever the disk tells, its count of faults hasn't fallen since the run began, and the image has as many blocks; if the kernel has stopped, it was
+    /// for want of blocks only where fewer were free than were needed, and at a fault of the disk only where that count rose (`counted`). Where the disk
+    /// tells its content the pages of a kernel that goes on are clean (`clean`).
     ///
     /// Each item of each pass is true of this history and of why the kernel has stopped (`items`): a step stands at its place and is the asked
     /// locus's, a locus that couldn't step couldn't after so many entries, and a stop is this one. The items of a pass ascend (`rising`), and no two
     /// passes have items of one place (`apart`).
     pub fn close(self, passes: Vec<Pass<Unwritten, LookItem, B>>) -> Closed<D, S, P>
-        ensures run { D.tells → Lives D.Disk B.begin result.kernel }
-        ensures along { D.tells → IsAlong D.Disk B.begin result.kernel }
+        ensures counted { IsCountedFrom D.Disk B.terms.counts result.kernel }
+        ensures clean { StaysClean D.Disk B.begin.supply result.kernel }
+        ensures run { B.terms.told → Lives D.Disk B.begin result.kernel }
+        ensures along { B.terms.told → IsAlong D.Disk B.begin result.kernel }
         ensures whole { IsPrefix B.kept result.kernel.parts.noted.entries }
-        ensures items { Each (λ p. AreTrueItems D.tells B.begin result.kernel.parts.noted.entries result.kernel.stop p.items) passes.items }
+        ensures items { Each (λ p. AreTrueItems B.terms.told B.begin result.kernel.parts.noted.entries result.kernel.stop p.items) passes.items }
         ensures rising { Each (λ p. IsRising (λ i. i.place) (λ i. i.place + steps_in i.came) p.items) passes.items }
         ensures apart { AreAllApart (λ i. i.place) (λ i. i.place + steps_in i.came) passes.items }
         ensures gate { result.gate ≡ self }

@@ -1,7 +1,8 @@
 // A kernel that is to lie under locks, beside tables that have no name yet.
 ghost use Rattle.std.specs.Prelude.{◌≡◌, ◌∷◌, [], IfErr, IfOk};
-ghost use Rattle.kernel_run_facts.specs.kernel_core_facts.Kernels.{Lives};
+ghost use Rattle.kernel_run_facts.specs.kernel_core_facts.Kernels.{Lives, StaysClean};
 ghost use Rattle.kernel_run_facts.specs.Alongs.{IsAlong};
+ghost use Rattle.thread_items.specs.thread_desk.Desks.{IsCountedFrom};
 
 use crate::lines::Unwritten;
 use crate::locks::Locks;
@@ -92,7 +93,8 @@ impl<D: Disk> Opening<D> {
     }
 
     /// The board under its name, which has the kernel's cells, store and history for its first: each cell under a lock of its own, the store, and
-    /// the desk. In the named run the kernel is live, behind looks at some loci, or it has stopped. It takes memory for 64 locks.
+    /// the desk. Where the board's run is spoken of (`told`) the kernel is live in it, behind looks at some loci, or it has stopped. Since the named
+    /// counts its faults and blocks are counted, and with them why it has stopped. It takes memory for 64 locks.
     ///
     /// `Err` comes for want of memory alone, and where another drew the numbers of the board's table first, which nobody else can.
     pub fn named<S: Supplier, P: Policy, B: Board<D> + Bench>(
@@ -106,8 +108,11 @@ impl<D: Disk> Opening<D> {
         requires bench { (self.slate ≡ B.slate) × (self.ledger ≡ B.name) × (B.all ≡ 1) × (B.parts ≡ 1) }
         requires keeps { S.keeps gate.supply × P.keeps gate.policy }
         requires managers { (B.begin.supply ≡ S.word gate.supply) × (B.begin.policy ≡ P.wish gate.policy) }
-        requires run { D.tells → Lives D.Disk B.begin self.kernel }
-        requires along { D.tells → IsAlong D.Disk B.begin self.kernel }
+        requires counted { IsCountedFrom D.Disk B.terms.counts self.kernel }
+        requires clean { StaysClean D.Disk B.begin.supply self.kernel }
+        requires tells { B.terms.told → D.tells }
+        requires run { B.terms.told → Lives D.Disk B.begin self.kernel }
+        requires along { B.terms.told → IsAlong D.Disk B.begin self.kernel }
         ensures ok { IfOk result (λ l. l ≡ gate) }
         ensures err { IfErr result (λ f. (f.kernel ≡ self.kernel) × (f.gate ≡ gate)) }
     {

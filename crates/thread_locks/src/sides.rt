@@ -1,11 +1,12 @@
 // All sides of a board under its name, and how they come to lie under locks.
 ghost use Rattle.std.specs.Prelude.{◌≡◌, ◌≤◌, ◌+◌, ◌<◌, ◌∷◌, [], IfSome, Some, length, vec_capacity, vec_len};
 ghost use Rattle.thread_items.specs.kernel_core.Parts.{held_of};
-ghost use Rattle.kernel_run_facts.specs.kernel_core_facts.Kernels.{IsKept, Lives};
+ghost use Rattle.kernel_run_facts.specs.kernel_core_facts.Kernels.{IsKept, Lives, StaysClean};
 ghost use Rattle.kernel_run_facts.specs.kernel_core_facts.table_laws.Tables.{AreNumbered};
 ghost use Rattle.kernel_run_facts.specs.kernel_core_facts.store_facts.State.{State};
 ghost use Rattle.kernel_run_facts.specs.Alongs.{IsAlong};
 ghost use Rattle.thread_history.specs.Sides.{sides_upto};
+ghost use Rattle.thread_items.specs.thread_desk.Desks.{IsCountedFrom};
 ghost use Rattle.thread_items.specs.thread_settling.Rows.{AreBeside};
 ghost use Rattle.thread_ties.specs.Sides.{fragments_of};
 
@@ -161,8 +162,11 @@ impl<D: Disk, B: Board<D> + Bench> Sides<D, B> {
         requires bench { self.slip.items ≡ [] }
         requires room { (vec_len self.locks ≡ 0) × (64 ≤ vec_capacity self.locks) }
         requires managers { (S.keeps gate.supply × P.keeps gate.policy) × ((B.begin.supply ≡ S.word gate.supply) × (B.begin.policy ≡ P.wish gate.policy)) }
-        requires run { D.tells → Lives D.Disk B.begin (held_of parts.store parts.cells.items parts.notes parts.stopped) }
-        requires along { D.tells → IsAlong D.Disk B.begin (held_of parts.store parts.cells.items parts.notes parts.stopped) }
+        requires counted { IsCountedFrom D.Disk B.terms.counts (held_of parts.store parts.cells.items parts.notes parts.stopped) }
+        requires clean { StaysClean D.Disk B.begin.supply (held_of parts.store parts.cells.items parts.notes parts.stopped) }
+        requires tells { B.terms.told → D.tells }
+        requires run { B.terms.told → Lives D.Disk B.begin (held_of parts.store parts.cells.items parts.notes parts.stopped) }
+        requires along { B.terms.told → IsAlong D.Disk B.begin (held_of parts.store parts.cells.items parts.notes parts.stopped) }
         ensures { result ≡ gate }
     {
         let Apart {

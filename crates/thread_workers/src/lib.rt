@@ -9,4 +9,6 @@ mod wants;
 
 pub use gates::{OpenGate, StepGate};
 pub use steps::step;
-pub use thread_locks::{Board, Came, Locks, LookItem, Opening, Unwritten};
+pub use thread_locks::{
+    Board, BoardFault, Came, Locks, LookItem, ManagedFault, Opening, Unwritten, births_law,
+};

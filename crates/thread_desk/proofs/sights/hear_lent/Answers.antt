@@ -8,6 +8,6 @@ use Rattle.thread_desk.proofs.sights.hear_lent.Goals as goal
 
 pub returns-clause-sighted : goal.returns-clause-sighted
 returns-clause-sighted g c =
-    let is = sight g.D.Disk g.B.Board.begin g.B.Run.kept c.args.store.now c.args.all.now c.args.annals.now c.args.cell.now.number c.args.cell.now.cell c.requires.known c.meet.ensures.stands in
-    let here = subst (λ (k : Keeping). IsSighted g.D.Disk g.B.Board.begin g.B.Run.kept (record { number = k.number; cell = k.cell; known = c.args.annals.now; store = c.args.store.now })) (sym (c.cell.view_is ∙ c.meet.ensures.cell)) is in
-    subst (λ (s : Side Entry). IsSighted g.D.Disk g.B.Board.begin g.B.Run.kept (record { number = c.cell.inside.cell.clock.entity; cell = c.cell.inside.cell; known = s.since; store = c.args.store.now })) (sym c.note.ensures.share) here
+    let is = sight g.D.Disk g.B.Board.terms.told g.B.Board.begin g.B.Run.kept c.args.store.now c.args.all.now c.args.annals.now c.args.cell.now.number c.args.cell.now.cell c.requires.known c.meet.ensures.stands in
+    let here = subst (λ (k : Keeping). IsSighted g.D.Disk g.B.Board.terms.told g.B.Board.begin g.B.Run.kept (record { number = k.number; cell = k.cell; known = c.args.annals.now; store = c.args.store.now })) (sym (c.cell.view_is ∙ c.meet.ensures.cell)) is in
+    subst (λ (s : Side Entry). IsSighted g.D.Disk g.B.Board.terms.told g.B.Board.begin g.B.Run.kept (record { number = c.cell.inside.cell.clock.entity; cell = c.cell.inside.cell; known = s.since; store = c.args.store.now })) (sym c.note.ensures.share) here

@@ -9,38 +9,38 @@ use Rattle.thread_desk_looks.proofs.desks.look_one.Goals as goal
 
 pub told_one-came-requires : goal.told_one-came-requires
 told_one-came-requires g c =
-    let kernel = going g.D.Disk g.B.Board.begin g.B.Run.kept c.desk.inside.stores c.desk.inside.cells c.desk.inside.notes c.desk.inside.annals c.desk.inside.stopped c.till.inside.fragment.number c.till.inside.fragment.value c.till.inside.store c.till.invariant.0 c.till.invariant.1 c.agree.ensures.agreed c.in_default.is c.desk.invariant in
+    let kernel = going g.D.Disk g.B.Board.begin g.B.Board.terms g.B.Run.kept c.desk.inside.stores c.desk.inside.cells c.desk.inside.notes c.desk.inside.annals c.desk.inside.stopped c.till.inside.fragment.number c.till.inside.fragment.value c.till.inside.store c.till.invariant.0 c.till.invariant.1 c.agree.ensures.agreed c.in_default.is c.desk.invariant in
     record {
       keeps = c.requires.keeps;
       wishes = c.requires.wishes;
-      steady = goes_steady g.D.Disk g.B.Board.begin g.B.Run.kept (g.S.Supplier.word c.args.gate.now.supply) (g.P.Policy.wish c.args.gate.now.policy) c.requires.managers.0 c.requires.managers.1 c.locus.inside.locked.number c.desk.inside.stores c.desk.inside.cells c.desk.inside.notes c.desk.inside.annals c.till.inside.store kernel;
-      clean = goes_clean g.D.Disk g.B.Board.begin g.B.Run.kept (g.S.Supplier.word c.args.gate.now.supply) (g.P.Policy.wish c.args.gate.now.policy) c.requires.managers.0 c.requires.managers.1 c.locus.inside.locked.number c.desk.inside.stores c.desk.inside.cells c.desk.inside.notes c.desk.inside.annals c.till.inside.store kernel;
+      steady = goes_steady g.D.Disk g.B.Board.begin g.B.Board.terms g.B.Run.kept (g.S.Supplier.word c.args.gate.now.supply) (g.P.Policy.wish c.args.gate.now.policy) c.requires.managers.0 c.requires.managers.1 c.locus.inside.locked.number c.desk.inside.stores c.desk.inside.cells c.desk.inside.notes c.desk.inside.annals c.till.inside.store kernel;
+      clean = goes_clean g.D.Disk g.B.Board.begin g.B.Board.terms g.B.Run.kept (g.S.Supplier.word c.args.gate.now.supply) (g.P.Policy.wish c.args.gate.now.policy) c.requires.managers.0 c.requires.managers.1 c.locus.inside.locked.number c.desk.inside.stores c.desk.inside.cells c.desk.inside.notes c.desk.inside.annals c.till.inside.store kernel;
       told = kernel.entries;
     }
 
 pub hear_lent-requires : goal.hear_lent-requires
 hear_lent-requires g c =
-    let kernel = going g.D.Disk g.B.Board.begin g.B.Run.kept c.desk.inside.stores c.desk.inside.cells c.desk.inside.notes c.desk.inside.annals c.desk.inside.stopped c.till.inside.fragment.number c.till.inside.fragment.value c.till.inside.store c.till.invariant.0 c.till.invariant.1 c.agree.ensures.agreed c.in_default.is c.desk.invariant in
-    record { known = known_after g.D.Disk g.B.Board.begin g.B.Run.kept (g.S.Supplier.word c.args.gate.now.supply) (g.P.Policy.wish c.args.gate.now.policy) c.requires.managers.0 c.requires.managers.1 c.locus.inside.locked.number c.desk.inside.stores c.desk.inside.cells c.desk.inside.notes c.desk.inside.annals c.till.inside.store kernel c.told_one-came.new.store c.told_one-came.new.all c.told_one-came.new.notes c.tell_store.new.stores c.told_one-came.new.annals c.told_one-came.ensures.told c.told_one-came.result c.told_one-came.ensures.looks c.told_one-came.ensures.undone }
+    let kernel = going g.D.Disk g.B.Board.begin g.B.Board.terms g.B.Run.kept c.desk.inside.stores c.desk.inside.cells c.desk.inside.notes c.desk.inside.annals c.desk.inside.stopped c.till.inside.fragment.number c.till.inside.fragment.value c.till.inside.store c.till.invariant.0 c.till.invariant.1 c.agree.ensures.agreed c.in_default.is c.desk.invariant in
+    record { known = known_after g.D.Disk g.B.Board.begin g.B.Board.terms g.B.Run.kept (g.S.Supplier.word c.args.gate.now.supply) (g.P.Policy.wish c.args.gate.now.policy) c.requires.managers.0 c.requires.managers.1 c.locus.inside.locked.number c.desk.inside.stores c.desk.inside.cells c.desk.inside.notes c.desk.inside.annals c.till.inside.store kernel c.told_one-came.new.store c.told_one-came.new.all c.told_one-came.new.notes c.tell_store.new.stores c.told_one-came.new.annals c.told_one-came.ensures.told c.told_one-came.result c.told_one-came.ensures.looks c.told_one-came.ensures.undone }
 
 pub invariant_of-desk : goal.invariant_of-desk
 invariant_of-desk g c =
-    let kernel = going g.D.Disk g.B.Board.begin g.B.Run.kept c.desk.inside.stores c.desk.inside.cells c.desk.inside.notes c.desk.inside.annals c.desk.inside.stopped c.till.inside.fragment.number c.till.inside.fragment.value c.till.inside.store c.till.invariant.0 c.till.invariant.1 c.agree.ensures.agreed c.in_default.is c.desk.invariant in
-    desk_behind g.D.Disk g.B.Board.begin g.B.Run.kept c.desk.inside.stores c.agree.new.self c.tell_store.new.stores c.agree.new.fragment.number c.till.inside.store c.told_one-came.new.store c.told_one-came.new.all c.hear_lent.new.all c.told_one-came.new.notes c.told_one-came.new.annals c.hear_lent.new.annals (stop_in c.told_one-came.result) c.stop_of-desk-inside.result
+    let kernel = going g.D.Disk g.B.Board.begin g.B.Board.terms g.B.Run.kept c.desk.inside.stores c.desk.inside.cells c.desk.inside.notes c.desk.inside.annals c.desk.inside.stopped c.till.inside.fragment.number c.till.inside.fragment.value c.till.inside.store c.till.invariant.0 c.till.invariant.1 c.agree.ensures.agreed c.in_default.is c.desk.invariant in
+    desk_behind g.D.Disk g.B.Board.begin g.B.Board.terms g.B.Run.kept c.desk.inside.stores c.agree.new.self c.tell_store.new.stores c.agree.new.fragment.number c.till.inside.store c.told_one-came.new.store c.told_one-came.new.all c.hear_lent.new.all c.told_one-came.new.notes c.told_one-came.new.annals c.hear_lent.new.annals (stop_in c.told_one-came.result) c.stop_of-desk-inside.result
     c.tell_store.ensures.stores c.agree.ensures.authority (ap (λ f. f.number) c.agree.ensures.fragment ∙ c.till.invariant.0)
     (ap (slice_get c.desk.inside.stores) (sym c.till.invariant.0) ∙ (c.agree.ensures.agreed ∙ c.till.invariant.1))
     c.hear_lent.ensures.same.0 c.hear_lent.ensures.same.1 c.stop_of-desk-inside.ensures
-    (desk_after g.D.Disk g.B.Board.begin g.B.Run.kept (g.S.Supplier.word c.args.gate.now.supply) (g.P.Policy.wish c.args.gate.now.policy) c.requires.managers.0 c.requires.managers.1 c.locus.inside.locked.number c.desk.inside.stores c.desk.inside.cells c.desk.inside.notes c.desk.inside.annals c.till.inside.store kernel c.told_one-came.new.store c.told_one-came.new.all c.told_one-came.new.notes c.tell_store.new.stores c.told_one-came.new.annals c.told_one-came.ensures.told c.told_one-came.result c.told_one-came.ensures.looks c.told_one-came.ensures.undone)
+    (desk_after g.D.Disk g.B.Board.begin g.B.Board.terms g.B.Run.kept (g.S.Supplier.word c.args.gate.now.supply) (g.P.Policy.wish c.args.gate.now.policy) c.requires.managers.0 c.requires.managers.1 c.locus.inside.locked.number c.desk.inside.stores c.desk.inside.cells c.desk.inside.notes c.desk.inside.annals c.till.inside.store kernel c.told_one-came.new.store c.told_one-came.new.all c.told_one-came.new.notes c.tell_store.new.stores c.told_one-came.new.annals c.told_one-came.ensures.told c.told_one-came.result c.told_one-came.ensures.looks c.told_one-came.ensures.undone)
 
 pub returns-clause-item : goal.returns-clause-item
 returns-clause-item g c =
-    let kernel = going g.D.Disk g.B.Board.begin g.B.Run.kept c.desk.inside.stores c.desk.inside.cells c.desk.inside.notes c.desk.inside.annals c.desk.inside.stopped c.till.inside.fragment.number c.till.inside.fragment.value c.till.inside.store c.till.invariant.0 c.till.invariant.1 c.agree.ensures.agreed c.in_default.is c.desk.invariant in
+    let kernel = going g.D.Disk g.B.Board.begin g.B.Board.terms g.B.Run.kept c.desk.inside.stores c.desk.inside.cells c.desk.inside.notes c.desk.inside.annals c.desk.inside.stopped c.till.inside.fragment.number c.till.inside.fragment.value c.till.inside.store c.till.invariant.0 c.till.invariant.1 c.agree.ensures.agreed c.in_default.is c.desk.invariant in
     let r = c.told_one-came.result in
     let es = c.told_one-came.new.notes.entries in
     let at = ap (slice_get c.told_one-came.new.all) (sym c.told_one-came.ensures.numbers) ∙ c.hear_lent.ensures.stands in
-    subst (λ (k : Knowing g.row.D.Denot). IfSome r (IsTrueOf g.D.Disk.tells g.B.Board.begin c.args.locus.now.number (length k.noted.entries) es)) c.desk.view_is
-    (subst (λ (z : Sighted g.row.D.Denot). IfSome r (IsTrueOf g.D.Disk.tells g.B.Board.begin z.number (length c.desk.inside.notes.entries) es)) c.locus.view_is
-    (item_after g.D.Disk g.B.Board.begin g.B.Run.kept (g.S.Supplier.word c.args.gate.now.supply) (g.P.Policy.wish c.args.gate.now.policy) c.requires.managers.0 c.requires.managers.1 c.locus.inside.locked.number c.desk.inside.stores c.desk.inside.cells c.desk.inside.notes c.desk.inside.annals c.till.inside.store kernel c.told_one-came.new.store c.told_one-came.new.all c.told_one-came.new.notes c.told_one-came.new.locus.cell at r c.told_one-came.ensures.looks))
+    subst (λ (k : Knowing g.row.D.Denot). IfSome r (IsTrueOf g.B.Board.terms.told g.B.Board.begin c.args.locus.now.number (length k.noted.entries) es)) c.desk.view_is
+    (subst (λ (z : Sighted g.row.D.Denot). IfSome r (IsTrueOf g.B.Board.terms.told g.B.Board.begin z.number (length c.desk.inside.notes.entries) es)) c.locus.view_is
+    (item_after g.D.Disk g.B.Board.begin g.B.Board.terms g.B.Run.kept (g.S.Supplier.word c.args.gate.now.supply) (g.P.Policy.wish c.args.gate.now.policy) c.requires.managers.0 c.requires.managers.1 c.locus.inside.locked.number c.desk.inside.stores c.desk.inside.cells c.desk.inside.notes c.desk.inside.annals c.till.inside.store kernel c.told_one-came.new.store c.told_one-came.new.all c.told_one-came.new.notes c.told_one-came.new.locus.cell at r c.told_one-came.ensures.looks))
 
 pub returns-clause-notes : goal.returns-clause-notes
 returns-clause-notes g c =

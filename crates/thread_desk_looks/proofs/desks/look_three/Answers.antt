@@ -10,51 +10,51 @@ use Rattle.thread_desk_looks.proofs.desks.look_three.Goals as goal
 
 pub told_three-came-requires : goal.told_three-came-requires
 told_three-came-requires g c =
-    let kernel = going g.D.Disk g.B.Board.begin g.B.Run.kept c.desk.inside.stores c.desk.inside.cells c.desk.inside.notes c.desk.inside.annals c.desk.inside.stopped c.till.inside.fragment.number c.till.inside.fragment.value c.till.inside.store c.till.invariant.0 c.till.invariant.1 c.agree.ensures.agreed c.in_default.is c.desk.invariant in
+    let kernel = going g.D.Disk g.B.Board.begin g.B.Board.terms g.B.Run.kept c.desk.inside.stores c.desk.inside.cells c.desk.inside.notes c.desk.inside.annals c.desk.inside.stopped c.till.inside.fragment.number c.till.inside.fragment.value c.till.inside.store c.till.invariant.0 c.till.invariant.1 c.agree.ensures.agreed c.in_default.is c.desk.invariant in
     record {
       keeps = c.requires.keeps;
       wishes = c.requires.wishes;
-      steady = goes_steady g.D.Disk g.B.Board.begin g.B.Run.kept (g.S.Supplier.word c.args.gate.now.supply) (g.P.Policy.wish c.args.gate.now.policy) c.requires.managers.0 c.requires.managers.1 c.locus.inside.locked.number c.desk.inside.stores c.desk.inside.cells c.desk.inside.notes c.desk.inside.annals c.till.inside.store kernel;
-      clean = goes_clean g.D.Disk g.B.Board.begin g.B.Run.kept (g.S.Supplier.word c.args.gate.now.supply) (g.P.Policy.wish c.args.gate.now.policy) c.requires.managers.0 c.requires.managers.1 c.locus.inside.locked.number c.desk.inside.stores c.desk.inside.cells c.desk.inside.notes c.desk.inside.annals c.till.inside.store kernel;
+      steady = goes_steady g.D.Disk g.B.Board.begin g.B.Board.terms g.B.Run.kept (g.S.Supplier.word c.args.gate.now.supply) (g.P.Policy.wish c.args.gate.now.policy) c.requires.managers.0 c.requires.managers.1 c.locus.inside.locked.number c.desk.inside.stores c.desk.inside.cells c.desk.inside.notes c.desk.inside.annals c.till.inside.store kernel;
+      clean = goes_clean g.D.Disk g.B.Board.begin g.B.Board.terms g.B.Run.kept (g.S.Supplier.word c.args.gate.now.supply) (g.P.Policy.wish c.args.gate.now.policy) c.requires.managers.0 c.requires.managers.1 c.locus.inside.locked.number c.desk.inside.stores c.desk.inside.cells c.desk.inside.notes c.desk.inside.annals c.till.inside.store kernel;
       told = kernel.entries;
       apart = subst (λ (z : Sighted g.row.D.Denot). AllDiffer (c.locus.inside.locked.number ∷ c.atlas.inside.locked.number ∷ z.number ∷ [])) (sym c.other.view_is) (subst (λ (z : Sighted g.row.D.Denot). AllDiffer (c.locus.inside.locked.number ∷ z.number ∷ c.args.other.now.number ∷ [])) (sym c.atlas.view_is) (subst (λ (z : Sighted g.row.D.Denot). AllDiffer (z.number ∷ c.args.atlas.now.number ∷ c.args.other.now.number ∷ [])) (sym c.locus.view_is) c.requires.apart));
     }
 
 pub hear_lent-requires : goal.hear_lent-requires
 hear_lent-requires g c =
-    let kernel = going g.D.Disk g.B.Board.begin g.B.Run.kept c.desk.inside.stores c.desk.inside.cells c.desk.inside.notes c.desk.inside.annals c.desk.inside.stopped c.till.inside.fragment.number c.till.inside.fragment.value c.till.inside.store c.till.invariant.0 c.till.invariant.1 c.agree.ensures.agreed c.in_default.is c.desk.invariant in
-    record { known = known_after g.D.Disk g.B.Board.begin g.B.Run.kept (g.S.Supplier.word c.args.gate.now.supply) (g.P.Policy.wish c.args.gate.now.policy) c.requires.managers.0 c.requires.managers.1 c.locus.inside.locked.number c.desk.inside.stores c.desk.inside.cells c.desk.inside.notes c.desk.inside.annals c.till.inside.store kernel c.told_three-came.new.store c.told_three-came.new.all c.told_three-came.new.notes c.tell_store.new.stores c.told_three-came.new.annals c.told_three-came.ensures.told c.told_three-came.result c.told_three-came.ensures.looks c.told_three-came.ensures.undone }
+    let kernel = going g.D.Disk g.B.Board.begin g.B.Board.terms g.B.Run.kept c.desk.inside.stores c.desk.inside.cells c.desk.inside.notes c.desk.inside.annals c.desk.inside.stopped c.till.inside.fragment.number c.till.inside.fragment.value c.till.inside.store c.till.invariant.0 c.till.invariant.1 c.agree.ensures.agreed c.in_default.is c.desk.invariant in
+    record { known = known_after g.D.Disk g.B.Board.begin g.B.Board.terms g.B.Run.kept (g.S.Supplier.word c.args.gate.now.supply) (g.P.Policy.wish c.args.gate.now.policy) c.requires.managers.0 c.requires.managers.1 c.locus.inside.locked.number c.desk.inside.stores c.desk.inside.cells c.desk.inside.notes c.desk.inside.annals c.till.inside.store kernel c.told_three-came.new.store c.told_three-came.new.all c.told_three-came.new.notes c.tell_store.new.stores c.told_three-came.new.annals c.told_three-came.ensures.told c.told_three-came.result c.told_three-came.ensures.looks c.told_three-came.ensures.undone }
 
 pub hear_lent-requires-2 : goal.hear_lent-requires-2
 hear_lent-requires-2 g c =
-    let kernel = going g.D.Disk g.B.Board.begin g.B.Run.kept c.desk.inside.stores c.desk.inside.cells c.desk.inside.notes c.desk.inside.annals c.desk.inside.stopped c.till.inside.fragment.number c.till.inside.fragment.value c.till.inside.store c.till.invariant.0 c.till.invariant.1 c.agree.ensures.agreed c.in_default.is c.desk.invariant in
-    let known = known_after g.D.Disk g.B.Board.begin g.B.Run.kept (g.S.Supplier.word c.args.gate.now.supply) (g.P.Policy.wish c.args.gate.now.policy) c.requires.managers.0 c.requires.managers.1 c.locus.inside.locked.number c.desk.inside.stores c.desk.inside.cells c.desk.inside.notes c.desk.inside.annals c.till.inside.store kernel c.told_three-came.new.store c.told_three-came.new.all c.told_three-came.new.notes c.tell_store.new.stores c.told_three-came.new.annals c.told_three-came.ensures.told c.told_three-came.result c.told_three-came.ensures.looks c.told_three-came.ensures.undone in
-    record { known = subst (λ cs. AreKnown g.D.Disk g.B.Board.begin g.B.Run.kept c.told_three-came.new.store cs c.hear_lent.new.annals) (sym (c.hear_lent.ensures.same.0)) (subst (AreKnown g.D.Disk g.B.Board.begin g.B.Run.kept c.told_three-came.new.store c.told_three-came.new.all) (sym (c.hear_lent.ensures.same.1)) known) }
+    let kernel = going g.D.Disk g.B.Board.begin g.B.Board.terms g.B.Run.kept c.desk.inside.stores c.desk.inside.cells c.desk.inside.notes c.desk.inside.annals c.desk.inside.stopped c.till.inside.fragment.number c.till.inside.fragment.value c.till.inside.store c.till.invariant.0 c.till.invariant.1 c.agree.ensures.agreed c.in_default.is c.desk.invariant in
+    let known = known_after g.D.Disk g.B.Board.begin g.B.Board.terms g.B.Run.kept (g.S.Supplier.word c.args.gate.now.supply) (g.P.Policy.wish c.args.gate.now.policy) c.requires.managers.0 c.requires.managers.1 c.locus.inside.locked.number c.desk.inside.stores c.desk.inside.cells c.desk.inside.notes c.desk.inside.annals c.till.inside.store kernel c.told_three-came.new.store c.told_three-came.new.all c.told_three-came.new.notes c.tell_store.new.stores c.told_three-came.new.annals c.told_three-came.ensures.told c.told_three-came.result c.told_three-came.ensures.looks c.told_three-came.ensures.undone in
+    record { known = subst (λ cs. AreKnown g.D.Disk g.B.Board.terms.told g.B.Board.begin g.B.Run.kept c.told_three-came.new.store cs c.hear_lent.new.annals) (sym (c.hear_lent.ensures.same.0)) (subst (AreKnown g.D.Disk g.B.Board.terms.told g.B.Board.begin g.B.Run.kept c.told_three-came.new.store c.told_three-came.new.all) (sym (c.hear_lent.ensures.same.1)) known) }
 
 pub hear_lent-requires-3 : goal.hear_lent-requires-3
 hear_lent-requires-3 g c =
-    let kernel = going g.D.Disk g.B.Board.begin g.B.Run.kept c.desk.inside.stores c.desk.inside.cells c.desk.inside.notes c.desk.inside.annals c.desk.inside.stopped c.till.inside.fragment.number c.till.inside.fragment.value c.till.inside.store c.till.invariant.0 c.till.invariant.1 c.agree.ensures.agreed c.in_default.is c.desk.invariant in
-    let known = known_after g.D.Disk g.B.Board.begin g.B.Run.kept (g.S.Supplier.word c.args.gate.now.supply) (g.P.Policy.wish c.args.gate.now.policy) c.requires.managers.0 c.requires.managers.1 c.locus.inside.locked.number c.desk.inside.stores c.desk.inside.cells c.desk.inside.notes c.desk.inside.annals c.till.inside.store kernel c.told_three-came.new.store c.told_three-came.new.all c.told_three-came.new.notes c.tell_store.new.stores c.told_three-came.new.annals c.told_three-came.ensures.told c.told_three-came.result c.told_three-came.ensures.looks c.told_three-came.ensures.undone in
-    record { known = subst (λ cs. AreKnown g.D.Disk g.B.Board.begin g.B.Run.kept c.told_three-came.new.store cs c.hear_lent-2.new.annals) (sym (c.hear_lent-2.ensures.same.0 ∙ c.hear_lent.ensures.same.0)) (subst (AreKnown g.D.Disk g.B.Board.begin g.B.Run.kept c.told_three-came.new.store c.told_three-came.new.all) (sym (c.hear_lent-2.ensures.same.1 ∙ c.hear_lent.ensures.same.1)) known) }
+    let kernel = going g.D.Disk g.B.Board.begin g.B.Board.terms g.B.Run.kept c.desk.inside.stores c.desk.inside.cells c.desk.inside.notes c.desk.inside.annals c.desk.inside.stopped c.till.inside.fragment.number c.till.inside.fragment.value c.till.inside.store c.till.invariant.0 c.till.invariant.1 c.agree.ensures.agreed c.in_default.is c.desk.invariant in
+    let known = known_after g.D.Disk g.B.Board.begin g.B.Board.terms g.B.Run.kept (g.S.Supplier.word c.args.gate.now.supply) (g.P.Policy.wish c.args.gate.now.policy) c.requires.managers.0 c.requires.managers.1 c.locus.inside.locked.number c.desk.inside.stores c.desk.inside.cells c.desk.inside.notes c.desk.inside.annals c.till.inside.store kernel c.told_three-came.new.store c.told_three-came.new.all c.told_three-came.new.notes c.tell_store.new.stores c.told_three-came.new.annals c.told_three-came.ensures.told c.told_three-came.result c.told_three-came.ensures.looks c.told_three-came.ensures.undone in
+    record { known = subst (λ cs. AreKnown g.D.Disk g.B.Board.terms.told g.B.Board.begin g.B.Run.kept c.told_three-came.new.store cs c.hear_lent-2.new.annals) (sym (c.hear_lent-2.ensures.same.0 ∙ c.hear_lent.ensures.same.0)) (subst (AreKnown g.D.Disk g.B.Board.terms.told g.B.Board.begin g.B.Run.kept c.told_three-came.new.store c.told_three-came.new.all) (sym (c.hear_lent-2.ensures.same.1 ∙ c.hear_lent.ensures.same.1)) known) }
 
 pub invariant_of-desk : goal.invariant_of-desk
 invariant_of-desk g c =
-    let kernel = going g.D.Disk g.B.Board.begin g.B.Run.kept c.desk.inside.stores c.desk.inside.cells c.desk.inside.notes c.desk.inside.annals c.desk.inside.stopped c.till.inside.fragment.number c.till.inside.fragment.value c.till.inside.store c.till.invariant.0 c.till.invariant.1 c.agree.ensures.agreed c.in_default.is c.desk.invariant in
-    desk_behind g.D.Disk g.B.Board.begin g.B.Run.kept c.desk.inside.stores c.agree.new.self c.tell_store.new.stores c.agree.new.fragment.number c.till.inside.store c.told_three-came.new.store c.told_three-came.new.all c.hear_lent-3.new.all c.told_three-came.new.notes c.told_three-came.new.annals c.hear_lent-3.new.annals (stop_in c.told_three-came.result) c.stop_of-desk-inside.result
+    let kernel = going g.D.Disk g.B.Board.begin g.B.Board.terms g.B.Run.kept c.desk.inside.stores c.desk.inside.cells c.desk.inside.notes c.desk.inside.annals c.desk.inside.stopped c.till.inside.fragment.number c.till.inside.fragment.value c.till.inside.store c.till.invariant.0 c.till.invariant.1 c.agree.ensures.agreed c.in_default.is c.desk.invariant in
+    desk_behind g.D.Disk g.B.Board.begin g.B.Board.terms g.B.Run.kept c.desk.inside.stores c.agree.new.self c.tell_store.new.stores c.agree.new.fragment.number c.till.inside.store c.told_three-came.new.store c.told_three-came.new.all c.hear_lent-3.new.all c.told_three-came.new.notes c.told_three-came.new.annals c.hear_lent-3.new.annals (stop_in c.told_three-came.result) c.stop_of-desk-inside.result
     c.tell_store.ensures.stores c.agree.ensures.authority (ap (λ f. f.number) c.agree.ensures.fragment ∙ c.till.invariant.0)
     (ap (slice_get c.desk.inside.stores) (sym c.till.invariant.0) ∙ (c.agree.ensures.agreed ∙ c.till.invariant.1))
     (c.hear_lent-3.ensures.same.0 ∙ (c.hear_lent-2.ensures.same.0 ∙ c.hear_lent.ensures.same.0)) (c.hear_lent-3.ensures.same.1 ∙ (c.hear_lent-2.ensures.same.1 ∙ c.hear_lent.ensures.same.1)) c.stop_of-desk-inside.ensures
-    (desk_after g.D.Disk g.B.Board.begin g.B.Run.kept (g.S.Supplier.word c.args.gate.now.supply) (g.P.Policy.wish c.args.gate.now.policy) c.requires.managers.0 c.requires.managers.1 c.locus.inside.locked.number c.desk.inside.stores c.desk.inside.cells c.desk.inside.notes c.desk.inside.annals c.till.inside.store kernel c.told_three-came.new.store c.told_three-came.new.all c.told_three-came.new.notes c.tell_store.new.stores c.told_three-came.new.annals c.told_three-came.ensures.told c.told_three-came.result c.told_three-came.ensures.looks c.told_three-came.ensures.undone)
+    (desk_after g.D.Disk g.B.Board.begin g.B.Board.terms g.B.Run.kept (g.S.Supplier.word c.args.gate.now.supply) (g.P.Policy.wish c.args.gate.now.policy) c.requires.managers.0 c.requires.managers.1 c.locus.inside.locked.number c.desk.inside.stores c.desk.inside.cells c.desk.inside.notes c.desk.inside.annals c.till.inside.store kernel c.told_three-came.new.store c.told_three-came.new.all c.told_three-came.new.notes c.tell_store.new.stores c.told_three-came.new.annals c.told_three-came.ensures.told c.told_three-came.result c.told_three-came.ensures.looks c.told_three-came.ensures.undone)
 
 pub returns-clause-item : goal.returns-clause-item
 returns-clause-item g c =
-    let kernel = going g.D.Disk g.B.Board.begin g.B.Run.kept c.desk.inside.stores c.desk.inside.cells c.desk.inside.notes c.desk.inside.annals c.desk.inside.stopped c.till.inside.fragment.number c.till.inside.fragment.value c.till.inside.store c.till.invariant.0 c.till.invariant.1 c.agree.ensures.agreed c.in_default.is c.desk.invariant in
+    let kernel = going g.D.Disk g.B.Board.begin g.B.Board.terms g.B.Run.kept c.desk.inside.stores c.desk.inside.cells c.desk.inside.notes c.desk.inside.annals c.desk.inside.stopped c.till.inside.fragment.number c.till.inside.fragment.value c.till.inside.store c.till.invariant.0 c.till.invariant.1 c.agree.ensures.agreed c.in_default.is c.desk.invariant in
     let r = c.told_three-came.result in
     let es = c.told_three-came.new.notes.entries in
     let at = ap (slice_get c.told_three-came.new.all) (sym c.told_three-came.ensures.numbers.0) ∙ c.hear_lent.ensures.stands in
-    subst (λ (k : Knowing g.row.D.Denot). IfSome r (IsTrueOf g.D.Disk.tells g.B.Board.begin c.args.locus.now.number (length k.noted.entries) es)) c.desk.view_is
-    (subst (λ (z : Sighted g.row.D.Denot). IfSome r (IsTrueOf g.D.Disk.tells g.B.Board.begin z.number (length c.desk.inside.notes.entries) es)) c.locus.view_is
-    (item_after g.D.Disk g.B.Board.begin g.B.Run.kept (g.S.Supplier.word c.args.gate.now.supply) (g.P.Policy.wish c.args.gate.now.policy) c.requires.managers.0 c.requires.managers.1 c.locus.inside.locked.number c.desk.inside.stores c.desk.inside.cells c.desk.inside.notes c.desk.inside.annals c.till.inside.store kernel c.told_three-came.new.store c.told_three-came.new.all c.told_three-came.new.notes c.told_three-came.new.locus.cell at r c.told_three-came.ensures.looks))
+    subst (λ (k : Knowing g.row.D.Denot). IfSome r (IsTrueOf g.B.Board.terms.told g.B.Board.begin c.args.locus.now.number (length k.noted.entries) es)) c.desk.view_is
+    (subst (λ (z : Sighted g.row.D.Denot). IfSome r (IsTrueOf g.B.Board.terms.told g.B.Board.begin z.number (length c.desk.inside.notes.entries) es)) c.locus.view_is
+    (item_after g.D.Disk g.B.Board.begin g.B.Board.terms g.B.Run.kept (g.S.Supplier.word c.args.gate.now.supply) (g.P.Policy.wish c.args.gate.now.policy) c.requires.managers.0 c.requires.managers.1 c.locus.inside.locked.number c.desk.inside.stores c.desk.inside.cells c.desk.inside.notes c.desk.inside.annals c.till.inside.store kernel c.told_three-came.new.store c.told_three-came.new.all c.told_three-came.new.notes c.told_three-came.new.locus.cell at r c.told_three-came.ensures.looks))
 
 pub returns-clause-notes : goal.returns-clause-notes
 returns-clause-notes g c =

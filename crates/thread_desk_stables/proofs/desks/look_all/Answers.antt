@@ -11,38 +11,38 @@ use Rattle.thread_desk_stables.proofs.desks.look_all.Goals as goal
 
 pub told_all-came-requires : goal.told_all-came-requires
 told_all-came-requires g c =
-    let kernel = going g.D.Disk g.B.Board.begin g.B.Run.kept c.desk.inside.stores c.desk.inside.cells c.desk.inside.notes c.desk.inside.annals c.desk.inside.stopped c.till.inside.fragment.number c.till.inside.fragment.value c.till.inside.store c.till.invariant.0 c.till.invariant.1 c.agree.ensures.agreed c.in_default.is c.desk.invariant in
+    let kernel = going g.D.Disk g.B.Board.begin g.B.Board.terms g.B.Run.kept c.desk.inside.stores c.desk.inside.cells c.desk.inside.notes c.desk.inside.annals c.desk.inside.stopped c.till.inside.fragment.number c.till.inside.fragment.value c.till.inside.store c.till.invariant.0 c.till.invariant.1 c.agree.ensures.agreed c.in_default.is c.desk.invariant in
     record {
       keeps = c.requires.keeps;
       wishes = c.requires.wishes;
       managers = c.requires.managers;
       row = c.requires.row;
-      kernel = without_stores g.D.Disk g.B.Board.begin g.B.Run.kept c.desk.inside.stores c.desk.inside.cells c.desk.inside.notes c.desk.inside.annals c.till.inside.store kernel;
+      kernel = without_stores g.D.Disk g.B.Board.begin g.B.Board.terms g.B.Run.kept c.desk.inside.stores c.desk.inside.cells c.desk.inside.notes c.desk.inside.annals c.till.inside.store kernel;
     }
 
 pub hear_all-requires : goal.hear_all-requires
 hear_all-requires g c =
-    let kernel = going g.D.Disk g.B.Board.begin g.B.Run.kept c.desk.inside.stores c.desk.inside.cells c.desk.inside.notes c.desk.inside.annals c.desk.inside.stopped c.till.inside.fragment.number c.till.inside.fragment.value c.till.inside.store c.till.invariant.0 c.till.invariant.1 c.agree.ensures.agreed c.in_default.is c.desk.invariant in
-    record { row = c.told_all-came.ensures.row; known = known_after g.D.Disk g.B.Board.begin g.B.Run.kept (g.S.Supplier.word c.args.gate.now.supply) (g.P.Policy.wish c.args.gate.now.policy) c.requires.managers.0 c.requires.managers.1 c.args.me c.desk.inside.stores c.desk.inside.cells c.desk.inside.notes c.desk.inside.annals c.till.inside.store kernel c.told_all-came.new.store c.told_all-came.new.all c.told_all-came.new.notes c.tell_store.new.stores c.told_all-came.new.annals c.told_all-came.ensures.told c.told_all-came.result c.told_all-came.ensures.looks c.told_all-came.ensures.undone }
+    let kernel = going g.D.Disk g.B.Board.begin g.B.Board.terms g.B.Run.kept c.desk.inside.stores c.desk.inside.cells c.desk.inside.notes c.desk.inside.annals c.desk.inside.stopped c.till.inside.fragment.number c.till.inside.fragment.value c.till.inside.store c.till.invariant.0 c.till.invariant.1 c.agree.ensures.agreed c.in_default.is c.desk.invariant in
+    record { row = c.told_all-came.ensures.row; known = known_after g.D.Disk g.B.Board.begin g.B.Board.terms g.B.Run.kept (g.S.Supplier.word c.args.gate.now.supply) (g.P.Policy.wish c.args.gate.now.policy) c.requires.managers.0 c.requires.managers.1 c.args.me c.desk.inside.stores c.desk.inside.cells c.desk.inside.notes c.desk.inside.annals c.till.inside.store kernel c.told_all-came.new.store c.told_all-came.new.all c.told_all-came.new.notes c.tell_store.new.stores c.told_all-came.new.annals c.told_all-came.ensures.told c.told_all-came.result c.told_all-came.ensures.looks c.told_all-came.ensures.undone }
 
 pub invariant_of-desk : goal.invariant_of-desk
 invariant_of-desk g c =
-    let kernel = going g.D.Disk g.B.Board.begin g.B.Run.kept c.desk.inside.stores c.desk.inside.cells c.desk.inside.notes c.desk.inside.annals c.desk.inside.stopped c.till.inside.fragment.number c.till.inside.fragment.value c.till.inside.store c.till.invariant.0 c.till.invariant.1 c.agree.ensures.agreed c.in_default.is c.desk.invariant in
-    desk_behind g.D.Disk g.B.Board.begin g.B.Run.kept c.desk.inside.stores c.agree.new.self c.tell_store.new.stores c.agree.new.fragment.number c.till.inside.store c.told_all-came.new.store c.told_all-came.new.all c.hear_all.new.all c.told_all-came.new.notes c.told_all-came.new.annals c.hear_all.new.annals (stop_in c.told_all-came.result) c.stop_of-desk-inside.result
+    let kernel = going g.D.Disk g.B.Board.begin g.B.Board.terms g.B.Run.kept c.desk.inside.stores c.desk.inside.cells c.desk.inside.notes c.desk.inside.annals c.desk.inside.stopped c.till.inside.fragment.number c.till.inside.fragment.value c.till.inside.store c.till.invariant.0 c.till.invariant.1 c.agree.ensures.agreed c.in_default.is c.desk.invariant in
+    desk_behind g.D.Disk g.B.Board.begin g.B.Board.terms g.B.Run.kept c.desk.inside.stores c.agree.new.self c.tell_store.new.stores c.agree.new.fragment.number c.till.inside.store c.told_all-came.new.store c.told_all-came.new.all c.hear_all.new.all c.told_all-came.new.notes c.told_all-came.new.annals c.hear_all.new.annals (stop_in c.told_all-came.result) c.stop_of-desk-inside.result
     c.tell_store.ensures.stores c.agree.ensures.authority (ap (λ f. f.number) c.agree.ensures.fragment ∙ c.till.invariant.0)
     (ap (slice_get c.desk.inside.stores) (sym c.till.invariant.0) ∙ (c.agree.ensures.agreed ∙ c.till.invariant.1))
     c.hear_all.ensures.same.0 c.hear_all.ensures.same.1 c.stop_of-desk-inside.ensures
-    (desk_after g.D.Disk g.B.Board.begin g.B.Run.kept (g.S.Supplier.word c.args.gate.now.supply) (g.P.Policy.wish c.args.gate.now.policy) c.requires.managers.0 c.requires.managers.1 c.args.me c.desk.inside.stores c.desk.inside.cells c.desk.inside.notes c.desk.inside.annals c.till.inside.store kernel c.told_all-came.new.store c.told_all-came.new.all c.told_all-came.new.notes c.tell_store.new.stores c.told_all-came.new.annals c.told_all-came.ensures.told c.told_all-came.result c.told_all-came.ensures.looks c.told_all-came.ensures.undone)
+    (desk_after g.D.Disk g.B.Board.begin g.B.Board.terms g.B.Run.kept (g.S.Supplier.word c.args.gate.now.supply) (g.P.Policy.wish c.args.gate.now.policy) c.requires.managers.0 c.requires.managers.1 c.args.me c.desk.inside.stores c.desk.inside.cells c.desk.inside.notes c.desk.inside.annals c.till.inside.store kernel c.told_all-came.new.store c.told_all-came.new.all c.told_all-came.new.notes c.tell_store.new.stores c.told_all-came.new.annals c.told_all-came.ensures.told c.told_all-came.result c.told_all-came.ensures.looks c.told_all-came.ensures.undone)
 
 pub returns-clause-item : goal.returns-clause-item
 returns-clause-item g c =
-    let kernel = going g.D.Disk g.B.Board.begin g.B.Run.kept c.desk.inside.stores c.desk.inside.cells c.desk.inside.notes c.desk.inside.annals c.desk.inside.stopped c.till.inside.fragment.number c.till.inside.fragment.value c.till.inside.store c.till.invariant.0 c.till.invariant.1 c.agree.ensures.agreed c.in_default.is c.desk.invariant in
+    let kernel = going g.D.Disk g.B.Board.begin g.B.Board.terms g.B.Run.kept c.desk.inside.stores c.desk.inside.cells c.desk.inside.notes c.desk.inside.annals c.desk.inside.stopped c.till.inside.fragment.number c.till.inside.fragment.value c.till.inside.store c.till.invariant.0 c.till.invariant.1 c.agree.ensures.agreed c.in_default.is c.desk.invariant in
     let r = c.told_all-came.result in
     let es = c.told_all-came.new.notes.entries in
-    let after = desk_after g.D.Disk g.B.Board.begin g.B.Run.kept (g.S.Supplier.word c.args.gate.now.supply) (g.P.Policy.wish c.args.gate.now.policy) c.requires.managers.0 c.requires.managers.1 c.args.me c.desk.inside.stores c.desk.inside.cells c.desk.inside.notes c.desk.inside.annals c.till.inside.store kernel c.told_all-came.new.store c.told_all-came.new.all c.told_all-came.new.notes c.tell_store.new.stores c.told_all-came.new.annals c.told_all-came.ensures.told r c.told_all-came.ensures.looks c.told_all-came.ensures.undone in
+    let after = desk_after g.D.Disk g.B.Board.begin g.B.Board.terms g.B.Run.kept (g.S.Supplier.word c.args.gate.now.supply) (g.P.Policy.wish c.args.gate.now.policy) c.requires.managers.0 c.requires.managers.1 c.args.me c.desk.inside.stores c.desk.inside.cells c.desk.inside.notes c.desk.inside.annals c.till.inside.store kernel c.told_all-came.new.store c.told_all-came.new.all c.told_all-came.new.notes c.tell_store.new.stores c.told_all-came.new.annals c.told_all-came.ensures.told r c.told_all-came.ensures.looks c.told_all-came.ensures.undone in
     let here = some_at c.told_all-came.new.all c.args.me (let len = after.is_kept.orderly.numbers.len in let low = c.told_all-came.ensures.small in omega (arith, len, low)) in
-    subst (λ (k : Knowing g.row.D.Denot). IfSome r (IsTrueOf g.D.Disk.tells g.B.Board.begin c.args.me (length k.noted.entries) es)) c.desk.view_is
-    (item_after g.D.Disk g.B.Board.begin g.B.Run.kept (g.S.Supplier.word c.args.gate.now.supply) (g.P.Policy.wish c.args.gate.now.policy) c.requires.managers.0 c.requires.managers.1 c.args.me c.desk.inside.stores c.desk.inside.cells c.desk.inside.notes c.desk.inside.annals c.till.inside.store kernel c.told_all-came.new.store c.told_all-came.new.all c.told_all-came.new.notes here.0 here.1 r c.told_all-came.ensures.looks)
+    subst (λ (k : Knowing g.row.D.Denot). IfSome r (IsTrueOf g.B.Board.terms.told g.B.Board.begin c.args.me (length k.noted.entries) es)) c.desk.view_is
+    (item_after g.D.Disk g.B.Board.begin g.B.Board.terms g.B.Run.kept (g.S.Supplier.word c.args.gate.now.supply) (g.P.Policy.wish c.args.gate.now.policy) c.requires.managers.0 c.requires.managers.1 c.args.me c.desk.inside.stores c.desk.inside.cells c.desk.inside.notes c.desk.inside.annals c.till.inside.store kernel c.told_all-came.new.store c.told_all-came.new.all c.told_all-came.new.notes here.0 here.1 r c.told_all-came.ensures.looks)
 
 pub returns-clause-notes : goal.returns-clause-notes
 returns-clause-notes g c =

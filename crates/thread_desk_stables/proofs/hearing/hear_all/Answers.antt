@@ -12,8 +12,8 @@ loop-i-init g c = record { all = refl; annals = refl; row = c.requires.row; hear
 
 pub hear_one-requires : goal.hear_one-requires
 hear_one-requires g c = record {
-  known = subst (λ cs. AreKnown g.D.Disk g.B.Board.begin g.B.Run.kept c.args.store.now cs c.loop-i.annals) (sym c.loop-i.invariant.all)
-      (subst (AreKnown g.D.Disk g.B.Board.begin g.B.Run.kept c.args.store.now c.args.all.now) (sym c.loop-i.invariant.annals) c.requires.known);
+  known = subst (λ cs. AreKnown g.D.Disk g.B.Board.terms.told g.B.Board.begin g.B.Run.kept c.args.store.now cs c.loop-i.annals) (sym c.loop-i.invariant.all)
+      (subst (AreKnown g.D.Disk g.B.Board.terms.told g.B.Board.begin g.B.Run.kept c.args.store.now c.args.all.now) (sym c.loop-i.invariant.annals) c.requires.known);
 }
 
 pub loop-i-preserved : goal.loop-i-preserved

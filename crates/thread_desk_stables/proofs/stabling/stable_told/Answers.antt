@@ -17,8 +17,8 @@ settle_lent-kept-requires-clause-steady g c =
 
 pub settle_lent-kept-requires-clause-lawful : goal.settle_lent-kept-requires-clause-lawful
 settle_lent-kept-requires-clause-lawful g c = λ i k is.
-    subst (λ es. LetsGo g.D.Disk g.B.Board.begin g.B.Run.kept es (parts_of c.args.store.now c.hear_all.new.all c.args.notes.now)) (sym (c.hear_all.ensures.heard i k is))
-    (subst (λ cs. LetsGo g.D.Disk g.B.Board.begin g.B.Run.kept c.args.annals.now (parts_of c.args.store.now cs c.args.notes.now)) (sym c.hear_all.ensures.same.0) c.requires.lawful)
+    subst (λ es. LetsGo g.D.Disk g.B.Board.terms.told g.B.Board.begin g.B.Run.kept es (parts_of c.args.store.now c.hear_all.new.all c.args.notes.now)) (sym (c.hear_all.ensures.heard i k is))
+    (subst (λ cs. LetsGo g.D.Disk g.B.Board.terms.told g.B.Board.begin g.B.Run.kept c.args.annals.now (parts_of c.args.store.now cs c.args.notes.now)) (sym c.hear_all.ensures.same.0) c.requires.lawful)
 
 pub tell_alone-requires-clause-among : goal.tell_alone-requires-clause-among
 tell_alone-requires-clause-among g c =

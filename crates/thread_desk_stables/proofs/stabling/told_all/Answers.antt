@@ -15,7 +15,7 @@ stable_told-requires g c =
       row = c.step_at-came.ensures.row;
       steady = step.steady;
       spare = step.made.spare;
-      lawful = owing_lets d g.B.Board.begin g.B.Run.kept s policy c.requires.managers.0 c.requires.managers.1 c.args.me c.args.all.now c.args.notes.now c.args.annals.now c.args.store.now c.requires.kernel
+      lawful = owing_lets d g.B.Board.begin g.B.Board.terms g.B.Run.kept s policy c.requires.managers.0 c.requires.managers.1 c.args.me c.args.all.now c.args.notes.now c.args.annals.now c.args.store.now c.requires.kernel
           c.step_at-came.new.store c.step_at-came.new.all c.step_at-came.new.notes c.step_at-came.new.annals c.step_at-came.ensures.told c.in-Some.made step;
       told = c.step_at-came.ensures.told;
     }

@@ -13,15 +13,15 @@ pub told_or_owing-came-requires : goal.told_or_owing-came-requires
 told_or_owing-came-requires g c = record {
   keeps = c.requires.keeps;
   wishes = c.requires.wishes;
-  steady = goes_steady g.D.Disk g.B.Board.begin g.B.Run.kept (g.S.Supplier.word c.args.gate.now.supply) (g.P.Policy.wish c.args.gate.now.policy) c.requires.managers.0 c.requires.managers.1 c.locus.inside.locked.number [] c.args.all.now c.args.notes.now c.args.annals.now c.args.store.now c.requires.kernel;
-  clean = goes_clean g.D.Disk g.B.Board.begin g.B.Run.kept (g.S.Supplier.word c.args.gate.now.supply) (g.P.Policy.wish c.args.gate.now.policy) c.requires.managers.0 c.requires.managers.1 c.locus.inside.locked.number [] c.args.all.now c.args.notes.now c.args.annals.now c.args.store.now c.requires.kernel;
+  steady = goes_steady g.D.Disk g.B.Board.begin g.B.Board.terms g.B.Run.kept (g.S.Supplier.word c.args.gate.now.supply) (g.P.Policy.wish c.args.gate.now.policy) c.requires.managers.0 c.requires.managers.1 c.locus.inside.locked.number [] c.args.all.now c.args.notes.now c.args.annals.now c.args.store.now c.requires.kernel;
+  clean = goes_clean g.D.Disk g.B.Board.begin g.B.Board.terms g.B.Run.kept (g.S.Supplier.word c.args.gate.now.supply) (g.P.Policy.wish c.args.gate.now.policy) c.requires.managers.0 c.requires.managers.1 c.locus.inside.locked.number [] c.args.all.now c.args.notes.now c.args.annals.now c.args.store.now c.requires.kernel;
   told = c.requires.kernel.entries;
 }
 
 pub hear_lent-requires : goal.hear_lent-requires
 hear_lent-requires g c =
     record {
-      known = first_known g.D.Disk g.B.Board.begin g.B.Run.kept (g.S.Supplier.word c.args.gate.now.supply) (g.P.Policy.wish c.args.gate.now.policy) c.requires.managers.0 c.requires.managers.1 c.locus.inside.locked.number c.args.all.now c.args.notes.now c.args.annals.now c.args.store.now c.requires.kernel
+      known = first_known g.D.Disk g.B.Board.begin g.B.Board.terms g.B.Run.kept (g.S.Supplier.word c.args.gate.now.supply) (g.P.Policy.wish c.args.gate.now.policy) c.requires.managers.0 c.requires.managers.1 c.locus.inside.locked.number c.args.all.now c.args.notes.now c.args.annals.now c.args.store.now c.requires.kernel
           c.told_or_owing-came.new.store c.told_or_owing-came.new.all c.told_or_owing-came.new.notes c.told_or_owing-came.new.annals c.told_or_owing-came.ensures.told c.told_or_owing-came.result c.told_or_owing-came.ensures.looks c.told_or_owing-came.ensures.undone;
     }
 

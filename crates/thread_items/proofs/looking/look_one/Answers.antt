@@ -9,7 +9,7 @@ use Rattle.thread_items.proofs.looking.look_one.Goals as goal
 
 pub note_item-requires-clause-later : goal.note_item-requires-clause-later
 note_item-requires-clause-later g c =
-    items_later g.D.Disk.tells g.B.Board.begin c.desk.inside.desk.noted.entries c.desk.inside.desk.stop c.desk.inside.slip.items c.is_full.new.self.items c.item_at-item.result.place c.desk.invariant
+    items_later g.B.Board.terms.told g.B.Board.begin c.desk.inside.desk.noted.entries c.desk.inside.desk.stop c.desk.inside.slip.items c.is_full.new.self.items c.item_at-item.result.place c.desk.invariant
     (ap (λ (s : Noting g.row.C.Denot LookItem). s.items) c.is_full.ensures.slip) (ap (λ (i : LookItem). i.place) c.item_at-item.ensures ∙ c.place-place.ensures)
 
 pub invariant_of-desk-in-Some : goal.invariant_of-desk-in-Some
@@ -18,7 +18,7 @@ invariant_of-desk-in-Some g c =
     let new = c.look_one.new.desk in
     let came = c.in-Some.came in
     let x : PassItem LookItem = record { pass = c.args.pass.now.number; item = c.item_at-item.result } in
-    items_after g.D.Disk.tells g.B.Board.begin c.args.locus.now.number (c.args.locus.now.number ∷ []) old.noted.entries new.noted.entries old.stop new.stop came c.desk.inside.slip.items c.note_item.new.slip.items x
+    items_after g.B.Board.terms.told g.B.Board.begin c.args.locus.now.number (c.args.locus.now.number ∷ []) old.noted.entries new.noted.entries old.stop new.stop came c.desk.inside.slip.items c.note_item.new.slip.items x
     c.in-Some.ensures.notes c.in-Some.ensures.item
     (if_some (λ (why : Stopped). (Some came ≡ Some (err_look why)) × (new ≡ old) × (c.look_one.new.till ≡ c.args.till.now) × (c.look_one.new.locus ≡ c.args.locus.now)) (λ (why : Stopped). (Some came ≡ Some (err_look why)) × (new.stop ≡ old.stop))
     (λ why h. (h.0, ap (λ (k : Knowing g.row.D.Denot). k.stop) h.1)) old.stop c.in-Some.ensures.was_stopped)

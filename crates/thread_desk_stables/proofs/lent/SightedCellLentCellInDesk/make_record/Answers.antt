@@ -20,28 +20,30 @@ pub invariant_of-self : goal.invariant_of-self
 invariant_of-self g c =
     let d = g.D.Disk in
     let b = g.B.Board.begin in
+    let spoken = g.B.Board.terms.told in
     let kept = g.B.Run.kept in
     let old = parts_of c.args.store.now c.args.all.now c.args.notes.now in
     let new = parts_of c.record_lent-came.new.store c.record_lent-came.new.all c.record_lent-came.new.notes in
     let k = c.record_lent-came.new.cell in
     let t = c.record_lent-came.ensures in
-    let was = subst (λ (z : Sighted g.row.D.Denot). LetsGo d b kept z.known old) (sym c.self.view_is) c.requires.lawful in
-    let lets = lets_again d b kept old new c.self.inside.locked.number c.requires.can.matches.orderly c.record_lent-came.result t.recorded t.fails c.self.inside.locked.known was in
-    let known = subst (AreKnown d b kept c.record_lent-came.new.store c.record_lent-came.new.all) (sym t.cell.1) lets.known in
-    let is = sight d b kept c.record_lent-came.new.store c.record_lent-came.new.all k.known k.number k.cell known c.meet.ensures.stands in
-    subst (λ (z : Keeping). IsSighted d b kept (sighted z c.of-seen.result.value)) (sym c.meet.ensures.cell)
-    (subst (λ (z : State g.row.D.Denot). IsSighted d b kept (sighted k z)) (sym c.of-seen.ensures) is)
+    let was = subst (λ (z : Sighted g.row.D.Denot). LetsGo d spoken b kept z.known old) (sym c.self.view_is) c.requires.lawful in
+    let lets = lets_again d spoken b kept old new c.self.inside.locked.number c.requires.can.matches.orderly c.record_lent-came.result t.recorded t.fails c.self.inside.locked.known was in
+    let known = subst (AreKnown d spoken b kept c.record_lent-came.new.store c.record_lent-came.new.all) (sym t.cell.1) lets.known in
+    let is = sight d spoken b kept c.record_lent-came.new.store c.record_lent-came.new.all k.known k.number k.cell known c.meet.ensures.stands in
+    subst (λ (z : Keeping). IsSighted d spoken b kept (sighted z c.of-seen.result.value)) (sym c.meet.ensures.cell)
+    (subst (λ (z : State g.row.D.Denot). IsSighted d spoken b kept (sighted k z)) (sym c.of-seen.ensures) is)
 
 pub returns-clause-lawful : goal.returns-clause-lawful
 returns-clause-lawful g c = λ known was.
     let d = g.D.Disk in
     let b = g.B.Board.begin in
+    let spoken = g.B.Board.terms.told in
     let kept = g.B.Run.kept in
     let old = parts_of c.args.store.now c.args.all.now c.args.notes.now in
     let new = parts_of c.record_lent-came.new.store c.record_lent-came.new.all c.record_lent-came.new.notes in
     let t = c.record_lent-came.ensures in
-    subst (λ cs. LetsGo d b kept known (parts_of c.record_lent-came.new.store cs c.record_lent-came.new.notes)) (sym c.meet.ensures.all)
-    (lets_again d b kept old new c.self.inside.locked.number c.requires.can.matches.orderly c.record_lent-came.result t.recorded t.fails known was)
+    subst (λ cs. LetsGo d spoken b kept known (parts_of c.record_lent-came.new.store cs c.record_lent-came.new.notes)) (sym c.meet.ensures.all)
+    (lets_again d spoken b kept old new c.self.inside.locked.number c.requires.can.matches.orderly c.record_lent-came.result t.recorded t.fails known was)
 
 pub returns-clause-no_blocks : goal.returns-clause-no_blocks
 returns-clause-no_blocks g c = λ n.

@@ -5,4 +5,4 @@ use Rattle.thread_desk_stables.proofs.lent.SightedCellLentCellInDesk.meet.Goals 
 
 pub invariant_of-self : goal.invariant_of-self
 invariant_of-self g c =
-    subst (λ (k : Keeping). IsSighted g.D.Disk g.B.Board.begin g.B.Run.kept (sighted k c.self.inside.seen.value)) (sym c.meet.ensures.cell) c.self.invariant
+    subst (λ (k : Keeping). IsSighted g.D.Disk g.B.Board.terms.told g.B.Board.begin g.B.Run.kept (sighted k c.self.inside.seen.value)) (sym c.meet.ensures.cell) c.self.invariant

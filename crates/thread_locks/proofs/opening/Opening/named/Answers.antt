@@ -1,9 +1,10 @@
 use Rattle.std.proofs.Common.{◌≡◌, ◌∷◌, List, [], length, sym, ap, subst, ◌∙◌}
 use Rattle.thread_items.specs.kernel_core.Parts.{held_of}
-use Rattle.kernel_run_facts.specs.kernel_core_facts.Kernels.{Held, Lives}
+use Rattle.kernel_run_facts.specs.kernel_core_facts.Kernels.{Held, Lives, StaysClean}
 use Rattle.kernel_run_facts.specs.kernel_core_facts.cell_states.declared.cells.Cell.{Cell}
 use Rattle.kernel_run_facts.specs.kernel_core_facts.store_facts.State.{State}
 use Rattle.kernel_run_facts.specs.Alongs.{IsAlong}
+use Rattle.thread_items.specs.thread_desk.Desks.{IsCountedFrom}
 use Rattle.thread_ties.specs.Sides.{fragments_of}
 use Rattle.thread_locks.specs.Openings.{Opened}
 use Rattle.thread_locks.proofs.opening.Opening.named.Goals as goal
@@ -40,6 +41,9 @@ over-requires g c =
       bench = s.bench;
       room = s.room;
       managers = (c.requires.keeps, c.requires.managers);
+      counted = subst (IsCountedFrom g.D.Disk g.B.Board.terms.counts) (sym parts) c.requires.counted;
+      clean = subst (StaysClean g.D.Disk g.B.Board.begin.supply) (sym parts) c.requires.clean;
+      tells = c.requires.tells;
       run = λ t. subst (Lives g.D.Disk g.B.Board.begin) (sym parts) (c.requires.run t);
       along = λ t. subst (IsAlong g.D.Disk g.B.Board.begin) (sym parts) (c.requires.along t);
     }

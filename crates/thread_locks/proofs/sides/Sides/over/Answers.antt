@@ -14,6 +14,6 @@ open-desk-requires g c =
     let p = c.args.parts in
     let s = c.args.self in
     record {
-      kernel = opened g.D.Disk g.B.Board.begin g.B.Run.kept s.stores s.all p.notes s.annals p.stopped p.store (held_of p.store p.cells.items p.notes p.stopped)
-          (ap (λ (l : List Cell). held_of p.store l p.notes p.stopped) c.requires.cells.0) c.requires.stores.0 c.requires.history.2 c.requires.history.0 c.requires.lawful c.requires.run c.requires.along;
+      kernel = opened g.D.Disk g.B.Board.begin g.B.Board.terms g.B.Run.kept s.stores s.all p.notes s.annals p.stopped p.store (held_of p.store p.cells.items p.notes p.stopped)
+          (ap (λ (l : List Cell). held_of p.store l p.notes p.stopped) c.requires.cells.0) c.requires.stores.0 c.requires.history.2 c.requires.history.0 c.requires.lawful c.requires.counted c.requires.clean c.requires.tells c.requires.run c.requires.along;
     }
