@@ -18,12 +18,12 @@ use Rattle.command_source.specs.command_outcomes.Statuses.{IsComplete, ending}
 use Rattle.command_source.specs.command_outcomes.declared.statuses.Status.{Status}
 use Rattle.command_source.specs.command_outcomes.declared.statuses.Status.TheVariants as status
 use Rattle.command_promises.specs.Openings.{Managers}
-use Rattle.command_promises.specs.Runs.{Telling}
+use Rattle.command_promises.specs.Manners.{Manner}
 use Rattle.command_promises.specs.Booked.{over}
 use Rattle.command_promises.specs.Leaving.{CanRun, IsRefused, RunLeaves}
 
 -- what holds of bytes that may be known holds of the known ones
-of_known : (left : Option Text) (bytes : Text) (P : Text → Type 0) → left ≡ Some bytes → IfSome left P → P bytes
+pub of_known : (left : Option Text) (bytes : Text) (P : Text → Type 0) → left ≡ Some bytes → IfSome left P → P bytes
 of_known left bytes P is h = subst (λ (o : Option Text). IfSome o P) is h
 
 abbrev script_in : Tables → Reading Source → Tables
@@ -38,8 +38,8 @@ one_script bytes script other brought others a b = ap (script_in script) (sym a.
 not_refused : (bytes : Text) (script : Tables) (brought : ManagerTables) (refusal : Refusal) → IsAccepted bytes script brought → IsRefusal bytes refusal.why (string_bytes refusal.key) → ⊥
 not_refused bytes script brought refusal accepted refuses = (let same = sym accepted.1 ∙ refuses in absurd (cc))
 
-module _ (telling : Telling) (m : Managers) (call : Call) (gave : Gave) (can : CanRun m call) where
-  not_misfit : (refusal : Refusal) → IsRefused call refusal → ⊥
+module _ (manner : Manner) (m : Managers) (call : Call) (gave : Gave) (can : CanRun m call) where
+  pub not_misfit : (refusal : Refusal) → IsRefused call refusal → ⊥
   not_misfit refusal (inl source) = not_refused can.bytes can.script can.brought refusal can.accepted (of_known call.source.before can.bytes (λ bytes. IsRefusal bytes refusal.why (string_bytes refusal.key)) can.known source.0)
   not_misfit refusal (inr (other, others, read, misfit)) =
       let same : can.script ≡ other = one_script can.bytes can.script other can.brought others can.accepted (of_known call.source.before can.bytes (λ b. IsAccepted b other others) can.known read.accepted) in
@@ -48,7 +48,7 @@ module _ (telling : Telling) (m : Managers) (call : Call) (gave : Gave) (can : C
       let one : can.state ≡ means.0 = one_meaning supply call.disk.before.reading can.state means.0 can.means means.1 in
       means.2.unfit (subst (λ (t : Tables). Fits (atlas_in (means.0 0).cell) t) same (subst (λ (v : KernelState). Fits (atlas_in (v 0).cell) can.script) one can.fits))
 
-  pub complete : (s : Status) → RunLeaves telling m call gave (ending s) → (call.source.rose → ⊥) → (call.disk.rose → ⊥) → (call.sink.rose → ⊥) → ((n : NoBlocks) → s ≡ status.BlocksFull n → ⊥) → IsComplete s
+  pub complete : (s : Status) → RunLeaves manner m call gave (ending s) → (call.source.rose → ⊥) → (call.disk.rose → ⊥) → (call.sink.rose → ⊥) → ((n : NoBlocks) → s ≡ status.BlocksFull n → ⊥) → IsComplete s
   complete status.Done leaves source disk sink blocks = inl refl
   complete status.Memory leaves source disk sink blocks = inr refl
   complete status.SinkFault leaves source disk sink blocks = absurd (sink leaves.1)

@@ -20,6 +20,7 @@ use Rattle.script_drill.specs.script_types.declared.refusals.Refusal.{Refusal}
 use Rattle.command_promises.specs.Openings.{Managers}
 use Rattle.command_promises.specs.Ready.{HasMisfit}
 use Rattle.model_serial.specs.model_births.Fitting.{Fits}
+use Rattle.command_promises.specs.Manners.{serial}
 use Rattle.command_promises.specs.Runs.{IsServed}
 use Rattle.command_promises.specs.Booked.{none_brought, over}
 use Rattle.command_promises.specs.Drilling.{CanDrill, DrillLeaves, StopsDrill}
@@ -34,27 +35,28 @@ none_allowed = record {
 }
 
 module _ (m : Managers) (number : ℕ) (sink : SeenSink) (disk : SeenDisk) (gave : Gave) where
-  of_script : (e : Ending) → ScriptLeaves summary_of m (drill number) sink disk gave e → DrillLeaves m number sink disk gave e
+  of_script : (e : Ending) → ScriptLeaves (serial summary_of) m (drill number) sink disk gave e → DrillLeaves m number sink disk gave e
   of_script Whole h = h
   of_script Unput h = h
   of_script (Stopped (fault.Script refusal)) h = h
   of_script (Stopped (fault.Foreign block place)) h = h
   of_script (Stopped fault.DiskFault) h = h
-  of_script (Stopped fault.Memory) h = (h.0, inr h.1)
+  of_script (Stopped fault.Memory) (inl h) = (h.0, inr h.1)
+  of_script (Stopped fault.Memory) (inr h) = absurd h.0
   of_script (Stopped (fault.NoBlocks n)) h = h
   of_script (Stopped fault.Usage) h = absurd h
   of_script (Stopped fault.Source) h = absurd h
   of_script (Wrong line want) h = absurd h
 
   -- by the tables of the script that was drawn, and the managers that it brings
-  pub drill_leaves : (brought : ManagerTables) (script : Tables) (e : Ending) → brought ≡ none_brought → script ≡ drill number → ScriptLeaves summary_of (over brought m) script sink disk gave e
+  pub drill_leaves : (brought : ManagerTables) (script : Tables) (e : Ending) → brought ≡ none_brought → script ≡ drill number → ScriptLeaves (serial summary_of) (over brought m) script sink disk gave e
       → DrillLeaves m number sink disk gave e
   drill_leaves brought script e none is h =
-      of_script e (subst (λ (t : Tables). ScriptLeaves summary_of m t sink disk gave e) is (subst (λ (ms : ManagerTables). ScriptLeaves summary_of (over ms m) script sink disk gave e) none h))
+      of_script e (subst (λ (t : Tables). ScriptLeaves (serial summary_of) m t sink disk gave e) is (subst (λ (ms : ManagerTables). ScriptLeaves (serial summary_of) (over ms m) script sink disk gave e) none h))
 
   -- memory ran out for the script
   pub no_memory : (s : Status) → s ≡ status_by fault.Memory → IsUnrun sink gave fault.Memory → disk.same → DrillLeaves m number sink disk gave (ending s)
-  no_memory s is unrun same = fault_ends sink (λ Puts. InRun m (drill number) disk (λ b. IsServed summary_of b disk gave Puts)) (StopsDrill m number sink disk gave) s fault.Memory is (unrun, inl same)
+  no_memory s is unrun same = fault_ends sink (λ Puts. InRun m (drill number) disk (λ b. IsServed (serial summary_of) b disk gave Puts)) (StopsDrill m number sink disk gave) s fault.Memory is (unrun, inl same)
 
   -- A DRILL that can be run is run, unless the disk or the sink fails, memory runs out, or blocks are too few
   module _ (can : CanDrill m number disk) where

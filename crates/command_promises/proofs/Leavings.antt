@@ -26,12 +26,13 @@ use Rattle.command_promises.specs.Openings.{FailsAtSync, HasFailedSync, KeepsMea
 use Rattle.command_promises.specs.Ready.{IsReady, IsUnopened, StopsOpening}
 use Rattle.command_promises.proofs.Kept.{fails_at_sync}
 use Rattle.command_promises.specs.Keeping.{IsKept}
-use Rattle.command_promises.specs.Runs.{IsCutShort, IsRun, IsServed, Telling}
+use Rattle.command_promises.specs.Manners.{Manner, Telling}
+use Rattle.command_promises.specs.Runs.{IsCutForMemory, IsCutShort, IsLeftSo, IsRun, IsServed}
 use Rattle.command_promises.proofs.Returning.{kept}
 use Rattle.command_promises.specs.Booked.{over}
 use Rattle.command_promises.specs.Leaving.{IsLeftInTime, IsReadOne, OfRun, RunLeaves, StopsRun}
 use Rattle.command_promises.specs.OfScript.{InRun, IsLeftUnopened, ScriptLeaves, StopsScript}
-use Rattle.command_promises.specs.Playing.{HasRun, HasServed, IsHandedIn, PlayLeaves, StartsRun, WasCutForBlocks, WasCutShort}
+use Rattle.command_promises.specs.Playing.{HasRun, HasServed, IsHandedIn, PlayLeaves, StartsRun, WasCutForBlocks, WasCutForMemory, WasCutShort, WasLeftSo}
 use Rattle.command_promises.specs.Short.{IsCutForBlocks, IsShortOfBlocks}
 
 module _ {D : Type 0} (disks : Ghosts D)
@@ -55,21 +56,21 @@ module _ {D : Type 0} (disks : Ghosts D)
       back t c (inr since) = inr since
 
 -- the source was refused, or could not be read
-pub source_stops : (telling : Telling) (m : Managers) (call : Call) (gave : Gave) (f : Fault) → StopsSource call.source f → IsLeftInTime call f → IsUnrun call.sink gave f → call.disk.same → StopsRun telling m call gave f
-source_stops telling m call gave (fault.Script refusal) why time unrun same = (unrun, inl (why, same, time))
-source_stops telling m call gave fault.Source why time unrun same = (why, unrun, same, time)
-source_stops telling m call gave fault.Memory why time unrun same = (unrun, inl (same, time))
-source_stops telling m call gave fault.Usage why time unrun same = absurd why
-source_stops telling m call gave (fault.Foreign block place) why time unrun same = absurd why
-source_stops telling m call gave fault.DiskFault why time unrun same = absurd why
-source_stops telling m call gave (fault.NoBlocks n) why time unrun same = absurd why
+pub source_stops : (manner : Manner) (m : Managers) (call : Call) (gave : Gave) (f : Fault) → StopsSource call.source f → IsLeftInTime call f → IsUnrun call.sink gave f → call.disk.same → StopsRun manner m call gave f
+source_stops manner m call gave (fault.Script refusal) why time unrun same = (unrun, inl (why, same, time))
+source_stops manner m call gave fault.Source why time unrun same = (why, unrun, same, time)
+source_stops manner m call gave fault.Memory why time unrun same = inl (unrun, inl (same, time))
+source_stops manner m call gave fault.Usage why time unrun same = absurd why
+source_stops manner m call gave (fault.Foreign block place) why time unrun same = absurd why
+source_stops manner m call gave fault.DiskFault why time unrun same = absurd why
+source_stops manner m call gave (fault.NoBlocks n) why time unrun same = absurd why
 
 -- a fault that stopped the call says how it ended
-pub ended_by : (telling : Telling) (m : Managers) (call : Call) (gave : Gave) (status : Status) (f : Fault) → status ≡ status_by f → StopsRun telling m call gave f → RunLeaves telling m call gave (ending status)
-ended_by telling m call gave status f is h = fault_ends call.sink (λ Puts. OfRun m call (λ b. IsServed telling b call.disk gave Puts)) (StopsRun telling m call gave) status f is h
+pub ended_by : (manner : Manner) (m : Managers) (call : Call) (gave : Gave) (status : Status) (f : Fault) → status ≡ status_by f → StopsRun manner m call gave f → RunLeaves manner m call gave (ending status)
+ended_by manner m call gave status f is h = fault_ends call.sink (λ Puts. OfRun m call (λ b. IsServed manner b call.disk gave Puts)) (StopsRun manner m call gave) status f is h
 
-pub script_ended_by : (telling : Telling) (m : Managers) (script : Tables) (sink : SeenSink) (disk : SeenDisk) (gave : Gave) (status : Status) (f : Fault) → status ≡ status_by f → StopsScript telling m script sink disk gave f → ScriptLeaves telling m script sink disk gave (ending status)
-script_ended_by telling m script sink disk gave status f is h = fault_ends sink (λ Puts. InRun m script disk (λ b. IsServed telling b disk gave Puts)) (StopsScript telling m script sink disk gave) status f is h
+pub script_ended_by : (manner : Manner) (m : Managers) (script : Tables) (sink : SeenSink) (disk : SeenDisk) (gave : Gave) (status : Status) (f : Fault) → status ≡ status_by f → StopsScript manner m script sink disk gave f → ScriptLeaves manner m script sink disk gave (ending status)
+script_ended_by manner m script sink disk gave status f is h = fault_ends sink (λ Puts. InRun m script disk (λ b. IsServed manner b disk gave Puts)) (StopsScript manner m script sink disk gave) status f is h
 
 module _ {D : Type 0} (disks : Ghosts D)
     (counts_now : (disk : D) (t : ℕ) (c : Image) → disks.tells → t ≤ disks.clock disk → disks.may_leave disk c → disks.left_since disk t c) (old new : D)
@@ -96,22 +97,26 @@ module _ {D : Type 0} (disks : Ghosts D)
         is_kept = subst (λ (ms : List ℕ). IsKept b seen (record { status = gave.status; history = gave.history; marks = ms })) run.marks
             (subst (λ (es : List Entry). IsKept b seen (record { status = gave.status; history = es; marks = run.view.marks })) run.history as_viewed)
 
-    served : (telling : Telling) (Puts : Text → Type 0) → HasServed disks telling b gave new Puts → IsServed telling b seen gave Puts
-    served telling Puts h = record { run = kept_run h.run; whole = h.whole; output = h.output }
+    pub served : (manner : Manner) (Puts : Text → Type 0) → HasServed disks manner b gave new Puts → IsServed manner b seen gave Puts
+    served manner Puts h = record { run = kept_run h.run; whole = h.whole; output = h.output }
 
-    cut : (telling : Telling) (sink : SeenSink) (f : Fault) → WasCutShort disks telling b sink gave new f → IsCutShort telling b seen sink gave f
-    cut telling sink f h = record { run = kept_run h.run; part = h.part; output = h.output }
+    left_so : (telling : Telling) (so_far : Beginning → List Entry → Type 0) (sink : SeenSink) (f : Fault) → WasLeftSo disks telling so_far b sink gave new f → IsLeftSo telling so_far b seen sink gave f
+    left_so telling so_far sink f h = record { run = kept_run h.run; part = h.part; output = h.output }
 
-    cut_for : (telling : Telling) (sink : SeenSink) (count : ℕ) (n : NoBlocks) → count ≡ count_in (disks.reading old) → WasCutForBlocks disks telling b count sink gave new n → IsCutForBlocks telling b seen sink gave n
-    cut_for telling sink count n same h = record { cut = cut telling sink (fault.NoBlocks n) h.cut; short = subst (λ (blocks : ℕ). IsShortOfBlocks b blocks gave.history n) same h.short }
+    cut : (manner : Manner) (sink : SeenSink) (f : Fault) → WasCutShort disks manner b sink gave new f → IsCutShort manner b seen sink gave f
+    cut manner sink f h = left_so manner.telling manner.part sink f h
 
-  module _ (telling : Telling) (m : Managers) (sink : SeenSink) (script : Tables) (gave : Gave) where
-    -- THE RUN was made, by a kernel that was ready for it
-    module _ (k : Held D) (ready : disks.tells → IsReady disks script old k) (rose : Type 0) (risen : rose → Rose (disks.faults old) (disks.faults new)) where
-      abbrev Starts : Beginning → Type 0
-      Starts b = StartsRun disks m.supply m.policy script k b
+    cut_for_memory : (manner : Manner) (sink : SeenSink) → WasCutForMemory disks manner b sink gave new → IsCutForMemory manner b seen sink gave
+    cut_for_memory manner sink h = left_so manner.telling manner.lacking sink fault.Memory h
 
-      in_run : (P Q : Beginning → Type 0) → (disks.tells → (b : Beginning) → next_moment (disks.clock old) ≡ b.first → P b → Q b) → (disks.tells → (b : Beginning) → Starts b → P b) → InRun m script seen Q
+    pub cut_for : (manner : Manner) (sink : SeenSink) (count : ℕ) (n : NoBlocks) → count ≡ count_in (disks.reading old) → WasCutForBlocks disks manner b count sink gave new n → IsCutForBlocks manner b seen sink gave n
+    cut_for manner sink count n same h = record { cut = cut manner sink (fault.NoBlocks n) h.cut; short = subst (λ (blocks : ℕ). IsShortOfBlocks manner.due b blocks gave.history n) same h.short }
+
+  module _ (manner : Manner) (m : Managers) (sink : SeenSink) (script : Tables) (gave : Gave) where
+    -- THE RUN was made, by a kernel that was ready for it, in each run that starts so, as that does from what the image means
+    module _ (k : Held D) (ready : disks.tells → IsReady disks script old k) (rose : Type 0) (risen : rose → Rose (disks.faults old) (disks.faults new)) (starts : Beginning → Type 0)
+        (start : disks.tells → (b : Beginning) → b ≡ run_from m script b.state (disks.clock old) → StartsRun disks m.supply m.policy script k b → starts b) where
+      pub in_run : (P Q : Beginning → Type 0) → (disks.tells → (b : Beginning) → next_moment (disks.clock old) ≡ b.first → P b → Q b) → (disks.tells → (b : Beginning) → starts b → P b) → InRun m script seen Q
       in_run P Q turn each told =
           let o = (ready told).opened m in
           let b = run_from m script o.state (disks.clock old) in
@@ -119,59 +124,60 @@ module _ {D : Type 0} (disks : Ghosts D)
             state = o.state;
             means = o.means;
             fits = o.fits;
-            run = λ low. turn told b refl (each told b (record { same_supply = refl; same_policy = refl; same_script = refl; lives = o.run low }));
+            run = λ low. turn told b refl (each told b (start told b refl (record { same_supply = refl; same_policy = refl; same_script = refl; lives = o.run low })));
           }
 
-      pub run_leaves : (e : Ending) → PlayLeaves disks telling Starts rose (books k.parts.store).count sink gave new e → ScriptLeaves telling m script sink seen gave e
-      run_leaves Whole h = in_run _ _ (λ told b first. served told b first gave telling _) h
-      run_leaves Unput h = (in_run _ _ (λ told b first. served told b first gave telling _) h.0, h.1)
-      run_leaves (Stopped fault.DiskFault) h = (risen h.0, inr (in_run _ _ (λ told b first. cut told b first gave telling sink fault.DiskFault) h.1))
-      run_leaves (Stopped (fault.NoBlocks n)) h = in_run _ _ (λ told b first. cut_for told b first gave telling sink (books k.parts.store).count n (ready told).count) h
+      pub run_leaves : (e : Ending) → PlayLeaves disks manner starts rose (books k.parts.store).count sink gave new e → ScriptLeaves manner m script sink seen gave e
+      run_leaves Whole h = in_run _ _ (λ told b first. served told b first gave manner _) h
+      run_leaves Unput h = (in_run _ _ (λ told b first. served told b first gave manner _) h.0, h.1)
+      run_leaves (Stopped fault.DiskFault) h = (risen h.0, inr (in_run _ _ (λ told b first. cut told b first gave manner sink fault.DiskFault) h.1))
+      run_leaves (Stopped (fault.NoBlocks n)) h = in_run _ _ (λ told b first. cut_for told b first gave manner sink (books k.parts.store).count n (ready told).count) h
       run_leaves (Stopped fault.Usage) h = absurd h
       run_leaves (Stopped (fault.Script refusal)) h = absurd h
       run_leaves (Stopped (fault.Foreign block place)) h = absurd h
       run_leaves (Stopped fault.Source) h = absurd h
-      run_leaves (Stopped fault.Memory) h = absurd h
+      run_leaves (Stopped fault.Memory) h = inr (h.0, in_run _ _ (λ told b first. cut_for_memory told b first gave manner sink) h.1)
       run_leaves (Wrong line want) h = absurd h
 
     -- THE IMAGE WAS NOT OPENED for the script
     module _ (only_now : (disk : D) (c : Image) → disks.tells → disks.left_since disk (disks.clock disk) c → disks.may_leave disk c) where
-      left_unopened : IsUnopened seen → IsLeftUnopened seen
+      pub left_unopened : IsUnopened seen → IsLeftUnopened seen
       left_unopened unopened told room = by (unopened told room)
         where
           by : HasFailedSync seen ⊎ KeepsMeaning seen → FailsAtSync seen ⊎ KeepsMeaning seen
           by (inl failed) = inl (fails_at_sync disks counts_now told old new only_now gone failed)
           by (inr keeps) = inr keeps
 
-      pub opening_stops : (f : Fault) → StopsOpening script seen f → IsUnrun sink gave f → StopsScript telling m script sink seen gave f
+      pub opening_stops : (f : Fault) → StopsOpening script seen f → IsUnrun sink gave f → StopsScript manner m script sink seen gave f
       opening_stops (fault.Script refusal) why unrun = (unrun, why)
       opening_stops (fault.Foreign block place) why unrun = (unrun, why)
       opening_stops fault.DiskFault why unrun = (why.0, inl (unrun, left_unopened why.1))
-      opening_stops fault.Memory why unrun = (unrun, why)
+      opening_stops fault.Memory why unrun = inl (unrun, why)
       opening_stops fault.Usage why unrun = absurd why
       opening_stops fault.Source why unrun = absurd why
       opening_stops (fault.NoBlocks n) why unrun = absurd why
 
 -- BEHIND A SOURCE that was read
-module _ (telling : Telling) (m : Managers) (call : Call) (script : Tables) (brought : ManagerTables) (read : HasRead call.source script brought) (gave : Gave) where
+module _ (manner : Manner) (m : Managers) (call : Call) (script : Tables) (brought : ManagerTables) (read : HasRead call.source script brought) (gave : Gave) where
   abbrev answering : Managers
   answering = over brought m
 
   of_run : (P : Beginning → Type 0) → InRun answering script call.disk P → OfRun m call P
   of_run P h = record { script = script; brought = brought; read = read; opened = h }
 
-  disk_fails : (IsUnrun call.sink gave fault.DiskFault × IsLeftUnopened call.disk) ⊎ InRun answering script call.disk (λ b. IsCutShort telling b call.disk call.sink gave fault.DiskFault)
-      → (IsUnrun call.sink gave fault.DiskFault × IsReadOne call.source × IsLeftUnopened call.disk) ⊎ OfRun m call (λ b. IsCutShort telling b call.disk call.sink gave fault.DiskFault)
+  disk_fails : (IsUnrun call.sink gave fault.DiskFault × IsLeftUnopened call.disk) ⊎ InRun answering script call.disk (λ b. IsCutShort manner b call.disk call.sink gave fault.DiskFault)
+      → (IsUnrun call.sink gave fault.DiskFault × IsReadOne call.source × IsLeftUnopened call.disk) ⊎ OfRun m call (λ b. IsCutShort manner b call.disk call.sink gave fault.DiskFault)
   disk_fails (inl (unrun, unopened)) = inl (unrun, (script, brought, read), unopened)
   disk_fails (inr run) = inr (of_run _ run)
 
-  pub behind_source : (e : Ending) → ScriptLeaves telling answering script call.sink call.disk gave e → RunLeaves telling m call gave e
+  pub behind_source : (e : Ending) → ScriptLeaves manner answering script call.sink call.disk gave e → RunLeaves manner m call gave e
   behind_source Whole h = of_run _ h
   behind_source Unput h = (of_run _ h.0, h.1)
   behind_source (Stopped (fault.Script refusal)) h = (h.0, inr (script, brought, read, h.1))
   behind_source (Stopped (fault.Foreign block place)) h = (h.0, (script, brought, read), h.1)
   behind_source (Stopped fault.DiskFault) h = (h.0, disk_fails h.1)
-  behind_source (Stopped fault.Memory) h = (h.0, inr ((script, brought, read), h.1))
+  behind_source (Stopped fault.Memory) (inl h) = inl (h.0, inr ((script, brought, read), h.1))
+  behind_source (Stopped fault.Memory) (inr h) = inr (h.0, of_run _ h.1)
   behind_source (Stopped (fault.NoBlocks n)) h = of_run _ h
   behind_source (Stopped fault.Usage) h = absurd h
   behind_source (Stopped fault.Source) h = absurd h

@@ -11,6 +11,7 @@ use Rattle.command_source.specs.command_outcomes.Statuses.{Ending}
 use Rattle.command_source.specs.command_outcomes.declared.faults.Fault.{Fault}
 use Rattle.command_source.specs.command_outcomes.declared.faults.Fault.TheVariants.{Memory}
 use Rattle.command_promises.specs.Openings.{IsKeptImage, Managers}
+use Rattle.command_promises.specs.Manners.{serial}
 use Rattle.command_promises.specs.Runs.{IsServed}
 use Rattle.command_promises.specs.OfScript.{InRun, StopsScript}
 use Rattle.command_promises.specs.Tellings.{summary_of}
@@ -19,11 +20,11 @@ module _ (m : Managers) (number : ℕ) (sink : SeenSink) (disk : SeenDisk) (gave
   -- STOPPED by this fault: as any script that was read; or memory ran out for the script, and the disk is as it was
   abbrev pub StopsDrill : Fault → Type 0
   StopsDrill Memory = IsUnrun sink gave Memory × (disk.same ⊎ IsKeptImage disk)
-  StopsDrill fault = StopsScript summary_of m (drill number) sink disk gave fault
+  StopsDrill fault = StopsScript (serial summary_of) m (drill number) sink disk gave fault
 
   -- WHAT `drill` LEAVES, by how it ended
   abbrev pub DrillLeaves : Ending → Type 0
-  DrillLeaves ending = LeavesBy sink (λ Puts. InRun m (drill number) disk (λ b. IsServed summary_of b disk gave Puts)) StopsDrill ending
+  DrillLeaves ending = LeavesBy sink (λ Puts. InRun m (drill number) disk (λ b. IsServed (serial summary_of) b disk gave Puts)) StopsDrill ending
 
 -- IT CAN BE DONE: the image means a state, which the drill fits
 pub record CanDrill (m : Managers) (number : ℕ) (disk : SeenDisk) : Type 0 where

@@ -21,7 +21,8 @@ use Rattle.command_promises.specs.Ready.{HasMisfit}
 use Rattle.command_promises.specs.Booked.{over}
 use Rattle.command_promises.specs.OfScript.{IsLeftUnopened}
 use Rattle.command_promises.specs.Short.{IsCutForBlocks}
-use Rattle.command_promises.specs.Runs.{IsCutShort, IsServed, Telling}
+use Rattle.command_promises.specs.Manners.{Manner}
+use Rattle.command_promises.specs.Runs.{IsCutForMemory, IsCutShort, IsServed}
 
 -- this holds of the run of the script that the source stands for, by the managers that it brings over those that were handed in, on a disk
 -- that tells its content
@@ -44,20 +45,22 @@ abbrev pub IsRefused : Call → Refusal → Type 0
 IsRefused call refusal = (IsRefusalOf call.source.before refusal × call.disk.same × IsLeftInTime call (Script refusal)) ⊎ ((script : Tables) × (brought : ManagerTables) × HasRead call.source script brought × HasMisfit script call.disk refusal)
 
 -- STOPPED by this fault. What stops first decides: the source, the image, the script against it, the run.
-abbrev pub StopsRun : Telling → Managers → Call → Gave → Fault → Type 0
-StopsRun telling m call gave (Script refusal) = IsUnrun call.sink gave (Script refusal) × IsRefused call refusal
-StopsRun telling m call gave (Foreign block place) =
+abbrev pub StopsRun : Manner → Managers → Call → Gave → Fault → Type 0
+StopsRun manner m call gave (Script refusal) = IsUnrun call.sink gave (Script refusal) × IsRefused call refusal
+StopsRun manner m call gave (Foreign block place) =
     IsUnrun call.sink gave (Foreign block place) × IsReadOne call.source × (call.disk.tells → IsForeign call.disk.before.reading (record { block = block; place = place }) × StaysAsRead call.disk)
-StopsRun telling m call gave DiskFault =
-    call.disk.rose × ((IsUnrun call.sink gave DiskFault × IsReadOne call.source × IsLeftUnopened call.disk) ⊎ OfRun m call (λ b. IsCutShort telling b call.disk call.sink gave DiskFault))
-StopsRun telling m call gave Source = call.source.rose × IsUnrun call.sink gave Source × call.disk.same × IsLeftInTime call Source
-StopsRun telling m call gave Memory = IsUnrun call.sink gave Memory × ((call.disk.same × IsLeftInTime call Memory) ⊎ (IsReadOne call.source × IsKeptImage call.disk))
-StopsRun telling m call gave (NoBlocks n) = OfRun m call (λ b. IsCutForBlocks telling b call.disk call.sink gave n)
-StopsRun telling m call gave fault = ⊥
+StopsRun manner m call gave DiskFault =
+    call.disk.rose × ((IsUnrun call.sink gave DiskFault × IsReadOne call.source × IsLeftUnopened call.disk) ⊎ OfRun m call (λ b. IsCutShort manner b call.disk call.sink gave DiskFault))
+StopsRun manner m call gave Source = call.source.rose × IsUnrun call.sink gave Source × call.disk.same × IsLeftInTime call Source
+StopsRun manner m call gave Memory =
+    (IsUnrun call.sink gave Memory × ((call.disk.same × IsLeftInTime call Memory) ⊎ (IsReadOne call.source × IsKeptImage call.disk)))
+    ⊎ (manner.may_lack × OfRun m call (λ b. IsCutForMemory manner b call.disk call.sink gave))
+StopsRun manner m call gave (NoBlocks n) = OfRun m call (λ b. IsCutForBlocks manner b call.disk call.sink gave n)
+StopsRun manner m call gave fault = ⊥
 
--- WHAT `run` LEAVES, by what it puts of its history and by how it ended
-abbrev pub RunLeaves : Telling → Managers → Call → Gave → Ending → Type 0
-RunLeaves telling m call gave ending = LeavesBy call.sink (λ Puts. OfRun m call (λ b. IsServed telling b call.disk gave Puts)) (StopsRun telling m call gave) ending
+-- WHAT `run` LEAVES, by its manner and by how it ended
+abbrev pub RunLeaves : Manner → Managers → Call → Gave → Ending → Type 0
+RunLeaves manner m call gave ending = LeavesBy call.sink (λ Puts. OfRun m call (λ b. IsServed manner b call.disk gave Puts)) (StopsRun manner m call gave) ending
 
 -- IT CAN BE DONE: the source is known and accepted, and the image means a state, which the script fits
 pub record CanRun (m : Managers) (call : Call) : Type 0 where

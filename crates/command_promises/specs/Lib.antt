@@ -1,6 +1,7 @@
 pub mod Booked
 pub mod Drilling
 pub mod Leaving
+pub mod Manners
 pub mod OfScript
 pub mod Playing
 pub mod Short

@@ -1,5 +1,5 @@
 -- The summary of a run.
-use Rattle.command_promises.specs.Runs.{Telling}
+use Rattle.command_promises.specs.Manners.{Telling}
 use Rattle.trace_checker.specs.line_entries.Summaries.{summary_line}
 
 -- the summary has no names

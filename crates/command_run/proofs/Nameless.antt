@@ -2,7 +2,7 @@
 use Rattle.std.proofs.Common.{◌≡◌, ◌<◌, ◌≤◌, List, [], ◌∷◌, get_or, length, replicate, refl, sym, ap, ◌∙◌, arith}
 use Rattle.base_types.specs.declared.histories.Entry.{Entry}
 use Rattle.script_types.specs.model_kernel.State.{AtlasState, no_atlas}
-use Rattle.command_open.specs.command_promises.Runs.{Telling}
+use Rattle.command_open.specs.command_promises.Manners.{Telling}
 use Rattle.data_atlas.specs.data_atlas_facts.Directory.{Directory}
 use Rattle.data_atlas.proofs.data_atlas_facts_lemmas.Naming.{no_edges}
 use Rattle.line_runs.specs.act_calls.Calls.{atlas_state}

@@ -1,6 +1,6 @@
 -- The lines of a run, by how it is told.
 use Rattle.script_types.specs.model_kernel.Output.{output_of}
-use Rattle.command_open.specs.command_promises.Runs.{Telling}
+use Rattle.command_open.specs.command_promises.Manners.{Telling}
 use Rattle.line_entries.specs.Entries.{trace_of}
 use Rattle.command_run.specs.declared.putting.Lines.{Lines}
 use Rattle.command_run.specs.declared.putting.Lines.TheVariants.{Printed, Entries, Summary}

@@ -9,5 +9,6 @@ mod watching;
 
 pub use command_open::{Unopened, open_for};
 pub use drilling::run_drill;
-pub use putting::Lines;
+pub use putting::{Lines, met_by, put_lines, put_run};
 pub use running::run_script;
+pub use watching::unwatched;

@@ -10,9 +10,10 @@ ghost use Rattle.command_open.specs.table_births.Births.{atlas_state_in};
 ghost use Rattle.command_outcomes.specs.Seen.{gave, seen_sink};
 ghost use Rattle.command_outcomes.specs.Statuses.{ending};
 ghost use Rattle.command_run.specs.Tellings.{lines_of};
+ghost use Rattle.command_open.specs.command_promises.Manners.{serial};
 ghost use Rattle.command_open.specs.command_promises.Playing.{PlayLeaves, StartsRun};
 
-use crate::putting::{Lines, put_run};
+use crate::putting::{Lines, met_by, put_run};
 use command_open::{Ended, Kernel, run};
 use command_outcomes::Outcome;
 use edge_disk::Disk;
@@ -35,7 +36,7 @@ pub(crate) fn run_opened<W: Sink, D: Disk, S: Supplier, P: Policy>(
     requires fits { Fits (atlas_state_in kernel.parts.cells) (tables_of script.now) }
     requires nothing { kernel.parts.noted.entries ≡ [] }
     requires going { kernel.stop ≡ None }
-    ensures leaves { PlayLeaves D.Disk (lines_of lines)
+    ensures leaves { PlayLeaves D.Disk (serial (lines_of lines))
         (StartsRun D.Disk (S.word gate.now.supply) (P.wish gate.now.policy) (tables_of script.now) kernel)
         (Rose (D.faults kernel.parts.store.disk) (D.faults result.disk)) (books kernel.parts.store).count
         (seen_sink W.held W.faults sink.old sink.new) (gave result) result.disk (ending result.status) }
@@ -43,8 +44,8 @@ pub(crate) fn run_opened<W: Sink, D: Disk, S: Supplier, P: Policy>(
 {
     // what it answers is why the kernel has stopped, if it has
     let _ = run(&mut kernel, script, gate);
-    let stopped = kernel.stopped();
-    let status = put_run(sink, lines, kernel.cells(), kernel.history(), stopped);
+    let met = met_by(kernel.stopped(), false);
+    let status = put_run(sink, lines, kernel.cells(), kernel.history(), met);
     let Ended {
         disk,
         history,

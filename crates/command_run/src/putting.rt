@@ -7,7 +7,7 @@ ghost use Rattle.edge_streams.specs.Streams.{Puts};
 ghost use Rattle.command_outcomes.specs.Faults.{fault_line};
 ghost use Rattle.command_outcomes.specs.Seen.{seen_sink};
 ghost use Rattle.command_run.specs.Tellings.{lines_of};
-ghost use Rattle.command_open.specs.command_promises.Playing.{IsPutBy, fault_of_stop as told_stop};
+ghost use Rattle.command_open.specs.command_promises.Playing.{IsPutBy, fault_met, fault_of_stop as told_stop};
 
 use base_types::Entry;
 use cell_states::{Cell, Part};
@@ -39,6 +39,16 @@ fn fault_of_stop(why: Stopped) -> Fault
     }
 }
 
+/// The fault that a run met: why its kernel has stopped, or else that it lacked memory.
+pub fn met_by(stopped: Option<Stopped>, lacked: bool) -> Option<Fault>
+    ensures { result ≡ fault_met stopped lacked }
+{
+    match stopped {
+        Some(why) => Some(fault_of_stop(why)),
+        None => { if lacked { Some(Fault::Memory) } else { None } }
+    }
+}
+
 /// Puts the lines of a history, by a directory of names.
 fn put_named<W: Sink>(
     sink: &mut W,
@@ -58,7 +68,7 @@ fn put_named<W: Sink>(
 }
 
 /// Puts the lines of a run, by the directory that its cells have; cells without one have no names.
-fn put_lines<W: Sink>(
+pub fn put_lines<W: Sink>(
     sink: &mut W,
     lines: Lines,
     cells: &[Cell],
@@ -94,18 +104,18 @@ fn put_cut_short<W: Sink>(
     put_fault(sink, fault)
 }
 
-/// Puts the lines of a run, and tells how it ended, by why its kernel has stopped. A sink that fails behind a run that was stopped changes no status.
-pub(crate) fn put_run<W: Sink>(
+/// Puts the lines of a run, and tells how it ended, by the fault that it met. A sink that fails behind a run that met one changes no status.
+pub fn put_run<W: Sink>(
     sink: &mut W,
     lines: Lines,
     cells: &[Cell],
     history: &[Entry],
-    stopped: Option<Stopped>,
+    met: Option<Fault>,
 ) -> Status
-    ensures put { IsPutBy stopped (seen_sink W.held W.faults sink.old sink.new) (lines_of lines (atlas_state_in cells.now) history.now) result }
+    ensures put { IsPutBy met (seen_sink W.held W.faults sink.old sink.new) (lines_of lines (atlas_state_in cells.now) history.now) result }
     ensures count { W.faults sink.old ≤ W.faults sink.new }
 {
-    match stopped {
+    match met {
         None => {
             if put_lines(sink, lines, cells, history).is_ok() {
                 Status::Done
@@ -113,8 +123,7 @@ pub(crate) fn put_run<W: Sink>(
                 Status::SinkFault
             }
         }
-        Some(why) => {
-            let fault = fault_of_stop(why);
+        Some(fault) => {
             let _ = put_cut_short(sink, lines, cells, history, &fault);
             status_of(fault)
         }

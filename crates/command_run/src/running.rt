@@ -5,6 +5,7 @@ ghost use Rattle.edge_disk.specs.declared.disk.NoBlocks.{NoBlocks};
 ghost use Rattle.command_outcomes.specs.Seen.{gave, seen_disk, seen_sink, seen_source};
 ghost use Rattle.command_outcomes.specs.Statuses.{IsComplete, ending};
 ghost use Rattle.command_open.specs.command_promises.Leaving.{CanRun, RunLeaves};
+ghost use Rattle.command_open.specs.command_promises.Manners.{serial};
 ghost use Rattle.command_run.specs.Tellings.{lines_of};
 ghost use Rattle.command_open.specs.command_promises.Openings.{Managers};
 
@@ -46,7 +47,7 @@ pub fn run_script<
     requires supplied { (t p a r : ℕ) → t < 2 ^ 64 → p < 256 → a < 128 → S.post supply.now t p a r → r ≡ m.supply t p a }
     requires wishes { (e n : ℕ) → e < 2 ^ 32 → n < 2 ^ 64 → P.pre policy.now e n }
     requires wished { (e n : ℕ) (r : Bool) → e < 2 ^ 32 → n < 2 ^ 64 → P.post policy.now e n r → r ≡ m.policy e n }
-    ensures leaves { RunLeaves (lines_of lines) m (record {
+    ensures leaves { RunLeaves (serial (lines_of lines)) m (record {
       source = seen_source R.left R.faults source.old source.new;
       sink = seen_sink W.held W.faults sink.old sink.new;
       disk = seen_disk D.Disk disk result.disk;

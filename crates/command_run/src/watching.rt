@@ -8,6 +8,7 @@ ghost use Rattle.command_outcomes.specs.Seen.{gave, seen_disk, seen_sink};
 ghost use Rattle.command_outcomes.specs.Statuses.{ending};
 ghost use Rattle.command_open.specs.command_promises.Booked.{over};
 ghost use Rattle.command_run.specs.Tellings.{lines_of};
+ghost use Rattle.command_open.specs.command_promises.Manners.{serial};
 ghost use Rattle.command_open.specs.command_promises.OfScript.{ScriptLeaves};
 ghost use Rattle.command_open.specs.command_promises.Playing.{IsHandedIn};
 
@@ -24,7 +25,7 @@ use script_reading::ManagedScript;
 use std::alloc::Global;
 
 /// The outcome of a call on a watched disk, with the disk in it.
-fn unwatched<D: Disk, N: Handed>(outcome: Outcome<WatchedDisk<D, N>>) -> Outcome<D>
+pub fn unwatched<D: Disk, N: Handed>(outcome: Outcome<WatchedDisk<D, N>>) -> Outcome<D>
     ensures gave { gave result ≡ gave outcome }
     ensures disk { result.disk ≡ outcome.disk }
     ensures gone_on { HasGoneOn D.Disk N.start result.disk }
@@ -68,7 +69,7 @@ pub(crate) fn run_read<
     requires allowed { IsScript (tables_of read.now.script) }
     requires frames { (1 ≤ read.now.script.frames) × (read.now.script.frames ≤ 256) }
     requires managers { AreScriptManagers (managers_of read.now.managers) }
-    ensures leaves { ScriptLeaves (lines_of lines) (over (managers_of read.now.managers) (record { supply = N.word; policy = N.wish })) (tables_of read.now.script) (seen_sink W.held W.faults sink.old sink.new)
+    ensures leaves { ScriptLeaves (serial (lines_of lines)) (over (managers_of read.now.managers) (record { supply = N.word; policy = N.wish })) (tables_of read.now.script) (seen_sink W.held W.faults sink.old sink.new)
         (seen_disk D.Disk disk result.disk) (gave result) (ending result.status) }
     ensures count { D.block_count result.disk ≡ D.block_count disk }
 {

@@ -12,6 +12,7 @@ use Rattle.hopper_clients.specs.Images.{HasNewImage}
 use Rattle.hopper_clients.specs.declared.calling.Called.{Called}
 use Rattle.hopper_top.specs.command_promises.Booked.{over}
 use Rattle.hopper_top.specs.Leaving.{answers_of}
+use Rattle.hopper_top.specs.command_promises.Manners.{serial}
 use Rattle.hopper_top.specs.command_promises.Openings.{run_from}
 use Rattle.hopper_top.specs.command_promises.Leaving.{OfRun, RunLeaves}
 use Rattle.command_outcomes.specs.Seen.{Call, gave}
@@ -58,11 +59,11 @@ module _ (source : Text) (formatted ran again checked : Called) (fresh : HasNewI
   given = checked_from formatted ran again checked
 
   abbrev IsWholeRun : Beginning → Type 0
-  IsWholeRun b = IsServed trace_of b (seen_memory old ran.outcome.disk) (gave ran.outcome) (Appends (Some []) (Some ran.sink.held))
+  IsWholeRun b = IsServed (serial trace_of) b (seen_memory old ran.outcome.disk) (gave ran.outcome) (Appends (Some []) (Some ran.sink.held))
 
   of_run : OfRun managers (seen_by source old ran) IsWholeRun
   of_run =
-      subst (λ (s : Status). RunLeaves trace_of managers (seen_by source old ran) (gave ran.outcome) (ending s)) done
+      subst (λ (s : Status). RunLeaves (serial trace_of) managers (seen_by source old ran) (gave ran.outcome) (ending s)) done
       (command_leaves (Run true) source old ran runs (subst (λ (s : Status). HadMemory s) (sym done) tt))
 
   served : IsWholeRun (run_from (over of_run.brought managers) of_run.script empty_state (moments_of old))

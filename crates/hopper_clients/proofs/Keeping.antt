@@ -20,6 +20,7 @@ use Rattle.hopper_top.specs.image_meaning.Meaning.{Means}
 use Rattle.hopper_top.specs.kernel_invariant.Beginnings.{Beginning}
 use Rattle.edge_managers.specs.Managers.{counted_word}
 use Rattle.hopper_top.specs.command_promises.Leaving.{OfRun, RunLeaves}
+use Rattle.hopper_top.specs.command_promises.Manners.{serial}
 use Rattle.hopper_top.specs.command_promises.Openings.{HasFailedSync, IsKeptImage, KeepsMeaning, run_from}
 use Rattle.hopper_top.specs.command_promises.Runs.{IsRun, IsServed}
 use Rattle.edge_watched.specs.Handing.{next_moment}
@@ -148,10 +149,10 @@ module _ (source : Text) (torn : Torn) (after : ℕ) (formatted ran showed : Cal
   means_kept_image kept = means_kept (kept tt (turn_left 4096 (reading_of old) fresh.formatted))
 
   -- BY HOW THE RUN ENDED
-  keeps_by : (ending : Ending) → RunLeaves output_of managers seen (gave ran.outcome) ending → KeepsBy source torn s ending
+  keeps_by : (ending : Ending) → RunLeaves (serial output_of) managers seen (gave ran.outcome) ending → KeepsBy source torn s ending
   unfolding keeps_cut
   keeps_by Whole o =
-      let served = run_holds source old ran fresh (λ b. IsServed output_of b disk (gave ran.outcome) _) o in
+      let served = run_holds source old ran fresh (λ b. IsServed (serial output_of) b disk (gave ran.outcome) _) o in
       record { keeps = keeps_cut _ o (λ b served. served.run); whole = served.whole; lines = runs.put ∙ served.output }
   keeps_by Unput o = keeps_cut _ o.0 (λ b served. served.run)
   keeps_by (Stopped (NoBlocks n)) o = keeps_cut _ o (λ b short. short.cut.run)
@@ -163,8 +164,9 @@ module _ (source : Text) (torn : Torn) (after : ℕ) (formatted ran showed : Cal
   keeps_by (Stopped (Script refusal)) (unrun, inl refused) = keeps_nothing unrun.empty (means_same refused.1)
   keeps_by (Stopped (Script refusal)) (unrun, inr misfit) = keeps_nothing unrun.empty (means_kept_image misfit.3.kept)
   keeps_by (Stopped Source) stopped = keeps_nothing stopped.1.empty (means_same stopped.2)
-  keeps_by (Stopped Memory) (unrun, inl same) = keeps_nothing unrun.empty (means_same same.0)
-  keeps_by (Stopped Memory) (unrun, inr behind) = keeps_nothing unrun.empty (means_kept_image behind.1)
+  keeps_by (Stopped Memory) (inl (unrun, inl same)) = keeps_nothing unrun.empty (means_same same.0)
+  keeps_by (Stopped Memory) (inl (unrun, inr behind)) = keeps_nothing unrun.empty (means_kept_image behind.1)
+  keeps_by (Stopped Memory) (inr (none, _)) = absurd none
   keeps_by (Stopped (BadImage block place)) stopped = not_both (reading_of old) (record { block = block; place = place }) (means_nothing old fresh counted_word).accepted (stopped.2 tt).0
   keeps_by (Stopped Usage) stopped = stopped
   keeps_by (Wrong line want) stopped = stopped

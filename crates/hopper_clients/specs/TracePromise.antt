@@ -13,7 +13,7 @@ use Rattle.hopper_top.specs.line_entries.Entries.{trace_of}
 use Rattle.command_outcomes.specs.model_kernel.Scripts.{Script as Tables}
 use Rattle.command_outcomes.specs.model_kernel.State.{Text, empty_state}
 use Rattle.hopper_top.specs.kernel_invariant.Beginnings.{Beginning, IsLegal}
-use Rattle.hopper_top.specs.command_promises.Runs.{told}
+use Rattle.hopper_top.specs.command_promises.Manners.{told}
 use Rattle.hopper_top.specs.command_source.Sources.{IsAccepted}
 use Rattle.hopper_top.specs.model_serial.Serial.{IsWhole}
 use Rattle.hopper_top.specs.command_promises.TraceLeaving.{ok_line}

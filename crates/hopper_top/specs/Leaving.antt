@@ -19,6 +19,7 @@ use Rattle.command_show.specs.Reports.{ReportLeaves}
 use Rattle.command_show.specs.Shows.{ShowLeaves}
 use Rattle.command_check_trace.specs.command_promises.Drilling.{CanDrill, DrillLeaves}
 use Rattle.command_check_trace.specs.command_promises.Leaving.{CanRun, RunLeaves}
+use Rattle.command_check_trace.specs.command_promises.Manners.{serial}
 use Rattle.command_check_trace.specs.command_promises.Openings.{Managers}
 use Rattle.command_run.specs.Tellings.{lines_of}
 use Rattle.command_run.specs.declared.putting.Lines.{Lines}
@@ -48,7 +49,7 @@ abbrev pub CommandLeaves : Managers → Command → Call → Gave → Type 0
 CommandLeaves m (Format blocks) call gave = call.source.same × FormatLeaves blocks call.disk call.sink gave (ending gave.status)
 CommandLeaves m Show call gave = call.source.same × ShowLeaves m.supply call.disk call.sink gave (ending gave.status)
 CommandLeaves m Report call gave = call.source.same × ReportLeaves call.disk call.sink gave (ending gave.status)
-CommandLeaves m (Run trace) call gave = RunLeaves (lines_of (asked_lines trace)) m call gave (ending gave.status)
+CommandLeaves m (Run trace) call gave = RunLeaves (serial (lines_of (asked_lines trace))) m call gave (ending gave.status)
 CommandLeaves m (Drill number) call gave = call.source.same × DrillLeaves m number call.sink call.disk gave (ending gave.status)
 CommandLeaves m CheckTrace call gave = TraceLeaves (answers_of m) (from_source call.source) call.sink call.disk gave (ending gave.status)
 CommandLeaves m Copy call gave = call.source.same
