@@ -1,20 +1,27 @@
 //! Carries out a command on an image. The first word is the path of the image's file, which is made where it isn't there;
 //! the others are the command. The source is standard input, and all lines go to standard output, those of faults too. Standard
-//! error gets a sentence for people where the status isn't 0. The program ends with the status's number.
+//! error gets a sentence for people where the status isn't 0. The program ends with the status's number. Behind `mirror` stands
+//! the path of a second image's file.
 #![tactic(auto)]
 
+mod images;
+mod mirrors;
+
+use crate::images::{Images, open_images};
+use crate::mirrors::{mirror_ended, tell_of_mirror};
+use command_mirror::mirror;
 use command_outcomes::{Fault, Status, put_fault, status_of};
 use edge_gathered::GatheringWriter;
 use edge_managers::{CountedWords, EveryVersions, Policy, Supplier};
 use edge_streams::{FileDisk, ReadSource, Sink, WriteSink};
 use hopper_top::hopper;
-use line_sentences::{put_sentence, put_unopened};
+use line_sentences::put_sentence;
 use std::alloc::Global;
-use std::fs::{Files, OpenOptions};
+use std::env;
+use std::fs::{File, Files};
 use std::io::{ErrorKind, Write};
 use std::process::ExitCode;
 use std::rt::Env;
-use std::{env, io};
 
 /// The words of the command line, the program's own name first. Words that are no text are of no known form.
 fn words(rt: &(impl Env + Alloc<A = Global>)) -> Result<Vec<String>, Fault> {
@@ -32,21 +39,16 @@ fn words(rt: &(impl Env + Alloc<A = Global>)) -> Result<Vec<String>, Fault> {
     Ok(words)
 }
 
-/// The image's file.
-fn open_file<R: Files>(files: &R, path: &str) -> io::Result<R::File> {
-    OpenOptions::new()
-        .read(true)
-        .write(true)
-        .create(true)
-        .open(files, path)
+/// Tells how it ended, for people, and ends with the status's number.
+fn tell<E: Sink>(people: &mut E, status: &Status) -> ExitCode {
+    let _ = put_sentence(people, status);
+    ExitCode::from(status.number())
 }
 
 /// Tells a fault that came before any command: its line, and its sentence.
 fn refuse<W: Sink, E: Sink>(sink: &mut W, people: &mut E, fault: Fault) -> ExitCode {
     let _ = put_fault(sink, &fault);
-    let status = status_of(fault);
-    let _ = put_sentence(people, &status);
-    ExitCode::from(status.number())
+    tell(people, &status_of(fault))
 }
 
 /// How the command ended, once all that was gathered is handed on: one whose last lines can't be is told as one whose sink failed.
@@ -58,37 +60,74 @@ fn ended<W: Write + Drop>(sink: WriteSink<GatheringWriter<W>>, status: Status) -
     }
 }
 
+/// What is asked for: the words of the command, and the images that it is about, open.
+#[derive(Drop)]
+struct Asked {
+    words: Vec<String>,
+    images: Images,
+}
+
+/// The command, behind the program's name and the image's path.
+fn command_of(words: &[String]) -> &[String] {
+    match words {
+        [_, _, command @ ..] => command,
+        _ => &[],
+    }
+}
+
+/// Reads the words, and opens what they name. Where that fails it is told.
+fn open_asked<R: Env + Files<File = File> + Alloc<A = Global>, W: Sink, E: Sink>(
+    rt: &R,
+    sink: &mut W,
+    people: &mut E,
+) -> Result<Asked, ExitCode> {
+    let words = match words(rt) {
+        Ok(words) => words,
+        Err(fault) => return Err(refuse(sink, people, fault)),
+    };
+    let images = match words.as_slice() {
+        [_, path, command @ ..] => open_images(rt, path.as_str(), command, sink, people)?,
+        _ => return Err(refuse(sink, people, Fault::Usage)),
+    };
+    Ok(Asked { words, images })
+}
+
 fn main(rt: HostRuntime) -> ExitCode {
     let mut source = ReadSource::new(rt.stdin().lock());
-    let mut sink = WriteSink::new(rt.stdout().lock());
     let mut people = WriteSink::new(rt.stderr().lock());
-    let words = match words(&rt) {
-        Ok(words) => words,
-        Err(fault) => return refuse(&mut sink, &mut people, fault),
-    };
-    let [_, path, command @ ..] = words.as_slice() else {
-        return refuse(&mut sink, &mut people, Fault::Usage);
-    };
-    let Ok(file) = open_file(&rt, path.as_str()) else {
-        let _ = put_fault(&mut sink, &Fault::DiskFault);
-        let _ = put_unopened(&mut people, path.as_str());
-        return ExitCode::from(Status::DiskFault.number());
+    let mut sink = WriteSink::new(rt.stdout().lock());
+    let asked = match open_asked(&rt, &mut sink, &mut people) {
+        Ok(asked) => asked,
+        Err(code) => return code,
     };
     let Ok(writer) = GatheringWriter::new(rt.alloc(), sink.into_writer()) else {
         let mut sink = WriteSink::new(rt.stdout().lock());
         return refuse(&mut sink, &mut people, Fault::Memory);
     };
-    let mut gathered = WriteSink::new(writer);
-    let outcome = hopper(
-        rt.alloc(),
-        command,
-        &mut source,
-        &mut gathered,
-        FileDisk::new(file),
-        &|tag, page, place| CountedWords.word(tag, page, place),
-        &|every, since| EveryVersions.wish(every, since),
-    );
-    let status = ended(gathered, outcome.status);
-    let _ = put_sentence(&mut people, &status);
-    ExitCode::from(status.number())
+    let mut sink = WriteSink::new(writer);
+    let word = |tag, page, place| CountedWords.word(tag, page, place);
+    let wish = |every, since| EveryVersions.wish(every, since);
+    let alloc = rt.alloc();
+    match asked.images {
+        Images::One(file) => {
+            let disk = FileDisk::new(file);
+            let command = command_of(&asked.words);
+            let outcome = hopper(alloc, command, &mut source, &mut sink, disk, &word, &wish);
+            tell(&mut people, &ended(sink, outcome.status))
+        }
+        Images::Two(two) => {
+            let outcome = mirror(
+                alloc,
+                two.seed,
+                two.loss,
+                &mut source,
+                &mut sink,
+                FileDisk::new(two.first),
+                FileDisk::new(two.second),
+                &word,
+                &wish,
+            );
+            tell_of_mirror(&mut people, mirror_ended(sink, outcome.status))
+        }
+    }
 }

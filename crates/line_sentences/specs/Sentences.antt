@@ -70,7 +70,7 @@ trace_sentence place = line (codes "trace refused: " ++ place ++ codes " is that
 -- THE SENTENCE on a status
 abbrev pub sentence : Status → Text
 sentence Done = []
-sentence Usage = line (codes "usage: hopper_program IMAGE COMMAND; a command is format N, with N from 2600 to 65536 blocks, run, run --trace, drill N, show, report, copy NAME NEW or check-trace; run reads a script from standard input, and check-trace a script, a line --- and a trace (docs/SCRIPTS.md)")
+sentence Usage = line (codes "usage: hopper_program IMAGE COMMAND; a command is format N, with N from 2600 to 65536 blocks, run, run --trace, mirror STANDBY SEED LOSS, drill N, show, report, copy NAME NEW or check-trace; run and mirror read a script from standard input, and check-trace a script, a line --- and a trace (docs/SCRIPTS.md)")
 sentence (Script refusal) = refusal_sentence (subject refusal) (reason refusal)
 sentence (Foreign block place) = foreign_sentence (place_text block place)
 sentence DiskFault = line (codes "disk fault: the image's file could not be read, written or synced; its disk may be full or gone, and when that is mended the command can be given again")

@@ -17,7 +17,7 @@ const NUMBERS_TEXT: usize = 64;
 
 /// The sentence on words that are no command's.
 const USAGE: &[u8] =
-    b"usage: hopper_program IMAGE COMMAND; a command is format N, with N from 2600 to 65536 blocks, run, run --trace, drill N, show, report, copy NAME NEW or check-trace; run reads a script from standard input, and check-trace a script, a line --- and a trace (docs/SCRIPTS.md)\n";
+    b"usage: hopper_program IMAGE COMMAND; a command is format N, with N from 2600 to 65536 blocks, run, run --trace, mirror STANDBY SEED LOSS, drill N, show, report, copy NAME NEW or check-trace; run and mirror read a script from standard input, and check-trace a script, a line --- and a trace (docs/SCRIPTS.md)\n";
 
 /// The sentence on a fault of the disk.
 const DISK_FAULT: &[u8] =

@@ -1,0 +1,8 @@
+mod Bringing
+mod Complete
+mod Halting
+mod Lacking
+mod Leaving
+mod Opening
+mod Plays
+mod Puts
