@@ -1,18 +1,14 @@
 //! The last line of a mirrored run that came to no good end.
-ghost use Rattle.std.specs.Prelude.{◌≡◌, ◌≤◌, OnErr, codes};
+ghost use Rattle.std.specs.Prelude.{◌≡◌, ◌≤◌, OnErr};
 ghost use Rattle.edge_disk.specs.Counts.{Rose};
 ghost use Rattle.edge_streams.specs.Streams.{Puts};
-ghost use Rattle.command_outcomes.specs.Faults.{numbers_line};
 ghost use Rattle.command_mirror.specs.Lines.{mirror_fault_line, second_line, used_line};
 
 use arrayvec::ArrayString;
-use command_outcomes::{Fault, put_fault};
+use command_outcomes::{FAULT_LINE, Fault, put_fault, two_numbers};
 use edge_disk::NoBlocks;
 use edge_streams::{Sink, SinkFault};
 use itoa::Buffer;
-
-/// A length that no line with two numbers exceeds.
-const FAULT_LINE: usize = 48;
 
 /// Why a mirrored run was stopped at its standby.
 #[derive(Clone, Copy, Debug, PartialEq, Eq, Drop)]
@@ -36,34 +32,6 @@ pub enum MirrorFault {
     NotEmpty { used: u16 },
 }
 
-// The line of a fault of the image.
-fn foreign_line(block: u32, place: u16) -> ArrayString<FAULT_LINE>
-    ensures { result.bytes ≡ numbers_line (codes "fault 24 ") block place }
-{
-    let mut digits = Buffer::new();
-    let mut line = ArrayString::new();
-    line.push_str("fault 24 ");
-    line.push_str(digits.format(block));
-    line.push_str(" ");
-    line.push_str(digits.format(place));
-    line.push_str("\n");
-    line
-}
-
-// The line of a want of blocks.
-fn blocks_line(blocks: NoBlocks) -> ArrayString<FAULT_LINE>
-    ensures { result.bytes ≡ numbers_line (codes "fault 29 ") blocks.need blocks.free }
-{
-    let mut digits = Buffer::new();
-    let mut line = ArrayString::new();
-    line.push_str("fault 29 ");
-    line.push_str(digits.format(blocks.need));
-    line.push_str(" ");
-    line.push_str(digits.format(blocks.free));
-    line.push_str("\n");
-    line
-}
-
 // The line of a log that has records.
 fn used_line(used: u16) -> ArrayString<FAULT_LINE>
     ensures { result.bytes ≡ used_line used }
@@ -84,11 +52,15 @@ fn put_second<W: Sink>(sink: &mut W, fault: SecondFault) -> Result<(), SinkFault
 {
     match fault {
         SecondFault::Foreign { block, place } => {
-            sink.put(foreign_line(block, place).as_str().as_bytes())
+            let line = two_numbers("fault 24 ", block, u32::from(place));
+            sink.put(line.as_str().as_bytes())
         }
         SecondFault::DiskFault => sink.put(b"fault 25 disk\n"),
         SecondFault::Memory => sink.put(b"fault 28 memory\n"),
-        SecondFault::NoBlocks(blocks) => sink.put(blocks_line(blocks).as_str().as_bytes()),
+        SecondFault::NoBlocks(blocks) => {
+            let line = two_numbers("fault 29 ", blocks.need, blocks.free);
+            sink.put(line.as_str().as_bytes())
+        }
     }
 }
 

@@ -1,5 +1,5 @@
 //! The last line of a call that came to no good end.
-ghost use Rattle.std.specs.Prelude.{◌≡◌, ◌≤◌, ◌<◌, ◌++◌, OnErr, codes};
+ghost use Rattle.std.specs.Prelude.{◌≡◌, ◌≤◌, ◌<◌, ◌++◌, OnErr, length};
 ghost use Rattle.edge_disk.specs.Counts.{Rose};
 ghost use Rattle.edge_streams.specs.Streams.{Puts};
 ghost use Rattle.command_outcomes.specs.Faults.{fault_line, line, numbers_line, refusal_head};
@@ -15,8 +15,8 @@ use std::alloc::AllocError;
 /// A length that the front of no refusal's line exceeds.
 const HEAD: usize = 16;
 
-/// A length that no line with two numbers exceeds.
-const FAULT_LINE: usize = 48;
+/// A length that no line with two numbers exceeds, in bytes.
+pub const FAULT_LINE: usize = 48;
 
 /// Why a call came to no good end, as its last line tells it.
 #[derive(Debug, Drop)]
@@ -99,30 +99,18 @@ fn refusal_head(why: Why) -> ArrayString<HEAD>
     head
 }
 
-/// The line of a fault of the image.
-fn foreign_line(block: u32, place: u16) -> ArrayString<FAULT_LINE>
-    ensures { result.bytes ≡ numbers_line (codes "fault 4 ") block place }
+/// The line of a fault that two numbers tell of, such as the block and the place of a foreign image, or the blocks needed and free. `front` is what
+/// stands before the first number.
+pub fn two_numbers(front: &str, first: u32, second: u32) -> ArrayString<FAULT_LINE>
+    requires short { length front.now ≤ 16 }
+    ensures { result.bytes ≡ numbers_line front.now first second }
 {
     let mut digits = Buffer::new();
     let mut line = ArrayString::new();
-    line.push_str("fault 4 ");
-    line.push_str(digits.format(block));
+    line.push_str(front);
+    line.push_str(digits.format(first));
     line.push_str(" ");
-    line.push_str(digits.format(place));
-    line.push_str("\n");
-    line
-}
-
-/// The line of a want of blocks.
-fn blocks_line(blocks: NoBlocks) -> ArrayString<FAULT_LINE>
-    ensures { result.bytes ≡ numbers_line (codes "fault 9 ") blocks.need blocks.free }
-{
-    let mut digits = Buffer::new();
-    let mut line = ArrayString::new();
-    line.push_str("fault 9 ");
-    line.push_str(digits.format(blocks.need));
-    line.push_str(" ");
-    line.push_str(digits.format(blocks.free));
+    line.push_str(digits.format(second));
     line.push_str("\n");
     line
 }
@@ -155,11 +143,15 @@ pub fn put_fault<W: Sink>(sink: &mut W, fault: &Fault) -> Result<(), SinkFault>
             refusal.key.as_str(),
         ),
         Fault::Foreign { block, place } => {
-            sink.put(foreign_line(*block, *place).as_str().as_bytes())
+            let line = two_numbers("fault 4 ", *block, u32::from(*place));
+            sink.put(line.as_str().as_bytes())
         }
         Fault::DiskFault => sink.put(b"fault 5 disk\n"),
         Fault::Source => sink.put(b"fault 6 source\n"),
         Fault::Memory => sink.put(b"fault 8 memory\n"),
-        Fault::NoBlocks(blocks) => sink.put(blocks_line(*blocks).as_str().as_bytes()),
+        Fault::NoBlocks(blocks) => {
+            let line = two_numbers("fault 9 ", blocks.need, blocks.free);
+            sink.put(line.as_str().as_bytes())
+        }
     }
 }

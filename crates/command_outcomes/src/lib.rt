@@ -6,5 +6,5 @@ mod faults;
 mod statuses;
 
 pub use ends::{empty_outcome, end_with};
-pub use faults::{Fault, put_fault};
+pub use faults::{FAULT_LINE, Fault, put_fault, two_numbers};
 pub use statuses::{Outcome, Status, status_of};

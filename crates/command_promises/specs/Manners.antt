@@ -66,7 +66,7 @@ pub record IsDueInOrder (b : Beginning) (es : List Entry) : Type 0 where
   pub next : ComesNext b front all
   pub due : IsDueIn b all front es
 
--- ON THREADS: the looks come in the order in which the steps of all workers came to the history
+-- ON THREADS: the looks come in some order, of which nothing is said
 abbrev pub on_threads : Telling → Manner
 on_threads telling = record {
   telling = telling;

@@ -1,10 +1,10 @@
 -- Words are one command at most.
-use Rattle.std.proofs.Common.{◌≡◌, ◌∙◌, ◌+◌, ◌*◌, ℕ, List, [], ◌∷◌, ap, cond, length, sym, true, false}
+use Rattle.std.proofs.Common.{◌≡◌, ◌∙◌, ◌+◌, ◌*◌, ℕ, Bool, List, [], ◌∷◌, ap, cond, inl, inr, length, sym, true, false}
 use Rattle.std.specs.Prelude.{◌==◌, codes}
 use Rattle.std.specs.Str.Parse.{digits_value}
-use Rattle.command_words.specs.Commands.{IsCommand, IsCopyOf}
+use Rattle.command_words.specs.Commands.{AreOptionsWith, IsCommand, IsCopyOf}
 use Rattle.command_words.specs.declared.Command.{Command}
-use Rattle.command_words.specs.declared.Command.TheVariants.{CheckTrace, Copy, Drill, Format, Report, Run, Show}
+use Rattle.command_words.specs.declared.Command.TheVariants.{CheckTrace, Copy, Drill, Format, Report, Run, RunOnThreads, Show}
 
 -- a number that tells the words of the commands apart
 abbrev mark : List (List ℕ) → ℕ
@@ -16,15 +16,30 @@ value [] = 0
 value (word ∷ []) = 0
 value (word ∷ digits ∷ words) = digits_value 10 digits
 
+-- the word behind `--workers`, which stands behind `--trace` or first, by its value
+abbrev workers_in : List (List ℕ) → ℕ
+workers_in [] = 0
+workers_in (name ∷ []) = 0
+workers_in (name ∷ option ∷ words) = cond (length option == 7) (value words) (value (option ∷ words))
+
 -- the one command that words can be
 abbrev told : List (List ℕ) → Command
 told words = cond (mark words == 16) (Format (value words)) (cond (mark words == 15) (Drill (value words)) (cond (mark words == 13) (Run true)
-    (cond (mark words == 3) (Run false) (cond (mark words == 4) Show (cond (mark words == 6) Report (cond (mark words == 24) Copy CheckTrace))))))
+    (cond (mark words == 3) (Run false) (cond (mark words == 4) Show (cond (mark words == 6) Report (cond (mark words == 24) Copy
+    (cond (mark words == 23) (RunOnThreads (workers_in words) false) (cond (mark words == 33) (RunOnThreads (workers_in words) true) CheckTrace))))))))
+
+threads_told : (options : List (List ℕ)) (digits : List ℕ) (workers : ℕ) (trace : Bool) → AreOptionsWith options digits trace → digits_value 10 digits ≡ workers
+    → told (codes "run" ∷ options) ≡ RunOnThreads workers trace
+threads_told options digits workers true (inl are) n = ap (λ behind. told (codes "run" ∷ behind)) are ∙ ap (λ w. RunOnThreads w true) n
+threads_told options digits workers true (inr are) n = ap (λ behind. told (codes "run" ∷ behind)) are ∙ ap (λ w. RunOnThreads w true) n
+threads_told options digits workers false (inl are) n = ap (λ behind. told (codes "run" ∷ behind)) are ∙ ap (λ w. RunOnThreads w false) n
+threads_told options digits workers false (inr are) n = ap (λ behind. told (codes "run" ∷ behind)) are ∙ ap (λ w. RunOnThreads w false) n
 
 is_told : (words : List (List ℕ)) (command : Command) → IsCommand words command → told words ≡ command
 is_told words (Format blocks) (digits, is, number, size) = ap told is ∙ ap Format number.2
 is_told words (Run true) is = ap told is
 is_told words (Run false) is = ap told is
+is_told words (RunOnThreads workers trace) (options, is, these) = ap told is ∙ threads_told options these.digits workers trace these.are these.number.0.2
 is_told words Show is = ap told is
 is_told words Report is = ap told is
 is_told words (Drill seed) (digits, is, number, size) = ap told is ∙ ap Drill number.2

@@ -1,9 +1,9 @@
 -- Which words are a command. A word is the list of its bytes.
-use Rattle.std.specs.Prelude.{◌≡◌, ℕ, ◌<◌, ◌≤◌, Bool, true, false, List, [], ◌∷◌, length, codes}
+use Rattle.std.specs.Prelude.{◌≡◌, ◌⊎◌, ℕ, ◌<◌, ◌≤◌, Bool, true, false, List, [], ◌∷◌, ◌++◌, length, codes}
 use Rattle.std.specs.Str.Parse.{IsNumeral, digits_value}
 use Rattle.command_words.specs.Forms.{is_name, is_refused}
 use Rattle.command_words.specs.declared.Command.{Command}
-use Rattle.command_words.specs.declared.Command.TheVariants.{CheckTrace, Copy, Drill, Format, Report, Run, Show}
+use Rattle.command_words.specs.declared.Command.TheVariants.{CheckTrace, Copy, Drill, Format, Report, Run, RunOnThreads, Show}
 
 -- one to twenty decimal digits whose value is n; zeros may lead
 abbrev pub IsNumber : List ℕ → ℕ → Type 0
@@ -17,10 +17,24 @@ IsSize blocks = (2600 ≤ blocks) × (blocks ≤ 65536)
 abbrev pub IsSeed : ℕ → Type 0
 IsSeed seed = seed ≤ 18446744073709551615
 
+-- how many workers a run on threads may have
+abbrev pub IsWorkers : ℕ → Type 0
+IsWorkers workers = (1 ≤ workers) × (workers ≤ 16)
+
 -- the words behind `run`
 abbrev pub run_words : Bool → List (List ℕ)
 run_words false = []
 run_words true = codes "--trace" ∷ []
+
+-- `--workers` and the word behind it, with `--trace` before or behind both where the run is traced
+abbrev pub AreOptionsWith : List (List ℕ) → List ℕ → Bool → Type 0
+AreOptionsWith options digits trace = (options ≡ run_words trace ++ codes "--workers" ∷ digits ∷ []) ⊎ (options ≡ codes "--workers" ∷ digits ∷ run_words trace)
+
+-- THE OPTIONS OF A RUN ON THREADS, which has so many workers, and is traced or not
+pub record AreThreadOptions (options : List (List ℕ)) (workers : ℕ) (trace : Bool) : Type 0 where
+  pub digits : List ℕ
+  pub are : AreOptionsWith options digits trace
+  pub number : IsNumber digits workers × IsWorkers workers
 
 -- a word that may stand for a name: not refused, and without a hyphen before the rest
 pub record IsNameWord (word : List ℕ) : Type 0 where
@@ -34,6 +48,7 @@ IsCopyOf words name fresh = (words ≡ codes "copy" ∷ name ∷ fresh ∷ []) �
 abbrev pub IsCommand : List (List ℕ) → Command → Type 0
 IsCommand words (Format blocks) = (digits : List ℕ) × (words ≡ codes "format" ∷ digits ∷ []) × IsNumber digits blocks × IsSize blocks
 IsCommand words (Run trace) = words ≡ codes "run" ∷ run_words trace
+IsCommand words (RunOnThreads workers trace) = (options : List (List ℕ)) × (words ≡ codes "run" ∷ options) × AreThreadOptions options workers trace
 IsCommand words Show = words ≡ codes "show" ∷ []
 IsCommand words Report = words ≡ codes "report" ∷ []
 IsCommand words (Drill seed) = (digits : List ℕ) × (words ≡ codes "drill" ∷ digits ∷ []) × IsNumber digits seed × IsSeed seed

@@ -8,6 +8,7 @@ ghost use Rattle.command_words.specs.declared.Command.TheVariants.{Copy as CopyC
 mod forms;
 mod mirrors;
 mod numbers;
+mod threads;
 
 pub use mirrors::mirror_words;
 use std::alloc::{AllocError, Global};
@@ -20,6 +21,13 @@ pub enum Command {
     /// A run of the script that the source holds.
     Run {
         /// Whether each entry of the history gets a line, in place of the lines that loci print.
+        trace: bool,
+    },
+    /// A run of the script that the source holds, by so many workers on threads.
+    RunOnThreads {
+        /// From 1 to 16.
+        workers: u8,
+        /// Whether each entry of the history gets a line, as in `Run`.
         trace: bool,
     },
     /// What the image means.
@@ -55,7 +63,10 @@ pub fn read_command(alloc: Global, words: &[String]) -> Result<Option<Command>, 
             Some(seed) => Ok(numbers::read_number(seed).map(Command::Drill)),
             None => Ok(None),
         },
-        "run" => Ok(forms::trace_flag(alloc, words)?.map(|trace| Command::Run { trace })),
+        "run" => match threads::thread_options(words) {
+            Some((workers, trace)) => Ok(Some(Command::RunOnThreads { workers, trace })),
+            None => Ok(forms::trace_flag(alloc, words)?.map(|trace| Command::Run { trace })),
+        },
         "show" => Ok(forms::has_no_value(alloc, "show", words)?.then_some(Command::Show)),
         "report" => Ok(forms::has_no_value(alloc, "report", words)?.then_some(Command::Report)),
         "check-trace" => {

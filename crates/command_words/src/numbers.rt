@@ -1,6 +1,6 @@
 //! The numbers that commands take.
 ghost use Rattle.std.specs.Prelude.{ℕ, ◌≤◌, IfNone, IfSome};
-ghost use Rattle.command_words.specs.Commands.{IsNumber, IsSeed, IsSize};
+ghost use Rattle.command_words.specs.Commands.{IsNumber, IsSeed, IsSize, IsWorkers};
 
 /// Blocks of the smallest image.
 const LEAST: u32 = 2600;
@@ -10,6 +10,9 @@ const LARGEST_IMAGE: u32 = 65_536;
 
 /// Of a hundred so many may be lost at most.
 const MOST_LOST: u8 = 90;
+
+/// Workers of a run on threads at most.
+const MOST_WORKERS: u8 = 16;
 
 /// Digits of a number at most, with those zeros that lead.
 const LONGEST: usize = 20;
@@ -42,4 +45,13 @@ pub(crate) fn read_loss(text: &str) -> Option<u8>
 {
     let loss = u8::try_from(read_number(text)?).ok()?;
     (loss <= MOST_LOST).then_some(loss)
+}
+
+/// How many workers a run on threads is to have, as the text spells it.
+pub(crate) fn read_workers(text: &str) -> Option<u8>
+    ensures some { IfSome result (λ n. IsNumber text.now n × IsWorkers n) }
+    ensures none { IfNone result ((n : ℕ) → IsNumber text.now n → IsWorkers n → ⊥) }
+{
+    let workers = u8::try_from(read_number(text)?).ok()?;
+    (1..=MOST_WORKERS).contains(&workers).then_some(workers)
 }

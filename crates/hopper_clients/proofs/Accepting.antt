@@ -1,7 +1,8 @@
 -- A run's own trace is accepted.
-use Rattle.std.proofs.Common.{◌≡◌, ◌≤◌, ℕ, Some, [], length, take, true, inl, inr, refl, sym, ap, subst, ◌∙◌, arith}
+use Rattle.std.proofs.Common.{◌≡◌, ◌≤◌, ℕ, Some, [], length, take, true, inl, inr, refl, sym, ap, subst, ◌∙◌, arith, Result, Ok, Err, IfOk}
 use Rattle.std.specs.Io.KnownBytes.{Appends}
-use Rattle.command_words.specs.declared.Command.TheVariants.{CheckTrace, Run}
+use Rattle.command_words.specs.declared.Command.{Command}
+use Rattle.command_words.specs.declared.Command.TheVariants.{CheckTrace}
 use Rattle.edge_disk.specs.MemoryDisk.{moments_of}
 use Rattle.edge_disk.specs.declared.memory.MemoryDisk.{MemoryDisk}
 use Rattle.hopper_clients.proofs.Carried.{HadMemory, command_leaves}
@@ -11,8 +12,8 @@ use Rattle.hopper_clients.specs.Calls.{IsCalled, managers, seen_by, seen_memory}
 use Rattle.hopper_clients.specs.Images.{HasNewImage}
 use Rattle.hopper_clients.specs.declared.calling.Called.{Called}
 use Rattle.hopper_top.specs.command_promises.Booked.{over}
-use Rattle.hopper_top.specs.Leaving.{answers_of}
-use Rattle.hopper_top.specs.command_promises.Manners.{serial}
+use Rattle.hopper_top.specs.Leaving.{CommandLeaves, answers_of}
+use Rattle.hopper_top.specs.command_promises.Manners.{Manner, Telling, told}
 use Rattle.hopper_top.specs.command_promises.Openings.{run_from}
 use Rattle.hopper_top.specs.command_promises.Leaving.{OfRun, RunLeaves}
 use Rattle.command_outcomes.specs.Seen.{Call, gave}
@@ -32,51 +33,45 @@ use Rattle.trace_own_laws.specs.trace_facts.Traces.{Spells}
 use Rattle.command_outcomes.specs.script_types.Rules.{IsScript}
 use Rattle.script_reading.proofs.Whole.{allowed}
 use Rattle.model_sound_states.proofs.Empty.{empty_is_sound, empty_names}
-use Rattle.hopper_clients.specs.TracePromise.{AcceptsBy, AcceptsOwn, IsTraceable, IsTraced, most_bytes, traced_source}
+use Rattle.hopper_clients.specs.TracePromise.{AcceptsBy, AcceptsOwn, IsCheckOf, IsTraceable, IsTraced, checked_from, most_bytes, traced_source}
 use Rattle.hopper_clients.specs.declared.tracing.Checked.{Checked}
 use Rattle.hopper_clients.proofs.Parting.{means_both}
 
--- what the client gives
-abbrev pub checked_from : Called → Called → Called → Called → Checked
-checked_from formatted ran again checked = record {
-  formatted = formatted.outcome.status;
-  ran = ran.outcome.status;
-  formatted_again = again.outcome.status;
-  checked = checked.outcome.status;
-  history = ran.outcome.history;
-  trace = ran.text;
-  verdict = checked.text;
-  source = checked.source;
-  sink = checked.sink;
-  disk = checked.outcome.disk;
-}
+-- WHAT A RUN LEFT THAT CAME TO ITS END, by its command, which is a traced run of this manner
+pub run_left : (way : Telling → Manner) (command : Command) (source : Text) (old : MemoryDisk) (ran : Called) → IsCalled command source old ran → ran.outcome.status ≡ Done
+    → (CommandLeaves managers command (seen_by source old ran) (gave ran.outcome) → RunLeaves (way trace_of) managers (seen_by source old ran) (gave ran.outcome) (ending ran.outcome.status))
+    → RunLeaves (way trace_of) managers (seen_by source old ran) (gave ran.outcome) (ending Done)
+run_left way command source old ran runs done so =
+    subst (λ (s : Status). RunLeaves (way trace_of) managers (seen_by source old ran) (gave ran.outcome) (ending s)) done
+    (so (command_leaves command source old ran runs (subst (λ (s : Status). HadMemory s) (sym done) tt)))
 
-module _ (source : Text) (formatted ran again checked : Called) (fresh : HasNewImage formatted.outcome.disk) (runs : IsCalled (Run true) source formatted.outcome.disk ran) (done : ran.outcome.status ≡ Done) where
-  abbrev old : MemoryDisk
-  old = formatted.outcome.disk
-
+module _ (way : Telling → Manner) (tells : (t : Telling) → (way t).telling ≡ t) (source : Text) (formatted : Status) (old : MemoryDisk) (ran again checked : Called) (fresh : HasNewImage old)
+    (left : RunLeaves (way trace_of) managers (seen_by source old ran) (gave ran.outcome) (ending Done)) (put : ran.text.items ≡ ran.sink.held) where
   abbrev given : Checked
   given = checked_from formatted ran again checked
 
   abbrev IsWholeRun : Beginning → Type 0
-  IsWholeRun b = IsServed (serial trace_of) b (seen_memory old ran.outcome.disk) (gave ran.outcome) (Appends (Some []) (Some ran.sink.held))
+  IsWholeRun b = IsServed (way trace_of) b (seen_memory old ran.outcome.disk) (gave ran.outcome) (Appends (Some []) (Some ran.sink.held))
 
   of_run : OfRun managers (seen_by source old ran) IsWholeRun
-  of_run =
-      subst (λ (s : Status). RunLeaves (serial trace_of) managers (seen_by source old ran) (gave ran.outcome) (ending s)) done
-      (command_leaves (Run true) source old ran runs (subst (λ (s : Status). HadMemory s) (sym done) tt))
+  of_run = left
 
   served : IsWholeRun (run_from (over of_run.brought managers) of_run.script empty_state (moments_of old))
   served = run_holds source old ran fresh IsWholeRun of_run
 
-  pub traced : IsTraced source given
+  -- the trace
+  trace : ran.text.items ≡ told trace_of (run_from (over of_run.brought managers) of_run.script empty_state (moments_of old)) ran.outcome.history.items
+  trace = put ∙ served.output ∙ ap (λ (t : Telling). told t (run_from (over of_run.brought managers) of_run.script empty_state (moments_of old)) ran.outcome.history.items) (tells trace_of)
+
+  pub traced : IsTraced way source given
   traced = record {
     script = of_run.script;
     brought = of_run.brought;
+    clock = moments_of old;
     accepted = of_run.read.accepted;
     legal = served.run.legal;
     whole = served.whole;
-    trace = runs.put ∙ served.output;
+    trace = trace;
   }
 
   rules : IsScript of_run.script
@@ -88,7 +83,7 @@ module _ (source : Text) (formatted ran again checked : Called) (fresh : HasNewI
       let supply = (over of_run.brought managers).supply in
       let policy = (over of_run.brought managers).policy in
       let es = ran.outcome.history.items in
-      subst (λ (trace : Text). Spells supply policy empty_state of_run.script trace (length es)) (sym (runs.put ∙ served.output))
+      subst (λ (trace : Text). Spells supply policy empty_state of_run.script trace (length es)) (sym trace)
       (own_spells supply policy of_run.script empty_state es rules (empty_names of_run.script.containers) (empty_is_sound supply).sound served.run.legal)
 
   module _ (can : IsTraceable source) (short : length (traced_source source ran.text.items) ≤ most_bytes) (new_image : HasNewImage again.outcome.disk)
@@ -151,3 +146,19 @@ module _ (source : Text) (formatted ran again checked : Called) (fresh : HasNewI
         | inr leaves ↦ accepts_by checked.outcome.status leaves
       ];
     }
+
+-- BOTH, of whatever the client was given
+module _ (way : Telling → Manner) (tells : (t : Telling) → (way t).telling ≡ t) (source : Text) (formatted : Status) (old : MemoryDisk) (ran : Called) (put : ran.text.items ≡ ran.sink.held)
+    (left : ran.outcome.status ≡ Done → RunLeaves (way trace_of) managers (seen_by source old ran) (gave ran.outcome) (ending Done)) (fresh : formatted ≡ Done → HasNewImage old) where
+  pub traced_then : {E : Type 0} (r : Result Checked E) → IfOk r (IsCheckOf source formatted ran) → IfOk r (λ c. c.formatted ≡ Done → c.ran ≡ Done → IsTraced way source c)
+  traced_then (Err e) is = tt
+  traced_then (Ok c) is =
+      subst (λ (c : Checked). c.formatted ≡ Done → c.ran ≡ Done → IsTraced way source c) (sym is.is)
+      (λ done ran_done. traced way tells source formatted old ran is.again is.checked (fresh done) (left ran_done) put)
+
+  pub accepted_then : {E : Type 0} (r : Result Checked E) → IfOk r (IsCheckOf source formatted ran)
+      → IfOk r (λ c. c.formatted ≡ Done → c.ran ≡ Done → c.formatted_again ≡ Done → IsTraceable source → length (traced_source source c.trace.items) ≤ most_bytes → AcceptsOwn c)
+  accepted_then (Err e) is = tt
+  accepted_then (Ok c) is =
+      subst (λ (c : Checked). c.formatted ≡ Done → c.ran ≡ Done → c.formatted_again ≡ Done → IsTraceable source → length (traced_source source c.trace.items) ≤ most_bytes → AcceptsOwn c) (sym is.is)
+      (λ done ran_done again_done can short. accepts way tells source formatted old ran is.again is.checked (fresh done) (left ran_done) put can short (is.fresh again_done) is.checks)

@@ -1,12 +1,13 @@
 -- The promise, from what the three calls leave and what a stop may leave.
-use Rattle.std.proofs.Common.{◌≡◌, ◌≤◌, ◌<◌, ◌+◌, ◌-◌, ◌^◌, ℕ, [], inl, inr, min, sym, ap, subst, ◌∙◌, arith, false}
+use Rattle.std.proofs.Common.{◌≡◌, ◌⊎◌, ◌≤◌, ◌<◌, ◌+◌, ◌-◌, ◌^◌, ℕ, [], inl, inr, min, sym, ap, subst, ◌∙◌, arith, false, Result, Ok, Err, IfOk}
 use Rattle.std.proofs.lemmas.Bool.{cases_lt}
 use Rattle.command_outcomes.specs.Ends.{IsEmpty}
 use Rattle.command_outcomes.specs.Seen.{Call, SeenDisk, gave}
 use Rattle.command_outcomes.specs.Statuses.{Ending, Stopped, Unput, Whole, Wrong, ending}
 use Rattle.command_outcomes.specs.declared.statuses.Status.{Status}
+use Rattle.command_outcomes.specs.declared.statuses.Status.TheVariants.{Done}
 use Rattle.command_outcomes.specs.declared.faults.Fault.TheVariants.{NoBlocks, DiskFault, Foreign as BadImage, Memory, Script, Source, Usage}
-use Rattle.command_words.specs.declared.Command.TheVariants.{Run, Show}
+use Rattle.command_words.specs.declared.Command.TheVariants.{Show}
 use Rattle.edge_disk.specs.Image.{Image}
 use Rattle.edge_disk.specs.Kept.{IsTorn, MayLeave}
 use Rattle.edge_disk.specs.KeptLaws.{MayLeave-since_now}
@@ -18,14 +19,15 @@ use Rattle.command_outcomes.specs.model_kernel.State.{KernelState, Text, empty_s
 use Rattle.hopper_top.proofs.image_meaning_lemmas.Firsts.{not_both}
 use Rattle.hopper_top.specs.image_meaning.Meaning.{Means}
 use Rattle.hopper_top.specs.kernel_invariant.Beginnings.{Beginning}
+use Rattle.hopper_top.specs.Leaving.{IsUntouched}
 use Rattle.edge_managers.specs.Managers.{counted_word}
 use Rattle.hopper_top.specs.command_promises.Leaving.{OfRun, RunLeaves}
-use Rattle.hopper_top.specs.command_promises.Manners.{serial}
+use Rattle.hopper_top.specs.command_promises.Manners.{Manner, Telling, told}
 use Rattle.hopper_top.specs.command_promises.Openings.{HasFailedSync, IsKeptImage, KeepsMeaning, run_from}
 use Rattle.hopper_top.specs.command_promises.Runs.{IsRun, IsServed}
 use Rattle.edge_watched.specs.Handing.{next_moment}
 use Rattle.hopper_clients.specs.Calls.{IsCalled, managers, seen_by, seen_memory}
-use Rattle.hopper_clients.specs.StopPromise.{IsShownAs, KeepsBy, KeepsCut, KeepsNothing, KeepsPromise, answering}
+use Rattle.hopper_clients.specs.StopPromise.{IsShownAs, IsStopOf, KeepsBy, KeepsCut, KeepsNothing, KeepsPromise, answering, shown_from}
 use Rattle.hopper_clients.specs.declared.calling.Called.{Called}
 use Rattle.hopper_clients.specs.declared.stopping.Shown.{Shown}
 use Rattle.hopper_clients.specs.Images.{HasNewImage}
@@ -54,22 +56,12 @@ stop_reaches since after now t is some reached = let most : next_moment since �
 
 -- WHAT IS SHOWN
 
-abbrev pub shown_from : Called → Called → Called → ℕ → ℕ → Shown
-shown_from formatted ran showed since stopped = record {
-  formatted = formatted.outcome.status;
-  ran = ran.outcome.status;
-  shown = showed.outcome.status;
-  history = ran.outcome.history;
-  marks = ran.outcome.marks;
-  lines = ran.text;
-  disk = ran.outcome.disk;
-  since = since;
-  stopped = stopped;
-  text = showed.text;
-}
+-- what a run left, of this manner, or memory ran out for its words
+abbrev pub LeftBy : (Telling → Manner) → Text → MemoryDisk → Called → Type 0
+LeftBy way source old ran = IsUntouched (seen_by source old ran) (gave ran.outcome) Memory ⊎ RunLeaves (way output_of) managers (seen_by source old ran) (gave ran.outcome) (ending ran.outcome.status)
 
-module _ (source : Text) (torn : Torn) (after : ℕ) (formatted ran showed : Called) (old left : MemoryDisk) (t : ℕ)
-    (fresh : HasNewImage old) (runs : IsCalled (Run false) source old ran) (shows : IsCalled Show [] left showed)
+module _ (way : Telling → Manner) (tells : (t : Telling) → (way t).telling ≡ t) (source : Text) (torn : Torn) (after : ℕ) (formatted : Status) (ran showed : Called) (old left : MemoryDisk) (t : ℕ)
+    (fresh : HasNewImage old) (runs : LeftBy way source old ran) (put : ran.text.items ≡ ran.sink.held) (shows : IsCalled Show [] left showed)
     (stops : t ≡ min (moments_of old + after) (moments_of ran.outcome.disk)) (some : 0 < after)
     (tears : IsTorn torn (stood_at ran.outcome.disk t) (reading_of left)) (may : MayLeave (stood_at ran.outcome.disk t) (reading_of left)) where
   abbrev s : Shown
@@ -149,11 +141,15 @@ module _ (source : Text) (torn : Torn) (after : ℕ) (formatted ran showed : Cal
   means_kept_image kept = means_kept (kept tt (turn_left 4096 (reading_of old) fresh.formatted))
 
   -- BY HOW THE RUN ENDED
-  keeps_by : (ending : Ending) → RunLeaves (serial output_of) managers seen (gave ran.outcome) ending → KeepsBy source torn s ending
+  keeps_by : (ending : Ending) → RunLeaves (way output_of) managers seen (gave ran.outcome) ending → KeepsBy way source torn s ending
   unfolding keeps_cut
   keeps_by Whole o =
-      let served = run_holds source old ran fresh (λ b. IsServed (serial output_of) b disk (gave ran.outcome) _) o in
-      record { keeps = keeps_cut _ o (λ b served. served.run); whole = served.whole; lines = runs.put ∙ served.output }
+      let served = run_holds source old ran fresh (λ b. IsServed (way output_of) b disk (gave ran.outcome) _) o in
+      record {
+        keeps = keeps_cut _ o (λ b served. served.run);
+        whole = served.whole;
+        lines = put ∙ served.output ∙ ap (λ (telling : Telling). told telling (run_from (answering o.brought) o.script empty_state (moments_of old)) ran.outcome.history.items) (tells output_of);
+      }
   keeps_by Unput o = keeps_cut _ o.0 (λ b served. served.run)
   keeps_by (Stopped (NoBlocks n)) o = keeps_cut _ o (λ b short. short.cut.run)
   keeps_by (Stopped DiskFault) (rose, inl unrun) = inr (keeps_nothing unrun.0.empty (elim (unrun.2 tt (turn_left 4096 (reading_of old) fresh.formatted)) [
@@ -164,16 +160,30 @@ module _ (source : Text) (torn : Torn) (after : ℕ) (formatted ran showed : Cal
   keeps_by (Stopped (Script refusal)) (unrun, inl refused) = keeps_nothing unrun.empty (means_same refused.1)
   keeps_by (Stopped (Script refusal)) (unrun, inr misfit) = keeps_nothing unrun.empty (means_kept_image misfit.3.kept)
   keeps_by (Stopped Source) stopped = keeps_nothing stopped.1.empty (means_same stopped.2)
-  keeps_by (Stopped Memory) (inl (unrun, inl same)) = keeps_nothing unrun.empty (means_same same.0)
-  keeps_by (Stopped Memory) (inl (unrun, inr behind)) = keeps_nothing unrun.empty (means_kept_image behind.1)
-  keeps_by (Stopped Memory) (inr (none, _)) = absurd none
+  keeps_by (Stopped Memory) (inl (unrun, inl same)) = inl (keeps_nothing unrun.empty (means_same same.0))
+  keeps_by (Stopped Memory) (inl (unrun, inr behind)) = inl (keeps_nothing unrun.empty (means_kept_image behind.1))
+  keeps_by (Stopped Memory) (inr (may, o)) = inr (may, keeps_cut _ o (λ b lacked. lacked.run))
   keeps_by (Stopped (BadImage block place)) stopped = not_both (reading_of old) (record { block = block; place = place }) (means_nothing old fresh counted_word).accepted (stopped.2 tt).0
   keeps_by (Stopped Usage) stopped = stopped
   keeps_by (Wrong line want) stopped = stopped
 
-  pub keeps : KeepsPromise source torn s
-  keeps = elim runs.leaves [
-    | inl untouched ↦ subst (λ (status : Status). KeepsBy source torn s (ending status)) (sym untouched.status)
-        (keeps_nothing untouched.unrun.empty (means_same untouched.disk))
+  pub keeps : KeepsPromise way source torn s
+  keeps = elim runs [
+    | inl untouched ↦ subst (λ (status : Status). KeepsBy way source torn s (ending status)) (sym untouched.status)
+        (inl (keeps_nothing untouched.unrun.empty (means_same untouched.disk)))
     | inr leaves ↦ keeps_by (ending ran.outcome.status) leaves
   ]
+
+-- of whatever the client was given
+pub kept_then : (way : Telling → Manner) (tells : (t : Telling) → (way t).telling ≡ t) (source : Text) (torn : Torn) (after : ℕ) (formatted : Status) (old : MemoryDisk) (ran : Called)
+    → LeftBy way source old ran → ran.text.items ≡ ran.sink.held → (formatted ≡ Done → HasNewImage old)
+    → {E : Type 0} (r : Result Shown E) → IfOk r (IsStopOf formatted (moments_of old) ran after torn) → IfOk r (λ s. s.formatted ≡ Done → 0 < after → KeepsPromise way source torn s)
+kept_then way tells source torn after formatted old ran runs put fresh (Err e) is = tt
+kept_then way tells source torn after formatted old ran runs put fresh (Ok s) is =
+    subst (λ (s : Shown). s.formatted ≡ Done → 0 < after → KeepsPromise way source torn s) (sym is.is)
+    (λ done some. keeps way tells source torn after formatted ran is.showed old is.image is.stopped (fresh done) runs put is.shows is.stops some is.tears is.may)
+
+pub stopped_then : (formatted : Status) (since after : ℕ) (torn : Torn) (ran : Called) {E : Type 0} (r : Result Shown E) → IfOk r (IsStopOf formatted since ran after torn)
+    → IfOk r (λ s. s.stopped ≡ min (s.since + after) (moments_of s.disk))
+stopped_then formatted since after torn ran (Err e) is = tt
+stopped_then formatted since after torn ran (Ok s) is = subst (λ (s : Shown). s.stopped ≡ min (s.since + after) (moments_of s.disk)) (sym is.is) is.stops

@@ -1,9 +1,11 @@
 -- WHAT IS KEPT of a script that ran on a new image until the machine stopped.
-use Rattle.std.specs.Prelude.{◌≡◌, ◌⊎◌, ◌≤◌, ℕ, []}
+use Rattle.std.specs.Prelude.{◌≡◌, ◌⊎◌, ◌≤◌, ◌+◌, ℕ, [], min}
 use Rattle.edge_disk.specs.Image.{Image}
-use Rattle.edge_disk.specs.Kept.{IsTorn}
-use Rattle.edge_disk.specs.MemoryDisk.{moments_of, stood_at}
+use Rattle.edge_disk.specs.Kept.{IsTorn, MayLeave}
+use Rattle.edge_disk.specs.MemoryDisk.{moments_of, reading_of, stood_at}
 use Rattle.edge_disk.specs.declared.calls.Torn.{Torn}
+use Rattle.edge_disk.specs.declared.memory.MemoryDisk.{MemoryDisk}
+use Rattle.command_outcomes.specs.model_kernel.Output.{output_of}
 use Rattle.command_outcomes.specs.model_kernel.Scripts.{Script as Tables}
 use Rattle.command_outcomes.specs.model_kernel.State.{KernelState, Text, empty_state}
 use Rattle.hopper_top.specs.image_meaning.Meaning.{Means}
@@ -14,13 +16,16 @@ use Rattle.edge_managers.specs.Managers.{counted_word}
 use Rattle.hopper_top.specs.plain_show.Show.{shown}
 use Rattle.hopper_top.specs.command_promises.Booked.{over}
 use Rattle.hopper_top.specs.command_promises.Openings.{Managers, run_from}
+use Rattle.hopper_top.specs.command_promises.Manners.{Manner, Telling}
 use Rattle.hopper_top.specs.command_promises.Runs.{printed}
 use Rattle.hopper_top.specs.command_source.Sources.{IsAccepted}
-use Rattle.hopper_top.specs.model_serial.Serial.{IsWhole}
 use Rattle.command_outcomes.specs.Statuses.{Ending, Stopped, Unput, Whole, Wrong, ending}
 use Rattle.command_outcomes.specs.declared.faults.Fault.TheVariants.{NoBlocks, DiskFault, Foreign as BadImage, Memory, Script, Source, Usage}
+use Rattle.command_outcomes.specs.declared.statuses.Status.{Status}
 use Rattle.command_outcomes.specs.declared.statuses.Status.TheVariants.{Done, Foreign}
-use Rattle.hopper_clients.specs.Calls.{managers}
+use Rattle.command_words.specs.declared.Command.TheVariants.{Show}
+use Rattle.hopper_clients.specs.Calls.{IsCalled, managers}
+use Rattle.hopper_clients.specs.declared.calling.Called.{Called}
 use Rattle.hopper_clients.specs.declared.stopping.Shown.{Shown}
 
 -- THE STATE WAS SHOWN: where `show` came to its end, its text is that of this state; and it found no bad place
@@ -49,10 +54,10 @@ pub record KeepsCut (source : Text) (torn : Torn) (s : Shown) : Type 0 where
   pub cut : IsCutImage (run_from_nothing script brought s) s.history.items s.marks.items (moments_of s.disk) s.stopped image
   pub shows : (w : KernelState) → Means counted_word image w → IsShownAs s w
 
--- and the run came to its end: its history is the whole serial one, and its lines are put
-pub record KeepsWhole (source : Text) (torn : Torn) (s : Shown) : Type 0 where
+-- and the run came to its end: its history is a whole one of this manner, and its lines are put
+pub record KeepsWhole (way : Telling → Manner) (source : Text) (torn : Torn) (s : Shown) : Type 0 where
   pub keeps : KeepsCut source torn s
-  pub whole : IsWhole (answering keeps.brought).supply (answering keeps.brought).policy keeps.script empty_state s.history.items
+  pub whole : (way output_of).whole (run_from_nothing keeps.script keeps.brought s) s.history.items
   pub lines : s.lines.items ≡ printed (run_from_nothing keeps.script keeps.brought s) s.history.items
 
 -- NOTHING WAS RUN: the image that the stop left means the state in which nothing is born, which was shown
@@ -63,19 +68,44 @@ pub record KeepsNothing (torn : Torn) (s : Shown) : Type 0 where
   pub means : Means counted_word image empty_state
   pub shows : IsShownAs s empty_state
 
--- by how the run ended
-abbrev pub KeepsBy : Text → Torn → Shown → Ending → Type 0
-KeepsBy source torn s Whole = KeepsWhole source torn s
-KeepsBy source torn s Unput = KeepsCut source torn s
-KeepsBy source torn s (Stopped (NoBlocks n)) = KeepsCut source torn s
-KeepsBy source torn s (Stopped DiskFault) = KeepsCut source torn s ⊎ KeepsNothing torn s
-KeepsBy source torn s (Stopped (Script refusal)) = KeepsNothing torn s
-KeepsBy source torn s (Stopped Source) = KeepsNothing torn s
-KeepsBy source torn s (Stopped Memory) = KeepsNothing torn s
-KeepsBy source torn s (Stopped (BadImage block place)) = ⊥
-KeepsBy source torn s (Stopped Usage) = ⊥
-KeepsBy source torn s (Wrong line want) = ⊥
+-- by the run's manner, serial or on threads, and by how it ended. Memory runs out in its midst only on threads
+abbrev pub KeepsBy : (Telling → Manner) → Text → Torn → Shown → Ending → Type 0
+KeepsBy way source torn s Whole = KeepsWhole way source torn s
+KeepsBy way source torn s Unput = KeepsCut source torn s
+KeepsBy way source torn s (Stopped (NoBlocks n)) = KeepsCut source torn s
+KeepsBy way source torn s (Stopped DiskFault) = KeepsCut source torn s ⊎ KeepsNothing torn s
+KeepsBy way source torn s (Stopped (Script refusal)) = KeepsNothing torn s
+KeepsBy way source torn s (Stopped Source) = KeepsNothing torn s
+KeepsBy way source torn s (Stopped Memory) = KeepsNothing torn s ⊎ ((way output_of).may_lack × KeepsCut source torn s)
+KeepsBy way source torn s (Stopped (BadImage block place)) = ⊥
+KeepsBy way source torn s (Stopped Usage) = ⊥
+KeepsBy way source torn s (Wrong line want) = ⊥
 
 -- THE PROMISE
-abbrev pub KeepsPromise : Text → Torn → Shown → Type 0
-KeepsPromise source torn s = KeepsBy source torn s (ending s.ran)
+abbrev pub KeepsPromise : (Telling → Manner) → Text → Torn → Shown → Type 0
+KeepsPromise way source torn s = KeepsBy way source torn s (ending s.ran)
+
+-- THE STOP, behind a run that began at this moment of the clock, and what was shown of the disk that it left
+abbrev pub shown_from : Status → Called → Called → ℕ → ℕ → Shown
+shown_from formatted ran showed since stopped = record {
+  formatted = formatted;
+  ran = ran.outcome.status;
+  shown = showed.outcome.status;
+  history = ran.outcome.history;
+  marks = ran.outcome.marks;
+  lines = ran.text;
+  disk = ran.outcome.disk;
+  since = since;
+  stopped = stopped;
+  text = showed.text;
+}
+
+pub record IsStopOf (formatted : Status) (since : ℕ) (ran : Called) (after : ℕ) (torn : Torn) (s : Shown) : Type 0 where
+  pub stopped : ℕ
+  pub showed : Called
+  pub image : MemoryDisk
+  pub is : s ≡ shown_from formatted ran showed since stopped
+  pub stops : stopped ≡ min (since + after) (moments_of ran.outcome.disk)
+  pub tears : IsTorn torn (stood_at ran.outcome.disk stopped) (reading_of image)
+  pub may : MayLeave (stood_at ran.outcome.disk stopped) (reading_of image)
+  pub shows : IsCalled Show [] image showed

@@ -3,39 +3,43 @@ use Rattle.std.specs.Prelude.{◌≡◌, ◌<◌, ◌⊎◌, ◌++◌, ◌∷◌
 use Rattle.edge_disk.specs.Counts.{Rose}
 use Rattle.edge_disk.specs.MemoryDisk.{faults_of}
 use Rattle.edge_disk.specs.declared.memory.MemoryDisk.{MemoryDisk}
-use Rattle.hopper_clients.specs.Calls.{managers}
+use Rattle.command_words.specs.declared.Command.TheVariants.{CheckTrace}
+use Rattle.hopper_clients.specs.Calls.{IsCalled, managers}
 use Rattle.hopper_clients.specs.Images.{HasNewImage}
 use Rattle.hopper_top.specs.command_promises.Booked.{over}
 use Rattle.hopper_top.specs.command_promises.Openings.{run_from}
 use Rattle.command_outcomes.specs.Statuses.{Ending, Stopped, Unput, Whole, Wrong, ending}
 use Rattle.command_outcomes.specs.declared.faults.Fault.TheVariants.{NoBlocks, DiskFault, Foreign, Memory, Script, Source, Usage}
+use Rattle.command_outcomes.specs.declared.statuses.Status.{Status}
+use Rattle.command_outcomes.specs.declared.statuses.Status.TheVariants.{Done}
 use Rattle.hopper_top.specs.line_entries.Entries.{trace_of}
 use Rattle.command_outcomes.specs.model_kernel.Scripts.{Script as Tables}
 use Rattle.command_outcomes.specs.model_kernel.State.{Text, empty_state}
 use Rattle.hopper_top.specs.kernel_invariant.Beginnings.{Beginning, IsLegal}
-use Rattle.hopper_top.specs.command_promises.Manners.{told}
+use Rattle.hopper_top.specs.command_promises.Manners.{Manner, Telling, told}
 use Rattle.hopper_top.specs.command_source.Sources.{IsAccepted}
-use Rattle.hopper_top.specs.model_serial.Serial.{IsWhole}
 use Rattle.hopper_top.specs.command_promises.TraceLeaving.{ok_line}
 use Rattle.hopper_top.specs.command_promises.SourceParts.{rule_from}
 use Rattle.hopper_top.specs.command_promises.Sources.{most_bytes as most}
 use Rattle.base_managers.specs.Managing.{ManagerTables}
+use Rattle.hopper_clients.specs.declared.calling.Called.{Called}
 use Rattle.hopper_clients.specs.declared.tracing.Checked.{Checked}
 
 -- THE RUN
 
--- the run of a script from the state in which nothing is born, by the managers that it brings over the program's; its clock plays no part here
-abbrev pub run_from_nothing : Tables → ManagerTables → Beginning
-run_from_nothing script brought = run_from (over brought managers) script empty_state 0
+-- the run of a script from the state in which nothing is born, by the managers that it brings over the program's, begun at this moment of a clock
+abbrev pub run_from_nothing : Tables → ManagerTables → ℕ → Beginning
+run_from_nothing script brought clock = run_from (over brought managers) script empty_state clock
 
--- THE SCRIPT WAS RUN: the source stands for it, the history is the whole serial one from nothing, and its trace was put
-pub record IsTraced (source : Text) (c : Checked) : Type 0 where
+-- THE SCRIPT WAS RUN: the source stands for it, the history is a whole one of this manner, serial or on threads, from nothing, and its trace was put
+pub record IsTraced (way : Telling → Manner) (source : Text) (c : Checked) : Type 0 where
   pub script : Tables
   pub brought : ManagerTables
+  pub clock : ℕ
   pub accepted : IsAccepted source script brought
-  pub legal : IsLegal (run_from_nothing script brought) c.history.items
-  pub whole : IsWhole (over brought managers).supply (over brought managers).policy script empty_state c.history.items
-  pub trace : c.trace.items ≡ told trace_of (run_from_nothing script brought) c.history.items
+  pub legal : IsLegal (run_from_nothing script brought clock) c.history.items
+  pub whole : (way trace_of).whole (run_from_nothing script brought clock) c.history.items
+  pub trace : c.trace.items ≡ told trace_of (run_from_nothing script brought clock) c.history.items
 
 -- THE SOURCE OF THE CHECK
 
@@ -71,3 +75,25 @@ pub record AcceptsOwn (c : Checked) : Type 0 where
   pub before : MemoryDisk
   pub fresh : HasNewImage before
   pub accepts : AcceptsBy before c (ending c.checked)
+
+-- THE CHECK, behind a run that put a trace, on a second disk
+abbrev pub checked_from : Status → Called → Called → Called → Checked
+checked_from formatted ran again checked = record {
+  formatted = formatted;
+  ran = ran.outcome.status;
+  formatted_again = again.outcome.status;
+  checked = checked.outcome.status;
+  history = ran.outcome.history;
+  trace = ran.text;
+  verdict = checked.text;
+  source = checked.source;
+  sink = checked.sink;
+  disk = checked.outcome.disk;
+}
+
+pub record IsCheckOf (source : Text) (formatted : Status) (ran : Called) (c : Checked) : Type 0 where
+  pub again : Called
+  pub checked : Called
+  pub is : c ≡ checked_from formatted ran again checked
+  pub fresh : again.outcome.status ≡ Done → HasNewImage again.outcome.disk
+  pub checks : IsCalled CheckTrace (traced_source source ran.text.items) again.outcome.disk checked

@@ -5,7 +5,9 @@ mod calling;
 mod stopping;
 mod tracing;
 
-pub use calling::{Called, call, new_image, one_word, two_words};
-pub use hopper_top::hopper;
-pub use stopping::{Shown, run_and_stop};
-pub use tracing::{Checked, trace_and_check};
+pub use calling::{
+    Called, call, call_on_threads, new_image, one_word, run_words, traced_words, two_words,
+};
+pub use hopper_top::{OpenGate, StepGate, has_workers, hopper, hopper_counted, serve};
+pub use stopping::{Shown, run_and_stop, run_on_threads_and_stop};
+pub use tracing::{Checked, trace_and_check, trace_on_threads_and_check};

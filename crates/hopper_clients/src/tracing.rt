@@ -1,13 +1,18 @@
 //! A script that runs with its trace, and the trace as it is checked.
 ghost use Rattle.std.specs.Prelude.{◌≡◌, ◌≤◌, IfOk, length};
-ghost use Rattle.hopper_clients.specs.TracePromise.{AcceptsOwn, IsTraceable, IsTraced, most_bytes, traced_source};
+ghost use Rattle.hopper_top.specs.command_promises.Manners.{on_threads, serial};
+ghost use Rattle.hopper_clients.specs.Calls.{IsCount};
+ghost use Rattle.hopper_clients.specs.TracePromise.{AcceptsOwn, IsCheckOf, IsTraceable, IsTraced, most_bytes, traced_source};
 
+use crate::calling::{call_on_threads, traced_words};
 use crate::{Called, call, new_image, one_word, two_words};
 use base_types::Entry;
 use command_outcomes::Status;
 use edge_disk::MemoryDisk;
 use edge_streams::{MemorySink, MemorySource};
 use std::alloc::{AllocError, Global};
+use std::sync::Wait;
+use std::thread::Threads;
 
 /// What became of a script that was run with its trace, and of the trace as it was checked.
 #[derive(Drop)]
@@ -38,23 +43,20 @@ fn with_rule(alloc: Global, script: &[u8], trace: &[u8]) -> Result<Vec<u8>, Allo
     Ok(source)
 }
 
-/// Runs a script with its trace on a new image, and checks the trace by the script on another new image.
-pub fn trace_and_check(alloc: Global, script: &str) -> Result<Checked, AllocError>
-    ensures traced { IfOk result (λ c. c.formatted ≡ Status.Done → c.ran ≡ Status.Done → IsTraced script.now c) }
-    ensures accepted { IfOk result (λ c. c.formatted ≡ Status.Done → c.ran ≡ Status.Done → c.formatted_again ≡ Status.Done
-        → IsTraceable script.now → length (traced_source script.now c.trace.items) ≤ most_bytes → AcceptsOwn c) }
+// Checks the trace that a run put by its script, on a new image on a second disk.
+fn check_again(
+    alloc: Global,
+    script: &str,
+    formatted: Status,
+    ran: Called,
+) -> Result<Checked, AllocError>
+    ensures { IfOk result (λ c. IsCheckOf script.now formatted ran c) }
 {
-    let formatted = new_image(alloc)?.outcome;
     let Called {
         outcome: ran,
         text: trace,
         ..
-    } = call(
-        alloc,
-        &two_words(alloc, "run", "--trace")?,
-        script.as_bytes(),
-        formatted.disk,
-    )?;
+    } = ran;
     let traced = with_rule(alloc, script.as_bytes(), &trace)?;
     let formatted_again = new_image(alloc)?.outcome;
     let Called {
@@ -69,7 +71,7 @@ pub fn trace_and_check(alloc: Global, script: &str) -> Result<Checked, AllocErro
         formatted_again.disk,
     )?;
     Ok(Checked {
-        formatted: formatted.status,
+        formatted,
         ran: ran.status,
         formatted_again: formatted_again.status,
         checked: checked.status,
@@ -80,4 +82,43 @@ pub fn trace_and_check(alloc: Global, script: &str) -> Result<Checked, AllocErro
         sink,
         disk: checked.disk,
     })
+}
+
+/// Runs a script with its trace on a new image, and checks the trace by the script on another new image.
+pub fn trace_and_check(alloc: Global, script: &str) -> Result<Checked, AllocError>
+    ensures traced { IfOk result (λ c. c.formatted ≡ Status.Done → c.ran ≡ Status.Done → IsTraced serial script.now c) }
+    ensures accepted { IfOk result (λ c. c.formatted ≡ Status.Done → c.ran ≡ Status.Done → c.formatted_again ≡ Status.Done
+        → IsTraceable script.now → length (traced_source script.now c.trace.items) ≤ most_bytes → AcceptsOwn c) }
+{
+    let formatted = new_image(alloc)?.outcome;
+    let ran = call(
+        alloc,
+        &two_words(alloc, "run", "--trace")?,
+        script.as_bytes(),
+        formatted.disk,
+    )?;
+    check_again(alloc, script, formatted.status, ran)
+}
+
+/// As `trace_and_check`, for a run by so many workers as the digits say, each in a thread of its own.
+pub fn trace_on_threads_and_check<R: Threads + Wait + Sync>(
+    rt: &R,
+    alloc: Global,
+    workers: &str,
+    script: &str,
+) -> Result<Checked, AllocError>
+    requires count { IsCount workers.now }
+    ensures traced { IfOk result (λ c. c.formatted ≡ Status.Done → c.ran ≡ Status.Done → IsTraced on_threads script.now c) }
+    ensures accepted { IfOk result (λ c. c.formatted ≡ Status.Done → c.ran ≡ Status.Done → c.formatted_again ≡ Status.Done
+        → IsTraceable script.now → length (traced_source script.now c.trace.items) ≤ most_bytes → AcceptsOwn c) }
+{
+    let formatted = new_image(alloc)?.outcome;
+    let ran = call_on_threads(
+        rt,
+        alloc,
+        &traced_words(alloc, workers)?,
+        script.as_bytes(),
+        formatted.disk,
+    )?;
+    check_again(alloc, script, formatted.status, ran)
 }

@@ -4,17 +4,17 @@
 //! the path of a second image's file.
 #![tactic(auto)]
 
+mod carrying;
 mod images;
 mod mirrors;
 
+use crate::carrying::{mirrored, served};
 use crate::images::{Images, open_images};
 use crate::mirrors::{mirror_ended, tell_of_mirror};
-use command_mirror::mirror;
 use command_outcomes::{Fault, Status, put_fault, status_of};
 use edge_gathered::GatheringWriter;
-use edge_managers::{CountedWords, EveryVersions, Policy, Supplier};
 use edge_streams::{FileDisk, ReadSource, Sink, WriteSink};
-use hopper_top::hopper;
+use hopper_top::{OpenGate, has_workers, hopper_counted};
 use line_sentences::put_sentence;
 use std::alloc::Global;
 use std::env;
@@ -105,29 +105,27 @@ fn main(rt: HostRuntime) -> ExitCode {
         return refuse(&mut sink, &mut people, Fault::Memory);
     };
     let mut sink = WriteSink::new(writer);
-    let word = |tag, page, place| CountedWords.word(tag, page, place);
-    let wish = |every, since| EveryVersions.wish(every, since);
-    let alloc = rt.alloc();
+    let command = command_of(&asked.words);
     match asked.images {
-        Images::One(file) => {
-            let disk = FileDisk::new(file);
-            let command = command_of(&asked.words);
-            let outcome = hopper(alloc, command, &mut source, &mut sink, disk, &word, &wish);
-            tell(&mut people, &ended(sink, outcome.status))
-        }
-        Images::Two(two) => {
-            let outcome = mirror(
-                alloc,
-                two.seed,
-                two.loss,
+        Images::One(file) if has_workers(command) => {
+            let outcome = hopper_counted(
+                &rt,
+                rt.alloc(),
+                command,
                 &mut source,
                 &mut sink,
-                FileDisk::new(two.first),
-                FileDisk::new(two.second),
-                &word,
-                &wish,
+                FileDisk::new(file),
+                &OpenGate,
             );
-            tell_of_mirror(&mut people, mirror_ended(sink, outcome.status))
+            tell(&mut people, &ended(sink, outcome.status))
+        }
+        Images::One(file) => {
+            let status = served(rt.alloc(), command, &mut source, &mut sink, file);
+            tell(&mut people, &ended(sink, status))
+        }
+        Images::Two(images) => {
+            let status = mirrored(rt.alloc(), images, &mut source, &mut sink);
+            tell_of_mirror(&mut people, mirror_ended(sink, status))
         }
     }
 }

@@ -2,23 +2,41 @@
 use Rattle.std.proofs.Common.{◌≡◌, ℕ, Bool, List, subst, sym}
 use Rattle.command_words.specs.Commands.{IsCommand, IsCopyOf}
 use Rattle.command_words.specs.declared.Command.{Command}
-use Rattle.command_words.specs.declared.Command.TheVariants.{CheckTrace, Copy, Drill, Report, Run, Show}
+use Rattle.command_words.specs.declared.Command.TheVariants.{CheckTrace, Copy, Drill, Report, Run, RunOnThreads, Show}
 use Rattle.command_copy.specs.Copies.{CopyLeaves}
 use Rattle.command_outcomes.specs.Seen.{Call, Gave}
 use Rattle.command_outcomes.specs.Statuses.{ending}
 use Rattle.command_outcomes.specs.declared.statuses.Status.{Status}
 use Rattle.command_run.specs.model_kernel.State.{Text}
+use Rattle.command_run.specs.Tellings.{lines_of}
+use Rattle.command_run.specs.declared.putting.Lines.{Lines}
 use Rattle.command_format.specs.image_meaning.Meaning.{Accepted}
 use Rattle.command_check_trace.specs.command_promises.Drilling.{CanDrill}
-use Rattle.command_check_trace.specs.command_promises.Leaving.{CanRun}
+use Rattle.command_check_trace.specs.command_promises.Leaving.{CanRun, RunLeaves}
+use Rattle.command_check_trace.specs.command_promises.Manners.{on_threads}
 use Rattle.command_check_trace.specs.command_promises.Openings.{Managers}
 use Rattle.command_check_trace.specs.command_promises.TraceLeaving.{CanCheck}
 use Rattle.command_words.proofs.Worded.{one_command, one_copy}
-use Rattle.hopper_top.specs.Leaving.{CanDo, CompletesBy, CompletesCopy, CopiesBy, answers_of}
+use Rattle.hopper_top.specs.Leaving.{CanDo, CommandLeaves, CompletesBy, CompletesCopy, CopiesBy, answers_of, asked_lines}
 
 module _ (m : Managers) (command : Command) (call : Call) where
   pub can_run : (trace : Bool) → command ≡ Run trace → CanDo m command call → CanRun m call
   can_run trace is can = subst (λ (c : Command). CanDo m c call) is can
+
+  -- a run on threads
+  pub can_run_on : (workers : ℕ) (trace : Bool) → command ≡ RunOnThreads workers trace → CanDo m command call → CanRun m call
+  can_run_on workers trace is can = subst (λ (c : Command). CanDo m c call) is can
+
+  pub leaves_on : (workers : ℕ) (trace : Bool) (lines : Lines) (gave : Gave) → command ≡ RunOnThreads workers trace → lines ≡ asked_lines trace
+      → RunLeaves (on_threads (lines_of lines)) m call gave (ending gave.status) → CommandLeaves m command call gave
+  leaves_on workers trace lines gave is asked leaves =
+      subst (λ (c : Command). CommandLeaves m c call gave) (sym is) (subst (λ (l : Lines). RunLeaves (on_threads (lines_of l)) m call gave (ending gave.status)) asked leaves)
+
+  pub copies_none : (words : List Text) (workers : ℕ) (trace : Bool) (gave : Gave) → command ≡ RunOnThreads workers trace → CopiesBy words command call gave
+  copies_none words workers trace gave is = subst (λ (c : Command). CopiesBy words c call gave) (sym is) tt
+
+  pub completes_none : (words : List Text) (workers : ℕ) (trace : Bool) (status : Status) → command ≡ RunOnThreads workers trace → CompletesBy words command call status
+  completes_none words workers trace status is = subst (λ (c : Command). CompletesBy words c call status) (sym is) tt
 
   pub can_show : command ≡ Show → CanDo m command call → call.disk.tells × Accepted call.disk.before.reading
   can_show is can = subst (λ (c : Command). CanDo m c call) is can

@@ -1,9 +1,11 @@
 -- What a call leaves, by its command and by how it ended.
-use Rattle.std.specs.Prelude.{◌≡◌, ◌⊎◌, ◌≤◌, Bool, false, true, List}
+use Rattle.std.specs.Prelude.{◌≡◌, ◌⊎◌, ◌≤◌, ℕ, Bool, false, true, List, bytes_eq, codes}
+use Rattle.std.specs.List.{list_any}
 use Rattle.edge_disk.specs.declared.disk.NoBlocks.{NoBlocks}
+use Rattle.edge_managers.specs.Managers.{counted_word, is_due}
 use Rattle.command_words.specs.Commands.{IsCommand, IsCopyOf}
 use Rattle.command_words.specs.declared.Command.{Command}
-use Rattle.command_words.specs.declared.Command.TheVariants.{CheckTrace, Copy, Drill, Format, Report, Run, Show}
+use Rattle.command_words.specs.declared.Command.TheVariants.{CheckTrace, Copy, Drill, Format, Report, Run, RunOnThreads, Show}
 use Rattle.command_run.specs.model_kernel.State.{Text}
 use Rattle.command_format.specs.image_meaning.Meaning.{Accepted}
 use Rattle.command_outcomes.specs.Ends.{IsUnrun}
@@ -19,7 +21,7 @@ use Rattle.command_show.specs.Reports.{ReportLeaves}
 use Rattle.command_show.specs.Shows.{ShowLeaves}
 use Rattle.command_check_trace.specs.command_promises.Drilling.{CanDrill, DrillLeaves}
 use Rattle.command_check_trace.specs.command_promises.Leaving.{CanRun, RunLeaves}
-use Rattle.command_check_trace.specs.command_promises.Manners.{serial}
+use Rattle.command_check_trace.specs.command_promises.Manners.{on_threads, serial}
 use Rattle.command_check_trace.specs.command_promises.Openings.{Managers}
 use Rattle.command_run.specs.Tellings.{lines_of}
 use Rattle.command_run.specs.declared.putting.Lines.{Lines}
@@ -40,6 +42,10 @@ abbrev pub asked_lines : Bool → Lines
 asked_lines false = Printed
 asked_lines true = Entries
 
+-- the answers of the managers that the program has: words that count up from the tag, and a wish every so many versions
+abbrev pub counted_managers : Managers
+counted_managers = record { supply = counted_word; policy = is_due }
+
 -- the managers' answers, as a checker of traces asks for them
 abbrev pub answers_of : Managers → Answers
 answers_of m = record { word = m.supply; wish = m.policy }
@@ -50,6 +56,7 @@ CommandLeaves m (Format blocks) call gave = call.source.same × FormatLeaves blo
 CommandLeaves m Show call gave = call.source.same × ShowLeaves m.supply call.disk call.sink gave (ending gave.status)
 CommandLeaves m Report call gave = call.source.same × ReportLeaves call.disk call.sink gave (ending gave.status)
 CommandLeaves m (Run trace) call gave = RunLeaves (serial (lines_of (asked_lines trace))) m call gave (ending gave.status)
+CommandLeaves m (RunOnThreads workers trace) call gave = RunLeaves (on_threads (lines_of (asked_lines trace))) m call gave (ending gave.status)
 CommandLeaves m (Drill number) call gave = call.source.same × DrillLeaves m number call.sink call.disk gave (ending gave.status)
 CommandLeaves m CheckTrace call gave = TraceLeaves (answers_of m) (from_source call.source) call.sink call.disk gave (ending gave.status)
 CommandLeaves m Copy call gave = call.source.same
@@ -68,9 +75,22 @@ CopiesBy words (Format blocks) call gave = Unit {0}
 CopiesBy words Show call gave = Unit {0}
 CopiesBy words Report call gave = Unit {0}
 CopiesBy words (Run trace) call gave = Unit {0}
+CopiesBy words (RunOnThreads workers trace) call gave = Unit {0}
 CopiesBy words (Drill number) call gave = Unit {0}
 CopiesBy words CheckTrace call gave = Unit {0}
 CopiesBy words Copy call gave = (name fresh : Text) → IsCopyOf words name fresh → CopyLeaves name fresh call.disk call.sink gave (ending gave.status)
+
+-- the word is `--workers`
+abbrev pub workers_word : Text → Bool
+workers_word word = bytes_eq word (codes "--workers")
+
+-- some word is
+abbrev pub names_workers : List Text → Bool
+names_workers words = list_any workers_word words
+
+-- a command that is no run on threads
+abbrev pub IsSerial : Command → Type 0
+IsSerial command = (workers : ℕ) (trace : Bool) → command ≡ RunOnThreads workers trace → ⊥
 
 -- WORDS of no known form
 abbrev pub IsNoCommand : List Text → Type 0
@@ -92,6 +112,7 @@ CanDo m (Format blocks) call = blocks ≤ call.disk.before.blocks
 CanDo m Show call = call.disk.tells × Accepted call.disk.before.reading
 CanDo m Report call = call.disk.tells × Accepted call.disk.before.reading
 CanDo m (Run trace) call = CanRun m call
+CanDo m (RunOnThreads workers trace) call = CanRun m call
 CanDo m (Drill number) call = CanDrill m number call.disk
 CanDo m CheckTrace call = CanCheck (answers_of m) call
 CanDo m Copy call = ⊥
@@ -106,6 +127,7 @@ CompletesBy words (Format blocks) call status = Unit {0}
 CompletesBy words Show call status = Unit {0}
 CompletesBy words Report call status = Unit {0}
 CompletesBy words (Run trace) call status = Unit {0}
+CompletesBy words (RunOnThreads workers trace) call status = Unit {0}
 CompletesBy words (Drill number) call status = Unit {0}
 CompletesBy words CheckTrace call status = Unit {0}
 CompletesBy words Copy call status = (name fresh : Text) → IsCopyOf words name fresh → CompletesCopy name fresh call status

@@ -1,40 +1,48 @@
 //! The call that does it all.
-ghost use Rattle.std.specs.Prelude.{◌≡◌, ◌≤◌, ◌<◌, ◌^◌, ℕ, Bool, map, string_bytes};
+ghost use Rattle.std.specs.Prelude.{◌≡◌, ◌≤◌, ◌<◌, ◌^◌, ℕ, Bool, IfNone, IfSome, map, string_bytes};
 ghost use Rattle.edge_disk.specs.Counts.{Rose};
 ghost use Rattle.edge_disk.specs.declared.disk.NoBlocks.{NoBlocks};
-ghost use Rattle.command_check_trace.specs.image_facts.Layout.{least_blocks, most_blocks};
 ghost use Rattle.command_words.specs.Commands.{IsCommand, IsCopyOf};
-ghost use Rattle.command_words.specs.declared.Command.TheVariants.{Copy as CopyCommand, Format as FormatCommand};
 ghost use Rattle.command_outcomes.specs.Seen.{gave, seen_disk, seen_sink, seen_source};
 ghost use Rattle.command_outcomes.specs.Statuses.{IsComplete};
 ghost use Rattle.command_check_trace.specs.command_promises.Openings.{Managers};
 ghost use Rattle.command_run.specs.model_kernel.State.{Text};
-ghost use Rattle.hopper_top.specs.Leaving.{CanDo, CommandLeaves, CompletesBy, CompletesCopy, CopiesBy, CopiesOrStays, HasCause, IsNoCommand, Leaves, UsageLeaves, asked_lines as told_lines};
+ghost use Rattle.command_check_trace.specs.image_facts.Layout.{least_blocks, most_blocks};
+ghost use Rattle.command_words.specs.declared.Command.TheVariants.{Copy as CopyCommand, Format as FormatCommand, RunOnThreads as OnThreads};
+ghost use Rattle.hopper_top.specs.Leaving.{CanDo, CommandLeaves, CompletesBy, CompletesCopy, CopiesBy, CopiesOrStays, HasCause, IsNoCommand, IsSerial, Leaves, UsageLeaves};
 
-use command_check_trace::check_trace;
-use command_copy::copy_image;
-use command_format::format_image;
+use crate::commands::{asked_lines, do_command};
 use command_outcomes::{Fault, Outcome, Status, end_with};
-use command_run::{Lines, run_drill, run_script};
-use command_show::{report_image, show_image};
-use command_words::{Command, copied_names, read_command};
+use command_words::{Command, read_command};
+use command_workers::{StepGate, run_on_workers};
 use edge_disk::Disk;
 use edge_streams::{Sink, Source};
 use std::alloc::Global;
+use std::sync::Wait;
+use std::thread::Threads;
 
-// Which lines a run is asked for.
-fn asked_lines(trace: bool) -> Lines
-    ensures { result ≡ told_lines trace }
+/// How many workers a run on threads has, and whether each entry gets a line.
+fn on_threads(command: Command) -> Option<(u8, bool)>
+    ensures some { IfSome result (λ r. command ≡ OnThreads r.0 r.1) }
+    ensures none { IfNone result (IsSerial command) }
 {
-    if trace {
-        Lines::Entries
-    } else {
-        Lines::Printed
+    match command {
+        Command::RunOnThreads { workers, trace } => Some((workers, trace)),
+        _ => None,
     }
 }
 
-// Carries out a command.
-fn do_command<R: Source, W: Sink, D: Disk, S: Fn(u64, u32, u16) -> u64, P: Fn(u32, u64) -> bool>(
+/// Carries out a command, a run on threads with the others.
+fn do_any<
+    R: Source,
+    W: Sink,
+    D: Disk + Send,
+    S: Fn(u64, u32, u16) -> u64 + Sync,
+    P: Fn(u32, u64) -> bool + Sync,
+    T: Threads + Wait + Sync,
+    G: StepGate + Sync,
+>(
+    rt: &T,
     alloc: Global,
     command: Command,
     words: &[String],
@@ -43,6 +51,7 @@ fn do_command<R: Source, W: Sink, D: Disk, S: Fn(u64, u32, u16) -> u64, P: Fn(u3
     disk: D,
     supply: &S,
     policy: &P,
+    gate: &G,
 ) -> Outcome<D>
     ghost m: { Managers }
     // The managers give one answer for each question, and may be asked each.
@@ -51,6 +60,7 @@ fn do_command<R: Source, W: Sink, D: Disk, S: Fn(u64, u32, u16) -> u64, P: Fn(u3
     requires wishes { (e n : ℕ) → e < 2 ^ 32 → n < 2 ^ 64 → P.pre policy.now e n }
     requires wished { (e n : ℕ) (r : Bool) → e < 2 ^ 32 → n < 2 ^ 64 → P.post policy.now e n r → r ≡ m.policy e n }
     requires sized { (blocks : ℕ) → command ≡ FormatCommand blocks → (least_blocks ≤ blocks) × (blocks ≤ most_blocks) }
+    requires workers { (workers : ℕ) (trace : Bool) → command ≡ OnThreads workers trace → (1 ≤ workers) × (workers ≤ 16) }
     requires copying { command ≡ CopyCommand → IsCommand (map string_bytes words.now) CopyCommand }
     ensures leaves { CommandLeaves m command (record {
       source = seen_source R.left R.faults source.old source.new;
@@ -75,26 +85,20 @@ fn do_command<R: Source, W: Sink, D: Disk, S: Fn(u64, u32, u16) -> u64, P: Fn(u3
     }) → (Rose (R.faults source.old) (R.faults source.new) → ⊥) → (Rose (D.faults disk) (D.faults result.disk) → ⊥)
         → (Rose (W.faults sink.old) (W.faults sink.new) → ⊥) → ((n : NoBlocks) → result.status ≡ Status.BlocksFull n → ⊥) → IsComplete result.status }
 {
-    match command {
-        Command::Format(blocks) => format_image(alloc, blocks, sink, disk),
-        Command::Run { trace } => {
+    match on_threads(command) {
+        Some((workers, trace)) => {
             let lines = asked_lines(trace);
-            run_script(alloc, source, sink, disk, supply, policy, lines)
+            run_on_workers(
+                rt, alloc, source, sink, disk, supply, policy, lines, workers, gate,
+            )
         }
-        Command::Show => show_image(alloc, sink, disk, supply),
-        Command::Report => report_image(alloc, sink, disk, supply),
-        Command::Drill(number) => run_drill(alloc, number, sink, disk, supply, policy),
-        Command::CheckTrace => check_trace(alloc, source, sink, disk, supply, policy),
-        Command::Copy => {
-            let (name, fresh) = copied_names(words);
-            copy_image(alloc, name, fresh, sink, disk)
-        }
+        None => do_command(alloc, command, words, source, sink, disk, supply, policy),
     }
 }
 
 /// Carries out the command that the words stand for on a disk: `format N` makes an empty image of N blocks, 2,600 to 65,536; `run` runs the
 /// script that the source stands for, from the state that the disk's image means, and keeps it up to each record, and puts the lines that
-/// loci print, `run --trace` a line for each entry in their place; `drill N` runs the script that is drawn from the number N, and puts one
+/// loci print, `run --trace` a line for each entry in their place; `run --workers N` does the same by N workers, 1 to 16, each in a thread of its own; `drill N` runs the script that is drawn from the number N, and puts one
 /// line with its summary; `show` puts the state that the image means, `report` the log with the cut; `check-trace` tells whether the trace
 /// behind the script in the source is that of a legal history from that state; `copy NAME NEW` makes a second container in the image, as the one
 /// with that name, under the new name, in full or not at all, and puts its number. In a run and in a check of a trace the managers that the
@@ -102,7 +106,19 @@ fn do_command<R: Source, W: Sink, D: Disk, S: Fn(u64, u32, u16) -> u64, P: Fn(u3
 ///
 /// What stops the call first decides: the words, the source, the image, the script against it, the run, the output; a sink that fails at the
 /// last line changes no status. After a fault of the disk the image has to be opened again.
-pub fn hopper<R: Source, W: Sink, D: Disk, S: Fn(u64, u32, u16) -> u64, P: Fn(u32, u64) -> bool>(
+///
+/// Only `run --workers N` starts threads and waits for locks, and nothing says that it comes to an end; `serve` does all else without. Its history is that
+/// of some order of looks at loci, one behind the other. `gate` is told of each step of a worker while its locks are held, and may wait.
+pub fn hopper<
+    R: Source,
+    W: Sink,
+    D: Disk + Send,
+    S: Fn(u64, u32, u16) -> u64 + Sync,
+    P: Fn(u32, u64) -> bool + Sync,
+    T: Threads + Wait + Sync,
+    G: StepGate + Sync,
+>(
+    rt: &T,
     alloc: Global,
     words: &[String],
     source: &mut R,
@@ -110,6 +126,7 @@ pub fn hopper<R: Source, W: Sink, D: Disk, S: Fn(u64, u32, u16) -> u64, P: Fn(u3
     disk: D,
     supply: &S,
     policy: &P,
+    gate: &G,
 ) -> Outcome<D>
     ghost m: { Managers }
     // The managers give one answer for each question, and may be asked each.
@@ -165,7 +182,9 @@ pub fn hopper<R: Source, W: Sink, D: Disk, S: Fn(u64, u32, u16) -> u64, P: Fn(u3
         Err(_) => end_with(alloc, sink, disk, Fault::Memory),
         Ok(None) => end_with(alloc, sink, disk, Fault::Usage),
         Ok(Some(command)) => {
-            do_command(alloc, command, words, source, sink, disk, supply, policy)
+            do_any(
+                rt, alloc, command, words, source, sink, disk, supply, policy, gate,
+            )
         }
     }
 }

@@ -70,13 +70,13 @@ trace_sentence place = line (codes "trace refused: " ++ place ++ codes " is that
 -- THE SENTENCE on a status
 abbrev pub sentence : Status → Text
 sentence Done = []
-sentence Usage = line (codes "usage: hopper_program IMAGE COMMAND; a command is format N, with N from 2600 to 65536 blocks, run, run --trace, mirror STANDBY SEED LOSS, drill N, show, report, copy NAME NEW or check-trace; run and mirror read a script from standard input, and check-trace a script, a line --- and a trace (docs/SCRIPTS.md)")
+sentence Usage = line (codes "usage: hopper_program IMAGE COMMAND; a command is format N, with N from 2600 to 65536 blocks, run, run --trace, run --workers N with N from 1 to 16, mirror STANDBY SEED LOSS, drill N, show, report, copy NAME NEW or check-trace; run and mirror read a script from standard input, and check-trace a script, a line --- and a trace (docs/SCRIPTS.md)")
 sentence (Script refusal) = refusal_sentence (subject refusal) (reason refusal)
 sentence (Foreign block place) = foreign_sentence (place_text block place)
 sentence DiskFault = line (codes "disk fault: the image's file could not be read, written or synced; its disk may be full or gone, and when that is mended the command can be given again")
 sentence SourceFault = line (codes "source fault: standard input could not be read, and nothing was run; give the command again")
 sentence SinkFault = line (codes "output fault: standard output did not take all lines; what the command did to the image stands")
-sentence Memory = line (codes "out of memory: nothing was run, and the image means what it meant; a script with fewer steps takes less (docs/SCRIPTS.md)")
+sentence Memory = line (codes "out of memory: nothing was run, and the image means what it meant; or a run by workers was stopped where it was, and what was made stable stays; a script with fewer steps takes less (docs/SCRIPTS.md)")
 sentence (BlocksFull n) = blocks_sentence (blocks_text n)
 sentence (TraceWrong number want) = trace_sentence (trace_text number)
 

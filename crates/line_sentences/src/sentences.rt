@@ -17,7 +17,7 @@ const NUMBERS_TEXT: usize = 64;
 
 /// The sentence on words that are no command's.
 const USAGE: &[u8] =
-    b"usage: hopper_program IMAGE COMMAND; a command is format N, with N from 2600 to 65536 blocks, run, run --trace, mirror STANDBY SEED LOSS, drill N, show, report, copy NAME NEW or check-trace; run and mirror read a script from standard input, and check-trace a script, a line --- and a trace (docs/SCRIPTS.md)\n";
+    b"usage: hopper_program IMAGE COMMAND; a command is format N, with N from 2600 to 65536 blocks, run, run --trace, run --workers N with N from 1 to 16, mirror STANDBY SEED LOSS, drill N, show, report, copy NAME NEW or check-trace; run and mirror read a script from standard input, and check-trace a script, a line --- and a trace (docs/SCRIPTS.md)\n";
 
 /// The sentence on a fault of the disk.
 const DISK_FAULT: &[u8] =
@@ -33,7 +33,7 @@ const SINK_FAULT: &[u8] =
 
 /// The sentence where memory ran out.
 const NO_MEMORY: &[u8] =
-    b"out of memory: nothing was run, and the image means what it meant; a script with fewer steps takes less (docs/SCRIPTS.md)\n";
+    b"out of memory: nothing was run, and the image means what it meant; or a run by workers was stopped where it was, and what was made stable stays; a script with fewer steps takes less (docs/SCRIPTS.md)\n";
 
 /// What a refusal of a script or of a copy speaks of: its key, or the script as a whole.
 fn subject(refusal: &Refusal) -> &str

@@ -7,9 +7,11 @@ use command_outcomes::Outcome;
 use edge_disk::{MemoryDisk, Torn};
 use edge_managers::{CountedWords, EveryVersions, Policy, Supplier};
 use edge_streams::{MemorySink, MemorySource};
-use hopper_clients::hopper;
+use hopper_clients::{StepGate, has_workers, hopper_counted, serve};
 use std::alloc::{AllocError, Global};
+use std::sync::Wait;
 use std::test::Fail;
+use std::thread::Threads;
 
 /// Calls that `format` makes of a disk, all of them writes and syncs.
 pub const FORMAT_CALLS: u64 = 10;
@@ -20,23 +22,38 @@ const MOST_PUT: u32 = 262_144;
 /// How many writes and syncs a disk keeps where nothing else is said; those beyond fail.
 const KEPT_CALLS: u32 = 3000;
 
-/// Calls `hopper` with the program's managers: words count up from the tag, and a snapshot is wished every so many versions.
+// The words of a command.
+fn given(alloc: Global, words: &[&str]) -> Result<Vec<String>, AllocError> {
+    let mut given = Vec::new(alloc);
+    for word in words {
+        given.push(String::from_str(alloc, word)?)?;
+    }
+    Ok(given)
+}
+
+// What a sink holds, as text.
+fn text_of(alloc: Global, sink: &MemorySink) -> Result<String, Fail> {
+    let held = std::str::from_utf8(sink.held()).ok().ok_or("text")?;
+    Ok(String::from_str(alloc, held)?)
+}
+
+/// Calls `serve` with the program's managers: words count up from the tag, and a snapshot is wished every so many versions. No word may be `--workers`.
 fn call(
     alloc: Global,
     words: &[&str],
     source: &mut MemorySource,
     sink: &mut MemorySink,
     disk: MemoryDisk,
-) -> Result<Outcome<MemoryDisk>, AllocError>
+) -> Result<Outcome<MemoryDisk>, Fail>
     ensures { IfOk result (λ outcome. length (reading_of outcome.disk) ≡ length (reading_of disk)) }
 {
-    let mut given = Vec::new(alloc);
-    for word in words {
-        given.push(String::from_str(alloc, word)?)?;
+    let words = given(alloc, words)?;
+    if has_workers(&words) {
+        return Err("words for threads".into());
     }
     let supply = |tag, page, place| CountedWords.word(tag, page, place);
     let policy = |every, since| EveryVersions.wish(every, since);
-    Ok(hopper(alloc, &given, source, sink, disk, &supply, &policy))
+    Ok(serve(alloc, &words, source, sink, disk, &supply, &policy))
 }
 
 /// A disk of zero blocks with room for 3,000 writes and syncs, whose calls with these numbers fail.
@@ -60,8 +77,25 @@ pub fn put_failing(
     let mut source = MemorySource::new(text.to_vec(alloc)?, takes.to_vec(alloc)?);
     let mut sink = MemorySink::new(alloc, MOST_PUT, puts.to_vec(alloc)?)?;
     let outcome = call(alloc, words, &mut source, &mut sink, disk)?;
-    let held = std::str::from_utf8(sink.held()).ok().ok_or("text")?;
-    Ok((String::from_str(alloc, held)?, outcome))
+    Ok((text_of(alloc, &sink)?, outcome))
+}
+
+/// What a command puts, and what it leaves, where these puts of the sink fail: by `hopper_counted`, so that words with `--workers` start threads, of whose steps the
+/// gate is told.
+pub fn put_on_threads<R: Threads + Wait + Sync, G: StepGate + Sync>(
+    rt: &R,
+    alloc: Global,
+    words: &[&str],
+    text: &[u8],
+    puts: &[u64],
+    disk: MemoryDisk,
+    gate: &G,
+) -> Result<(String, Outcome<MemoryDisk>), Fail> {
+    let words = given(alloc, words)?;
+    let mut source = MemorySource::new(text.to_vec(alloc)?, Vec::new(alloc));
+    let mut sink = MemorySink::new(alloc, MOST_PUT, puts.to_vec(alloc)?)?;
+    let outcome = hopper_counted(rt, alloc, &words, &mut source, &mut sink, disk, gate);
+    Ok((text_of(alloc, &sink)?, outcome))
 }
 
 /// What a command puts, and what it leaves.

@@ -2,9 +2,9 @@
 ghost use Rattle.std.specs.Prelude.{◌≡◌, IfOk};
 
 use crate::scripts::{
-    ALL_PAGES, ALWAYS_STABLE, BORN, BORN_WISHED, COUNTS_ON, FIVE, PRINTED_ONCE, PRINTS_TWICE,
+    ALL_PAGES_BORN, ALWAYS_STABLE, BORN, BORN_WISHED, COUNTS_ON, FIVE, PRINTED_ONCE, PRINTS_TWICE,
     STABILISES, STABLE, STOPPED, STOPPED_AND_STABLE, WISHED, WISHED_BY_TWO, WISHED_BY_TWO_KEPT,
-    WISHES, WISHES_KEPT,
+    WISHES, WISHES_KEPT, all_pages_by,
 };
 use crate::{FORMAT_CALLS, copy_of, formatted_with, put, run, shown, small};
 use base_types::{Entity, Event, Touch, Touched};
@@ -120,13 +120,10 @@ fn too_few_blocks_stop_a_run_and_keep_its_births(rt: HostRuntime) -> Result<(), 
     let alloc = rt.alloc();
     // With 35 blocks for pages and records, and one page in memory.
     let disk = small(alloc, &[])?;
-    let mut script = b"frames = 1\n".to_vec(alloc)?;
-    script.extend_from_slice(ALL_PAGES)?;
-    let (lines, outcome) = put(alloc, &["run"], &script, disk)?;
+    let (lines, outcome) = put(alloc, &["run"], &all_pages_by(alloc, b"1")?, disk)?;
     assert!(rt; lines.as_str() == "fault 9 1 0\n");
     assert!(rt; outcome.status.number() == 9);
-    let born = "container a 256 0 0 -\nlocus l a 0 running 0 0 0 0 0 0 0 0 0\n";
-    assert!(rt; shown(alloc, outcome.disk)?.as_str() == born);
+    assert!(rt; shown(alloc, outcome.disk)?.as_str() == ALL_PAGES_BORN);
     Ok(())
 }
 

@@ -2,11 +2,17 @@
 #![tactic(auto)]
 
 mod calls;
+mod leavings;
 pub mod scripts;
+mod tracing;
 
 pub use calls::{
-    FORMAT_CALLS, copy_of, disk_of, formatted, formatted_with, put, put_failing, run, shown, small,
+    FORMAT_CALLS, copy_of, disk_of, formatted, formatted_with, put, put_failing, put_on_threads,
+    run, shown, small,
 };
+pub use hopper_clients::{OpenGate, StepGate, run_on_threads_and_stop, trace_on_threads_and_check};
+pub use leavings::{left_by, shows_one_of, wrong_stop};
+pub use tracing::checked;
 
 #[cfg(test)]
 mod edge_tests;

@@ -12,7 +12,6 @@ const OTHERS: &[&[&str]] = &[
     &["walk"],
     &["Run"],
     &["run "],
-    &["run", "--workers", "0"],
     &["run", "--trace", "--trace"],
     &["format"],
     &["show", "--"],

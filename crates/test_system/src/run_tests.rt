@@ -5,7 +5,7 @@ use crate::run;
 use crate::scripts::{
     ALL_PAGES, CIRCLES, COUNTS_ON, DENIED_OVER_A_MAPPING, FIVE, FULL_CHAIN, INVOKES_WITHOUT_ENTRY,
     NO_SNAP, ORDERED, PAST_THE_PAGE, PRIVATE_FIRST, PRIVATE_IN_ONE_HOST, SNAP, SPAWNS_TO_THE_LAST,
-    STOPS_ITSELF, TAGGED, TAKES, UNSTABLE, WISHED, WISHES,
+    STOPS_ITSELF, TAGGED, TAKES, UNSTABLE, WISHED, WISHES, all_pages_by,
 };
 use base_types::{Answer, Entity, Entry, Event, Reply, Touch, Touched};
 use command_outcomes::Status;
@@ -52,13 +52,9 @@ fn a_run_prints_its_lines_and_ends(rt: HostRuntime) -> Result<(), Fail> {
 #[test]
 fn frames_change_no_history(rt: HostRuntime) -> Result<(), Fail> {
     let alloc = rt.alloc();
-    let mut few = b"frames = 1\n".to_vec(alloc)?;
-    few.extend_from_slice(ALL_PAGES)?;
-    let mut many = b"frames = 256\n".to_vec(alloc)?;
-    many.extend_from_slice(ALL_PAGES)?;
-    let (lines, with_few) = run(alloc, &few)?;
+    let (lines, with_few) = run(alloc, &all_pages_by(alloc, b"1")?)?;
     assert!(rt; lines.as_str() == "l 32896\n");
-    let (lines, with_many) = run(alloc, &many)?;
+    let (lines, with_many) = run(alloc, &all_pages_by(alloc, b"256")?)?;
     assert!(rt; lines.as_str() == "l 32896\n");
     assert!(rt; with_few.history.as_slice() == with_many.history.as_slice());
     Ok(())

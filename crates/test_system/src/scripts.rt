@@ -1,4 +1,5 @@
 //! Scripts that tests run.
+use std::alloc::{AllocError, Global};
 
 pub const FIVE: &[u8] = b"program.p = ['set r0 5', 'store r1 r0', 'load r2 r1', 'print r2', 'halt']
 container = [{ name = 'a', pages = 1, program = 'p' }]
@@ -88,6 +89,20 @@ pub const ALL_PAGES: &[u8] =
 container = [{ name = 'a', pages = 256, program = 'p' }]
 locus = [{ name = 'l', host = 'a' }]
 ";
+
+// What an image shows of its births.
+pub const ALL_PAGES_BORN: &str = "container a 256 0 0 -
+locus l a 0 running 0 0 0 0 0 0 0 0 0
+";
+
+/// `ALL_PAGES` with so many pages in memory.
+pub fn all_pages_by(alloc: Global, frames: &[u8]) -> Result<Vec<u8>, AllocError> {
+    let mut script = b"frames = ".to_vec(alloc)?;
+    script.extend_from_slice(frames)?;
+    script.extend_from_slice(b"\n")?;
+    script.extend_from_slice(ALL_PAGES)?;
+    Ok(script)
+}
 
 pub const SPAWNS_TO_THE_LAST: &[u8] = b"steps = 100
 program.p = ['spawn r1 @5', 'jz r7 @0', 'print r7', 'halt', 'halt', 'halt']
@@ -284,4 +299,19 @@ pub const STORES_ON: &[u8] =
     b"program.p = ['store r1 r0', 'store r1 r0', 'store r1 r0', 'store r1 r0', 'store r1 r0', 'halt']
 container = [{ name = 'a', pages = 1, every = 1, program = 'p' }]
 locus = [{ name = 'l', host = 'a' }]
+";
+
+// Counts in a page and prints the count; its first step behind that makes it stable.
+pub const COUNT: &str = "steps = 6
+program.p = ['set r2 1', 'load r1 r0', 'add r1 r2', 'store r0 r1', 'print r1', 'stabilise r3', 'jump @1']
+container = [{ name = 'box', pages = 1, program = 'p' }]
+locus = [{ name = 'counter', host = 'box', caps = ['atlas t'] }]
+";
+
+// What is shown once it was made stable.
+pub const COUNTED: &str = "container box 1 0 0 -
+word box 0 1
+locus counter box 6 running 0 0 1 1 0 0 0 0 0
+printed counter 1
+cap counter 0 atlas t
 ";

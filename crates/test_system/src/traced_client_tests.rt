@@ -1,5 +1,5 @@
 //! A counter and a container with wishes, each run with its trace, and the trace checked.
-use crate::stopped_client_tests::COUNT;
+use crate::scripts::COUNT;
 use hopper_clients::{Checked, trace_and_check};
 use std::alloc::Global;
 use std::test::Fail;

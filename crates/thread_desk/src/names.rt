@@ -8,7 +8,7 @@ use thread_ties::Bond;
 
 /// Names a board: its history and the tie of its cells, the run with what was counted as it began, and the tie of its store. Each call of a program
 /// picks it.
-pub trait Board<D: Disk>: Bond<Cell> + Run<Entry> {
+pub trait Board<D>: Bond<Cell> + Run<Entry> {
     ghost use Rattle.std.specs.Prelude.{List};
     ghost use Rattle.atomic_table.specs.Seated.{TableId};
     ghost use Rattle.kernel_core.specs.kernel_core_facts.kernel_invariant.Beginnings.{Beginning};
@@ -24,7 +24,7 @@ pub trait Board<D: Disk>: Bond<Cell> + Run<Entry> {
     ghost first_stores: { List (State D) };
 }
 
-impl<D: Disk> Board<D> for Brand {
+impl<D> Board<D> for Brand {
     ghost use Rattle.std.specs.Prelude.{[]};
     ghost use Rattle.thread_history.specs.Sides.{no_table};
     ghost use Rattle.thread_desk.specs.Desks.{no_beginning, no_terms};

@@ -1,25 +1,19 @@
 //! Runs each of whose calls of the disk fails in turn, and that are stopped at each moment: what the image means then is worked out by the
 //! plain kernel from the commits of the history.
-ghost use Rattle.std.specs.Prelude.{◌≤◌};
-ghost use Rattle.edge_disk.specs.MemoryDisk.{moments_of};
 ghost use Rattle.script_types.specs.Rules.{IsScript};
 ghost use Rattle.script_types.specs.Scripts.{tables_of};
 
 use crate::hostile::calls::formatted;
-use crate::{FORMAT_CALLS, copy_of, put, scripts, shown};
-use base_types::{Answer, Entry, Event, FIRST_LOCUS};
+use crate::leavings::stop_shows_one_of;
+use crate::{FORMAT_CALLS, copy_of, left_by, put, scripts, shown, wrong_stop};
+use base_types::{Answer, Entry, FIRST_LOCUS};
 use command_outcomes::Outcome;
-use edge_disk::{MemoryDisk, Torn};
+use edge_disk::MemoryDisk;
 use script_reading::read_script;
 use script_types::Script;
 use std::alloc::Global;
 use std::test::Fail;
-use test_replays::{
-    Front, acknowledged, are_rising, commits_of, fronts_from, is_cut_off, serial_history,
-};
-
-// Every way in which a block that was not synced may be torn here.
-const TORN: &[Torn] = &[Torn::Old, Torn::New, Torn::Fill(1)];
+use test_replays::{Front, are_rising, commits_of, fronts_from, is_cut_off, serial_history};
 
 // Three containers and three loci with wishes, a region, and picks of an order. Each record of `b` waits for the first of `m` behind it, and
 // that of `a` for the second of `l`. `c` has four records that wait for its locus at versions that no record has, and is snapped no more.
@@ -82,29 +76,6 @@ fn printed(alloc: Global, script: &Script, history: &[Entry]) -> Result<String, 
     Ok(lines)
 }
 
-// Whether the disk's image shows one of these.
-fn shows_one_of(alloc: Global, disk: MemoryDisk, fronts: &[Front]) -> Result<bool, Fail> {
-    let text = shown(alloc, disk)?;
-    Ok(fronts.iter().any(|front| front.shows(text.as_str())))
-}
-
-// Whether the image that a stop at a moment leaves shows one of these, however it is torn.
-fn stop_shows_one_of(
-    alloc: Global,
-    disk: &MemoryDisk,
-    moment: u64,
-    fronts: &[Front],
-) -> Result<bool, Fail>
-    requires { moment ≤ moments_of disk.now }
-{
-    for &torn in TORN {
-        if !shows_one_of(alloc, disk.crash(moment, torn)?, fronts)? {
-            return Ok(false);
-        }
-    }
-    Ok(true)
-}
-
 // How many of these take the same records as the one before.
 fn waiting(fronts: &[Front]) -> usize {
     let mut count = 0usize;
@@ -131,29 +102,12 @@ fn wrong_where_stopped(
     if (commits.recs.len(), waiting(&fronts)) != counts {
         return Ok(Some(Wrong::OtherCommits));
     }
-    let disk = &outcome.disk;
-    let end = disk.moments();
-    if !are_rising(&outcome.marks, end.saturating_sub(FORMAT_CALLS)) {
+    let end = outcome.disk.moments().saturating_sub(FORMAT_CALLS);
+    if !are_rising(&outcome.marks, end) {
         return Ok(Some(Wrong::FallingMarks));
     }
-    for moment in FORMAT_CALLS..=end {
-        let since = moment.saturating_sub(FORMAT_CALLS);
-        let least = acknowledged(&commits.behind, &outcome.marks, since);
-        if !stop_shows_one_of(alloc, disk, moment, &fronts[least.min(fronts.len())..])? {
-            return Ok(Some(Wrong::StopLeavesOther));
-        }
-    }
-    Ok(None)
-}
-
-// What the image may mean behind a run that a failing call ended: what all its commits make, the tried one in or out.
-fn left_by(alloc: Global, script: &Script, history: &[Entry]) -> Result<Vec<Front>, Fail>
-    requires script { IsScript (tables_of script.now) }
-{
-    let recs = commits_of(alloc, history)?.recs;
-    let tried = history.iter().any(|entry| entry.event == Event::Tried);
-    let least = recs.len().saturating_sub(usize::from(tried));
-    fronts_from(alloc, script, history, &recs, least)
+    let wrong = wrong_stop(alloc, outcome, &commits, &fronts)?;
+    Ok(wrong.map(|_moment| Wrong::StopLeavesOther))
 }
 
 // What a run told and made that a failing call ended. What isn't as it has to be.

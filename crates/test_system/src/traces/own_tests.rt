@@ -5,7 +5,7 @@ use crate::scripts::{
     PRIVATE_FIRST, PRIVATE_IN_ONE_HOST, SNAP, SPAWNS_TO_THE_LAST, STABILISES, STOPS_ITSELF,
     STORES_ON, TAGGED, TAKES, UNSTABLE, WISHED, WISHED_BY_PROGRAM, WISHED_BY_TWO, WISHES,
 };
-use crate::traces::tracing::{checked, traced};
+use crate::tracing::{checked, traced};
 use crate::{copy_of, formatted_with};
 use edge_disk::MemoryDisk;
 use std::alloc::Global;

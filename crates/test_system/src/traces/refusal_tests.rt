@@ -1,6 +1,6 @@
 //! Sources of which no trace is checked.
 use crate::scripts::FIVE;
-use crate::traces::tracing::{checked, told};
+use crate::tracing::{checked, told};
 use crate::{formatted, run};
 use std::alloc::Global;
 use std::test::Fail;

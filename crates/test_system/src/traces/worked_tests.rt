@@ -3,11 +3,11 @@ use crate::scripts::{
     BORN_WISHED, DENIED_OVER_A_MAPPING, FIVE, LOADS, STABILISES, STABLE, STORES_ON, WISHED,
     WISHED_BY_TWO, WISHED_BY_TWO_KEPT, WISHES, WISHES_KEPT,
 };
-use crate::traces::tracing::traced;
 use crate::traces::worked::{
     DENIED_TRACE, FIVE_TRACE, LOADS_TRACE, STABILISES_TRACE, STORES_ON_TRACE, WISHED_BY_TWO_TRACE,
     WISHED_TRACE, WISHES_TRACE,
 };
+use crate::tracing::traced;
 use crate::{formatted, put};
 use edge_disk::MemoryDisk;
 use std::alloc::Global;

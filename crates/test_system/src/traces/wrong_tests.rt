@@ -1,10 +1,10 @@
 //! Worked traces with a word changed, a line more or a line less, by the line that goes wrong and what it wants.
 use crate::formatted;
 use crate::scripts::{FIVE, STABILISES, STORES_ON, WISHED, WISHES};
-use crate::traces::tracing::checked;
 use crate::traces::worked::{
     FIVE_TRACE, STABILISES_TRACE, STORES_ON_TRACE, WISHED_TRACE, WISHES_TRACE,
 };
+use crate::tracing::checked;
 use std::alloc::Global;
 use std::test::Fail;
 

@@ -1,4 +1,4 @@
 use Rattle.hopper_top.proofs.top.hopper.Given as goal
 
-abbrev pub ghost-do_command : goal.ghost-do_command
-ghost-do_command g a = g.m
+abbrev pub ghost-do_any : goal.ghost-do_any
+ghost-do_any g a = g.m

@@ -1,9 +1,0 @@
-use Rattle.edge_managers.specs.Managers.{counted_word, is_due}
-use Rattle.hopper_program.proofs.main.Given as goal
-
--- words that count up from the tag, and a snapshot after every so many versions
-abbrev pub ghost-hopper : goal.ghost-hopper
-ghost-hopper a = record { supply = λ tag page place. counted_word tag page place; policy = λ every since. is_due every since }
-
-abbrev pub ghost-mirror : goal.ghost-mirror
-ghost-mirror a = record { supply = λ tag page place. counted_word tag page place; policy = λ every since. is_due every since }
