@@ -1,6 +1,7 @@
 //! The same looks by a kernel that owns its cells.
 use crate::boards::{Left, on_board};
 use crate::cases::Case;
+use crate::looks::Look;
 use crate::plain::is_plain;
 use crate::quiet_disk::QuietDisk;
 use crate::workers::Work;
@@ -14,7 +15,7 @@ use std::process::Abort;
 use std::sync::Wait;
 use std::test::Fail;
 use std::thread::Threads;
-use thread_workers::{Came, LookItem, StepGate};
+use thread_workers::StepGate;
 
 /// What a kernel leaves that owns its cells, where it looks at the loci of a history's steps in their order; and then at this one, where it goes on
 /// though the history's kernel has stopped.
@@ -88,26 +89,26 @@ fn is_serial<R: Abort>(
     Err("a run of a kernel that owns its cells".into())
 }
 
-/// The entry that an item says was made, if it does.
-fn entry_of(item: &LookItem) -> Option<Entry> {
-    match item.came {
-        Came::Made(entry) | Came::StoppedBehind(entry, _) => Some(entry),
-        Came::Idle(_) | Came::Stopped(_) => None,
+/// Whether a step of the locus stands at this place.
+fn stands_at(history: &[Entry], place: usize, locus: Entity) -> bool {
+    match history.get(place) {
+        Some(entry) => entry.event == Event::Step && entry.actor == locus,
+        None => false,
     }
 }
 
-/// The items of a pass ascend. Each step that they tell is the item's locus's, stands at its place, and was told by no other.
-fn tell<R: Abort>(rt: &R, items: &[LookItem], history: &[Entry], told: &mut [bool]) {
+/// The looks of a pass ascend. Each step that they tell is of their locus, stands at its place, and was told by no other.
+fn tell<R: Abort>(rt: &R, looks: &[Look], history: &[Entry], told: &mut [bool]) {
     let mut next = 0;
-    for item in items {
-        assert!(rt; next <= item.place);
-        next = item.place;
-        if let Some(entry) = entry_of(item) {
-            let place = item.place as usize;
+    for look in looks {
+        assert!(rt; next <= look.place);
+        next = look.place;
+        if look.has_step() {
+            let place = look.place as usize;
             assert!(rt; place < told.len() && !told[place]);
-            assert!(rt; history.get(place) == Some(&entry) && entry.actor == item.locus);
+            assert!(rt; stands_at(history, place, look.locus));
             told[place] = true;
-            next = item.place.wrapping_add(1);
+            next = look.place.wrapping_add(1);
         }
     }
 }

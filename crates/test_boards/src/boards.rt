@@ -4,6 +4,7 @@ ghost use Rattle.edge_disk.specs.MemoryDisk.{faults_of};
 ghost use Rattle.edge_managers.specs.Managers.{counted_word, is_due};
 ghost use Rattle.test_boards.specs.Caused.{HasCause, counts_before};
 
+use crate::looks::Look;
 use crate::quiet_disk::QuietDisk;
 use crate::workers::{LookPass, QuietBoard, Work, finish, work_on};
 use edge_managers::{CountedWords, EveryVersions, Gate};
@@ -17,7 +18,7 @@ use std::test::Fail;
 use std::thread;
 use std::thread::Threads;
 use thread_board::Bench;
-use thread_workers::{Board, LookItem, Opening, StepGate};
+use thread_workers::{Board, Opening, StepGate};
 
 /// What workers left: the kernel's history, marks, stop and disk, the lines of the history, and the items of each worker's pass, behind which are
 /// those of the one that finished.
@@ -25,12 +26,12 @@ use thread_workers::{Board, LookItem, Opening, StepGate};
 pub(crate) struct Left {
     pub(crate) ended: Ended<QuietDisk>,
     pub(crate) trace: Vec<u8>,
-    pub(crate) items: Vec<Vec<LookItem>>,
+    pub(crate) items: Vec<Vec<Look>>,
 }
 
 impl Left {
     /// The items of a worker.
-    pub(crate) fn of(&self, worker: usize) -> &[LookItem] {
+    pub(crate) fn of(&self, worker: usize) -> &[Look] {
         match self.items.get(worker) {
             Some(items) => items,
             None => &[],
@@ -39,10 +40,10 @@ impl Left {
 }
 
 /// The items of a pass.
-fn items_of<B: Bench>(alloc: Global, pass: &LookPass<B>) -> Option<Vec<LookItem>> {
+fn items_of<B: Bench>(alloc: Global, pass: &LookPass<B>) -> Option<Vec<Look>> {
     let mut items = Vec::new(alloc);
     for line in pass.items() {
-        items.push(line.item).ok()?;
+        items.push(Look::of(&line.item)).ok()?;
     }
     Some(items)
 }

@@ -12,6 +12,8 @@ mod drawn_tests;
 #[cfg(test)]
 mod kinds;
 #[cfg(test)]
+mod looks;
+#[cfg(test)]
 mod meeting;
 #[cfg(test)]
 mod meeting_tests;

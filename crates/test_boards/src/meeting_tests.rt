@@ -3,13 +3,13 @@ use crate::again::worked;
 use crate::boards::Left;
 use crate::cases::Case;
 use crate::kinds::Kinds;
+use crate::looks::Went;
 use crate::meeting::Meeting;
 use crate::workers::Work;
 use base_types::{Entity, Event};
 use kernel_core::Stopped;
 use std::alloc::Global;
 use std::test::Fail;
-use thread_workers::Came;
 
 // Two loci store into a container each. Each store is recorded.
 const TWO_STORES: &[u8] = b"steps = 10
@@ -60,7 +60,7 @@ fn a_step_that_waits_finds_the_stop(rt: HostRuntime) -> Result<(), Fail> {
     assert!(&rt; left.ended.stopped == Some(why));
     assert!(&rt; first_to_step(&left) == Some(Entity::of(42)));
     let (one, other) = (left.of(0), left.of(1));
-    assert!(&rt; one.len() == 1 && one[0].came == Came::Stopped(why));
-    assert!(&rt; other.len() == 1 && matches!(other[0].came, Came::StoppedBehind(_, _)));
+    assert!(&rt; one.len() == 1 && one[0].went == Went::Stopped(why));
+    assert!(&rt; other.len() == 1 && other[0].went == Went::StoppedBehind(why));
     Ok(())
 }

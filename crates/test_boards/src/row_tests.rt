@@ -3,11 +3,12 @@ use crate::again::worked;
 use crate::boards::on_board;
 use crate::cases::Case;
 use crate::kinds::{Kinds, snaps_of};
+use crate::looks::Went;
 use crate::workers::Work;
 use base_types::Entity;
 use kernel_core::Idle;
 use std::test::Fail;
-use thread_workers::{Came, OpenGate};
+use thread_workers::OpenGate;
 
 // Two loci of a container each: an act by the locus alone, a store, a Snap that is asked for, a stabilise, a container that is made, a page of it
 // that is mapped, a locus that is spawned and halts, as each of the two does.
@@ -119,10 +120,10 @@ fn an_absent_locus_and_the_atlas_are_idle(rt: HostRuntime) -> Result<(), Fail> {
     let left = worked(&rt, alloc, &case, &[], &OpenGate, work)?;
     let items = left.of(0);
     assert!(&rt; items.len() == 3);
-    assert!(&rt; items[0].came == Came::Idle(Idle::Absent) && items[0].place == births);
-    assert!(&rt; matches!(items[1].came, Came::Made(_)) && items[1].place == births);
+    assert!(&rt; items[0].went == Went::Idle(Idle::Absent) && items[0].place == births);
+    assert!(&rt; items[1].went == Went::Made && items[1].place == births);
     assert!(&rt;
-        items[2].came == Came::Idle(Idle::Absent) && items[2].place == births.wrapping_add(1)
+        items[2].went == Went::Idle(Idle::Absent) && items[2].place == births.wrapping_add(1)
     );
     Ok(())
 }
@@ -138,7 +139,7 @@ fn of_an_opened_image_no_locus_is_born(rt: HostRuntime) -> Result<(), Fail> {
     assert!(&rt; left.of(0).len() == 12 && left.of(1).len() == 11 && left.of(2).len() == 23);
     for i in 0..left.items.len() {
         for item in &left.items[i] {
-            assert!(&rt; item.came == Came::Idle(Idle::Absent) && item.place == 0);
+            assert!(&rt; item.went == Went::Idle(Idle::Absent) && item.place == 0);
         }
     }
     Ok(())

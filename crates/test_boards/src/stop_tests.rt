@@ -2,11 +2,12 @@
 use crate::again::worked;
 use crate::boards::Left;
 use crate::cases::Case;
+use crate::looks::{Look, Went};
 use crate::workers::Work;
 use base_types::Event;
 use kernel_core::Stopped;
 use std::test::Fail;
-use thread_workers::{Came, LookItem, OpenGate};
+use thread_workers::OpenGate;
 
 // Two loci store at the head of one page after another of a container each, over and over, and each store is recorded.
 const STORES: &[u8] = b"steps = 400
@@ -26,11 +27,11 @@ locus = [{ name = 'l', host = 'a', every = 2 }, { name = 'm', host = 'b' }]
 ";
 
 /// Whether the last of these items tells why the kernel has stopped.
-fn tells(items: &[LookItem], stopped: Stopped) -> bool {
+fn tells(items: &[Look], stopped: Stopped) -> bool {
     match items.last() {
-        Some(item) => match item.came {
-            Came::Stopped(why) | Came::StoppedBehind(_, why) => why == stopped,
-            Came::Made(_) | Came::Idle(_) => false,
+        Some(look) => match look.went {
+            Went::Stopped(why) | Went::StoppedBehind(why) => why == stopped,
+            Went::Made | Went::Idle(_) => false,
         },
         None => false,
     }
@@ -103,7 +104,7 @@ fn a_kernel_that_had_stopped_makes_no_step(rt: HostRuntime) -> Result<(), Fail> 
     assert!(&rt; left.items.len() == 3);
     for i in 0..left.items.len() {
         let items = left.of(i);
-        assert!(&rt; items.len() == 1 && items[0].came == Came::Stopped(why));
+        assert!(&rt; items.len() == 1 && items[0].went == Went::Stopped(why));
         assert!(&rt; items[0].place == history.len() as u64);
     }
     Ok(())

@@ -1,10 +1,11 @@
 //! Workers on a board, each of which makes rounds over its loci.
+use crate::looks::{Went, went_of};
 use crate::quiet_disk::QuietDisk;
 use base_types::Entity;
 use edge_managers::{CountedWords, EveryVersions};
 use std::sync::Wait;
 use thread_board::{Bench, Pass};
-use thread_workers::{Board, Came, Locks, LookItem, OpenGate, StepGate, Unwritten, step};
+use thread_workers::{Board, Locks, LookItem, OpenGate, StepGate, Unwritten, step};
 
 pub(crate) type QuietBoard<B> = Locks<QuietDisk, CountedWords, EveryVersions, B>;
 
@@ -34,6 +35,12 @@ impl<'a> Work<'a> {
     }
 }
 
+/// How the last look of a pass went.
+fn last_went<B: Bench>(pass: &LookPass<B>) -> Option<Went> {
+    let last = pass.items().last()?;
+    Some(went_of(&last.item))
+}
+
 /// One look at each of a worker's loci: whether a step was made; none where the kernel has stopped, or for want of memory.
 fn round<B: Board<QuietDisk> + Bench, R: Wait, G: StepGate>(
     rt: &R,
@@ -47,11 +54,11 @@ fn round<B: Board<QuietDisk> + Bench, R: Wait, G: StepGate>(
     for at in 0..work.loci.len() {
         if at.checked_rem(work.workers) == Some(worker) {
             let locus = Entity::new(work.loci[at])?;
-            let item = step(board, rt, pass, (worker % 16) as u32, gate, locus).ok()?;
-            match item.came {
-                Came::Made(_) => made = true,
-                Came::Idle(_) => {}
-                Came::Stopped(_) | Came::StoppedBehind(_, _) => return None,
+            step(board, rt, pass, (worker % 16) as u32, gate, locus).ok()?;
+            match last_went(pass)? {
+                Went::Made => made = true,
+                Went::Idle(_) => {}
+                Went::Stopped(_) | Went::StoppedBehind(_) => return None,
             }
         }
     }

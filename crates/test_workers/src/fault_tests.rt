@@ -1,4 +1,5 @@
 //! Runs by two workers of which a call of the disk fails, or one of the sink.
+use crate::gates::Crowd;
 use edge_disk::MemoryDisk;
 use script_reading::read_script;
 use std::alloc::Global;
@@ -47,7 +48,7 @@ fn wrong_at<R: Threads + Wait + Sync + Alloc<A = Global>>(
     let disk = failing_at(alloc, failing)?;
     let before = copy_of(&disk)?;
     let words = ["run", "--workers", "2", "--trace"];
-    let (lines, outcome) = put_on_threads(rt, alloc, &words, text, &[], disk, &OpenGate)?;
+    let (lines, outcome) = put_on_threads(rt, alloc, &words, text, &[], disk, &Crowd)?;
     if outcome.status.number() == 0 {
         return Ok(None);
     }

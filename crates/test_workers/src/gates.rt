@@ -3,6 +3,15 @@ use base_types::Entity;
 use std::sync::{Mutex, Wait};
 use test_system::StepGate;
 
+/// A gate whose calls return at once, of which it is told that they may wait: so workers take no turns, and contend for the locks of every step.
+pub(crate) struct Crowd;
+
+impl StepGate for Crowd {
+    fn within<R: Wait>(&self, _rt: &R, _worker: u32, _entity: Entity) {}
+
+    fn answered<R: Wait>(&self, _rt: &R, _worker: u32, _locus: Entity) {}
+}
+
 /// How often a step looks whether what it waits for has come.
 const MOST_TURNS: u64 = 10_000_000;
 

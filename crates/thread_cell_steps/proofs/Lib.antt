@@ -1,4 +1,5 @@
 pub mod Returning
+pub mod Planned
 pub mod Quietly
 pub mod Looking
 pub mod Writing

@@ -1,5 +1,5 @@
 -- What a step by lent cells makes of the table that they are lent from.
-use Rattle.std.specs.Prelude.{◌≡◌, ◌≢◌, ◌≤◌, ◌+◌, ◌↔◌, ℕ, true, List, ◌∷◌, slice_get, slice_set, Option, Some, None, Result, IfOk, IfSome, IsErrOf, OnOk}
+use Rattle.std.specs.Prelude.{◌≡◌, ◌≢◌, ◌≤◌, ◌+◌, ◌↔◌, ℕ, true, List, ◌∷◌, slice_get, slice_set, Option, Some, None, Result, IfErr, IfOk, IfSome, IsErrOf, OnOk}
 use Rattle.base_types.specs.declared.instructions.Instr.{Instr}
 use Rattle.page_store.specs.declared.faults.PageFault.{PageFault}
 use Rattle.page_store.specs.declared.faults.PageFault.TheVariants as page
@@ -11,10 +11,12 @@ use Rattle.table_laws.specs.edge_disk.declared.disk.NoBlocks.{NoBlocks}
 use Rattle.table_laws.specs.data_atlas_facts.Directory.{Directory}
 use Rattle.table_laws.specs.act_calls.Calls.{atlas_state}
 use Rattle.table_laws.specs.page_memory.Calls.{IsCausedIn}
+use Rattle.table_laws.specs.cell_states.Cells.{part_of}
 use Rattle.table_laws.specs.cell_states.declared.cells.Cell.{Cell}
 use Rattle.table_laws.specs.cell_states.declared.cells.Part.TheVariants as part
-use Rattle.table_laws.specs.cell_plans.Plans.{idle_of}
+use Rattle.table_laws.specs.cell_plans.Plans.{idle_of, IsPlanned}
 use Rattle.table_laws.specs.cell_plans.declared.idle.Idle.{Idle}
+use Rattle.table_laws.specs.cell_plans.declared.plans.Plan.{Plan}
 use Rattle.table_laws.specs.cell_plans.declared.plans.Reach.{Reach}
 use Rattle.table_laws.specs.cell_plans.declared.plans.Reach.TheVariants as reach
 use Rattle.table_laws.specs.Lending.{ForPairs, IsSameNumber}
@@ -31,6 +33,12 @@ use Rattle.thread_steps.specs.Lending.{numbers_of, touched_by}
 abbrev pub with_cells : List Cell → List Cell → List Cell → List Cell
 with_cells cs (c ∷ old) (d ∷ new) = with_cells (slice_set cs c.clock.entity d) old new
 with_cells cs old new = cs
+
+-- THE PLAN of a cell's locus: its next step, or why it makes none
+pub record IsPlanOf (c : Cell) (r : Result Plan Idle) : Type 0 where
+  pub idle : (s : Supply) (words : ℕ → List ℕ) → IfErr r (λ why. idle_of c.left (part_of s words c.part) ≡ Some why)
+  pub goes : (s : Supply) (words : ℕ → List ℕ) → IfOk r (λ _. idle_of c.left (part_of s words c.part) ≡ None)
+  pub plans : IfOk r (λ p. IsPlanned c p.instr p.reach)
 
 -- THE LOCUS HAS A STEP, and its act touches other entities besides it than these, the atlas first
 pub record WantsOthers (cs : List Cell) (me : ℕ) (lent : List ℕ) : Type 0 where

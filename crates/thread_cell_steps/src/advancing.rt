@@ -1,30 +1,32 @@
 // The step of a locus by the cells that are at hand, where they are those that it touches.
 ghost use Rattle.std.specs.Prelude.{◌≡◌, [], ◌∷◌};
 ghost use Rattle.table_laws.specs.Lending.{StandIn};
-ghost use Rattle.thread_cell_steps.specs.Advancing.{AdvancesBy, MayAdvance};
+ghost use Rattle.thread_cell_steps.specs.Advancing.{AdvancesBy, IsPlanOf, MayAdvance};
 
 use crate::fitting::{touches_one, touches_two};
 use edge_managers::{Gate, Policy, Supplier};
 use page_store::PageStore;
-use table_laws::{Cell, Reach, next_plan};
+use table_laws::{Cell, Idle, Plan, Reach, next_plan};
 use table_steps::{Made, StepFault};
 use thread_steps::{go_alone, go_beside, go_look, go_with_atlas, go_with_both};
 use thread_ties::{Authority, Bond};
 
-/// The step by the locus alone.
+/// The step by the locus alone, which was planned so.
 pub(crate) fn advance_one<B: Bond<Cell>, K: PageStore, S: Supplier, P: Policy>(
     all: &Authority<Cell, B>,
     locus: &mut Cell,
+    planned: Result<Plan, Idle>,
     store: &mut K,
     gate: &Gate<S, P>,
 ) -> Option<Result<Made, StepFault>>
+    requires planned { IsPlanOf locus.old planned }
     requires keeps { S.keeps gate.now.supply }
     requires may { MayAdvance K.PageStore (S.word gate.now.supply) all.now store.old }
     requires stand { StandIn all.now (locus.old ∷ []) }
     ensures { AdvancesBy K.PageStore (S.word gate.now.supply) all.now locus.old locus.new [] [] store.old store.new result }
 {
     let _ = all;
-    match next_plan(locus) {
+    match planned {
         Err(why) => Some(Err(StepFault::Idle(why))),
         Ok(plan) => match plan.reach {
             Reach::Alone(_) => Some(Ok(Made {

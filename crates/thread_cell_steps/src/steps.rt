@@ -5,7 +5,7 @@ ghost use Rattle.table_laws.specs.cell_plans.Plans.{idle_of};
 ghost use Rattle.table_laws.specs.Steps.{IsInOrder, IsPlannedAt};
 ghost use Rattle.table_laws.specs.Tables.{left_of, state_in, AreClean, AreFewWrites, IsOrderly};
 ghost use Rattle.table_steps.specs.Wanting.{HasNext};
-ghost use Rattle.thread_cell_steps.specs.Advancing.{HasAdvanced, MayAdvance, TouchesThese, WantsOthers};
+ghost use Rattle.thread_cell_steps.specs.Advancing.{HasAdvanced, IsPlanOf, MayAdvance, TouchesThese, WantsOthers};
 
 use crate::advancing::{advance_one, advance_three, advance_two};
 use base_types::Entry;
@@ -27,21 +27,24 @@ pub fn plan_lent<B: Bond<Cell> + Run<Entry>>(
     ensures idle { (s : Supply) → (words : ℕ → List ℕ) → IfErr result (λ why. idle_of (left_of (slice_get all.old locus.old.number)) (state_in s words all.old locus.old.number).cell ≡ Some why) }
     ensures goes { (s : Supply) → (words : ℕ → List ℕ) → IfOk result (λ _. idle_of (left_of (slice_get all.old locus.old.number)) (state_in s words all.old locus.old.number).cell ≡ None) }
     ensures plans { IfOk result (λ p. IsPlannedAt all.old locus.old.number p.instr p.reach) }
+    ensures planned { IsPlanOf locus.old.cell result }
 {
     all.agree(&mut locus.fragment);
     next_plan(&locus.cell)
 }
 
-/// One step of the locus whose cell is lent, where its act touches nothing else.
+/// One step of the locus whose cell is lent, which was planned so (`plan_lent`), where its act touches nothing else.
 ///
 /// `None` comes exactly where the next act of the locus touches another entity, and then nothing is changed. `Idle` comes exactly where the
 /// locus can't step, and then nothing is changed.
 pub fn step_one<B: Bond<Cell> + Run<Entry>, K: PageStore, S: Supplier, P: Policy>(
     all: &mut Authority<Cell, B>,
     locus: &mut LockedCell<B>,
+    planned: Result<Plan, Idle>,
     store: &mut K,
     gate: &Gate<S, P>,
 ) -> Option<Result<Made, StepFault>>
+    requires planned { IsPlanOf locus.old.cell planned }
     requires keeps { S.keeps gate.now.supply }
     requires may { MayAdvance K.PageStore (S.word gate.now.supply) all.old store.old }
     ensures stands { slice_get all.old locus.old.number ≡ Some locus.old.cell }
@@ -53,7 +56,7 @@ pub fn step_one<B: Bond<Cell> + Run<Entry>, K: PageStore, S: Supplier, P: Policy
     ensures touches { IfSome result (λ came. IfOk came (TouchesThese all.old locus.old.number [])) }
 {
     all.agree(&mut locus.fragment);
-    let came = advance_one(all, &mut locus.cell, store, gate);
+    let came = advance_one(all, &mut locus.cell, planned, store, gate);
     tell(all, &mut locus.fragment, &locus.cell);
     came
 }

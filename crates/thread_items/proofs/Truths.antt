@@ -1,8 +1,8 @@
 -- Items that are true.
-use Rattle.std.proofs.Common.{◌≡◌, ◌⊎◌, ⊎_elim, inl, inr, ℕ, ◌+◌, ◌≤◌, List, [], ◌∷◌, ◌++◌, length, Option, Some, None, Ok, Err, slice_get, refl, sym, ap, subst, ◌∙◌, arith}
+use Rattle.std.proofs.Common.{◌≡◌, ◌⊎◌, ⊎_elim, inl, inr, ℕ, zero, suc, ◌+◌, ◌≤◌, List, [], ◌∷◌, ◌++◌, length, Option, Some, None, Ok, Err, slice_get, refl, sym, ap, subst, ◌∙◌, arith}
 use Rattle.std.specs.Prelude.{IfSome, Result}
 use Rattle.std.proofs.lemmas.List.{append-nil, append_assoc, length-append}
-use Rattle.std.proofs.lemmas.Option.{slice_get_past, slice_get_within}
+use Rattle.std.proofs.lemmas.Option.{same_Some, slice_get_past, slice_get_within}
 use Rattle.base_types.specs.declared.histories.Entry.{Entry}
 use Rattle.thread_desk_stables.specs.kernel_core_facts.kernel_invariant.Beginnings.{Beginning}
 use Rattle.thread_desk_stables.specs.kernel_core_facts.kernel_invariant.declared.stopping.Stopped.{Stopped}
@@ -30,13 +30,19 @@ each_of P [] ys h a = tt
 each_of P (x ∷ xs) [] h a = absurd h
 each_of P (x ∷ xs) (y ∷ ys) h a = ⊎_elim (λ (k : (x ≡ y) × IsWithin xs ys). (subst P (sym k.0) a.0, each_of P xs ys k.1 a.1)) (λ k. each_of P (x ∷ xs) ys k a.1) h
 
+-- and of the one at a place
+pub each_at : {A : Type 0} (P : A → Type 0) (xs : List A) (i : ℕ) (x : A) → Each P xs → slice_get xs i ≡ Some x → P x
+each_at P [] i x all at = absurd (cc at)
+each_at P (y ∷ ys) zero x all at = subst P (same_Some y x at) all.0
+each_at P (y ∷ ys) (suc i) x all at = each_at P ys i x all.1 at
+
 -- WHAT IS TRUE STAYS SO
 
 came_goes_on : (tells : Type 0) (b : Beginning) (es fs : List Entry) (stop : Option Stopped) (me place : ℕ) (c : Came) → IsTrueCame tells b es stop me place c → IsTrueCame tells b (es ++ fs) stop me place c
-came_goes_on tells b es fs stop me place (Made e) h = step_stays me place e es fs h
+came_goes_on tells b es fs stop me place (Made e) h = step_stays me place e.value es fs h
 came_goes_on tells b es fs stop me place (Idle why) h = idle_stays tells b me place why es fs h
 came_goes_on tells b es fs stop me place (StoppedFor why) h = (let low = h.0 in let len = length-append es fs in omega (arith, low, len), h.1)
-came_goes_on tells b es fs stop me place (StoppedBehind e why) h = (step_stays me place e es fs h.0, h.1)
+came_goes_on tells b es fs stop me place (StoppedBehind e why) h = (step_stays me place e.value es fs h.0, h.1)
 
 came_behind : (tells : Type 0) (b : Beginning) (es : List Entry) (stop : Option Stopped) (me place : ℕ) (c : Came) → IsTrueCame tells b es None me place c → IsTrueCame tells b es stop me place c
 came_behind tells b es stop me place (Made e) h = h
@@ -87,10 +93,10 @@ item_is tells b me xs old new stop (Err why) notes true_of stops =
 
 -- EACH ENDS at or before the history's end
 came_ends : (tells : Type 0) (b : Beginning) (es : List Entry) (stop : Option Stopped) (me place : ℕ) (c : Came) → IsTrueCame tells b es stop me place c → place + steps_in c ≤ length es
-came_ends tells b es stop me place (Made e) h = let within = slice_get_within es place e h.at in omega (arith, within)
+came_ends tells b es stop me place (Made e) h = let within = slice_get_within es place e.value h.at in omega (arith, within)
 came_ends tells b es stop me place (Idle why) h = let within = h.0 in omega (arith, within)
 came_ends tells b es stop me place (StoppedFor why) h = let within = h.0 in omega (arith, within)
-came_ends tells b es stop me place (StoppedBehind e why) h = let within = slice_get_within es place e h.0.at in omega (arith, within)
+came_ends tells b es stop me place (StoppedBehind e why) h = let within = slice_get_within es place e.value h.0.at in omega (arith, within)
 
 pub items_end : (tells : Type 0) (b : Beginning) (es : List Entry) (stop : Option Stopped) (is : List (PassItem LookItem)) → AreTrueItems tells b es stop is → Each (λ (x : PassItem LookItem). x.item.place + steps_in x.item.came ≤ length es) is
 items_end tells b es stop is all =

@@ -17,10 +17,10 @@ use Rattle.thread_items.specs.Places.{came_by}
 -- what came of a look at the locus IS TRUE of a history and of why the kernel has stopped: its step stands at the place; after so many entries the
 -- locus couldn't step; or the kernel has stopped for just this
 abbrev pub IsTrueCame : Type 0 → Beginning → List Entry → Option Stopped → ℕ → ℕ → Came → Type 0
-IsTrueCame tells b es stop me place (Made e) = StandsAt me place e es
+IsTrueCame tells b es stop me place (Made e) = StandsAt me place e.value es
 IsTrueCame tells b es stop me place (Idle why) = WasIdle tells b me place why es
 IsTrueCame tells b es stop me place (StoppedFor why) = (place ≤ length es) × (stop ≡ Some why)
-IsTrueCame tells b es stop me place (StoppedBehind e why) = StandsAt me place e es × (stop ≡ Some why)
+IsTrueCame tells b es stop me place (StoppedBehind e why) = StandsAt me place e.value es × (stop ≡ Some why)
 
 -- AN ITEM IS TRUE
 abbrev pub IsTrueItem : Type 0 → Beginning → List Entry → Option Stopped → LookItem → Type 0

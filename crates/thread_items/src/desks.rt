@@ -1,11 +1,14 @@
 // The desk with the items of all passes.
-ghost use Rattle.std.specs.Prelude.{◌≡◌, ◌+◌, ◌∷◌, []};
+ghost use Rattle.std.specs.Prelude.{◌≡◌, ◌+◌, ◌∷◌, [], None, Some, slice_get};
 ghost use Rattle.thread_board.specs.Items.{AllOf, IsRising, IsWithin};
 ghost use Rattle.thread_history.specs.Rules.{AllDiffer};
-ghost use Rattle.thread_items.specs.Items.{AreTrueItems};
-ghost use Rattle.thread_items.specs.Places.{steps_in};
+ghost use Rattle.thread_board.specs.declared.views.PassItem.{PassItem as AnItem};
+ghost use Rattle.thread_items.specs.Items.{AreTrueItems, IsTrueItem};
+ghost use Rattle.thread_items.specs.Places.{entry_in, steps_in};
+ghost use Rattle.thread_items.specs.declared.items.LookItem.{LookItem as ALook};
 
-use crate::items::LookItem;
+use crate::items::{Came, LookItem};
+use base_types::Entry;
 use edge_disk::Disk;
 use std::marker::Model;
 use thread_board::{Bench, Fresh, Line, Pass, PassItem, Slate, Slip};
@@ -29,6 +32,19 @@ impl<D: Disk, C: Line, B: Board<D> + Bench> Model for ItemDesk<D, C, B> {
     ghost invariant = { λ d. AreTrueItems B.terms.told B.begin d.desk.noted.entries d.desk.stop d.slip.items };
 }
 
+/// The entry of the step that an item tells, which is true of the desk's history; none where it tells none.
+fn entry_at<D: Disk, B: Board<D>>(desk: &Desk<D, B>, item: &LookItem) -> Option<Entry>
+    ensures { IsTrueItem B.terms.told B.begin desk.now.noted.entries desk.now.stop item.now → result ≡ entry_in item.now.came }
+{
+    match &item.came {
+        Came::Idle(_) | Came::Stopped(_) => None,
+        Came::Made(_) | Came::StoppedBehind(_, _) => {
+            let entry = desk.notes.entries().get(item.place as usize)?;
+            Some(*entry)
+        }
+    }
+}
+
 impl<D: Disk, C: Line, B: Board<D> + Bench> ItemDesk<D, C, B> {
     /// A desk in which no item is noted.
     pub fn open(desk: Desk<D, B>, slip: Slip<C, LookItem, B>) -> ItemDesk<D, C, B>
@@ -43,6 +59,23 @@ impl<D: Disk, C: Line, B: Board<D> + Bench> ItemDesk<D, C, B> {
         ensures { self.new ≡ self.old }
     {
         self.slip.fresh(slate)
+    }
+
+    /// The entry of the step that this item of a pass tells, by its place; none where it tells none, or the pass has fewer items. Five steps at the table.
+    pub fn entry_of(
+        &mut self,
+        slate: &Slate<C, LookItem, B>,
+        pass: &mut Pass<C, LookItem, B>,
+        at: usize,
+    ) -> Option<Entry>
+        ensures desk { self.new ≡ self.old }
+        ensures pass { pass.new ≡ pass.old }
+        ensures entry { (x : AnItem ALook) → slice_get pass.old.items at ≡ Some x → result ≡ entry_in x.item.came }
+        ensures none { slice_get pass.old.items at ≡ None → result ≡ None }
+    {
+        self.slip.tell(slate, pass);
+        let noted = pass.items().get(at)?;
+        entry_at(&self.desk, &noted.item)
     }
 
     /// A pass comes back. Each of its items is true of the desk's history and of its stop; they are of its number, and stand among all items, in

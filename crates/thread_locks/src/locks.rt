@@ -1,11 +1,14 @@
 // The locks of a board.
-ghost use Rattle.std.specs.Prelude.{◌≡◌, ◌++◌, ◌+◌, ◌-◌, ◌<◌, ◌≤◌, [], IfSome, map, vec_capacity};
+ghost use Rattle.std.specs.Prelude.{◌≡◌, ◌++◌, ◌+◌, ◌-◌, ◌<◌, ◌≤◌, [], IfSome, None, Some, map, slice_get, vec_capacity};
 ghost use Rattle.std.specs.Sync.Mutex.{mutex_guard_value};
+ghost use Rattle.thread_board.specs.declared.views.PassItem.{PassItem as AnItem};
+ghost use Rattle.thread_items.specs.Places.{entry_in};
+ghost use Rattle.thread_items.specs.declared.items.LookItem.{LookItem as ALook};
 ghost use Rattle.thread_locks.specs.Rows.{AreFrom};
 
 use crate::lines::Unwritten;
 use crate::room::Room;
-use base_types::Entity;
+use base_types::{Entity, Entry};
 use edge_disk::Disk;
 use edge_managers::{Gate, Policy, Supplier};
 use std::alloc::Global;
@@ -138,5 +141,20 @@ impl<D: Disk, S: Supplier, P: Policy, B: Board<D> + Bench> Locks<D, S, P, B> {
     {
         let fresh = self.desk.lock(rt).fresh(&self.slate);
         fresh.into_pass(rt, self.alloc, &self.slate)
+    }
+
+    /// The entry of the step that this item of a pass tells, as it stands in the history at the item's place, and will in the one that `close` gives back;
+    /// none where the item tells none, or the pass has fewer items. It waits for the desk's lock.
+    pub fn entry_of<R: Wait>(
+        &self,
+        rt: &R,
+        pass: &mut Pass<Unwritten, LookItem, B>,
+        at: usize,
+    ) -> Option<Entry>
+        ensures pass { pass.new ≡ pass.old }
+        ensures entry { (x : AnItem ALook) → slice_get pass.old.items at ≡ Some x → result ≡ entry_in x.item.came }
+        ensures none { slice_get pass.old.items at ≡ None → result ≡ None }
+    {
+        self.desk.lock(rt).entry_of(&self.slate, pass, at)
     }
 }

@@ -1,5 +1,5 @@
 -- What a look by lent cells leaves of a kernel's parts.
-use Rattle.std.specs.Prelude.{◌≡◌, ◌↔◌, ◌⊎◌, ◌+◌, ◌*◌, ℕ, true, List, [], ◌∷◌, ◌++◌, Option, None, Some, IfOk, IsErrOf, Ok, Err, OnErr, OnOk, Result}
+use Rattle.std.specs.Prelude.{◌≡◌, ◌↔◌, ◌⊎◌, ◌+◌, ◌*◌, ℕ, true, List, [], ◌∷◌, ◌++◌, Option, None, Some, IfOk, IsErrOf, Ok, Err, OnErr, OnOk, Result, IfErr, slice_get}
 use Rattle.std.specs.Result.{result_err}
 use Rattle.edge_disk.specs.Counts.{Rose}
 use Rattle.edge_disk.specs.declared.disk.Disk.{Ghosts}
@@ -12,10 +12,12 @@ use Rattle.base_types.specs.declared.instructions.Reply.TheVariants.{Ok as Answe
 use Rattle.kernel_core_facts.specs.table_births.model_kernel.Histories.{Policy, stabilises}
 use Rattle.kernel_core_facts.specs.table_births.model_kernel.State.{Supply}
 use Rattle.kernel_core_facts.specs.cell_states.declared.cells.Cell.{Cell}
+use Rattle.kernel_core_facts.specs.cell_plans.Plans.{idle_of}
 use Rattle.kernel_core_facts.specs.cell_plans.declared.idle.Idle.{Idle}
+use Rattle.kernel_core_facts.specs.cell_plans.declared.plans.Plan.{Plan}
 use Rattle.kernel_core_facts.specs.cell_plans.declared.plans.Reach.{Reach}
 use Rattle.kernel_core_facts.specs.table_laws.Steps.{IsPlannedAt}
-use Rattle.kernel_core_facts.specs.table_laws.Tables.{AreClean}
+use Rattle.kernel_core_facts.specs.table_laws.Tables.{left_of, state_in, AreClean}
 use Rattle.kernel_core_facts.specs.kernel_record_facts.Cells.{words_on}
 use Rattle.kernel_core_facts.specs.kernel_invariant.Beginnings.{Beginning, run_of}
 use Rattle.kernel_core_facts.specs.kernel_invariant.Live.{IsCalm}
@@ -33,6 +35,11 @@ use Rattle.kernel_core_facts.specs.declared.looked.Looked.{Looked}
 use Rattle.kernel_core_facts.specs.declared.looked.Looked.TheVariants.{Idle as IdleFor, Made}
 use Rattle.kernel_core_facts.specs.Looked.{IfMade}
 use Rattle.thread_commits.specs.Snapping.{AddsAmong, WritesAmong}
+
+-- THE PLAN of the locus at this place of the table: its next step, or why it makes none
+pub record IsPlanAt (cs : List Cell) (me : ℕ) (r : Result Plan Idle) : Type 0 where
+  pub idle : (s : Supply) (words : ℕ → List ℕ) → IfErr r (λ why. idle_of (left_of (slice_get cs me)) (state_in s words cs me).cell ≡ Some why)
+  pub plans : IfOk r (λ p. IsPlannedAt cs me p.instr p.reach)
 
 -- THE NEXT STEP of the locus is one that owes a Stable where it is answered Ok
 pub record WantsStable (cs : List Cell) (me : ℕ) : Type 0 where

@@ -1,23 +1,23 @@
 // One look at a locus by lent cells: its step, and what comes behind it.
-ghost use Rattle.std.specs.Prelude.{◌≡◌, ◌↔◌, ◌⊎◌, ◌∷◌, [], true, false, None, IfOk, IfSome};
-ghost use Rattle.kernel_core_facts.specs.table_laws.Steps.{IsInOrder};
+ghost use Rattle.std.specs.Prelude.{◌≡◌, ◌↔◌, ◌⊎◌, ◌∷◌, [], ℕ, List, true, false, None, IfOk, IfSome};
+ghost use Rattle.kernel_core_facts.specs.cell_states.declared.cells.Cell.{Cell as ACell};
 ghost use Rattle.kernel_core_facts.specs.table_laws.Tables.{AreClean};
 ghost use Rattle.kernel_core_facts.specs.kernel_record_facts.Cells.{words_on};
 ghost use Rattle.kernel_core_facts.specs.kernel_commit_facts.Parts.{parts_of};
 ghost use Rattle.kernel_core_facts.specs.kernel_commit_facts.Steady.{IsSteady};
 ghost use Rattle.thread_cell_steps.specs.Advancing.{TouchesThese, WantsOthers};
 ghost use Rattle.thread_commits.specs.Lent.{OthersStay};
-ghost use Rattle.thread_looks.specs.Looking.{LooksAsSerial, NotesLook, WantsStable, stop_in};
+ghost use Rattle.thread_looks.specs.Looking.{IsPlanAt, LooksAsSerial, NotesLook, WantsStable, stop_in};
 ghost use Rattle.kernel_core_facts.specs.Looked.{IfMade};
 
 use crate::behind::{snap_behind_one, snap_behind_three, snap_behind_two};
-use crate::making::{make_one, make_three, make_two};
+use crate::making::{make_planned, make_three, make_two};
 use base_bytes::Blob;
 use base_types::{Entry, Instr};
 use edge_disk::Disk;
 use edge_managers::{Gate, Policy, Supplier};
 use kernel_core_facts::{Cell, Looked, Notes, Stopped, Store};
-use thread_cell_steps::plan_lent;
+use thread_cell_steps::{Idle, Plan, plan_lent};
 use thread_cells::LockedCell;
 use thread_history::Run;
 use thread_ties::{Authority, Bond};
@@ -32,16 +32,11 @@ pub fn stop_of(came: &Option<Result<Looked, Stopped>>) -> Option<Stopped>
     }
 }
 
-/// Whether the next step of the locus may owe a Stable, for which all cells are to be lent.
-fn wants_stable<B: Bond<Cell> + Run<Entry>>(
-    all: &mut Authority<Cell, B>,
-    locus: &mut LockedCell<B>,
-) -> bool
-    requires order { IsInOrder all.old }
-    ensures same { (all.new ≡ all.old) × (locus.new ≡ locus.old) }
-    ensures wants { (result ≡ true) ↔ WantsStable all.old locus.old.number }
+/// Whether a step that was planned so may owe a Stable, for which all cells are to be lent.
+fn wants_stable(planned: &Result<Plan, Idle>) -> bool
+    ensures { (cs : List ACell) (me : ℕ) → IsPlanAt cs me planned.now → (result ≡ true) ↔ WantsStable cs me }
 {
-    match plan_lent(all, locus) {
+    match planned {
         Ok(plan) => matches!(plan.instr, Instr::Stabilise(_)),
         Err(_) => false,
     }
@@ -71,10 +66,11 @@ pub fn look_one<D: Disk, B: Bond<Cell> + Run<Entry>, S: Supplier, P: Policy>(
     ensures touches { IfSome result (λ came. IfOk came (λ o. IfMade o (TouchesThese all.old locus.old.number []))) }
     ensures adds { NotesLook locus.old.number (locus.old.number ∷ []) notes.old.entries notes.new.entries }
 {
-    if wants_stable(all, locus) {
+    let planned = plan_lent(all, locus);
+    if wants_stable(&planned) {
         return None;
     }
-    match make_one(all, locus, store, notes, gate) {
+    match make_planned(all, locus, planned, store, notes, gate) {
         None => None,
         Some(came) => Some(snap_behind_one(all, locus, store, notes, blob, came, gate)),
     }

@@ -1,12 +1,10 @@
 -- What is counted from a moment on, and why a kernel has stopped since.
-use Rattle.std.proofs.Common.{◌≡◌, inl, inr, ℕ, ◌≤◌, Option, None, Some, Err, Ok, refl, sym, ap, subst, ◌∙◌, arith}
+use Rattle.std.proofs.Common.{◌≡◌, inl, inr, ◌≤◌, Option, None, Some, refl, sym, subst, ◌∙◌, arith}
 use Rattle.std.proofs.Math.Nat.{le_refl}
-use Rattle.std.specs.Prelude.{IfErr, IfSome, Result, ◌⊎◌, ⊤}
+use Rattle.std.specs.Prelude.{IfSome}
 use Rattle.edge_disk.specs.Counts.{Rose}
 use Rattle.edge_disk.specs.declared.disk.Disk.{Ghosts}
 use Rattle.edge_disk.proofs.Ticks.{Rose-before}
-use Rattle.kernel_runs.specs.kernel_commit_facts.Parts.{Parts}
-use Rattle.kernel_runs.specs.kernel_commit_facts.Pieces.{CountsWithin}
 use Rattle.kernel_runs.specs.kernel_commits.Stops.{IsCause}
 use Rattle.kernel_runs.specs.kernel_core_facts.Kernels.{Held}
 use Rattle.kernel_runs.specs.kernel_core_facts.store_facts.State.{books}

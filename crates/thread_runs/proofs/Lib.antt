@@ -1,3 +1,4 @@
 pub mod Counted
 pub mod Orders
 pub mod Parting
+pub mod Sent

@@ -9,7 +9,7 @@ use Rattle.thread_board.proofs.Within.{each_push}
 use Rattle.thread_items.specs.declared.items.Came.{Came}
 use Rattle.thread_items.specs.declared.items.Came.TheVariants as came
 use Rattle.thread_items.specs.declared.items.LookItem.{LookItem}
-use Rattle.thread_runs.specs.Parts.{AreLooks, ArePartsOf, EndsPart, IsLook, IsPart, IsRound, loci_among, loci_of, locus_in, round_and_round, went_by, went_in}
+use Rattle.thread_runs.specs.Parts.{AreLooks, ArePartsOf, EndsPart, IsLook, IsPart, IsRound, WentOn, loci_among, loci_of, locus_in, round_and_round, went_by, went_in}
 use Rattle.thread_runs.specs.declared.workers.Went.{Went}
 use Rattle.thread_runs.specs.declared.workers.Went.TheVariants as went
 
@@ -161,3 +161,10 @@ module _ {W : Type 0} (ws : List W) (pass : W → PassSeen LookItem) (lacked : W
         let w = at_each ws i p (subst (λ (qs : List (PassSeen LookItem)). slice_get qs i ≡ Some p) is at) fed in
         subst (λ (q : PassSeen LookItem). IsPart i workers false q.items) (sym w.2) (subst (λ (b : Bool). IsPart i workers b (pass w.0).items) w.3 (each i w.0 w.1));
   }
+
+-- A PART, by how its rounds went on to their end
+pub part_by : (number workers : ℕ) (how : Went) (lacked : Bool) (items : Items) → WentOn number workers how items → EndsPart how lacked → IsPart number workers lacked items
+part_by number workers went.Made lacked items on ends = absurd ends
+part_by number workers went.Idle lacked items on ends = record { rounds_made = on.1.0; before = on.0; rounds = on.1.1; how = went.Idle; last = on.2; ends = ends }
+part_by number workers went.Stopped lacked items on ends = record { rounds_made = on.1.0; before = on.0; rounds = on.1.1; how = went.Stopped; last = on.2; ends = ends }
+part_by number workers went.Lacked lacked items on ends = record { rounds_made = on.1.0; before = on.0; rounds = on.1.1; how = went.Lacked; last = on.2; ends = ends }

@@ -62,6 +62,15 @@ IsRound number workers went.Idle old new = AreLooks (loci_of number workers) fal
 IsRound number workers went.Made old new = AreLooks (loci_of number workers) true old new
 IsRound number workers how old new = (n : ℕ) × (mid : List (PassItem LookItem)) × AreLooks (loci_among number workers n) true old mid × IsLook (41 + n) how mid new
 
+-- whole rounds of a worker, one behind the other
+abbrev pub AreRounds : ℕ → ℕ → List (PassItem LookItem) → Type 0
+AreRounds number workers items = (rounds : ℕ) × AreLooks (round_and_round rounds (loci_of number workers)) true [] items
+
+-- HOW ROUNDS WENT ON: whole rounds, where a step was made in the last one, and else these and a last one that went so
+abbrev pub WentOn : ℕ → ℕ → Went → List (PassItem LookItem) → Type 0
+WentOn number workers went.Made items = AreRounds number workers items
+WentOn number workers how items = (before : List (PassItem LookItem)) × AreRounds number workers before × IsRound number workers how before items
+
 -- how a part ends, and whether it lacked memory
 abbrev pub EndsPart : Went → Bool → Type 0
 EndsPart went.Made lacked = ⊥

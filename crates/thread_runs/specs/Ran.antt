@@ -1,5 +1,5 @@
 -- What a run on threads leaves of its kernel.
-use Rattle.std.specs.Prelude.{◌≡◌, ℕ, false, Bool, List, None, Option, Some}
+use Rattle.std.specs.Prelude.{◌≡◌, ℕ, false, Bool, List, None, Some}
 use Rattle.edge_disk.specs.declared.disk.Disk.{Ghosts}
 use Rattle.kernel_runs.specs.kernel_core_facts.Kernels.{Held, Lives}
 use Rattle.kernel_runs.specs.kernel_core_facts.store_facts.State.{books}

@@ -14,7 +14,7 @@ use edge_managers::{Gate, Policy, Supplier};
 use kernel_runs::Kernel;
 use std::alloc::Global;
 use std::marker::Brand;
-use std::sync::Wait;
+use std::sync::{Mutex, Wait};
 use std::thread;
 use std::thread::Threads;
 use thread_board::Bench;
@@ -60,6 +60,7 @@ fn all_work<
 >(rt: &R, alloc: Global, board: &Locks<D, S, P, B>, workers: u8, steps: &G) -> Passes<B>
     ensures { result.lacked ≡ false → ArePartsOf workers result.passes.items }
 {
+    let turns = Mutex::new(());
     let work = |number: usize| -> Worked<B>
         requires { (number < workers) × (workers < 2 ^ 8) }
         ensures { IsPart number workers result.lacked result.pass.items }
@@ -69,6 +70,7 @@ fn all_work<
             steps,
             number: number as u32,
             workers: u32::from(workers),
+            turns: &turns,
         };
         worker.work(rt)
     };

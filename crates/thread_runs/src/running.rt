@@ -64,7 +64,8 @@ fn finished<D: Disk, S: Supplier + Drop, P: Policy + Drop>(left: Left<D, S, P>) 
 /// one run, which the caller picks: where the disk tells its content, and the kernel is live in it as long as nobody is to be born. `counted`
 /// tells, whatever the disk does, why the kernel has stopped, if it has.
 ///
-/// `steps` is told of each step while its locks are held, and may wait. It takes memory for the board and for an item of each look, and where a thread is made
+/// `steps` is told of each step while its locks are held, and may wait. Where it never waits (`StepGate::may_wait`) the workers take turns of some rounds each,
+/// and wait for them instead of contending for the locks of each step. It takes memory for the board and for an item of each look, and where a thread is made
 /// what that takes.
 pub fn run_on_threads<
     D: Disk + Send,

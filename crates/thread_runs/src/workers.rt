@@ -1,11 +1,13 @@
 // Workers, each of which makes rounds over its loci until none of them can step.
-ghost use Rattle.std.specs.Prelude.{◌≡◌, ◌<◌, ◌%◌, ◌==◌};
-ghost use Rattle.thread_runs.specs.Parts.{IsLook, IsPart, IsRound, went_by};
+ghost use Rattle.std.specs.Prelude.{◌≡◌, ◌<◌, ◌%◌, ◌==◌, ◌++◌, ◌∷◌, [], List};
+ghost use Rattle.thread_board.specs.declared.views.PassItem.{PassItem as AnItem};
+ghost use Rattle.thread_items.specs.declared.items.LookItem.{LookItem as ALook};
+ghost use Rattle.thread_runs.specs.Parts.{AreRounds, IsLook, IsPart, IsRound, WentOn, went_by};
 
 use base_types::{Entity, FIRST_LOCUS, MOST_ENTITIES};
 use edge_disk::Disk;
 use edge_managers::{Policy, Supplier};
-use std::sync::Wait;
+use std::sync::{Mutex, Wait};
 use thread_board::{Bench, Pass};
 use thread_workers::{Board, Came, Locks, LookItem, StepGate, Unwritten, step};
 
@@ -26,8 +28,8 @@ enum Went {
 }
 
 /// How a look went that came to this.
-fn went_of(came: Came) -> Went
-    ensures { result ≡ went_by came }
+fn went_of(came: &Came) -> Went
+    ensures { result ≡ went_by came.now }
 {
     match came {
         Came::Made(_) => Went::Made,
@@ -36,13 +38,27 @@ fn went_of(came: Came) -> Went
     }
 }
 
-/// A worker on a board: its number, below that of all workers, and what is told of its steps.
+/// How the look went whose item is the last of the pass.
+fn went_last<B: Bench>(pass: &LookPass<B>) -> Went
+    ensures { (xs : List (AnItem ALook)) (x : AnItem ALook) → pass.now.items ≡ xs ++ x ∷ [] → result ≡ went_by x.item.came }
+{
+    match pass.items().last() {
+        Some(last) => went_of(&last.item.came),
+        None => Went::Lacked,
+    }
+}
+
+/// How many rounds a worker's turn has. By ten workers and more that is still less than a blink; by fewer rounds the exchange of turns would be felt.
+const TURN: u32 = 256;
+
+/// A worker on a board: its number, below that of all workers, what is told of its steps, and whose turn it is.
 #[derive(Drop)]
 pub(crate) struct Worker<'a, D: Disk, S: Supplier, P: Policy, B: Board<D> + Bench, G: StepGate> {
     pub(crate) board: &'a Locks<D, S, P, B>,
     pub(crate) steps: &'a G,
     pub(crate) number: u32,
     pub(crate) workers: u32,
+    pub(crate) turns: &'a Mutex<()>,
     ghost one: { number < workers },
 }
 
@@ -73,7 +89,7 @@ impl<'a, D: Disk, S: Supplier, P: Policy, B: Board<D> + Bench, G: StepGate> Work
         ensures { IsLook locus result pass.old.items pass.new.items }
     {
         match step(self.board, rt, pass, self.number, self.steps, locus) {
-            Ok(item) => went_of(item.came),
+            Ok(()) => went_last(pass),
             Err(_) => Went::Lacked,
         }
     }
@@ -96,13 +112,41 @@ impl<'a, D: Disk, S: Supplier, P: Policy, B: Board<D> + Bench, G: StepGate> Work
         if made { Went::Made } else { Went::Idle }
     }
 
+    /// Rounds of a turn, until in one none of the worker's loci could step, or one ended early.
+    fn rounds<R: Wait>(&self, rt: &R, pass: &mut LookPass<B>) -> Went
+        ensures { AreRounds self.now.number self.now.workers pass.old.items → WentOn self.now.number self.now.workers result pass.new.items }
+    {
+        for _ in 0..TURN {
+            match self.round(rt, pass) {
+                Went::Made => {}
+                Went::Idle => return Went::Idle,
+                Went::Stopped => return Went::Stopped,
+                Went::Lacked => return Went::Lacked,
+            }
+        }
+        Went::Made
+    }
+
+    /// The rounds of a turn, while no other worker makes any; where what is told of steps may wait, rounds beside those of the others.
+    fn turn<R: Wait>(&self, rt: &R, pass: &mut LookPass<B>) -> Went
+        ensures { AreRounds self.now.number self.now.workers pass.old.items → WentOn self.now.number self.now.workers result pass.new.items }
+    {
+        if self.steps.may_wait() {
+            return self.rounds(rt, pass);
+        }
+        let mine = self.turns.lock(rt);
+        let went = self.rounds(rt, pass);
+        drop(mine);
+        went
+    }
+
     /// The worker's part of a run: rounds over its loci until in one none of them could step, or one ended early.
     pub(crate) fn work<R: Wait>(&self, rt: &R) -> Worked<B>
         ensures { IsPart self.now.number self.now.workers result.lacked result.pass.items }
     {
         let mut pass = self.board.pass(rt);
         for _ in rt.forever() {
-            match self.round(rt, &mut pass) {
+            match self.turn(rt, &mut pass) {
                 Went::Made => {}
                 Went::Idle | Went::Stopped => {
                     return Worked {

@@ -4,12 +4,14 @@ use Rattle.std.proofs.Crossing.{crosses}
 use base.Fml.{Lft}
 use denote.Param.Send.{IsSend, IsSync, plain_sync, sendable, shr_sync}
 use denote.Param.SendFields.{as_row_sync, declared_sync}
+use denote.Builtin.{unit}
 use denote.Plain.{UInt}
 use denote.Ref.{ShrRef}
 use denote.Struct.Field.{row_field}
 use denote.Struct.Tuple.{TupleAt, type_at}
 use mir.Syntax.{named, w8}
 use Rattle.std.specs.Prelude.{◌∷◌, [], List}
+use Rattle.std.specs.contracts.sync.Mutex.{the_row as mutex}
 use denote.RattleType.{RattleType}
 use Rattle.base_types.specs.declared.histories.Entry.{Entry}
 use Rattle.cell_states.specs.declared.cells.Cell.{Cell}
@@ -44,6 +46,10 @@ module _ (D S P B : RattleType) (d : Disks D.Denot) (s : Suppliers S.Denot) (p :
 pub byte_sync : IsSync (UInt w8)
 byte_sync = search plain_sync
 
+-- whose turn it is
+pub turn_sync : IsSync (mutex unit)
+turn_sync = search (sendable, crosses) depth 20
+
 -- a closure that borrows four values, whatever its name and those of the lifetimes
 module _ (a b c d : RattleType) (κ κ' κ'' κ₃ : Lft) where
   abbrev borrowed : List RattleType
@@ -52,3 +58,12 @@ module _ (a b c d : RattleType) (κ κ' κ'' κ₃ : Lft) where
   pub closure_sync : IsSync a → IsSync b → IsSync c → IsSync d → IsSync (TupleAt [] borrowed)
   closure_sync first second third last =
       declared_sync (type_at [] borrowed) (as_row_sync (row_field (ShrRef (named 0) κ a)) (shr_sync (named 0) κ a first), (as_row_sync (row_field (ShrRef (named 0) κ' b)) (shr_sync (named 0) κ' b second), (as_row_sync (row_field (ShrRef (named 0) κ'' c)) (shr_sync (named 0) κ'' c third), (as_row_sync (row_field (ShrRef (named 0) κ₃ d)) (shr_sync (named 0) κ₃ d last), tt))))
+
+-- and one that borrows five
+module _ (a b c d e : RattleType) (κ κ' κ'' κ₃ κ₄ : Lft) where
+  abbrev borrowed_five : List RattleType
+  borrowed_five = ShrRef (named 0) κ a ∷ ShrRef (named 0) κ' b ∷ ShrRef (named 0) κ'' c ∷ ShrRef (named 0) κ₃ d ∷ ShrRef (named 0) κ₄ e ∷ []
+
+  pub closure_of_five_sync : IsSync a → IsSync b → IsSync c → IsSync d → IsSync e → IsSync (TupleAt [] borrowed_five)
+  closure_of_five_sync first second third fourth last =
+      declared_sync (type_at [] borrowed_five) (as_row_sync (row_field (ShrRef (named 0) κ a)) (shr_sync (named 0) κ a first), (as_row_sync (row_field (ShrRef (named 0) κ' b)) (shr_sync (named 0) κ' b second), (as_row_sync (row_field (ShrRef (named 0) κ'' c)) (shr_sync (named 0) κ'' c third), (as_row_sync (row_field (ShrRef (named 0) κ₃ d)) (shr_sync (named 0) κ₃ d fourth), (as_row_sync (row_field (ShrRef (named 0) κ₄ e)) (shr_sync (named 0) κ₄ e last), tt)))))

@@ -1,7 +1,7 @@
 // Which locks a step wants.
 ghost use Rattle.std.specs.Prelude.{◌≡◌, ◌<◌};
 
-use base_types::{Entity, FIRST_LOCUS, Instr, Kind, MOST_CONTAINERS, MOST_LOCI};
+use base_types::{Condition, Entity, FIRST_LOCUS, Instr, Kind, MOST_CONTAINERS, MOST_LOCI};
 use edge_disk::Disk;
 use kernel_core_facts::{Cell, Part};
 use table_laws::{Plan, Reach};
@@ -45,8 +45,42 @@ fn wants_by(plan: Plan) -> Wants {
     wants_of(plan.reach)
 }
 
+/// Whether a step by this instruction touches its locus alone, whatever stands in the registers.
+fn is_alone(instr: Instr) -> bool {
+    matches!(
+        instr,
+        Instr::Set(..)
+            | Instr::Copy(..)
+            | Instr::Add(..)
+            | Instr::Sub(..)
+            | Instr::Jump(_)
+            | Instr::Jz(..)
+            | Instr::Print(_)
+            | Instr::Halt
+    )
+}
+
+/// Whether a locus has a step whose instruction alone tells that it touches no other entity, so that no plan is needed for its locks.
+fn is_plain(cell: &Cell) -> bool {
+    match &cell.part {
+        Part::Locus(Some(locus)) => {
+            if cell.left == 0 || locus.condition != Condition::Running {
+                return false;
+            }
+            match locus.code.as_slice().get(locus.place as usize) {
+                Some(instr) => is_alone(*instr),
+                None => false,
+            }
+        }
+        _ => false,
+    }
+}
+
 /// What the next step of a cell's locus wants.
 pub(crate) fn wants_at<D: Disk, B: Board<D>>(cell: &SightedCell<D, B>) -> Wants {
+    if is_plain(&cell.locked.cell) {
+        return Wants::Alone;
+    }
     match cell.plan() {
         Ok(plan) => wants_by(plan),
         Err(_) => Wants::Nothing,

@@ -1,49 +1,52 @@
-use Rattle.std.proofs.Common.{[], None, refl, sym, subst}
-use Rattle.kernel_core_facts.specs.kernel_commit_facts.Parts.{Noted, parts_of}
-use Rattle.kernel_core_facts.specs.kernel_invariant.declared.stopping.Stopped.{Stopped}
-use Rattle.std.specs.Prelude.{IfOk, Result}
-use Rattle.kernel_core_facts.proofs.Paired.{few_writes}
-use Rattle.kernel_core_facts.proofs.kernel_commit_facts_lemmas.Steadying.{entry_room}
-use Rattle.thread_cell_steps.specs.Advancing.{TouchesThese}
+use Rattle.std.proofs.Common.{◌≡◌, List, [], None, sym, subst, slice_set}
+use Rattle.std.specs.Prelude.{◌↔◌, IfOk, IfSome}
+use Rattle.kernel_core_facts.specs.cell_states.declared.cells.Cell.{Cell}
+use Rattle.kernel_core_facts.specs.table_laws.Tables.{AreClean}
+use Rattle.kernel_core_facts.specs.kernel_commit_facts.Parts.{parts_of}
+use Rattle.kernel_core_facts.specs.kernel_commit_facts.Steady.{IsSteady}
+use Rattle.kernel_core_facts.specs.kernel_record_facts.Cells.{words_on}
 use Rattle.kernel_core_facts.specs.Looked.{IfMade, StepsOnce}
-use Rattle.thread_looks.specs.Making.{looked_by}
-use Rattle.kernel_core_facts.specs.declared.looked.Looked.{Looked}
-use Rattle.thread_looks.proofs.Ends.{if_looked, none_still, some_not}
-use Rattle.thread_looks.proofs.Made.{makes, openly}
+use Rattle.thread_cells.specs.Locked.{Keeping}
+use Rattle.thread_cell_steps.specs.Advancing.{IsPlanOf, TouchesThese, WantsOthers}
+use Rattle.thread_looks.proofs.Planned.{as_planned}
 use Rattle.thread_looks.proofs.making.make_one.Goals as goal
 
-pub step_one-requires : goal.step_one-requires
-step_one-requires g c =
-    let k = c.requires.steady in
-    record { keeps = c.requires.keeps; may = record { orderly = k.sound.matches.orderly; few = few_writes g.D.Disk (parts_of c.args.store.now c.args.all.now c.args.notes.now) k; clean = c.requires.clean } }
+pub plan_lent-planned-requires : goal.plan_lent-planned-requires
+plan_lent-planned-requires g c = record { order = record { held = _; orderly = c.requires.steady.sound.matches.orderly } }
 
-pub note_came-requires : goal.note_came-requires
-note_came-requires g c =
-    let d = g.D.Disk in
-    let k = c.requires.steady in
+pub make_planned-requires : goal.make_planned-requires
+make_planned-requires g c =
+    let same = sym c.plan_lent-planned.ensures.same.0 in
+    let st = c.args.store.now in
     record {
-      room = entry_room d (parts_of c.args.store.now c.args.all.now c.args.notes.now) k;
-      works = openly d g.met.D.Disk.counts_later g.met.D.Disk.only_now (g.S.Supplier.word c.args.gate.now.supply) c.args.locus.now.number c.args.all.now c.step_one.new.all c.args.store.now c.step_one.new.store c.args.notes.now
-          k c.requires.clean c.in-Some.came c.in-Some.ensures.advanced;
+      planned = subst (λ (k : Keeping). IsPlanOf k.cell c.plan_lent-planned.result) (sym c.plan_lent-planned.ensures.same.1) c.plan_lent-planned.ensures.planned;
+      keeps = c.requires.keeps;
+      steady = subst (λ (cs : List Cell). IsSteady g.D.Disk (parts_of st cs c.args.notes.now)) same c.requires.steady;
+      clean = λ told. subst (AreClean (g.S.Supplier.word c.args.gate.now.supply) (words_on (g.D.Disk.reading st.disk))) same (c.requires.clean told);
     }
 
-pub returns-in-None-clause-unfit : goal.returns-in-None-clause-unfit
-returns-in-None-clause-unfit g c = none_still None refl c.in-None.ensures.unfit None refl
+pub returns-clause-all : goal.returns-clause-all
+returns-clause-all g c =
+    as_planned (λ cs k. c.make_planned.new.all ≡ slice_set cs k.number c.make_planned.new.locus.cell) c.plan_lent-planned.ensures.same c.make_planned.ensures.all
 
-pub returns-in-Some-clause-unfit : goal.returns-in-Some-clause-unfit
-returns-in-Some-clause-unfit g c = some_not c.in-Some.came c.note_came.result c.in-Some.ensures.unfit
+pub returns-clause-locus : goal.returns-clause-locus
+returns-clause-locus g c =
+    as_planned (λ cs k. (c.make_planned.new.locus.number ≡ k.number) × (c.make_planned.new.locus.known ≡ k.known)) c.plan_lent-planned.ensures.same c.make_planned.ensures.locus
 
-pub returns-in-Some-clause-makes : goal.returns-in-Some-clause-makes
-returns-in-Some-clause-makes g c =
-    let d = g.D.Disk in
-    let s = g.S.Supplier.word c.args.gate.now.supply in
-    let old = parts_of c.args.store.now c.args.all.now c.args.notes.now in
-    subst (λ (q : Result Looked Stopped). StepsOnce d s c.args.locus.now.number old (parts_of c.step_one.new.store c.step_one.new.all c.note_came.new.notes) q) (sym c.note_came.ensures.looked)
-    (subst (λ (n : Noted). StepsOnce d s c.args.locus.now.number old (parts_of c.step_one.new.store c.step_one.new.all n) (looked_by c.in-Some.came)) (sym c.note_came.ensures.noted)
-    (makes d g.met.D.Disk.counts_later g.met.D.Disk.only_now s c.args.locus.now.number c.args.all.now c.step_one.new.all c.args.store.now c.step_one.new.store c.args.notes.now c.requires.steady c.requires.clean
-    c.in-Some.came c.in-Some.ensures.advanced))
+pub returns-clause-unfit : goal.returns-clause-unfit
+returns-clause-unfit g c =
+    as_planned (λ cs k. (c.make_planned.result ≡ None) ↔ WantsOthers cs k.number []) c.plan_lent-planned.ensures.same c.make_planned.ensures.unfit
 
-pub returns-in-Some-clause-touches : goal.returns-in-Some-clause-touches
-returns-in-Some-clause-touches g c =
-    subst (λ (q : Result Looked Stopped). IfOk q (λ o. IfMade o (TouchesThese c.args.all.now c.args.locus.now.number ([])))) (sym c.note_came.ensures.looked)
-    (if_looked (TouchesThese c.args.all.now c.args.locus.now.number ([])) c.in-Some.came c.in-Some.ensures.touches)
+pub returns-clause-undone : goal.returns-clause-undone
+returns-clause-undone g c =
+    let new = parts_of c.make_planned.new.store c.make_planned.new.all c.make_planned.new.notes in
+    as_planned (λ cs k. c.make_planned.result ≡ None → new ≡ parts_of c.args.store.now cs c.args.notes.now) c.plan_lent-planned.ensures.same c.make_planned.ensures.undone
+
+pub returns-clause-makes : goal.returns-clause-makes
+returns-clause-makes g c =
+    let new = parts_of c.make_planned.new.store c.make_planned.new.all c.make_planned.new.notes in
+    as_planned (λ cs k. IfSome c.make_planned.result (StepsOnce g.D.Disk (g.S.Supplier.word c.args.gate.now.supply) k.number (parts_of c.args.store.now cs c.args.notes.now) new)) c.plan_lent-planned.ensures.same c.make_planned.ensures.makes
+
+pub returns-clause-touches : goal.returns-clause-touches
+returns-clause-touches g c =
+    as_planned (λ cs k. IfSome c.make_planned.result (λ came. IfOk came (λ o. IfMade o (TouchesThese cs k.number [])))) c.plan_lent-planned.ensures.same c.make_planned.ensures.touches

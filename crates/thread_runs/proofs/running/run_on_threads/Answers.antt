@@ -1,4 +1,4 @@
-use Rattle.std.proofs.Common.{◌≡◌, false, Err, sym, ap, subst, ◌∙◌}
+use Rattle.std.proofs.Common.{false, Err, sym, ap, subst, ◌∙◌}
 use Rattle.edge_managers.specs.declared.Gate.{Gate}
 use Rattle.script_types.specs.Scripts.{tables_of}
 use Rattle.kernel_runs.specs.kernel_core_facts.Kernels.{StaysClean}

@@ -1,7 +1,8 @@
-use Rattle.std.proofs.Common.{List, [], true, suc, subst}
+use Rattle.std.proofs.Common.{◌≡◌, ⊎_elim, false, true, refl, subst}
 use Rattle.thread_runs.specs.declared.workers.Went.{Went}
-use Rattle.thread_runs.specs.Parts.{IsRound}
-use Rattle.thread_runs.proofs.Parting.{next_round, none_before}
+use Rattle.thread_runs.specs.declared.workers.Went.TheVariants as went
+use Rattle.thread_runs.specs.Parts.{WentOn}
+use Rattle.thread_runs.proofs.Parting.{none_before, part_by}
 use Rattle.thread_runs.proofs.workers.Worker.work.Goals as goal
 
 pub loop-init : goal.loop-init
@@ -11,7 +12,20 @@ pub loop-preserved : goal.loop-preserved
 loop-preserved g c =
     let me = c.args.self.now.number in
     let workers = c.args.self.now.workers in
-    let rounds = c.loop.invariant.2.0 in
-    let before = c.loop.pass.items in
-    let items = c.round.new.pass.items in
-    (tt, tt, (suc rounds, next_round me workers rounds before items c.loop.invariant.2.1 (subst (λ (h : Went). IsRound me workers h before items) c.in-Made.is c.round.ensures)))
+    (tt, tt, subst (λ (h : Went). WentOn me workers h c.turn.new.pass.items) c.in-Made.is (c.turn.ensures c.loop.invariant.2))
+
+pub returns-in-Idle : goal.returns-in-Idle
+returns-in-Idle g c =
+    let me = c.args.self.now.number in
+    let workers = c.args.self.now.workers in
+    let items = c.turn.new.pass.items in
+    let on = c.turn.ensures c.loop.invariant.2 in
+    ⊎_elim (λ (is : c.turn.result ≡ went.Idle). part_by me workers went.Idle false items (subst (λ (h : Went). WentOn me workers h items) is on) refl)
+    (λ is. part_by me workers went.Stopped false items (subst (λ (h : Went). WentOn me workers h items) is on) refl) c.in-Idle.is
+
+pub returns-in-Lacked : goal.returns-in-Lacked
+returns-in-Lacked g c =
+    let me = c.args.self.now.number in
+    let workers = c.args.self.now.workers in
+    let items = c.turn.new.pass.items in
+    part_by me workers went.Lacked true items (subst (λ (h : Went). WentOn me workers h items) c.in-Lacked.is (c.turn.ensures c.loop.invariant.2)) refl
