@@ -1,12 +1,12 @@
-ghost use Rattle.std.specs.Prelude.{◌≡◌, ℕ, ◌≤◌, ◌<◌, length, replicate, [], None};
+ghost use Rattle.std.specs.Prelude.{◌≡◌, ℕ, ◌≤◌, ◌<◌, length, replicate, [], None, IfSome, false};
 ghost use Rattle.std.specs.Option.{ForSome};
 ghost use Rattle.base_types.specs.Instructions.{IsInstruction, IsPlace};
 ghost use Rattle.base_types.specs.declared.instructions.Condition.TheVariants.{Running as RunningNow};
 ghost use Rattle.model_kernel.specs.Acts.{wanted};
 ghost use Rattle.model_kernel.specs.Outcomes.{finish as finished};
-ghost use Rattle.model_kernel.specs.Refusals.{reg};
+ghost use Rattle.model_kernel.specs.Refusals.{instr_at, reg};
 ghost use Rattle.model_acts.specs.Views.{IsReadyLocus, act_of, seen_by, view_of};
-ghost use Rattle.act_alone.specs.Loci.{locus_of, container_with};
+ghost use Rattle.act_alone.specs.Loci.{WantsPlainly, container_with, is_plain as plain_instr, locus_of};
 
 use crate::lists::{Chain, Code, Privates};
 use base_types::{Answer, Condition, Entity, Instr, Reply, Walk};
@@ -65,6 +65,23 @@ impl Head {
     }
 }
 
+/// Whether an instruction tells by itself what is wanted, whatever stands in the registers: it touches the locus alone, and nothing refuses it.
+fn is_plain(instr: Instr) -> bool
+    ensures { result ≡ plain_instr instr }
+{
+    matches!(
+        instr,
+        Instr::Set(..)
+            | Instr::Copy(..)
+            | Instr::Add(..)
+            | Instr::Sub(..)
+            | Instr::Jump(_)
+            | Instr::Jz(..)
+            | Instr::Print(_)
+            | Instr::Halt
+    )
+}
+
 impl Locus {
     /// A running locus with registers of 0 and empty lists.
     pub fn new(host: Entity, place: u8, every: u32, code: &[Instr]) -> Locus
@@ -112,6 +129,37 @@ impl Locus {
         ensures { result ≡ reg (locus_of self.now) r }
     {
         self.registers[r as usize]
+    }
+
+    /// The instruction at the locus's place. Past the end of the code it halts.
+    fn next(&self) -> Instr
+        requires ready { IsReadyLocus (locus_of self.now) }
+        ensures at { result ≡ instr_at (locus_of self.now) }
+        ensures instruction { IsInstruction result }
+    {
+        match self.code.as_slice().get(self.place as usize) {
+            Some(instr) => *instr,
+            None => Instr::Halt,
+        }
+    }
+
+    /// The act that the locus wants, where its instruction tells it by itself. It reads nothing but the instruction.
+    pub fn wants_plainly(&self) -> Option<Act>
+        requires ready { IsReadyLocus (locus_of self.now) }
+        ensures wants { IfSome result (WantsPlainly (locus_of self.now)) }
+        ensures none { result ≡ None → plain_instr (instr_at (locus_of self.now)) ≡ false }
+    {
+        let instr = self.next();
+        if is_plain(instr) {
+            return Some(Act {
+                instr,
+                refused: None,
+                atlas: false,
+                other: None,
+                newborn: None,
+            });
+        }
+        None
     }
 
     /// The act that the locus wants. What its capability names is the other entity also where it is the locus

@@ -80,8 +80,8 @@ fn reach_alone(me: Entity, act: Act) -> Reach
     }
 }
 
-/// The next step of a running locus.
-fn plan_of(me: Entity, locus: &Locus) -> Plan
+/// The next step of a running locus, by the act that it wants.
+fn plan_by_act(me: Entity, locus: &Locus) -> Plan
     requires running { locus.now.condition ≡ RunningNow }
     requires ready { IsReadyLocus (locus_of locus.now) }
     ensures instr { result.instr ≡ instr_at (locus_of locus.now) }
@@ -104,6 +104,22 @@ fn plan_of(me: Entity, locus: &Locus) -> Plan
             instr,
             reach: reach_alone(me, act),
         },
+    }
+}
+
+/// The next step of a running locus. Where the instruction tells the act by itself, nothing else is read.
+fn plan_of(me: Entity, locus: &Locus) -> Plan
+    requires running { locus.now.condition ≡ RunningNow }
+    requires ready { IsReadyLocus (locus_of locus.now) }
+    ensures instr { result.instr ≡ instr_at (locus_of locus.now) }
+    ensures wants { PlansFor me (locus_of locus.now) result.instr result.reach }
+{
+    match locus.wants_plainly() {
+        Some(plain) => Plan {
+            instr: plain.instr,
+            reach: Reach::Alone(plain),
+        },
+        None => plan_by_act(me, locus),
     }
 }
 

@@ -56,11 +56,11 @@ impl Notes {
     }
 
     /// Adds an entry at the end. It takes no memory.
-    pub fn push_entry(&mut self, entry: Entry)
+    pub fn push_entry(&mut self, entry: &Entry)
         requires room { length self.old.entries < self.old.room }
-        ensures { self.new ≡ record self.old { entries = self.old.entries ++ entry ∷ [] } }
+        ensures { self.new ≡ record self.old { entries = self.old.entries ++ entry.now ∷ [] } }
     {
-        let _ = self.entries.push(entry);
+        self.entries.push_reserved(*entry);
     }
 
     /// Adds a mark at the end. It takes no memory.
@@ -68,7 +68,7 @@ impl Notes {
         requires room { length self.old.marks < self.old.room }
         ensures { self.new ≡ record self.old { marks = self.old.marks ++ mark ∷ [] } }
     {
-        let _ = self.marks.push(mark);
+        self.marks.push_reserved(mark);
     }
 
     /// Takes out what came behind so many entries and so many marks.

@@ -54,7 +54,7 @@ pub fn note_fault(notes: &mut Notes, entity: Entity, version: u64, fault: StoreF
     match fault {
         StoreFault::NoBlocks(blocks) => Stopped::NoBlocks(blocks),
         StoreFault::WriteFault => {
-            notes.push_entry(mark_entry(Event::Tried, entity, version));
+            notes.push_entry(&mark_entry(Event::Tried, entity, version));
             Stopped::WriteFault
         }
         StoreFault::ReadFault | StoreFault::Shut => unreachable!(),
@@ -79,7 +79,7 @@ pub(crate) fn record_one<D: Disk>(core: &mut Core<D>, entity: Entity) -> Result<
     match commit_among(&mut core.cells, &mut core.store, &mut core.blob, entity) {
         Ok(_) => {
             core.notes
-                .push_entry(mark_entry(Event::Snap, entity, version));
+                .push_entry(&mark_entry(Event::Snap, entity, version));
             core.notes.push_mark(core.store.begun());
             Ok(())
         }

@@ -103,7 +103,7 @@ fn note_stable<D: Disk>(core: &mut Core<D>, entries: usize, marks: usize, actor:
     ensures room { core.new.noted.room ≡ core.old.noted.room }
 {
     core.notes.cut_back(entries, marks);
-    core.notes.push_entry(mark_entry(Event::Stable, actor, 0));
+    core.notes.push_entry(&mark_entry(Event::Stable, actor, 0));
     core.notes.push_mark(core.store.begun());
 }
 

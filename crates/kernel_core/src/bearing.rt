@@ -44,7 +44,7 @@ fn bear_noted(
 {
     match bear_next(cells, script, progress) {
         Some(entry) => {
-            notes.push_entry(entry);
+            notes.push_entry(&entry);
             true
         }
         None => false,

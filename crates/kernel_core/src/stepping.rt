@@ -27,7 +27,7 @@ pub(crate) fn step_core<D: Disk, S: Supplier, P: Policy>(
 {
     match advance(&mut core.cells, me, &mut core.store, gate) {
         Ok(made) => {
-            core.notes.push_entry(made.entry);
+            core.notes.push_entry(&made.entry);
             Ok(Looked::Made(made))
         }
         Err(StepFault::Idle(why)) => Ok(Looked::Idle(why)),

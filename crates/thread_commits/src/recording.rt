@@ -80,7 +80,7 @@ pub fn record_lent<D: Disk, B: Bond<Cell> + Run<Entry>>(
     let (entity, version) = named(cell);
     match commit_lent(all, cell, store, blob) {
         Ok(_) => {
-            notes.push_entry(mark_entry(Event::Snap, entity, version));
+            notes.push_entry(&mark_entry(Event::Snap, entity, version));
             notes.push_mark(store.begun());
             Ok(())
         }

@@ -13,7 +13,7 @@ pub(crate) fn note_came(notes: &mut Notes, came: Result<Made, StepFault>) -> Res
 {
     match came {
         Ok(made) => {
-            notes.push_entry(made.entry);
+            notes.push_entry(&made.entry);
             Ok(Looked::Made(made))
         }
         Err(StepFault::Idle(why)) => Ok(Looked::Idle(why)),

@@ -48,8 +48,9 @@ fn went_last<B: Bench>(pass: &LookPass<B>) -> Went
     }
 }
 
-/// How many rounds a worker's turn has. By ten workers and more that is still less than a blink; by fewer rounds the exchange of turns would be felt.
-const TURN: u32 = 256;
+/// How many rounds a worker's turn has: some hundredths of a second of steps for all workers together. The waking of the next costs some 50
+/// microseconds, which with fewer rounds would be felt.
+const TURN: u32 = 4096;
 
 /// A worker on a board: its number, below that of all workers, what is told of its steps, and whose turn it is.
 #[derive(Drop)]

@@ -105,7 +105,7 @@ fn note_stable<D: Disk>(
     ensures room { notes.new.room ≡ notes.old.room }
 {
     notes.cut_back(entries, marks);
-    notes.push_entry(mark_entry(Event::Stable, actor, 0));
+    notes.push_entry(&mark_entry(Event::Stable, actor, 0));
     notes.push_mark(store.begun());
 }
 

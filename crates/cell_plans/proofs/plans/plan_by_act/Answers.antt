@@ -5,7 +5,7 @@ use Rattle.act_look.proofs.model_act_facts_lemmas.Alone.{act_instr, seen_same}
 use Rattle.act_look.specs.model_acts.Views.{act_of}
 use Rattle.cell_calls.proofs.Touching.{refused_alone, not_refused}
 use Rattle.cell_plans.proofs.Planned.{wants_act}
-use Rattle.cell_plans.proofs.plans.plan_of.Goals as goal
+use Rattle.cell_plans.proofs.plans.plan_by_act.Goals as goal
 
 pub returns-then-is_some-clause-wants : goal.returns-then-is_some-clause-wants
 returns-then-is_some-clause-wants c = record {
